@@ -15,7 +15,8 @@ left_next left p = ap (λ places. map up places) (reverse-append left (p ∷ [])
 
 pub begins_below : (slot : ℕ) (p : List ℕ) (left : List (List ℕ)) (got : List Content) → 0 < length p →
     reads.Down OWN_SPACE (slot ∷ p) (up p) (paths_left left) got ≡ reads.begin slot (paths_left (left ++ p ∷ [])) got
-begins_below slot p left got some = by (up p) (way_up p) (subst (λ n. 0 < n) (sym (length-reverse p)) some) ∙ ap (λ qs. reads.begin slot qs got) (sym (left_next left p))
+begins_below slot p left got some = by (up p) (way_up p) (subst (λ n. 0 < n) (sym (length-reverse p)) some)
+    ∙ ap (λ qs. reads.begin slot qs got) (sym (left_next left p))
   where
     by : (q : Path) → way_from [] q ≡ p → 0 < length q → reads.Down OWN_SPACE (slot ∷ p) q (paths_left left) got ≡ reads.begin_at slot q (paths_left left) got
     by [] e some = absurd (omega (arith, some))

@@ -19,12 +19,16 @@ tasks_behind contents g = behind contents g.todo.space g.todo.next
 
 abbrev pub step_of : ℕ → List CodeContent → Gather → Step → gathers.State
 step_of slot contents g (steps.Down gone) =
-    gathers.Down (from_at gone) (way_at slot (place_of contents g.todo) gone ∷ drop gone (place_of contents g.todo)) (task_at contents g) (tasks_behind contents g) (leads_of g.leads.items)
-step_of slot contents g (steps.Reads field fields) = gathers.Fields field (fields_in fields) (task_at contents g) (tasks_behind contents g) (leads_of g.leads.items)
-step_of slot contents g (steps.Looks field fields) = gathers.Looks (up g.at.items) field (fields_in fields) (task_at contents g) (tasks_behind contents g) (leads_of g.leads.items)
+    gathers.Down (from_at gone) (way_at slot (place_of contents g.todo) gone ∷ drop gone (place_of contents g.todo)) (task_at contents g)
+    (tasks_behind contents g) (leads_of g.leads.items)
+step_of slot contents g (steps.Reads field fields) =
+    gathers.Fields field (fields_in fields) (task_at contents g) (tasks_behind contents g) (leads_of g.leads.items)
+step_of slot contents g (steps.Looks field fields) =
+    gathers.Looks (up g.at.items) field (fields_in fields) (task_at contents g) (tasks_behind contents g) (leads_of g.leads.items)
 step_of slot contents g (steps.Leads way field fields) =
     gathers.Leads way (up g.at.items) field (fields_in fields) (task_at contents g) (tasks_behind contents g) (leads_of g.leads.items)
-step_of slot contents g (steps.Beside field fields) = gathers.Beside field (fields_in fields) (task_at contents g) (tasks_behind contents g) (leads_of g.leads.items)
+step_of slot contents g (steps.Beside field fields) =
+    gathers.Beside field (fields_in fields) (task_at contents g) (tasks_behind contents g) (leads_of g.leads.items)
 
 abbrev pub gather_of : ℕ → List CodeContent → Gather → gathers.State
 gather_of slot contents g = step_of slot contents g g.step

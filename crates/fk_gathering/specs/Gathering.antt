@@ -43,11 +43,14 @@ abbrev pub paths_left : List (List ℕ) → List Path
 paths_left left = map up (reverse left)
 
 abbrev pub reading_of : ℕ → Read → Reading → reads.State
-reading_of slot r (steps.Down gone) = reads.Down (from_at gone) (way_at slot r.path gone ∷ drop gone r.path) (up r.path) (paths_left r.left.items) (contents_of r.contents.items)
+reading_of slot r (steps.Down gone) =
+    reads.Down (from_at gone) (way_at slot r.path gone ∷ drop gone r.path) (up r.path) (paths_left r.left.items) (contents_of r.contents.items)
 reading_of slot r (steps.Searches from) = reads.Searches from (items_of r.objects.items) (up r.path) (paths_left r.left.items) (contents_of r.contents.items)
 reading_of slot r (steps.Record j) = reads.Reads j (items_of r.objects.items) (up r.path) (paths_left r.left.items) (contents_of r.contents.items)
-reading_of slot r (steps.Looks from) = reads.Looks from (items_of r.objects.items) (items_of r.pages.items) (up r.path) (paths_left r.left.items) (contents_of r.contents.items)
-reading_of slot r (steps.Copies page) = reads.Copies page (items_of r.objects.items) (items_of r.pages.items) (up r.path) (paths_left r.left.items) (contents_of r.contents.items)
+reading_of slot r (steps.Looks from) =
+    reads.Looks from (items_of r.objects.items) (items_of r.pages.items) (up r.path) (paths_left r.left.items) (contents_of r.contents.items)
+reading_of slot r (steps.Copies page) =
+    reads.Copies page (items_of r.objects.items) (items_of r.pages.items) (up r.path) (paths_left r.left.items) (contents_of r.contents.items)
 
 abbrev pub read_of : ℕ → Read → reads.State
 read_of slot r = reading_of slot r r.step

@@ -162,7 +162,8 @@ impl Gather {
     fn take(&mut self, contents: &[Content], lead: Lead, fields: Fields) -> bool
         requires { vec_len self.old.leads < vec_capacity self.old.leads }
         ensures { (slot : _) → gathered result slot contents.now self.new
-            ≡ gathers.takes slot (lead_of lead) (fields_in fields) (task_at contents.now self.old) (tasks_behind contents.now self.old) (leads_of self.old.leads.items) }
+            ≡ gathers.takes slot (lead_of lead) (fields_in fields) (task_at contents.now self.old) (tasks_behind contents.now self.old)
+            (leads_of self.old.leads.items) }
     {
         self.leads.push_reserved(lead);
         self.go_on(contents, fields)
@@ -172,7 +173,8 @@ impl Gather {
     #[tactic(auto, using(fk_seeking::proofs::Ways::next_way, fk_seeking::proofs::Ways::no_more))]
     fn go_down(&mut self, contents: &[Content], gone: usize) -> bool
         ensures { (slot : _) → gathered result slot contents.now self.new
-            ≡ gathers.arrive slot (drop gone (place_of contents.now self.old.todo)) (task_at contents.now self.old) (tasks_behind contents.now self.old) (leads_of self.old.leads.items) }
+            ≡ gathers.arrive slot (drop gone (place_of contents.now self.old.todo)) (task_at contents.now self.old) (tasks_behind contents.now self.old)
+            (leads_of self.old.leads.items) }
     {
         if gone < place_of(contents, &self.todo).len() {
             self.step = Step::Down { gone: gone + 1 };
@@ -185,7 +187,8 @@ impl Gather {
     fn read(&mut self, contents: &[Content], field: u8, fields: Fields, words: &[u64]) -> bool
         requires { HasRoom self.old }
         ensures { (slot : _) → gathered result slot contents.now self.new
-            ≡ gathers.read slot field (fields_in fields) (task_at contents.now self.old) (tasks_behind contents.now self.old) (leads_of self.old.leads.items) words.now }
+            ≡ gathers.read slot field (fields_in fields) (task_at contents.now self.old) (tasks_behind contents.now self.old)
+            (leads_of self.old.leads.items) words.now }
     {
         match words {
             [] => true,
@@ -215,7 +218,8 @@ impl Gather {
     fn locate(&mut self, contents: &[Content], field: u8, fields: Fields, words: &[u64]) -> bool
         requires { HasRoom self.old }
         ensures { (slot : _) → gathered result slot contents.now self.new
-            ≡ gathers.looked slot (up self.old.at.items) field (fields_in fields) (task_at contents.now self.old) (tasks_behind contents.now self.old) (leads_of self.old.leads.items) words.now }
+            ≡ gathers.looked slot (up self.old.at.items) field (fields_in fields) (task_at contents.now self.old) (tasks_behind contents.now self.old)
+            (leads_of self.old.leads.items) words.now }
     {
         match words {
             [slot, 0, ..] => {
@@ -240,7 +244,8 @@ impl Gather {
     /// Takes an answer. That uses up its room. It answers whether it is over.
     pub fn absorb(&mut self, contents: &[Content], answer: &Answer) -> bool
         requires { HasRoom self.old }
-        ensures { (slot : _) → gathered result slot contents.now self.new ≡ gathers.next slot (gather_of slot contents.now self.old) answer.now.status (answered answer.now) }
+        ensures { (slot : _) → gathered result slot contents.now self.new
+            ≡ gathers.next slot (gather_of slot contents.now self.old) answer.now.status (answered answer.now) }
     {
         let words = words_of(answer);
         match self.step {

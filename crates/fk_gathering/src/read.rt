@@ -172,7 +172,8 @@ impl Read {
     fn leave(&mut self) -> bool
         requires { HasRoomForContent self.old }
         ensures { (slot : _) → was_read result slot self.new ≡ reads.begin slot (paths_left self.old.left.items)
-            (contents_of self.old.contents.items ++ record { path = up self.old.path; objects = items_of self.old.objects.items; pages = items_of self.old.pages.items } ∷ []) }
+            (contents_of self.old.contents.items
+            ++ record { path = up self.old.path; objects = items_of self.old.objects.items; pages = items_of self.old.pages.items } ∷ []) }
     {
         let alloc = *self.contents.allocator();
         let path = mem::replace(&mut self.path, List::new(alloc));
@@ -189,7 +190,8 @@ impl Read {
     /// What a look for a page was answered. It answers whether it is over.
     fn look(&mut self, from: u64, status: u8, words: &[u64]) -> bool
         requires { HasRoomForContent self.old }
-        ensures { (slot : _) → was_read result slot self.new ≡ reads.looked slot from (items_of self.old.objects.items) (items_of self.old.pages.items) (up self.old.path)
+        ensures { (slot : _) → was_read result slot self.new
+            ≡ reads.looked slot from (items_of self.old.objects.items) (items_of self.old.pages.items) (up self.old.path)
             (paths_left self.old.left.items) (contents_of self.old.contents.items) status words.now }
     {
         match words {

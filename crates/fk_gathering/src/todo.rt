@@ -78,8 +78,10 @@ fn todo_for(
 ) -> Option<Todo>
     requires after { next ≡ suc place }
     requires there { slice_get (objects_at contents.now space) place ≡ Some item.now }
-    ensures some { IfSome result (λ todo. (slot : _) (got : _) → gathers.begin slot (behind contents.now space place) got ≡ found slot contents.now got (Some todo)) }
-    ensures none { IfNone result ((slot : _) (got : _) → gathers.begin slot (behind contents.now space place) got ≡ gathers.begin slot (behind contents.now space (suc place)) got) }
+    ensures some { IfSome result (λ todo. (slot : _) (got : _) → gathers.begin slot (behind contents.now space place) got
+        ≡ found slot contents.now got (Some todo)) }
+    ensures none { IfNone result ((slot : _) (got : _) → gathers.begin slot (behind contents.now space place) got
+        ≡ gathers.begin slot (behind contents.now space (suc place)) got) }
 {
     let fields = fields_of(item);
     if fields.is_empty() {
@@ -96,7 +98,8 @@ fn todo_for(
 
 /// The object of a space at a place, where it has pointers.
 fn todo_at(contents: &[Content], space: usize, place: usize) -> Option<Todo>
-    ensures some { IfSome result (λ todo. (slot : _) (got : _) → gathers.begin slot (behind contents.now space place) got ≡ found slot contents.now got (Some todo)) }
+    ensures some { IfSome result (λ todo. (slot : _) (got : _) → gathers.begin slot (behind contents.now space place) got
+        ≡ found slot contents.now got (Some todo)) }
     ensures none { IfNone result (place < length (objects_at contents.now space)
         → (slot : _) (got : _) → gathers.begin slot (behind contents.now space place) got ≡ gathers.begin slot (behind contents.now space (suc place)) got) }
 {
@@ -140,8 +143,10 @@ fn holder(contents: &[Content], space: usize) -> Option<Todo>
 
 /// The first object with pointers in a space, from one of its objects on.
 fn in_space(contents: &[Content], space: usize, next: usize) -> Option<Todo>
-    ensures some { IfSome result (λ todo. (slot : _) (got : _) → gathers.begin slot (behind contents.now space next) got ≡ found slot contents.now got (Some todo)) }
-    ensures none { IfNone result ((slot : _) (got : _) → gathers.begin slot (behind contents.now space next) got ≡ gathers.begin slot (later_spaces contents.now space) got) }
+    ensures some { IfSome result (λ todo. (slot : _) (got : _) → gathers.begin slot (behind contents.now space next) got
+        ≡ found slot contents.now got (Some todo)) }
+    ensures none { IfNone result ((slot : _) (got : _) → gathers.begin slot (behind contents.now space next) got
+        ≡ gathers.begin slot (later_spaces contents.now space) got) }
 {
     for place in next..objects_at(contents, space).len() {
         if let Some(todo) = todo_at(contents, space, place) {

@@ -8,4 +8,5 @@ use Rattle.fk_gathering.proofs.todo.from_space.Given as goal
 -- the spaces looked at so far have no objects with pointers
 abbrev pub invariant-loop-space : goal.invariant-loop-space
 invariant-loop-space l = (slot : ℕ) (got : List Ptr) →
-    gathers.begin slot (gathered_tasks (contents_of (drop l.first l.contents))) got ≡ gathers.begin slot (gathered_tasks (contents_of (drop l.space l.contents))) got
+    gathers.begin slot (gathered_tasks (contents_of (drop l.first l.contents))) got
+    ≡ gathers.begin slot (gathered_tasks (contents_of (drop l.space l.contents))) got

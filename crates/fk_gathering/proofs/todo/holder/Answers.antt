@@ -6,5 +6,6 @@ use Rattle.fk_gathering.proofs.todo.holder.Goals as goal
 
 pub returns-clause-some : goal.returns-clause-some
 returns-clause-some c =
-    holder_found c.args.contents.now c.args.space c.in_ok-deep.deep c.in_ok-deep.slot Zero c.requires (ap length (sym c.path_at.ensures) ∙ c.in_ok-deep.ensures.long)
+    holder_found c.args.contents.now c.args.space c.in_ok-deep.deep c.in_ok-deep.slot Zero c.requires (ap length (sym c.path_at.ensures)
+    ∙ c.in_ok-deep.ensures.long)
     (c.in_ok-deep.ensures.slot ∙ ap (λ path. slice_index path c.in_ok-deep.deep) c.path_at.ensures) refl

@@ -6,4 +6,5 @@ use Rattle.fk_gathering.proofs.todo.in_space.Given as goal
 
 -- what is behind the objects looked at so far is still to come
 abbrev pub invariant-loop-place : goal.invariant-loop-place
-invariant-loop-place l = (slot : ℕ) (got : List Ptr) → gathers.begin slot (behind l.contents l.space l.next) got ≡ gathers.begin slot (behind l.contents l.space l.place) got
+invariant-loop-place l = (slot : ℕ) (got : List Ptr) → gathers.begin slot (behind l.contents l.space l.next) got
+    ≡ gathers.begin slot (behind l.contents l.space l.place) got
