@@ -1,5 +1,6 @@
 -- An item's orders are its parts', and then those of the items behind it.
-use Rattle.std.proofs.Common.{◌≡◌, ℕ, zero, suc, ◌+◌, ◌-◌, ◌<◌, ◌≤◌, ◌⊎◌, inl, inr, Bool, true, false, cond, ltb, List, [], ◌∷◌, ◌++◌, drop, length, Option, Some, None, is_some, refl, sym, ap, ◌∙◌, arith, ne_eqb}
+use Rattle.std.proofs.Common.{◌≡◌, ℕ, zero, suc, ◌+◌, ◌-◌, ◌<◌, ◌≤◌, ◌⊎◌, inl, inr, Bool, true, false, cond, ltb, List, [], ◌∷◌, ◌++◌, drop, length}
+use Rattle.std.proofs.Common.{Option, Some, None, is_some, refl, sym, ap, ◌∙◌, arith, ne_eqb}
 use Rattle.std.specs.Prelude.{slice_get}
 use Rattle.std.specs.List.{flat_map}
 use Rattle.std.proofs.lemmas.Bool.{cases_lt, lt-ltb, le-ltb}
@@ -18,7 +19,8 @@ use Rattle.laws_rooms.proofs.Beneath.{IsNested}
 use Rattle.fk_positions.specs.declared.position.Pass.{Pass}
 use Rattle.fk_positions.specs.declared.position.Pass.TheVariants.{Spaces, Fills, Inward, Outward, Ties, Holds as HoldsPass}
 use Rattle.fk_positions.specs.Walks.{walk_rest, leads}
-use Rattle.fk_positions.specs.Passes.{Part, leads_within, items_of, object_part, page_part, makes_object, sets_object, fills_item, inward_part, outward_part, ties_part, path_of, once, held_orders, items_from}
+use Rattle.fk_positions.specs.Passes.{Part, leads_within, items_of, object_part, page_part, makes_object, sets_object, fills_item, inward_part}
+use Rattle.fk_positions.specs.Passes.{outward_part, ties_part, path_of, once, held_orders, items_from}
 use Rattle.fk_positions.specs.Passes.Part.{Nothing, Walks, Asks}
 use Rattle.fk_positions.specs.Positions.{part_orders}
 use Rattle.fk_positions.proofs.Parted.{drop_at, drop_out, at_of, IsLinkedRec, inward_six, outward_six, ties_six, six_at, item_orders, no_more, object_six}

@@ -13,7 +13,9 @@ use Rattle.fk_image.specs.declared.image.Rec.TheVariants.{Mutex, Cond, Portset, 
 use Rattle.fk_image.specs.declared.image.ObjectRec.{ObjectRec}
 use Rattle.fk_image.specs.declared.image.SpaceRec.{SpaceRec}
 use Rattle.fk_image.specs.declared.image.Image.{Image}
-use Rattle.fk_image.specs.Links.{kind_in_space, has_space_at, is_region_kind, is_port_kind, is_thread_kind, leads_to_region, leads_to_keeper, leads_to_port, may_refer, serves_port, talk_leads, taker_leads, fault_leads, body_leads, may_hold, is_space_within, spaces_lead}
+use Rattle.fk_image.specs.Links.{kind_in_space, has_space_at, is_region_kind, is_port_kind, is_thread_kind, leads_to_region, leads_to_keeper}
+use Rattle.fk_image.specs.Links.{leads_to_port, may_refer, serves_port, talk_leads, taker_leads, fault_leads, body_leads, may_hold, is_space_within}
+use Rattle.fk_image.specs.Links.{spaces_lead}
 use Rattle.fk_image.specs.Links as links
 use Rattle.laws_pictures.specs.Tree.{IsTree, IsFull}
 use Rattle.laws_pictures.proofs.Bodies.{kind_of_space, lead_at}

@@ -1,5 +1,6 @@
 -- The parts of an item, one after the other, are the script's orders for it.
-use Rattle.std.proofs.Common.{◌≡◌, ℕ, zero, suc, ◌+◌, ◌<◌, ◌≤◌, Bool, true, false, cond, List, [], ◌∷◌, ◌++◌, map, drop, length, Option, Some, None, option_map, is_some, refl, sym, ap, ◌∙◌, arith}
+use Rattle.std.proofs.Common.{◌≡◌, ℕ, zero, suc, ◌+◌, ◌<◌, ◌≤◌, Bool, true, false, cond, List, [], ◌∷◌, ◌++◌, map, drop, length, Option, Some, None}
+use Rattle.std.proofs.Common.{option_map, is_some, refl, sym, ap, ◌∙◌, arith}
 use Rattle.std.specs.Prelude.{slice_get}
 use Rattle.std.specs.List.{flat_map}
 use Rattle.std.proofs.lemmas.List.{append-nil}
@@ -18,12 +19,15 @@ use Rattle.fk_image.specs.Picture.{ptr, space_path, pictured_talk, pictured_faul
 use Rattle.laws_sites.specs.Orders.{Order}
 use Rattle.laws_sites.specs.Orders.Order.{Points, ParksTalk, ParksFault, LinksTalk, RaisesFault, LinksFault}
 use Rattle.laws_restore.specs.Rooms.{Item}
-use Rattle.laws_restore.specs.Script.{P, T, U, leads_to_at, points_in, points_body, is_out_to, leads_body_out, parks_talk, parks_fault, ties_talk, ties_fault, ties_its_talk, ties_its_fault, ties_body, talk_words, fault_words, taken_flag}
+use Rattle.laws_restore.specs.Script.{P, T, U, leads_to_at, points_in, points_body, is_out_to, leads_body_out, parks_talk, parks_fault, ties_talk}
+use Rattle.laws_restore.specs.Script.{ties_fault, ties_its_talk, ties_its_fault, ties_body, talk_words, fault_words, taken_flag}
 use Rattle.laws_pictures.specs.Tree.{IsTree}
 use Rattle.laws_rooms.specs.Rooms.{item_of}
 use Rattle.laws_rooms.proofs.Beneath.{IsNested}
 use Rattle.fk_positions.specs.declared.position.Pass.{Pass}
-use Rattle.fk_positions.specs.Passes.{Part, leads_within, link_of, talk_of, fault_of, points_to, walks_to, inward_part, is_out, parks_talk_part, parks_fault_part, outward_part, path_of, talk_part, taken_part, fault_part, ties_part, object_parts, part_at, from_item, items_from}
+use Rattle.fk_positions.specs.Passes.{Part, leads_within, link_of, talk_of, fault_of, points_to, walks_to, inward_part, is_out, parks_talk_part}
+use Rattle.fk_positions.specs.Passes.{parks_fault_part, outward_part, path_of, talk_part, taken_part, fault_part, ties_part, object_parts, part_at}
+use Rattle.fk_positions.specs.Passes.{from_item, items_from}
 use Rattle.fk_positions.specs.Passes.Part.{Nothing, Asks}
 use Rattle.fk_positions.specs.Positions.{part_orders}
 use Rattle.fk_positions.proofs.Walked.{leads_is, root_is}
@@ -77,7 +81,8 @@ pub record IsLinkedRec (ss : List SpaceRec) (r : Rec) : Type 0 where
   pub talk : IsLinkedTalk ss (talk_of r)
   pub fault : IsLinkedFault ss (fault_of r)
 
-module _ (ss : List SpaceRec) (tree : IsTree ss) (nested : IsNested ss) (slot : ℕ) (bind : ℕ → ℕ) (n : ℕ) (s : SpaceRec) (is : is_some (slice_get ss n) ≡ true) where
+module _ (ss : List SpaceRec) (tree : IsTree ss) (nested : IsNested ss) (slot : ℕ) (bind : ℕ → ℕ) (n : ℕ) (s : SpaceRec)
+    (is : is_some (slice_get ss n) ≡ true) where
   abbrev q : Path
   q = space_path ss n
 

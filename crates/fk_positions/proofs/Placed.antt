@@ -1,5 +1,6 @@
 -- From a position on the orders are the one that stands there and those from the next on.
-use Rattle.std.proofs.Common.{◌≡◌, ℕ, zero, suc, ◌+◌, ◌-◌, ◌<◌, ◌≤◌, ◌⊎◌, inl, inr, Bool, true, false, cond, ltb, ◌==◌, List, [], ◌∷◌, ◌++◌, drop, length, Option, Some, None, is_some, refl, sym, ap, subst, ◌∙◌, arith}
+use Rattle.std.proofs.Common.{◌≡◌, ℕ, zero, suc, ◌+◌, ◌-◌, ◌<◌, ◌≤◌, ◌⊎◌, inl, inr, Bool, true, false, cond, ltb, ◌==◌, List, [], ◌∷◌, ◌++◌, drop}
+use Rattle.std.proofs.Common.{length, Option, Some, None, is_some, refl, sym, ap, subst, ◌∙◌, arith}
 use Rattle.std.specs.Prelude.{slice_get, IsSome}
 use Rattle.std.proofs.lemmas.Bool.{cases_lt, lt-ltb, le-ltb}
 use Rattle.fk_image.specs.declared.image.Link.{Link}
@@ -26,9 +27,14 @@ use Rattle.fk_positions.specs.declared.position.Spot.TheVariants.{Before, Room, 
 use Rattle.fk_positions.specs.declared.position.Position.{Position}
 use Rattle.fk_positions.specs.Walks.{walk_rest, walk_order, walk_next, goes, leads}
 use Rattle.fk_positions.specs.Passes as words
-use Rattle.fk_positions.specs.Passes.{visits, site, leads_within, items_of, LAST_PART, link_of, talk_of, fault_of, makes_part, fills_item, fills_part, walks_to, points_to, inward_part, parks_talk_part, parks_fault_part, points_out_part, outward_part, is_pair, talk_part, taken_part, fault_part, ties_part, holds_part, object_parts, part_at, items_from, before, behind, pass_from, pass_end}
+use Rattle.fk_positions.specs.Passes.{visits, site, leads_within, items_of, LAST_PART, link_of, talk_of, fault_of, makes_part, fills_item, fills_part}
+use Rattle.fk_positions.specs.Passes.{walks_to, points_to, inward_part, parks_talk_part, parks_fault_part, points_out_part, outward_part, is_pair}
+use Rattle.fk_positions.specs.Passes.{talk_part, taken_part, fault_part, ties_part, holds_part, object_parts, part_at, items_from, before, behind}
+use Rattle.fk_positions.specs.Passes.{pass_from, pass_end}
 use Rattle.fk_positions.specs.Passes.Part.{Nothing, Walks, Asks}
-use Rattle.fk_positions.specs.Positions.{onwards, from_outward, part_orders, parts_by, room_rest, part_rest, spot_rest, rest, asked, asked_in, spot_order, is_walking, order_at, walked, at, next_pass, next_room, next_part, spot_next, next_of, IsWalk, IsRoom, IsSpot, IsPass, IsPosition, listed}
+use Rattle.fk_positions.specs.Positions.{onwards, from_outward, part_orders, parts_by, room_rest, part_rest, spot_rest, rest, asked, asked_in}
+use Rattle.fk_positions.specs.Positions.{spot_order, is_walking, order_at, walked, at, next_pass, next_room, next_part, spot_next, next_of, IsWalk}
+use Rattle.fk_positions.specs.Positions.{IsRoom, IsSpot, IsPass, IsPosition, listed}
 use Rattle.fk_positions.proofs.Walked.{listing, some_of, true_of, walk_is, goes_is, leads_is}
 use Rattle.fk_positions.proofs.Parted.{drop_at, drop_out, at_of, IsLinked, IsLinkedTalk, IsLinkedTaker, IsLinkedFault, IsLinkedRec}
 use Rattle.fk_positions.proofs.Itemed.{item_law, item_end}

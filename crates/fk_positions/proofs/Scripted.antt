@@ -1,5 +1,6 @@
 -- The passes, one after the other, are the script of the image's rooms.
-use Rattle.std.proofs.Common.{◌≡◌, ℕ, zero, suc, ◌+◌, ◌-◌, Bool, true, false, cond, not, ◌||◌, List, [], ◌∷◌, ◌++◌, map, drop, length, Some, is_some, refl, sym, ap, subst, ◌∙◌, arith, ne_eqb}
+use Rattle.std.proofs.Common.{◌≡◌, ℕ, zero, suc, ◌+◌, ◌-◌, Bool, true, false, cond, not, ◌||◌, List, [], ◌∷◌, ◌++◌, map, drop, length, Some, is_some}
+use Rattle.std.proofs.Common.{refl, sym, ap, subst, ◌∙◌, arith, ne_eqb}
 use Rattle.std.specs.Prelude.{slice_get}
 use Rattle.std.specs.List.{list_any, flat_map}
 use Rattle.std.proofs.lemmas.Bool.{and_parts}
@@ -21,7 +22,9 @@ use Rattle.fk_image.specs.Valid.{fits_spaces, is_valid}
 use Rattle.laws_sites.specs.Orders.{Order}
 use Rattle.laws_sites.specs.Orders.Order.{Makes, Sets, Gives, Pins, Takes, Checks, LeadsTop, Holds as HoldsOrder}
 use Rattle.laws_restore.specs.Rooms.{Item, Sheet, Room as RoomOf}
-use Rattle.laws_restore.specs.Script.{P, T, padded, goes_to, leads_to_at, through_rooms, after_rooms, makes_space, makes_spaces, stands_at, after_spaces, fills, points_body, leads_in, leads_out, leads_body_out, leads_out_by, leads_outs, after_outs, ties_body, ties_inside, holds_space, holds_spaces, stands_held, has, each, any_room, opens, closes, script}
+use Rattle.laws_restore.specs.Script.{P, T, padded, goes_to, leads_to_at, through_rooms, after_rooms, makes_space, makes_spaces, stands_at}
+use Rattle.laws_restore.specs.Script.{after_spaces, fills, points_body, leads_in, leads_out, leads_body_out, leads_out_by, leads_outs, after_outs}
+use Rattle.laws_restore.specs.Script.{ties_body, ties_inside, holds_space, holds_spaces, stands_held, has, each, any_room, opens, closes, script}
 use Rattle.laws_pictures.specs.Tree.{IsTree, IsFull}
 use Rattle.laws_pictures.proofs.Numbers.{is_there, there_below, path_up}
 use Rattle.laws_pictures.proofs.Trees.{valid_is_tree}
@@ -68,7 +71,8 @@ module _ (ss : List SpaceRec) (tree : IsTree ss) (nested : IsNested ss)
   -- ---- passes that go through rooms
 
   module _ (pass : Pass) (test : RoomOf → Bool) (orders : RoomOf → List Order) (same_test : (n : ℕ) (s : SpaceRec) → visits ss pass n s ≡ test (room_of ss n s))
-      (same_site : (n : ℕ) (s : SpaceRec) → site pass n s ≡ n) (same_orders : (n : ℕ) (s : SpaceRec) → orders (room_of ss n s) ≡ items_from ss slot bind n s pass 0) where
+      (same_site : (n : ℕ) (s : SpaceRec) → site pass n s ≡ n)
+      (same_orders : (n : ℕ) (s : SpaceRec) → orders (room_of ss n s) ≡ items_from ss slot bind n s pass 0) where
     through_same : (xs : List SpaceRec) (a n : ℕ) → Agrees xs n → Is a
         → Same pass a n xs (through_rooms slot test orders (path a) (rooms_from ss n xs)) (after_rooms test (path a) (rooms_from ss n xs))
     unfolding through_rooms

@@ -1,5 +1,6 @@
 -- Walks by numbers are the script's walks by paths.
-use Rattle.std.proofs.Common.{◌≡◌, ℕ, zero, suc, ◌<◌, ◌≤◌, ◌⊎◌, inl, inr, Bool, true, false, cond, leb, ◌==◌, List, [], ◌∷◌, ◌++◌, Option, Some, None, option_map, is_some, refl, sym, ap, subst, ◌∙◌, arith, eqb-true, eq-eqb, ne_eqb, append_assoc}
+use Rattle.std.proofs.Common.{◌≡◌, ℕ, zero, suc, ◌<◌, ◌≤◌, ◌⊎◌, inl, inr, Bool, true, false, cond, leb, ◌==◌, List, [], ◌∷◌, ◌++◌, Option, Some, None}
+use Rattle.std.proofs.Common.{option_map, is_some, refl, sym, ap, subst, ◌∙◌, arith, eqb-true, eq-eqb, ne_eqb, append_assoc}
 use Rattle.std.specs.Prelude.{slice_get, IsSome}
 use Rattle.std.proofs.lemmas.Bool.{and_parts, cases_lt, leb-true, leb-false, le-leb}
 use Rattle.std.proofs.lemmas.List.{append-nil}
@@ -16,7 +17,8 @@ use Rattle.laws_pictures.proofs.Numbers.{item_of, is_there, there_below, number_
 use Rattle.laws_rooms.proofs.Beneath.{IsNested, within_by_number}
 use Rattle.fk_positions.specs.declared.position.Walk.{Walk, Walk as walks}
 use Rattle.fk_positions.specs.declared.position.Walk.TheVariants.{Done, Top, Down}
-use Rattle.fk_positions.specs.Walks.{parent_of, is_above_by, is_above, child_by, child_towards, slot_at, target, down_by, walk_rest, last_order, walk_order, walk_next, goes, leads}
+use Rattle.fk_positions.specs.Walks.{parent_of, is_above_by, is_above, child_by, child_towards, slot_at, target, down_by, walk_rest, last_order}
+use Rattle.fk_positions.specs.Walks.{walk_order, walk_next, goes, leads}
 
 -- ---- the first step of a walk down
 

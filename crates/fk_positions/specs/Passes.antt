@@ -1,5 +1,6 @@
 -- What a pass does in a space, item by item and part by part.
-use Rattle.std.specs.Prelude.{ℕ, suc, ◌+◌, ◌-◌, Bool, true, false, not, ◌==◌, nat_lt, List, [], ◌∷◌, ◌++◌, map, drop, length, Option, Some, None, if◌then◌else◌, slice_get}
+use Rattle.std.specs.Prelude.{ℕ, suc, ◌+◌, ◌-◌, Bool, true, false, not, ◌==◌, nat_lt, List, [], ◌∷◌, ◌++◌, map, drop, length, Option, Some, None}
+use Rattle.std.specs.Prelude.{if◌then◌else◌, slice_get}
 use Rattle.std.specs.List.{list_any, flat_map}
 use Rattle.fk_model.specs.declared.names.Kind.TheVariants as kinds
 use Rattle.fk_model.specs.Places.{Path}
@@ -16,9 +17,11 @@ use Rattle.fk_image.specs.declared.image.PageRec.{PageRec}
 use Rattle.fk_image.specs.declared.image.SpaceRec.{SpaceRec}
 use Rattle.fk_image.specs.Picture.{space_path, pictured_talk, pictured_fault, pictured_body}
 use Rattle.laws_sites.specs.Orders.{Order}
-use Rattle.laws_sites.specs.Orders.Order.{Makes, Sets, Points, Gives, ParksTalk, ParksFault, LinksTalk, RaisesFault, LinksFault, Holds, Pins, Takes, Checks, LeadsTop}
+use Rattle.laws_sites.specs.Orders.Order.{Makes, Sets, Points, Gives, ParksTalk, ParksFault, LinksTalk, RaisesFault, LinksFault, Holds, Pins, Takes}
+use Rattle.laws_sites.specs.Orders.Order.{Checks, LeadsTop}
 use Rattle.laws_restore.specs.Rooms.{Item}
-use Rattle.laws_restore.specs.Script.{P, T, U, D, padded, points_body, leads_in, leads_out, leads_body_out, ties_body, ties_inside, talk_words, fault_words, taken_flag, has, opens, closes}
+use Rattle.laws_restore.specs.Script.{P, T, U, D, padded, points_body, leads_in, leads_out, leads_body_out, ties_body, ties_inside, talk_words}
+use Rattle.laws_restore.specs.Script.{fault_words, taken_flag, has, opens, closes}
 use Rattle.laws_rooms.specs.Rooms.{item_of, room_of, rooms_from}
 use Rattle.fk_positions.specs.declared.position.Walk.{Walk}
 use Rattle.fk_positions.specs.declared.position.Pass.{Pass}

@@ -22,7 +22,7 @@ mod walks;
 ghost use Rattle.fk_positions.specs.Laws.{PositionsAreThePlaces, ScriptFromTheFirst};
 
 pub use binding::bound;
-pub use next::{next_of, next_pass};
+pub use next::{next_item, next_of};
 pub use parts::{Doing, part_at};
 pub use passes::{
     any_space_leads_out, are_within, fault_of, is_out, leads_out_any, leads_within, link_of, site,

@@ -60,7 +60,7 @@ fn at(pass: Pass, stands: u32, spot: Spot) -> Position
 }
 
 /// The first place of the pass behind this one.
-pub fn next_pass(pass: Pass, stands: u32) -> Position
+fn next_pass(pass: Pass, stands: u32) -> Position
     ensures { (ss : List records.SpaceRec) (slot : ℕ) (bind : ℕ → ℕ) → result ≡ places.next_pass ss slot bind pass stands }
 {
     match pass {
@@ -160,7 +160,7 @@ fn follows(item: usize, items: usize) -> bool
 }
 
 /// The first part of the item behind this one, or the next space.
-fn next_item(pass: Pass, number: u32, space: &SpaceRec, item: usize) -> Spot
+pub fn next_item(pass: Pass, number: u32, space: &SpaceRec, item: usize) -> Spot
     requires { number < 2 ^ 32 - 1 }
     ensures { result ≡ next_item pass number space.now item }
 {

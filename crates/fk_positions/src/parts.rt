@@ -60,7 +60,8 @@ fn inward_part(spaces: &[SpaceRec], slot: u8, number: u32, x: u8, body: &Rec, pa
 
 /// A pointer that leads to a slot of the nester.
 fn points_out_part(out: u8, x: u8, to: Link) -> Doing
-    ensures { (ss : List records.SpaceRec) (slot : ℕ) (bind : ℕ → ℕ) (n : ℕ) (s : records.SpaceRec) → result ≡ doing_of slot (words.points_out_part ss slot bind n s out x to) }
+    ensures { (ss : List records.SpaceRec) (slot : ℕ) (bind : ℕ → ℕ) (n : ℕ) (s : records.SpaceRec)
+        → result ≡ doing_of slot (words.points_out_part ss slot bind n s out x to) }
 {
     if is_out(out, to) {
         Doing::Asks(Stage::SetPtr {
