@@ -3,7 +3,6 @@ ghost use Rattle.std.specs.Prelude.{◌≡◌, OnOk, IfNone, IfSome};
 ghost use Rattle.fk_checkpoint.specs.declared.checkpoint.Phase.TheVariants as phases;
 ghost use Rattle.laws_checkpoint.specs.Checkpoint.State.{Holds, Over};
 ghost use Rattle.laws_checkpoint.specs.Contents.State.{Over as WasRead};
-ghost use Rattle.fk_model.specs.declared.moves.Ask.TheVariants as asks;
 ghost use Rattle.laws_jobs.specs.Machines.{no_words, IsAtCall};
 ghost use Rattle.laws_jobs.specs.Machines.Head.{Asks, Stops};
 ghost use Rattle.laws_checkpoint.specs.Checkpoint as machine;
@@ -18,9 +17,9 @@ use crate::ending::{Ending, make};
 use crate::left::spaces_left;
 use fk_finish::Finish;
 use fk_gathering::{Content, Gather, Read};
-use fk_model::limits::{FIRST_SCRATCH_SLOT, OWN_SPACE, PAGE_WORDS};
+use fk_model::limits::{FIRST_SCRATCH_SLOT, OWN_SPACE};
 use fk_model::status::OK;
-use fk_model::{Answer, Ask, NoMemory, Stage};
+use fk_model::{Answer, NoMemory, Stage};
 use fk_seeking::{Seek, Sought, Walk, words_of};
 use std::alloc::Global;
 use std::mem;
@@ -316,16 +315,12 @@ impl Checkpoint {
         }
     }
 
-    /// Its next call. It has none where it has ended.
-    pub fn next(&self) -> Option<Ask>
-        ensures asks { IfSome result (λ ask. (stage : _) × (ask ≡ asks.Call stage no_words)
-            × (machine.head self.now.slot (state_of self.now) ≡ Asks stage no_words)) }
+    /// Its next call, which goes with no words. It has none where it has ended.
+    pub fn next(&self) -> Option<Stage>
+        ensures asks { IfSome result (λ stage. machine.head self.now.slot (state_of self.now) ≡ Asks stage no_words) }
         ensures none { IfNone result (IsOver self.now.phase) }
     {
-        Some(Ask::Call {
-            stage: stage(self.slot, &self.phase)?,
-            words: [0; PAGE_WORDS as usize],
-        })
+        stage(self.slot, &self.phase)
     }
 
     /// Makes room for one answer, and changes nothing else.

@@ -195,8 +195,9 @@ impl<S: Service + Drop, W: Worker + Drop> Core<S, W> {
     fn is_called(&self, m: &Move) -> bool
         ensures { IsTrue result ↔ IsCalledMove self.now.jobs (run_core self.now) m.now }
     {
-        match self.jobs.next() {
-            Some(ask) => self.kernel.ready(m, &ask),
+        let mut words = [0; 64];
+        match self.jobs.next(&mut words) {
+            Some(stage) => self.kernel.ready(m, &Ask::Call { stage, words }),
             None => false,
         }
     }
@@ -406,11 +407,13 @@ impl<S: Service + Drop, W: Worker + Drop> Core<S, W> {
     {
         self.services.reserve()?;
         self.jobs.reserve()?;
-        let next = self.jobs.next();
-        let Some(ask) = &next else {
+        let mut words = [0; 64];
+        let next = self.jobs.next(&mut words);
+        let Some(stage) = next else {
             return Ok(false);
         };
-        let made = self.kernel.attempt(m, ask);
+        let ask = Ask::Call { stage, words };
+        let made = self.kernel.attempt(m, &ask);
         let Ok(tried) = &made else {
             return Err(NoMemory);
         };

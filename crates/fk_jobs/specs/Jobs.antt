@@ -3,6 +3,7 @@ use Rattle.std.specs.Prelude.{◌≡◌, ℕ, Bool, true, false, List, [], ◌�
 use Rattle.std.specs.List.{slice_get}
 use Rattle.fk_model.specs.declared.moves.Ask.{Ask}
 use Rattle.fk_model.specs.declared.moves.Ask.TheVariants as asks
+use Rattle.fk_model.specs.declared.stage.Stage.{Stage}
 use Rattle.laws_jobs.specs.Machines.{Head}
 use Rattle.laws_jobs.specs.Machines.Head.{Stops, Asks}
 use Rattle.laws_checkpoint.specs.Checkpoint.End.{Gone}
@@ -66,6 +67,11 @@ state_of q = state_from q.work (first_of q.ends (current q))
 abbrev pub call_at : Head End → Option Ask
 call_at (Asks stage words) = Some (asks.Call stage words)
 call_at (Stops end) = None
+
+-- the call of this stage with these words, if there is a stage
+abbrev pub call_with : Option Stage → List ℕ → Option Ask
+call_with None words = None
+call_with (Some stage) words = Some (asks.Call stage words)
 
 abbrev pub asked_by : Option State → Option Ask
 asked_by None = None

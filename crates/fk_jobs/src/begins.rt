@@ -7,14 +7,15 @@ ghost use Rattle.laws_house.specs.Laws.{NamesUsersSlots, NameUsersSlots};
 ghost use Rattle.laws_restore.specs.Restore.State.{Makes};
 ghost use Rattle.laws_rooms.specs.Restoring.{are_user_pairs};
 ghost use Rattle.fk_model.specs.declared.limits.TheConstants.{LAST_USER_SLOT};
-ghost use Rattle.fk_jobs.specs.Jobs.{job_of, source_of, task_of, asked_by, first_of, shown_ends};
+ghost use Rattle.laws_jobs.specs.Machines.{no_words};
+ghost use Rattle.fk_jobs.specs.Jobs.{job_of, source_of, task_of, call_with, asked_by, first_of, shown_ends};
 
 use crate::jobs::Ended;
 use crate::plan::{Plan, Source, Task};
 use crate::worker::Worker;
 use fk_finish::ValidImage;
 use fk_model::limits::OWN_SPACE;
-use fk_model::{Ask, List, NoMemory, Stage};
+use fk_model::{List, NoMemory, Stage};
 use std::alloc::Global;
 
 /// The image that the job with a place has made.
@@ -76,33 +77,28 @@ pub fn can_begin<W: Worker + Drop>(plans: &[Plan], ends: &[Ended<W>]) -> bool
     }
 }
 
-/// The first call of a job that is planned so.
-fn first_call_so<W: Worker + Drop>(plan: &Plan, ends: &[Ended<W>]) -> Option<Ask>
-    ensures { result ≡ asked_by (begins (job_of plan.now) (shown_ends W.state ends.now)) }
+/// The first call of a job that is planned so. It goes with no words.
+fn first_call_so<W: Worker + Drop>(plan: &Plan, ends: &[Ended<W>]) -> Option<Stage>
+    ensures { call_with result no_words ≡ asked_by (begins (job_of plan.now) (shown_ends W.state ends.now)) }
 {
     match &plan.task {
-        Task::Checkpoint { slot } => Some(Ask::Call {
-            stage: Stage::SpaceHold {
-                s: OWN_SPACE,
-                x: u64::from(*slot),
-            },
-            words: [0; 64],
+        Task::Checkpoint { slot } => Some(Stage::SpaceHold {
+            s: OWN_SPACE,
+            x: u64::from(*slot),
         }),
         Task::Restore { slot, source, .. } => {
             let _image = sourced(ends, source)?;
-            Some(Ask::Call {
-                stage: Stage::SpaceMakeHeld {
-                    x: u64::from(*slot),
-                },
-                words: [0; 64],
+            Some(Stage::SpaceMakeHeld {
+                x: u64::from(*slot),
             })
         }
     }
 }
 
-/// The first call of the job whose turn it is.
-pub fn first_call<W: Worker + Drop>(plans: &[Plan], ends: &[Ended<W>]) -> Option<Ask>
-    ensures { result ≡ asked_by (first_of (shown_ends W.state ends.now) (slice_get (map job_of plans.now) (length (shown_ends W.state ends.now)))) }
+/// The first call of the job whose turn it is. It goes with no words.
+pub fn first_call<W: Worker + Drop>(plans: &[Plan], ends: &[Ended<W>]) -> Option<Stage>
+    ensures { call_with result no_words
+        ≡ asked_by (first_of (shown_ends W.state ends.now) (slice_get (map job_of plans.now) (length (shown_ends W.state ends.now)))) }
 {
     first_call_so(plans.get(ends.len())?, ends)
 }

@@ -3,7 +3,8 @@ ghost use Rattle.std.specs.Prelude.{◌≡◌, ◌<◌, ◌≤◌, ◌++◌, ◌
 ghost use Rattle.std.specs.Prelude.{length, map, take, vec_capacity, option_map, is_some};
 ghost use Rattle.std.specs.List.{slice_get};
 ghost use Rattle.laws_house.specs.Laws.{NameUsersSlots};
-ghost use Rattle.fk_jobs.specs.Jobs.{job_of, unmoved_of, current, first_of, state_of, asked_by, begun_from, hears, passed, with_idle};
+ghost use Rattle.laws_jobs.specs.Machines.{no_words};
+ghost use Rattle.fk_jobs.specs.Jobs.{job_of, unmoved_of, current, first_of, state_of, call_with, asked_by, begun_from, hears, passed, with_idle};
 ghost use Rattle.fk_jobs.specs.Jobs.{shown_end, shown_ends, made_state};
 ghost use Rattle.laws_runs.specs.Cores.JobEnd.{Idle};
 ghost use Rattle.fk_jobs.specs.Plain.{picks_nobody, AsksPlainly};
@@ -11,7 +12,7 @@ ghost use Rattle.fk_jobs.specs.Plain.{picks_nobody, AsksPlainly};
 use crate::begins::{can_begin, first_call, make};
 use crate::plan::Plan;
 use crate::worker::{Worker, jobs_pick_nobody};
-use fk_model::{Answer, Ask, NoMemory};
+use fk_model::{Answer, NoMemory, Stage};
 use std::alloc::Global;
 use std::marker::Model;
 
@@ -175,13 +176,14 @@ impl<W: Worker + Drop> Jobs<W> {
         can_begin(self.plans.as_slice(), self.ends.as_slice())
     }
 
-    /// Its next call.
-    pub fn next(&self) -> Option<Ask>
-        ensures next { result ≡ asked_by (state_of self.now) }
-        ensures plain { IfSome result (λ ask. picks_nobody ask ≡ true) }
+    /// Its next call, whose words are written over zeros.
+    pub fn next(&self, words: &mut [u64; 64]) -> Option<Stage>
+        requires { words.old ≡ no_words }
+        ensures next { call_with result words.new ≡ asked_by (state_of self.now) }
+        ensures plain { IfSome (call_with result words.new) (λ ask. picks_nobody ask ≡ true) }
     {
         match &self.worker {
-            Some(worker) => worker.next(),
+            Some(worker) => worker.next(words),
             None => first_call(self.plans.as_slice(), self.ends.as_slice()),
         }
     }

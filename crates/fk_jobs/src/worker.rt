@@ -5,12 +5,13 @@ ghost use Rattle.laws_house.specs.Houses.{State, machine, image_of_end};
 ghost use Rattle.laws_house.specs.Houses.State.{Checking, Restoring};
 ghost use Rattle.laws_restore.specs.Restore.State.{Makes};
 ghost use Rattle.laws_rooms.specs.Restoring.{IsRestoreJob};
-ghost use Rattle.fk_jobs.specs.Jobs.{call_at, end_at};
+ghost use Rattle.laws_jobs.specs.Machines.{no_words};
+ghost use Rattle.fk_jobs.specs.Jobs.{call_at, call_with, end_at};
 ghost use Rattle.fk_jobs.specs.Plain.{CheckpointsAskPlainly, JobsPickNobody, PlainIsFit};
 ghost use Rattle.fk_jobs.specs.Turns.{JobMovesSo, JobEndsSo};
 
 use fk_finish::ValidImage;
-use fk_model::{Answer, Ask, List, NoMemory};
+use fk_model::{Answer, List, NoMemory, Stage};
 use std::alloc::Global;
 
 /// A job's machine in code.
@@ -28,9 +29,10 @@ pub trait Worker {
         requires { IsRestoreJob slot image pairs }
         ensures { state result ≡ Restoring slot pairs image Makes };
 
-    /// Its next call. It has none exactly where it has ended.
-    fn next(&self) -> Option<Ask>
-        ensures { result ≡ call_at (machine.head (state self.now)) };
+    /// Its next call, whose words it writes over zeros. It has none exactly where it has ended.
+    fn next(&self, words: &mut [u64; 64]) -> Option<Stage>
+        requires { words.old ≡ no_words }
+        ensures { call_with result words.new ≡ call_at (machine.head (state self.now)) };
 
     /// Whether it has a call to make.
     fn is_at_call(&self) -> bool

@@ -3,3 +3,4 @@ pub mod Plain
 pub mod Lefts
 pub mod Skipped
 pub mod Spent
+mod Below

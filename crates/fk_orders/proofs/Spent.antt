@@ -1,9 +1,12 @@
 -- Parts behind the last one of an item in which something may be done are gone by at once.
 use Rattle.std.proofs.Common.{◌≡◌, ℕ, zero, suc, ◌-◌, ◌<◌, ◌≤◌, ◌⊎◌, inl, inr, Bool, true, false, not, cond, ltb, leb}
 use Rattle.std.proofs.Common.{◌==◌, ◌&&◌, ◌||◌, ne_eqb, leb-true, ltb-true}
-use Rattle.std.proofs.Common.{List, [], ◌++◌, Option, Some, None, refl, ap, subst, ◌∙◌, arith}
+use Rattle.std.proofs.Common.{List, [], ◌++◌, Option, Some, None, refl, sym, ap, subst, ◌∙◌, arith}
+use Rattle.std.proofs.Common.{◌+◌}
 use Rattle.std.specs.Prelude.{slice_get}
-use Rattle.std.proofs.lemmas.Bool.{le-ltb}
+use Rattle.std.proofs.lemmas.Bool.{cases_lt, le-ltb, lt-ltb}
+use Rattle.fk_image.specs.declared.image.Image.{Image}
+use Rattle.fk_image.specs.Valid.{is_valid}
 use Rattle.fk_image.specs.declared.image.Link.{Link}
 use Rattle.fk_image.specs.declared.image.Link.TheVariants.{Null, Dead, In, Out, Root, Outside}
 use Rattle.fk_image.specs.declared.image.TalkRec.{TalkRec}
@@ -27,8 +30,10 @@ use Rattle.fk_positions.specs.Passes.{points_out_part, parks_talk_part, parks_fa
 use Rattle.fk_positions.specs.Passes.{part_at, inward_part, outward_part, ties_part, talk_part, fault_part, talk_of, fault_of}
 use Rattle.fk_positions.specs.Passes.{leads_within, items_from}
 use Rattle.fk_positions.specs.Passes.Part.{Nothing}
-use Rattle.fk_positions.specs.Positions.{rest, spot_rest, room_rest, part_rest, part_orders, parts_by, IsPosition, IsRoom}
-use Rattle.fk_orders.specs.Left.{parts_of, idle_in, idle_at, spent, spent_by, item_left, places_left}
+use Rattle.fk_positions.specs.Doing.{next_item}
+use Rattle.fk_positions.specs.Positions.{rest, spot_rest, room_rest, part_rest, part_orders, parts_by, order_at, asked_in, next_of, next_part, IsPosition, IsRoom}
+use Rattle.fk_orders.specs.Left.{parts_of, idle_in, idle_at, is_spent, item_left, places_left, closes, IsBehind, GoesBy}
+use Rattle.fk_orders.proofs.Lefts.{stays, falls}
 
 module _ (ss : List SpaceRec) (slot : ℕ) (bind : ℕ → ℕ) where
   module _ (n : ℕ) (s : SpaceRec) where
@@ -213,41 +218,124 @@ module _ (ss : List SpaceRec) (slot : ℕ) (bind : ℕ → ℕ) where
       by None there = absurd there
       by (Some s) there = omega (arith, lt)
 
-  pub record SpentGone (p q : Position) : Type 0 where
-    pub rest : rest ss slot bind p ≡ rest ss slot bind q
-    pub place : IsPosition ss slot bind q
-    pub fewer : places_left ss q < places_left ss p
+  -- ---- behind an item
 
-  pub spent_gone : (p q : Position) → IsPosition ss slot bind p → spent ss p ≡ Some q → SpentGone p q
-  spent_gone p q good is = by p.walk p.pass p.spot p.stands good is
+  not_closing : (pass : Pass) (n j k : ℕ) → closes walks.Done pass (spots.Part n j k) ≡ false
+  not_closing Spaces n j k = refl
+  not_closing Fills n j k = refl
+  not_closing Inward n j k = refl
+  not_closing (Outward i) n j k = refl
+  not_closing Ties n j k = refl
+  not_closing Holds n j k = refl
+
+  abbrev spot_at : Pass → ℕ → Spot → Position
+  spot_at pass a spot = record { walk = walks.Done; pass = pass; spot = spot; stands = a }
+
+  -- the place behind the end of an item
+  behind_end : (pass : Pass) (a n j : ℕ) (s : SpaceRec) → slice_get ss n ≡ Some s
+      → next_of ss slot bind (spot_at pass a (spots.Part n j 6)) ≡ spot_at pass a (next_item pass n s j)
+  behind_end pass a n j s there =
+      ap (next_part ss slot bind pass a n j 6) there ∙ by (ltb (suc j) (words.items_of pass s))
     where
-      to : (w : Walk) (pass : Pass) (spot : Spot) (a : ℕ) → Position
-      to w pass spot a = record { walk = w; pass = pass; spot = spot; stands = a }
+      by : (t : Bool) → cond t (spot_at pass a (spots.Part n (suc j) 0)) (spot_at pass a (spots.Room (suc n)))
+          ≡ spot_at pass a (cond t (spots.Part n (suc j) 0) (spots.Room (suc n)))
+      by true = refl
+      by false = refl
 
-      by : (w : Walk) (pass : Pass) (spot : Spot) (a : ℕ) → IsPosition ss slot bind (to w pass spot a) → spent_by ss w pass spot a ≡ Some q →
-          SpentGone (to w pass spot a) q
-      by Done pass (Part n j k) a good is = choice (ltb k 6) (leb (parts_of pass) k) (idle_at pass j (slice_get ss n)) refl refl refl is
-        where
-          goes : k < 6 → Spent pass j k (slice_get ss n) → Some (to walks.Done pass (spots.Part n j 6) a) ≡ Some q →
-              SpentGone (to walks.Done pass (spots.Part n j k) a) q
-          goes lt spent is =
-              let same : to walks.Done pass (spots.Part n j 6) a ≡ q = cc in
-              let less = fewer pass a n j k lt good.spot in
-              subst (λ q. SpentGone (to walks.Done pass (spots.Part n j k) a) q) same record {
-                rest = gone pass a n j k spent;
-                place = record { walk = tt; pass = good.pass; spot = good.spot; stands = good.stands };
-                fewer = omega (arith, less);
-              }
+pub then_by : (ss : List SpaceRec) (slot : ℕ) (bind : ℕ → ℕ) (p q r : Position) → GoesBy ss slot bind p q → GoesBy ss slot bind q r
+    → GoesBy ss slot bind p r
+then_by ss slot bind p q r one two =
+    let less = one.fewer in let more = two.fewer in
+    record { rest = one.rest ∙ two.rest; place = two.place; fewer = omega (arith, less, more) }
 
-          choice : (high low still : Bool) → ltb k 6 ≡ high → leb (parts_of pass) k ≡ low → idle_at pass j (slice_get ss n) ≡ still →
-              cond (high && (low || still)) (Some (to walks.Done pass (spots.Part n j 6) a)) None ≡ Some q →
-              SpentGone (to walks.Done pass (spots.Part n j k) a) q
-          choice true true still high low idles is = goes (ltb-true k 6 high) (inl (leb-true (parts_of pass) k low)) is
-          choice true false true high low idles is = goes (ltb-true k 6 high) (inr idles) is
-          choice true false false high low idles is = absurd (cc)
-          choice false low still high lows idles is = absurd (cc)
-      by Done pass (Before k) a good is = absurd (cc)
-      by Done pass (Room n) a good is = absurd (cc)
-      by Done pass (After k) a good is = absurd (cc)
-      by (Top r) pass spot a good is = absurd (cc)
-      by (Down r name from to last) pass spot a good is = absurd (cc)
+module _ (i : Image) (slot : ℕ) (bind : ℕ → ℕ) (valid : is_valid i ≡ true) where
+  abbrev Goes : Position → Position → Type 0
+  Goes p q = GoesBy i.spaces slot bind p q
+
+  abbrev spot_of : Pass → ℕ → Spot → Position
+  spot_of pass a spot = record { walk = walks.Done; pass = pass; spot = spot; stands = a }
+
+  -- an item in which nothing more is done is gone by
+  item_gone : (pass : Pass) (a n j k : ℕ) (s : SpaceRec) → slice_get i.spaces n ≡ Some s → IsPosition i.spaces slot bind (spot_of pass a (spots.Part n j k))
+      → k < 6 → Spent i.spaces slot bind pass j k (slice_get i.spaces n) → Goes (spot_of pass a (spots.Part n j k)) (spot_of pass a (next_item pass n s j))
+  item_gone pass a n j k s there good lt spent =
+      let end : Position = spot_of pass a (spots.Part n j 6) in
+      let place : IsPosition i.spaces slot bind end = record { walk = tt; pass = good.pass; spot = good.spot; stands = good.stands } in
+      let none : order_at i.spaces slot bind end ≡ None = ap (asked_in i.spaces slot bind pass n j 6) there in
+      let step = stays i slot bind end valid place none in
+      let less = fewer i.spaces slot bind pass a n j k lt good.spot in
+      let falling = falls i.spaces slot bind end none (not_closing i.spaces slot bind pass n j 6) in
+      subst (Goes (spot_of pass a (spots.Part n j k))) (behind_end i.spaces slot bind pass a n j s there) record {
+        rest = gone i.spaces slot bind pass a n j k spent ∙ step.0;
+        place = step.1;
+        fewer = omega (arith, less, falling);
+      }
+
+  -- and so are those that follow it, up to one
+  items_gone : (m : ℕ) (pass : Pass) (a n j k : ℕ) (s : SpaceRec) → slice_get i.spaces n ≡ Some s
+      → IsPosition i.spaces slot bind (spot_of pass a (spots.Part n j k)) → k < 6 → Spent i.spaces slot bind pass j k (slice_get i.spaces n)
+      → ((l : ℕ) → j < l → l ≤ j + m → idle_in pass (slice_get s.objects l) ≡ true)
+      → Goes (spot_of pass a (spots.Part n j k)) (spot_of pass a (next_item pass n s (j + m)))
+  items_gone zero pass a n j k s there good lt spent idles =
+      let same : j ≡ j + 0 = omega arith in
+      subst (λ l. Goes (spot_of pass a (spots.Part n j k)) (spot_of pass a (next_item pass n s l))) same (item_gone pass a n j k s there good lt spent)
+  items_gone (suc m) pass a n j k s there good lt spent idles =
+      by (items_gone m pass a n (suc j) 0 s there) (cases_lt (suc j) (words.items_of pass s))
+    where
+      one : Goes (spot_of pass a (spots.Part n j k)) (spot_of pass a (next_item pass n s j))
+      one = item_gone pass a n j k s there good lt spent
+
+      same : suc j + m ≡ j + suc m
+      same = omega arith
+
+      by : (IsPosition i.spaces slot bind (spot_of pass a (spots.Part n (suc j) 0)) → 0 < 6 → Spent i.spaces slot bind pass (suc j) 0 (slice_get i.spaces n)
+          → ((l : ℕ) → suc j < l → l ≤ suc j + m → idle_in pass (slice_get s.objects l) ≡ true)
+          → Goes (spot_of pass a (spots.Part n (suc j) 0)) (spot_of pass a (next_item pass n s (suc j + m))))
+          → (suc j < words.items_of pass s) ⊎ (words.items_of pass s ≤ suc j)
+          → Goes (spot_of pass a (spots.Part n j k)) (spot_of pass a (next_item pass n s (j + suc m)))
+      by others (inl more) =
+          let here : next_item pass n s j ≡ spots.Part n (suc j) 0 =
+          ap (λ t. cond t (spots.Part n (suc j) 0) (spots.Room (suc n))) (lt-ltb (suc j) (words.items_of pass s) more) in
+          let first : Goes (spot_of pass a (spots.Part n j k)) (spot_of pass a (spots.Part n (suc j) 0)) =
+          subst (λ spot. Goes (spot_of pass a (spots.Part n j k)) (spot_of pass a spot)) here one in
+          let still : idle_at pass (suc j) (slice_get i.spaces n) ≡ true = ap (idle_at pass (suc j)) there ∙ idles (suc j) (omega arith) (omega arith) in
+          subst (λ l. Goes (spot_of pass a (spots.Part n j k)) (spot_of pass a (next_item pass n s l))) same
+          (then_by i.spaces slot bind (spot_of pass a (spots.Part n j k)) (spot_of pass a (spots.Part n (suc j) 0))
+          (spot_of pass a (next_item pass n s (suc j + m))) first
+          (others first.place (omega arith) (inr still) (λ l lt le. idles l (omega (arith, lt)) (omega (arith, le)))))
+      by others (inr none) =
+          let last : (l : ℕ) → j ≤ l → next_item pass n s l ≡ spots.Room (suc n) =
+          (λ l le. ap (λ t. cond t (spots.Part n (suc l) 0) (spots.Room (suc n))) (le-ltb (suc l) (words.items_of pass s) (omega (arith, none, le)))) in
+          subst (λ spot. Goes (spot_of pass a (spots.Part n j k)) (spot_of pass a spot)) (last j (omega arith) ∙ sym (last (j + suc m) (omega arith))) one
+
+  spent_so : (pass : Pass) (n j k : ℕ) → is_spent i.spaces pass n j k ≡ true → (k < 6) × Spent i.spaces slot bind pass j k (slice_get i.spaces n)
+  spent_so pass n j k is = by (ltb k 6) (leb (parts_of pass) k) (idle_at pass j (slice_get i.spaces n)) refl refl refl is
+    where
+      by : (high low still : Bool) → ltb k 6 ≡ high → leb (parts_of pass) k ≡ low → idle_at pass j (slice_get i.spaces n) ≡ still
+          → (high && (low || still)) ≡ true → (k < 6) × Spent i.spaces slot bind pass j k (slice_get i.spaces n)
+      by true true still high low idles is = (ltb-true k 6 high, inl (leb-true (parts_of pass) k low))
+      by true false true high low idles is = (ltb-true k 6 high, inr idles)
+      by true false false high low idles is = absurd (cc)
+      by false low still high lows idles is = absurd (cc)
+
+  pub spent_gone : (p : Position) (spot : Spot) → IsPosition i.spaces slot bind p → p.walk ≡ walks.Done → IsBehind i.spaces p.pass p.spot spot
+      → Goes p (spot_of p.pass p.stands spot)
+  spent_gone p spot good done behind = by p.walk p.pass p.spot p.stands good done behind
+    where
+      to : (w : Walk) (pass : Pass) (at : Spot) (a : ℕ) → Position
+      to w pass at a = record { walk = w; pass = pass; spot = at; stands = a }
+
+      by : (w : Walk) (pass : Pass) (at : Spot) (a : ℕ) → IsPosition i.spaces slot bind (to w pass at a) → w ≡ walks.Done → IsBehind i.spaces pass at spot
+          → Goes (to w pass at a) (spot_of pass a spot)
+      by Done pass (Part n j k) a good done behind =
+          let so = spent_so pass n j k behind.spent in
+          let from = behind.from in
+          let far : j + (behind.last - j) ≡ behind.last = omega (arith, from) in
+          subst (λ spot. Goes (spot_of pass a (spots.Part n j k)) (spot_of pass a spot)) (ap (next_item pass n behind.space) far ∙ sym behind.is)
+          (items_gone (behind.last - j) pass a n j k behind.space behind.there good so.0 so.1
+          (λ l lt le. behind.idle l lt (omega (arith, from, le))))
+      by Done pass (Before k) a good done behind = absurd behind
+      by Done pass (Room n) a good done behind = absurd behind
+      by Done pass (After k) a good done behind = absurd behind
+      by (Top r) pass spot a good done behind = absurd (cc)
+      by (Down r name from to last) pass spot a good done behind = absurd (cc)

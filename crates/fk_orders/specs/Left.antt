@@ -1,5 +1,5 @@
 -- How many empty places may still go by before the next order, or the end.
-use Rattle.std.specs.Prelude.{ℕ, zero, suc, ◌+◌, ◌*◌, ◌-◌, Bool, true, false, not, ◌&&◌, ◌||◌, ◌==◌, is_none, nat_le, nat_lt}
+use Rattle.std.specs.Prelude.{◌≡◌, ℕ, zero, suc, ◌+◌, ◌*◌, ◌-◌, ◌<◌, ◌≤◌, Bool, true, false, not, ◌&&◌, ◌||◌, ◌==◌, is_none, nat_le, nat_lt}
 use Rattle.std.specs.Prelude.{List, [], ◌∷◌, drop, Option, Some, None, slice_get, if◌then◌else◌}
 use Rattle.fk_image.specs.declared.image.Image.{Image}
 use Rattle.fk_image.specs.declared.image.ObjectRec.{ObjectRec}
@@ -14,7 +14,9 @@ use Rattle.fk_positions.specs.declared.position.Spot.TheVariants.{Before, Room, 
 use Rattle.fk_positions.specs.declared.position.Position.{Position}
 use Rattle.laws_sites.specs.Orders.{Order}
 use Rattle.fk_positions.specs.Code.{leads_in, leads_out, ties_inside}
-use Rattle.fk_positions.specs.Passes.{items_of, leads_out_any}
+use Rattle.fk_positions.specs.Doing.{next_item}
+use Rattle.fk_positions.specs.Positions.{rest, IsPosition}
+use Rattle.fk_positions.specs.Passes.{items_of}
 
 -- the image with these spaces
 abbrev pub image_of : List SpaceRec → Image
@@ -27,14 +29,6 @@ closes walk pass spot = false
 
 abbrev pub is_closing : Position → Bool
 is_closing p = closes p.walk p.pass p.spot
-
--- a pass is about to begin of a slot of the nester to which nothing leads
-abbrev pub unused_by : List SpaceRec → Walk → Pass → Spot → Bool
-unused_by ss Done (Outward i) (Before k) = k == 0 && not (leads_out_any ss i)
-unused_by ss walk pass spot = false
-
-abbrev pub is_unused : List SpaceRec → Position → Bool
-is_unused ss p = unused_by ss p.walk p.pass p.spot
 
 -- in so many parts of an item something may be done
 abbrev pub parts_of : Pass → ℕ
@@ -63,16 +57,35 @@ abbrev pub idle_at : Pass → ℕ → Option SpaceRec → Bool
 idle_at pass j None = false
 idle_at pass j (Some s) = idle_in pass (slice_get s.objects j)
 
--- the end of an item, where nothing is done in it from a position on
-abbrev pub spent_by : List SpaceRec → Walk → Pass → Spot → ℕ → Option Position
-spent_by ss Done pass (Part n j k) a =
-    if nat_lt k 6 && (nat_le (parts_of pass) k || idle_at pass j (slice_get ss n))
-    then Some (record { walk = walks.Done; pass = pass; spot = spots.Part n j 6; stands = a })
-    else None
-spent_by ss walk pass spot a = None
+-- nothing is done in an item from a part on
+abbrev pub is_spent : List SpaceRec → Pass → ℕ → ℕ → ℕ → Bool
+is_spent ss pass n j k = nat_lt k 6 && (nat_le (parts_of pass) k || idle_at pass j (slice_get ss n))
 
-abbrev pub spent : List SpaceRec → Position → Option Position
-spent ss p = spent_by ss p.walk p.pass p.spot p.stands
+-- behind an item in which nothing is done from a part on, and behind those that follow it up to one and in which nothing is done
+pub record IsBehindItem (ss : List SpaceRec) (pass : Pass) (n j k : ℕ) (spot : Spot) : Type 0 where
+  pub space : SpaceRec
+  pub there : slice_get ss n ≡ Some space
+  pub spent : is_spent ss pass n j k ≡ true
+  pub last : ℕ
+  pub from : j ≤ last
+  pub idle : (i : ℕ) → j < i → i ≤ last → idle_in pass (slice_get space.objects i) ≡ true
+  pub is : spot ≡ next_item pass n space last
+
+abbrev pub IsBehind : List SpaceRec → Pass → Spot → Spot → Type 0
+IsBehind ss pass (Part n j k) spot = IsBehindItem ss pass n j k spot
+IsBehind ss pass other spot = ⊥
+
+-- the slot of the nester whose pass is about to begin
+abbrev pub begins_by : Walk → Pass → Spot → Option ℕ
+begins_by Done (Outward i) (Before k) = if k == 0 then Some i else None
+begins_by walk pass spot = None
+
+abbrev pub begins : Position → Option ℕ
+begins p = begins_by p.walk p.pass p.spot
+
+-- the pass of a slot of the nester, or the one behind those of all slots
+abbrev pub slot_pass : ℕ → Pass
+slot_pass i = if nat_lt i 240 then passes.Outward i else passes.Ties
 
 -- no order stands here, and one may follow
 abbrev pub is_empty : Position → Option Order → Bool
@@ -115,3 +128,9 @@ walk_left other = 1
 
 abbrev pub places_left : List SpaceRec → Position → ℕ
 places_left ss p = (later ss p.pass + spot_left ss p.pass p.spot) * 2 + walk_left p.walk
+
+-- from one place to another the orders are the same, and fewer places are left
+pub record GoesBy (ss : List SpaceRec) (slot : ℕ) (bind : ℕ → ℕ) (p q : Position) : Type 0 where
+  pub rest : rest ss slot bind p ≡ rest ss slot bind q
+  pub place : IsPosition ss slot bind q
+  pub fewer : places_left ss q < places_left ss p

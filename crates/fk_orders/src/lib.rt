@@ -8,8 +8,9 @@
 mod looks;
 mod records;
 mod settled;
+mod used;
 mod words;
 
 pub use looks::{Look, look_at};
-pub use settled::{first, settled_from};
+pub use settled::{first, is_over, settled_from};
 pub use words::words_at;

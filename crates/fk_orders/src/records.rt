@@ -1,23 +1,23 @@
-//! The words of records, talks and faults, as a porter gives them.
+//! The words of records, talks and faults, as a porter gives them, written over zeros.
 ghost use Rattle.std.specs.Prelude.{◌≡◌, ℕ, List, [], ◌∷◌, ◌==◌, option_map};
 ghost use Rattle.fk_model.specs.Objects as objects;
 ghost use Rattle.fk_model.specs.Objects.Body.{Thread_of};
 ghost use Rattle.fk_model.specs.Records as definition;
 ghost use Rattle.fk_image.specs.declared.image.SpaceRec as records;
 ghost use Rattle.fk_image.specs.Picture as pictures;
+ghost use Rattle.laws_jobs.specs.Machines.{no_words};
 ghost use Rattle.laws_restore.specs.Script as script;
 
 use fk_image::{FaultRec, Rec, TalkRec, ThreadRec};
 use fk_stages::todo;
 
 /// Two words, with zeros behind them.
-fn two(a: u64, b: u64) -> [u64; 64]
-    ensures { result ≡ script.padded (a ∷ b ∷ []) }
+fn two(a: u64, b: u64, words: &mut [u64; 64])
+    requires { words.old ≡ no_words }
+    ensures { words.new ≡ script.padded (a ∷ b ∷ []) }
 {
-    let mut words = [0; 64];
     words[0] = a;
     words[1] = b;
-    words
 }
 
 /// A byte that is 1 where something is so.
@@ -28,34 +28,35 @@ fn flag(byte: u8) -> u64
 }
 
 /// Whose turn it is, and the words moved.
-pub fn talk_words(talk: TalkRec) -> [u64; 64]
-    ensures { (ss : List records.SpaceRec) → result ≡ script.talk_words (pictures.pictured_talk ss talk) }
+pub fn talk_words(talk: TalkRec, words: &mut [u64; 64])
+    requires { words.old ≡ no_words }
+    ensures { (ss : List records.SpaceRec) → words.new ≡ script.talk_words (pictures.pictured_talk ss talk) }
 {
     if talk.turn == 1 {
-        two(1, u64::from(talk.moved))
+        two(1, u64::from(talk.moved), words)
     } else {
-        two(2, u64::from(talk.moved))
+        two(2, u64::from(talk.moved), words)
     }
 }
 
 /// The page, and 1 for a write.
-pub fn fault_words(fault: FaultRec) -> [u64; 64]
-    ensures { (ss : List records.SpaceRec) → result ≡ script.fault_words (pictures.pictured_fault ss fault) }
+pub fn fault_words(fault: FaultRec, words: &mut [u64; 64])
+    requires { words.old ≡ no_words }
+    ensures { (ss : List records.SpaceRec) → words.new ≡ script.fault_words (pictures.pictured_fault ss fault) }
 {
-    two(u64::from(fault.page), flag(fault.write))
+    two(u64::from(fault.page), flag(fault.write), words)
 }
 
 /// The record of the kind with this number, in which up to four words follow.
-fn short(kind: u64, a: u64, b: u64, c: u64, d: u64) -> [u64; 64]
-    ensures { result ≡ script.padded (definition.padded 32 (kind ∷ a ∷ b ∷ c ∷ d ∷ [])) }
+fn short(kind: u64, a: u64, b: u64, c: u64, d: u64, words: &mut [u64; 64])
+    requires { words.old ≡ no_words }
+    ensures { words.new ≡ script.padded (definition.padded 32 (kind ∷ a ∷ b ∷ c ∷ d ∷ [])) }
 {
-    let mut words = [0; 64];
     words[0] = kind;
     words[1] = a;
     words[2] = b;
     words[3] = c;
     words[4] = d;
-    words
 }
 
 /// The number of a mode and the code of a halt.
@@ -106,13 +107,13 @@ fn page_words(fault: Option<FaultRec>) -> (u64, u64, u64)
 }
 
 /// The record of a thread.
-fn thread_record(thread: &ThreadRec) -> [u64; 64]
-    ensures { (ss : List records.SpaceRec) → result ≡ script.padded (definition.record_of (Thread_of (pictures.pictured_thread ss thread.now))) }
+fn thread_record(thread: &ThreadRec, words: &mut [u64; 64])
+    requires { words.old ≡ no_words }
+    ensures { (ss : List records.SpaceRec) → words.new ≡ script.padded (definition.record_of (Thread_of (pictures.pictured_thread ss thread.now))) }
 {
     let mode = mode_words(thread);
     let talk = turn_words(thread.talk);
     let fault = page_words(thread.fault);
-    let mut words = [0; 64];
     words[0] = 8;
     words[1..17].copy_from_slice(&thread.regs);
     words[17] = thread.pc;
@@ -124,7 +125,6 @@ fn thread_record(thread: &ThreadRec) -> [u64; 64]
     words[23] = fault.0;
     words[24] = fault.1;
     words[25] = fault.2;
-    words
 }
 
 /// A slot of a port set as a word.
@@ -136,12 +136,13 @@ fn member(set: u16) -> u64
 
 /// The record of an object, which says all of it but its pointers.
 #[tactic(auto, unfolding(fk_model::specs::Records::record_of))]
-pub fn record_words(body: &Rec) -> [u64; 64]
-    ensures { (ss : List records.SpaceRec) → result ≡ script.padded (definition.record_of (pictures.pictured_body ss body.now)) }
+pub fn record_words(body: &Rec, words: &mut [u64; 64])
+    requires { words.old ≡ no_words }
+    ensures { (ss : List records.SpaceRec) → words.new ≡ script.padded (definition.record_of (pictures.pictured_body ss body.now)) }
 {
     match body {
-        Rec::Mutex { locked } => short(1, flag(*locked), 0, 0, 0),
-        Rec::Cond => short(2, 0, 0, 0, 0),
+        Rec::Mutex { locked } => short(1, flag(*locked), 0, 0, 0, words),
+        Rec::Cond => short(2, 0, 0, 0, 0, words),
         Rec::Mapping {
             first,
             count,
@@ -154,16 +155,24 @@ pub fn record_words(body: &Rec) -> [u64; 64]
             u64::from(*count),
             u64::from(*offset),
             flag(*write),
+            words,
         ),
         Rec::Region {
             first,
             count,
             write,
             ..
-        } => short(4, u64::from(*first), u64::from(*count), flag(*write), 0),
-        Rec::Port { set } => short(5, member(*set), 0, 0, 0),
-        Rec::Portset => short(6, 0, 0, 0, 0),
-        Rec::Thread(thread) => thread_record(thread.get()),
-        Rec::Reference { .. } => short(9, 0, 0, 0, 0),
+        } => short(
+            4,
+            u64::from(*first),
+            u64::from(*count),
+            flag(*write),
+            0,
+            words,
+        ),
+        Rec::Port { set } => short(5, member(*set), 0, 0, 0, words),
+        Rec::Portset => short(6, 0, 0, 0, 0, words),
+        Rec::Thread(thread) => thread_record(thread.get(), words),
+        Rec::Reference { .. } => short(9, 0, 0, 0, 0, words),
     }
 }

@@ -1,18 +1,20 @@
 //! The next place where an order stands.
-ghost use Rattle.std.specs.Prelude.{◌≡◌, ◌<◌, ◌&&◌, ◌||◌, true, false, not, nat_lt, nat_le, slice_get, IfSome, IfNone};
+ghost use Rattle.std.specs.Prelude.{◌≡◌, ◌<◌, ◌≤◌, ◌+◌, ◌^◌, ◌&&◌, ◌||◌, ℕ, true, false, not, nat_lt, nat_le, is_none, slice_get, length, IfSome, IfNone};
 ghost use Rattle.fk_image.specs.Valid.{is_valid};
 ghost use Rattle.laws_rooms.specs.Restoring.{bound_by};
 ghost use Rattle.fk_positions.specs.Positions.{rest, order_at, IsPosition};
 ghost use Rattle.fk_positions.specs.Code as code;
 ghost use Rattle.fk_positions.specs.Code.{stays_within};
+ghost use Rattle.fk_positions.specs.Doing as doing;
 ghost use Rattle.fk_positions.specs.Positions as places;
 ghost use Rattle.fk_orders.specs.Left.{image_of};
 ghost use Rattle.fk_orders.specs.Left as left;
 
+use crate::used::used_from;
 use fk_image::{FaultRec, Link, ObjectRec, Rec, SpaceRec, TalkRec};
 use fk_positions::{
-    Pass, Position, Spot, Walk, fault_of, is_out, leads_out_any, leads_within, link_of, next_of,
-    next_pass, stage_at, talk_of,
+    Pass, Position, Spot, Walk, fault_of, is_out, leads_within, link_of, next_item, next_of,
+    stage_at, talk_of,
 };
 
 /// The first position of a script.
@@ -43,27 +45,19 @@ fn is_closing(position: Position) -> bool
     }
 }
 
+/// Whether the script is at its end, at a place where an order stands or that is the end.
+pub fn is_over(spaces: &[SpaceRec], slot: u8, pairs: &[(u8, u8)], at: Position) -> bool
+    requires { left.is_empty at (order_at spaces.now slot (bound_by pairs.now) at) ≡ false }
+    ensures { result ≡ is_none (order_at spaces.now slot (bound_by pairs.now) at) }
+{
+    is_closing(at) && stage_at(spaces, slot, pairs, at).is_none()
+}
+
 /// Whether no order stands there, and one may stand behind it.
 fn is_empty(spaces: &[SpaceRec], slot: u8, pairs: &[(u8, u8)], position: Position) -> bool
     ensures { result ≡ left.is_empty position (order_at spaces.now slot (bound_by pairs.now) position) }
 {
     !is_closing(position) && stage_at(spaces, slot, pairs, position).is_none()
-}
-
-/// Whether a pass is about to begin of a slot of the nester to which nothing leads.
-fn is_unused(spaces: &[SpaceRec], position: Position) -> bool
-    ensures { result ≡ left.is_unused spaces.now position }
-{
-    match position.walk {
-        Walk::Done => match position.pass {
-            Pass::Outward(out) => match position.spot {
-                Spot::Before(k) => k == 0 && !leads_out_any(spaces, out),
-                Spot::Room(_) | Spot::Part { .. } | Spot::After(_) => false,
-            },
-            Pass::Spaces | Pass::Fills | Pass::Inward | Pass::Ties | Pass::Holds => false,
-        },
-        Walk::Top { .. } | Walk::Down { .. } => false,
-    }
 }
 
 /// In how many parts of an item something may be done.
@@ -173,31 +167,128 @@ fn is_spent(spaces: &[SpaceRec], pass: Pass, space: u32, item: usize, part: u8) 
     part < 6 && (parts_of(pass) <= part || idle_at(spaces, pass, space, item))
 }
 
-/// The end of an item, where nothing is done in it from a position on.
-fn spent(spaces: &[SpaceRec], position: Position) -> Option<Position>
-    ensures { result ≡ left.spent spaces.now position }
+/// Whether an object follows one, and nothing is done at it in a pass.
+fn follows_idle(pass: Pass, objects: &[ObjectRec], item: usize) -> bool
+    ensures idle { result ≡ true → left.idle_in pass (slice_get objects.now (item + 1)) ≡ true }
+    ensures there { result ≡ true → item + 1 < length objects.now }
 {
-    match position.walk {
-        Walk::Done => match position.spot {
-            Spot::Part { space, item, part } => {
-                if is_spent(spaces, position.pass, space, item, part) {
-                    Some(Position {
-                        walk: Walk::Done,
-                        pass: position.pass,
-                        spot: Spot::Part {
-                            space,
-                            item,
-                            part: 6,
-                        },
-                        stands: position.stands,
-                    })
-                } else {
-                    None
-                }
-            }
-            Spot::Before(_) | Spot::Room(_) | Spot::After(_) => None,
+    let count = objects.len();
+    if count == 0 || item >= count - 1 {
+        return false;
+    }
+    idle_in(pass, objects, item + 1)
+}
+
+/// The last of those that follow an item and in which nothing is done.
+fn last_idle(pass: Pass, objects: &[ObjectRec], item: usize) -> usize
+    ensures from { item ≤ result }
+    ensures idle { (i : ℕ) → item < i → i ≤ result → left.idle_in pass (slice_get objects.now i) ≡ true }
+{
+    let mut last = item;
+    while follows_idle(pass, objects, last) {
+        last += 1;
+    }
+    last
+}
+
+/// The spot behind an item in which nothing is done from a part on, and behind those that follow it and in which nothing is done.
+fn behind_item(spaces: &[SpaceRec], pass: Pass, number: u32, item: usize, part: u8) -> Option<Spot>
+    requires { length spaces.now < 2 ^ 32 }
+    ensures { IfSome result (left.IsBehindItem spaces.now pass number item part) }
+{
+    if !is_spent(spaces, pass, number, item, part) {
+        return None;
+    }
+    match spaces.get(number as usize) {
+        None => None,
+        Some(space) => {
+            let last = last_idle(pass, space.objects.as_slice(), item);
+            Some(next_item(pass, number, space, last))
+        }
+    }
+}
+
+/// The same of the item at a spot.
+fn behind(spaces: &[SpaceRec], pass: Pass, spot: Spot) -> Option<Spot>
+    requires { length spaces.now < 2 ^ 32 }
+    ensures { IfSome result (left.IsBehind spaces.now pass spot) }
+{
+    match spot {
+        Spot::Part { space, item, part } => behind_item(spaces, pass, space, item, part),
+        Spot::Before(_) | Spot::Room(_) | Spot::After(_) => None,
+    }
+}
+
+/// A place where no walk is under way.
+fn place(pass: Pass, stands: u32, spot: Spot) -> Position
+    ensures { result ≡ doing.place pass stands spot }
+{
+    Position {
+        walk: Walk::Done,
+        pass,
+        spot,
+        stands,
+    }
+}
+
+/// The place behind items in which nothing is done from a position on.
+fn spent(spaces: &[SpaceRec], slot: u8, pairs: &[(u8, u8)], at: Position) -> Option<Position>
+    requires valid { is_valid (image_of spaces.now) ≡ true }
+    requires place { IsPosition spaces.now slot (bound_by pairs.now) at }
+    ensures { IfSome result (left.GoesBy spaces.now slot (bound_by pairs.now) at) }
+{
+    match at.walk {
+        Walk::Done => match behind(spaces, at.pass, at.spot) {
+            Some(spot) => Some(place(at.pass, at.stands, spot)),
+            None => None,
         },
         Walk::Top { .. } | Walk::Down { .. } => None,
+    }
+}
+
+/// The slot of the nester whose pass is about to begin.
+fn begins(at: Position) -> Option<u8>
+    ensures { result ≡ left.begins at }
+{
+    match at.walk {
+        Walk::Done => match at.pass {
+            Pass::Outward(out) => match at.spot {
+                Spot::Before(k) => { if k == 0 { Some(out) } else { None } }
+                Spot::Room(_) | Spot::Part { .. } | Spot::After(_) => None,
+            },
+            Pass::Spaces | Pass::Fills | Pass::Inward | Pass::Ties | Pass::Holds => None,
+        },
+        Walk::Top { .. } | Walk::Down { .. } => None,
+    }
+}
+
+/// The pass of a slot of the nester, or the one behind those of all slots.
+fn slot_pass(out: u8) -> Pass
+    ensures { result ≡ left.slot_pass out }
+{
+    if out < 240 {
+        Pass::Outward(out)
+    } else {
+        Pass::Ties
+    }
+}
+
+/// The place before the pass of the next slot to which something leads, where one is about to begin of a slot to which nothing does.
+fn unused(spaces: &[SpaceRec], slot: u8, pairs: &[(u8, u8)], at: Position) -> Option<Position>
+    requires valid { is_valid (image_of spaces.now) ≡ true }
+    requires place { IsPosition spaces.now slot (bound_by pairs.now) at }
+    ensures { IfSome result (left.GoesBy spaces.now slot (bound_by pairs.now) at) }
+{
+    match begins(at) {
+        None => None,
+        Some(out) => {
+            let used = used_from(spaces, out);
+            if out < used {
+                Some(place(slot_pass(used), at.stands, Spot::Before(0)))
+            } else {
+                None
+            }
+        }
     }
 }
 
@@ -206,15 +297,13 @@ fn spent(spaces: &[SpaceRec], position: Position) -> Option<Position>
 fn passed(spaces: &[SpaceRec], slot: u8, pairs: &[(u8, u8)], at: Position) -> Option<Position>
     requires valid { is_valid (image_of spaces.now) ≡ true }
     requires place { IsPosition spaces.now slot (bound_by pairs.now) at }
-    ensures rest { IfSome result (λ p. rest spaces.now slot (bound_by pairs.now) at ≡ rest spaces.now slot (bound_by pairs.now) p) }
-    ensures place { IfSome result (IsPosition spaces.now slot (bound_by pairs.now)) }
-    ensures fewer { IfSome result (λ p. left.places_left spaces.now p < left.places_left spaces.now at) }
+    ensures goes { IfSome result (left.GoesBy spaces.now slot (bound_by pairs.now) at) }
     ensures stands { IfNone result (left.is_empty at (order_at spaces.now slot (bound_by pairs.now) at) ≡ false) }
 {
-    if let Some(end) = spent(spaces, at) {
+    if let Some(end) = spent(spaces, slot, pairs, at) {
         Some(end)
-    } else if is_unused(spaces, at) {
-        Some(next_pass(at.pass, at.stands))
+    } else if let Some(next) = unused(spaces, slot, pairs, at) {
+        Some(next)
     } else if is_empty(spaces, slot, pairs, at) {
         Some(next_of(spaces, slot, pairs, at))
     } else {

@@ -3,18 +3,18 @@ ghost use Rattle.std.specs.Prelude.{◌≡◌, OnOk, IfSome, IfNone, is_some, op
 ghost use Rattle.laws_checkpoint.specs.Checkpoint.State.{Holds};
 ghost use Rattle.laws_house.specs.Houses.{State, machine, image_of_end};
 ghost use Rattle.laws_house.specs.Houses.State.{Checking, Restoring};
-ghost use Rattle.laws_jobs.specs.Machines.{IsAtCall};
+ghost use Rattle.laws_jobs.specs.Machines.{no_words, IsAtCall};
 ghost use Rattle.laws_jobs.specs.Machines.Head.{Stops};
 ghost use Rattle.laws_restore.specs.Restore.State.{Makes};
 ghost use Rattle.laws_rooms.specs.Restoring.{IsRestoreJob};
-ghost use Rattle.fk_jobs.specs.Jobs.{call_at, end_at};
+ghost use Rattle.fk_jobs.specs.Jobs.{call_at, call_with, end_at};
 ghost use Rattle.fk_porters.specs.Porters.{state_of, has_room, end_of, image_in};
 
 use crate::sound::Sound;
 use fk_checkpoint::Checkpoint;
 use fk_finish::{Finish, ValidImage};
 use fk_jobs::Worker;
-use fk_model::{Answer, Ask, List, NoMemory};
+use fk_model::{Answer, List, NoMemory, Stage};
 use std::alloc::Global;
 
 /// What a porter is at.
@@ -49,10 +49,10 @@ impl Worker for Porter {
         Porter::Restore(Sound::new(slot, image, pairs))
     }
 
-    fn next(&self) -> Option<Ask> {
+    fn next(&self, words: &mut [u64; 64]) -> Option<Stage> {
         match self {
             Porter::Checkpoint(checkpoint) => checkpoint.next(),
-            Porter::Restore(restore) => restore.next(),
+            Porter::Restore(restore) => restore.next(words),
         }
     }
 

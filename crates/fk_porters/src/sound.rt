@@ -2,15 +2,15 @@
 ghost use Rattle.std.specs.Prelude.{◌≡◌, IfSome, IfNone, is_some, take};
 ghost use Rattle.laws_house.specs.Houses.{machine};
 ghost use Rattle.laws_house.specs.Houses.State.{Restoring};
-ghost use Rattle.laws_jobs.specs.Machines.{IsAtCall};
+ghost use Rattle.laws_jobs.specs.Machines.{no_words, IsAtCall};
 ghost use Rattle.laws_jobs.specs.Machines.Head.{Stops};
 ghost use Rattle.laws_restore.specs.Restore.State.{Makes};
 ghost use Rattle.laws_rooms.specs.Restoring.{IsRestoreJob};
-ghost use Rattle.fk_jobs.specs.Jobs.{call_at};
+ghost use Rattle.fk_jobs.specs.Jobs.{call_at, call_with};
 ghost use Rattle.fk_porters.specs.Porters.{restoring, restored};
 
 use fk_finish::{Finish, ValidImage};
-use fk_model::{Answer, Ask, List};
+use fk_model::{Answer, List, Stage};
 use fk_restore::Restore;
 use std::marker::Model;
 
@@ -42,11 +42,12 @@ impl Sound {
         }
     }
 
-    /// Its next call. It has none exactly where it has ended.
-    pub fn next(&self) -> Option<Ask>
-        ensures { result ≡ call_at (machine.head (restoring self.now)) }
+    /// Its next call, whose words it writes over zeros. It has none exactly where it has ended.
+    pub fn next(&self, words: &mut [u64; 64]) -> Option<Stage>
+        requires { words.old ≡ no_words }
+        ensures { call_with result words.new ≡ call_at (machine.head (restoring self.now)) }
     {
-        self.restore.next()
+        self.restore.next(words)
     }
 
     /// Whether it has a call to make.

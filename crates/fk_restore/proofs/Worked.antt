@@ -36,6 +36,14 @@ some_order : (slot : ℕ) (stage : Stage) (o : Option Order) → Some stage ≡ 
 some_order slot stage None e = absurd cc
 some_order slot stage (Some o) e = (o, refl, cc)
 
+pub unordered : (slot : ℕ) (o : Option Order) → is_none o ≡ true → None ≡ option_map (stage_of slot) o
+unordered slot None none = refl
+unordered slot (Some o) none = absurd cc
+
+pub ordered : (slot : ℕ) (o : Option Order) → is_none o ≡ false → (stage : Stage) × (Some stage ≡ option_map (stage_of slot) o)
+ordered slot None some = absurd cc
+ordered slot (Some o) some = (stage_of slot o, refl)
+
 -- without one it is an end
 closed : (p : Position) (o : Option Order) → is_empty p o ≡ false → o ≡ None → is_closing p ≡ true
 closed p o full none = by (is_closing p) o full none

@@ -1,6 +1,5 @@
 //! The restore, phase by phase.
 ghost use Rattle.std.specs.Prelude.{◌≡◌, true, ℕ, List, IfSome, IfNone, OnOk};
-ghost use Rattle.fk_model.specs.declared.moves.Ask.TheVariants as asks;
 ghost use Rattle.laws_jobs.specs.Machines.{no_words, IsAtCall};
 ghost use Rattle.laws_jobs.specs.Machines.Head.{Asks, Stops};
 ghost use Rattle.laws_restore.specs.Restore.State.{Makes};
@@ -21,8 +20,8 @@ use fk_finish::{Finish, ValidImage};
 use fk_image::{Image, SpaceRec};
 use fk_model::limits::OWN_SPACE;
 use fk_model::status::OK;
-use fk_model::{Answer, Ask, List, NoMemory, Stage};
-use fk_orders::{Look, first, look_at, settled_from, words_at};
+use fk_model::{Answer, List, NoMemory, Stage};
+use fk_orders::{Look, first, is_over, look_at, settled_from, words_at};
 use fk_positions::{Position, next_of, stage_at};
 use std::mem;
 
@@ -120,13 +119,11 @@ fn worked(
     ensures state { phase_of spaces.now slot pairs.now result
         ≡ (restore_of slot (image_of spaces.now) pairs.now).next (phase_of spaces.now slot pairs.now (phases.Works at)) status words.now }
 {
-    match stage_at(spaces, slot, pairs, at) {
-        None => Phase::Over(Finish::Restored),
-        Some(_) => {
-            let port = missing(look_at(spaces, pairs, at), status, words);
-            goes_on(spaces, slot, pairs, next_of(spaces, slot, pairs, at), port)
-        }
+    if is_over(spaces, slot, pairs, at) {
+        return Phase::Over(Finish::Restored);
     }
+    let port = missing(look_at(spaces, pairs, at), status, words);
+    goes_on(spaces, slot, pairs, next_of(spaces, slot, pairs, at), port)
 }
 
 /// The phase after a stage of clearing.
@@ -193,20 +190,25 @@ fn after(
     }
 }
 
-/// The call at a position, with its words: that of the order there, or the release.
+/// The call at a position, that of the order there, or the release, with its words over zeros.
 fn worked_call(
     spaces: &[SpaceRec],
     slot: u8,
     pairs: &[(u8, u8)],
     at: Position,
-) -> (Stage, [u64; 64])
+    words: &mut [u64; 64],
+) -> Stage
     requires valid { is_valid (image_of spaces.now) ≡ true }
     requires sound { IsSoundPhase spaces.now slot pairs.now (phases.Works at) }
-    ensures { machine.head slot (phase_of spaces.now slot pairs.now (phases.Works at)) ≡ Asks result.0 result.1 }
+    requires zeros { words.old ≡ no_words }
+    ensures { machine.head slot (phase_of spaces.now slot pairs.now (phases.Works at)) ≡ Asks result words.new }
 {
     match stage_at(spaces, slot, pairs, at) {
-        None => (releases(slot), [0; 64]),
-        Some(stage) => (stage, words_at(spaces, at)),
+        None => releases(slot),
+        Some(stage) => {
+            words_at(spaces, at, words);
+            stage
+        }
     }
 }
 
@@ -237,41 +239,45 @@ fn clearing(slot: u8, dropped: u8) -> Stage
     }
 }
 
-/// The next call in a phase, with its words.
+/// The next call in a phase, with its words over zeros.
 fn call(
     spaces: &[SpaceRec],
     slot: u8,
     pairs: &[(u8, u8)],
     phase: &Phase,
-) -> Option<(Stage, [u64; 64])>
+    words: &mut [u64; 64],
+) -> Option<Stage>
     requires valid { is_valid (image_of spaces.now) ≡ true }
     requires sound { IsSoundPhase spaces.now slot pairs.now phase.now }
-    ensures asks { IfSome result (λ c. machine.head slot (phase_of spaces.now slot pairs.now phase.now) ≡ Asks c.0 c.1) }
+    requires zeros { words.old ≡ no_words }
+    ensures asks { IfSome result (λ stage. machine.head slot (phase_of spaces.now slot pairs.now phase.now) ≡ Asks stage words.new) }
     ensures none { IfNone result (IsOver phase.now) }
 {
     match phase {
-        Phase::Makes => Some((Stage::SpaceMakeHeld { x: u64::from(slot) }, [0; 64])),
-        Phase::Works(at) => Some(worked_call(spaces, slot, pairs, *at)),
-        Phase::Clears { dropped, .. } => Some((clearing(slot, *dropped), [0; 64])),
+        Phase::Makes => Some(Stage::SpaceMakeHeld { x: u64::from(slot) }),
+        Phase::Works(at) => Some(worked_call(spaces, slot, pairs, *at, words)),
+        Phase::Clears { dropped, .. } => Some(clearing(slot, *dropped)),
         Phase::Over(_) => None,
     }
 }
 
-/// The next call of a restore.
+/// The next call of a restore, with its words over zeros.
 fn called(
     image: &Image,
     slot: u8,
     pairs: &List<(u8, u8)>,
     phase: &Phase,
-) -> Option<(Stage, [u64; 64])>
+    words: &mut [u64; 64],
+) -> Option<Stage>
     requires valid { is_valid image.now ≡ true }
     requires sound { IsSoundPhase image.now.spaces slot pairs.now phase.now }
-    ensures asks { IfSome result (λ c. machine.head slot (phase_of image.now.spaces slot pairs.now phase.now) ≡ Asks c.0 c.1) }
+    requires zeros { words.old ≡ no_words }
+    ensures asks { IfSome result (λ stage. machine.head slot (phase_of image.now.spaces slot pairs.now phase.now) ≡ Asks stage words.new) }
     ensures none { IfNone result (IsOver phase.now) }
 {
     let spaces = image.spaces.as_slice();
     let bound = pairs.as_slice();
-    call(spaces, slot, bound, phase)
+    call(spaces, slot, bound, phase, words)
 }
 
 /// The phase of a restore after an answer.
@@ -312,15 +318,14 @@ impl Restore {
         }
     }
 
-    /// Its next call. It has none where it has ended.
-    pub fn next(&self) -> Option<Ask>
-        requires { IsSound self.now }
-        ensures asks { IfSome result (λ ask. (stage : _) × (words : _) × (ask ≡ asks.Call stage words)
-            × (machine.head self.now.slot (state_of self.now) ≡ Asks stage words)) }
+    /// Its next call, whose words it writes over zeros. It has none where it has ended.
+    pub fn next(&self, words: &mut [u64; 64]) -> Option<Stage>
+        requires sound { IsSound self.now }
+        requires zeros { words.old ≡ no_words }
+        ensures asks { IfSome result (λ stage. machine.head self.now.slot (state_of self.now) ≡ Asks stage words.new) }
         ensures none { IfNone result (IsOver self.now.phase) }
     {
-        let (stage, words) = called(self.image.get(), self.slot, &self.pairs, &self.phase)?;
-        Some(Ask::Call { stage, words })
+        called(self.image.get(), self.slot, &self.pairs, &self.phase, words)
     }
 
     /// Makes room for one answer, which takes none.

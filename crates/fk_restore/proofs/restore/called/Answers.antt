@@ -18,9 +18,11 @@ call-requires-clause-sound c =
 
 pub returns-clause-asks : goal.returns-clause-asks
 returns-clause-asks c =
-    subst (λ ps. IfSome c.call.result (λ a. machine.head c.args.slot (phase_of c.args.image.now.spaces c.args.slot ps c.args.phase.now) ≡ Asks a.0 a.1))
+    subst (λ ps. IfSome c.call.result (λ stage. machine.head c.args.slot (phase_of c.args.image.now.spaces c.args.slot ps c.args.phase.now)
+    ≡ Asks stage c.call.new.words))
     c.as_slice-bound.ensures
-    (subst (λ ss. IfSome c.call.result (λ a. machine.head c.args.slot (phase_of ss c.args.slot c.as_slice-bound.result.now c.args.phase.now) ≡ Asks a.0 a.1))
+    (subst (λ ss. IfSome c.call.result (λ stage. machine.head c.args.slot (phase_of ss c.args.slot c.as_slice-bound.result.now c.args.phase.now)
+    ≡ Asks stage c.call.new.words))
     c.as_slice-spaces.ensures c.call.ensures.asks)
 
 pub returns-clause-none : goal.returns-clause-none

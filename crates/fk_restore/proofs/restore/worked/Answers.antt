@@ -1,14 +1,16 @@
 use Rattle.std.proofs.Common.{sym, ◌∙◌}
+use Rattle.laws_rooms.specs.Restoring.{bound_by}
+use Rattle.fk_positions.specs.Positions.{order_at}
 use Rattle.fk_orders.specs.Left.{image_of}
 use Rattle.fk_orders.proofs.Lefts.{few}
-use Rattle.fk_restore.proofs.Worked.{releases, hears, goes_well}
+use Rattle.fk_restore.proofs.Worked.{ordered, unordered, releases, hears, goes_well}
 use Rattle.fk_restore.proofs.restore.worked.Goals as goal
 
-pub returns-in-None : goal.returns-in-None
-returns-in-None c = record {
+pub returns-then-is_over : goal.returns-then-is_over
+returns-then-is_over c = record {
   sound = tt;
   state = releases (image_of c.args.spaces.now) c.args.slot c.args.pairs.now c.args.at c.requires.sound.1
-      (sym c.in-None.is ∙ c.stage_at.ensures) _ _;
+      (unordered c.args.slot (order_at c.args.spaces.now c.args.slot (bound_by c.args.pairs.now) c.args.at) (sym c.is_over.ensures ∙ c.if-is_over.true)) _ _;
 }
 
 pub next_of-requires : goal.next_of-requires
@@ -16,11 +18,14 @@ next_of-requires c = few (image_of c.args.spaces.now) c.requires.valid
 
 pub goes_on-requires-clause-place : goal.goes_on-requires-clause-place
 goes_on-requires-clause-place c =
-    rw c.next_of.ensures (goes_well (image_of c.args.spaces.now) c.args.slot c.args.pairs.now c.args.at c.requires.valid c.requires.sound.0 _
-    (sym c.in-Some.is ∙ c.stage_at.ensures))
+    let found = ordered c.args.slot (order_at c.args.spaces.now c.args.slot (bound_by c.args.pairs.now) c.args.at)
+    (sym c.is_over.ensures ∙ c.if-is_over.false) in
+    rw c.next_of.ensures (goes_well (image_of c.args.spaces.now) c.args.slot c.args.pairs.now c.args.at c.requires.valid c.requires.sound.0 found.0 found.1)
 
-pub returns-in-Some-clause-state : goal.returns-in-Some-clause-state
-returns-in-Some-clause-state c =
+pub returns-clause-state : goal.returns-clause-state
+returns-clause-state c =
+    let found = ordered c.args.slot (order_at c.args.spaces.now c.args.slot (bound_by c.args.pairs.now) c.args.at)
+    (sym c.is_over.ensures ∙ c.if-is_over.false) in
     c.goes_on.ensures.state ∙ rw c.next_of.ensures
-    (hears (image_of c.args.spaces.now) c.args.slot c.args.pairs.now c.args.at c.requires.valid c.requires.sound.0 _
-    (sym c.in-Some.is ∙ c.stage_at.ensures) _ (c.look_at.ensures c.args.slot) _ _ _ c.missing-port.ensures)
+    (hears (image_of c.args.spaces.now) c.args.slot c.args.pairs.now c.args.at c.requires.valid c.requires.sound.0 found.0 found.1 _
+    (c.look_at.ensures c.args.slot) _ _ _ c.missing-port.ensures)

@@ -1,6 +1,8 @@
-use Rattle.std.proofs.Common.{◌≡◌, ◌∙◌, sym, ap, map, rules, Some}
+use Rattle.std.proofs.Common.{◌≡◌, ◌∙◌, sym, ap, length, map, Some}
+use Rattle.std.specs.Prelude.{slice_get}
 use Rattle.fk_store.specs.World.{world}
-use Rattle.fk_jobs.specs.Jobs.{Queue, asked_by, state_of}
+use Rattle.fk_model.specs.declared.moves.Ask.TheVariants as asks
+use Rattle.fk_jobs.specs.Jobs.{Queue, asked_by, call_with, first_of, state_from, state_of}
 use Rattle.fk_served.specs.Served.{told}
 use Rattle.fk_served.proofs.Hearing.{fits-told}
 use Rattle.fk_core.proofs.Going.{call_fits}
@@ -10,9 +12,15 @@ use Rattle.fk_core.proofs.turns.Core.go_call.Goals as goal
 pub attempt-made-requires : goal.attempt-made-requires
 attempt-made-requires g c =
     let self = c.args.self.now in
+    let ask = asks.Call c.in-Some.stage c.next-next.new.words in
+    let kept = c.reserve-2.ensures in
+    let next : asked_by (state_of c.reserve-2.new.self) ≡ Some ask =
+    sym c.next-next.ensures.next ∙ ap (λ o. call_with o c.next-next.new.words) c.in-Some.is in
+    let asked : asked_by (state_of self.jobs) ≡ Some ask =
+    (λ i. asked_by (state_from (sym kept.work i) (first_of (sym kept.ends i) (slice_get (sym kept.jobs i) (length (sym kept.ends i)))))) ∙ next in
     record {
-      fit = call_fits self.jobs (world self.kernel) self.services.list self.events self.budget c.args.m.now.who c.in-Some.ask c.requires.come
-          c.requires.few c.requires.job (search rules);
+      fit = call_fits self.jobs (world self.kernel) self.services.list self.events self.budget c.args.m.now.who ask c.requires.come c.requires.few
+          c.requires.job asked;
     }
 
 pub returns-clause-tried : goal.returns-clause-tried
@@ -21,11 +29,12 @@ returns-clause-tried g c =
     let m = self.kernel in
     let n = c.attempt-made.new.self in
     let list = self.services.list in
-    let ask = c.in-Some.ask in
+    let ask = asks.Call c.in-Some.stage c.next-next.new.words in
     let what = c.in-Some-tried.told in
     let made = rw c.in-Some-tried.is at (rw c.in-Ok.is at c.attempt-made.ensures.made) in
     let kept = c.reserve-2.ensures in
-    let next : asked_by (state_of c.reserve-2.new.self) ≡ Some ask = sym c.next-next.ensures.next ∙ c.in-Some.is in
+    let next : asked_by (state_of c.reserve-2.new.self) ≡ Some ask =
+    sym c.next-next.ensures.next ∙ ap (λ o. call_with o c.next-next.new.words) c.in-Some.is in
     let both = hears-same m n list c.hear.new.self.list self.jobs c.reserve-2.new.self c.tell_jobs.new.jobs self.events c.args.m.now ask what.said what.ended _
     kept.jobs kept.ends kept.work c.requires.job next made.0 made.1
     (rw c.in-Some-tried.is at (rw c.in-Ok.is at c.attempt-made.ensures.ended))
