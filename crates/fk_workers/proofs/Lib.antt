@@ -1,0 +1,5 @@
+mod Coming
+mod Desks
+mod Playing
+mod Runs
+mod Fitting

@@ -1,0 +1,208 @@
+//! The book of a run.
+ghost use Rattle.std.specs.Prelude.{◌≡◌, ◌≤◌, [], length, map, vec_capacity, IfOk, OnOk, OnErr};
+ghost use Rattle.std.specs.Bool.{OnTrue, OnFalse};
+ghost use Rattle.fk_served.specs.Served.{AllFit};
+ghost use Rattle.fk_workers.specs.Shown.{IsSound, MayMove, HasEnded};
+ghost use Rattle.fk_workers.specs.Told.{Told, IsKept, IsSame, IsOneMore, HasOneMore, TakesDue, GoesOn};
+
+use crate::playable::Playable;
+use fk_model::{List as Items, Move, NoMemory};
+use fk_responders::Table;
+use fk_rlock::Counted;
+use std::alloc::Global;
+use std::marker::Model;
+use std::snapshot::Snapshot;
+
+/// The most moves of one turn at the lock.
+const MOVES: u32 = 64;
+
+/// A run: the core to which it has come, and its moves in their order. What it was begun from is known to contracts alone.
+#[derive(Drop)]
+pub struct Book<C: Playable + Drop> {
+    boot: Snapshot<C>,
+    core: C,
+    history: Vec<Move>,
+}
+
+impl<C: Playable + Drop> Model for Book<C> {
+    ghost use Rattle.std.specs.Prelude.{◌≤◌, vec_capacity};
+    ghost use Rattle.fk_workers.specs.Shown.{HasRun};
+    ghost use Rattle.fk_workers.specs.Told.{Told, told_code};
+
+    ghost Value = { Told C };
+
+    ghost coded = { told_code C.code };
+
+    ghost view = { λ b. record { boot = b.boot.value; core = b.core; history = b.history.items } };
+
+    ghost invariant = { λ b. HasRun (C.shown b.boot.value) b.history.items (C.shown b.core) × ((C.shown b.boot.value).budget ≤ vec_capacity b.history) };
+}
+
+impl<C: Playable + Drop> Counted for Book<C> {
+    type Boot = C;
+
+    ghost boot = { λ b. b.boot };
+
+    ghost counted = { λ b. length b.history };
+
+    fn count(&self) -> u64 {
+        self.history.len() as u64
+    }
+}
+
+impl<C: Playable + Drop> Book<C> {
+    /// The book of a run that is about to begin, with room for as many moves as its budget has.
+    ///
+    /// # Errors
+    ///
+    /// There is no memory for these.
+    #[tactic(auto, using(crate::proofs::Runs::no_run))]
+    pub fn of(alloc: Global, first: C) -> Result<Book<C>, NoMemory>
+        requires sound { IsSound (C.shown first) }
+        ensures boot { IfOk result (λ book. book.boot ≡ first) }
+        ensures core { IfOk result (λ book. book.core ≡ first) }
+        ensures history { IfOk result (λ book. book.history ≡ []) }
+    {
+        let boot = Snapshot::of(&first);
+        let history = Vec::with_capacity(alloc, first.most_moves() as usize)?;
+        Ok(Book {
+            boot,
+            core: first,
+            history,
+        })
+    }
+
+    /// The moves in their order.
+    pub fn history(&self) -> &[Move]
+        ensures { result.now ≡ self.now.history }
+    {
+        self.history.as_slice()
+    }
+
+    /// The core to which they have come.
+    pub fn core(&self) -> &C
+        ensures { result.now ≡ self.now.core }
+    {
+        &self.core
+    }
+
+    /// Its moves are a run from what it was begun from. Nothing is done: by this call that is known without the book at hand.
+    pub fn keeps(&self)
+        ensures { IsKept C.shown self.now }
+    {
+        let _core = &self.core;
+    }
+
+    /// The core and the moves.
+    pub fn into_parts(self) -> (C, Items<Move>)
+        ensures core { result.0 ≡ self.core }
+        ensures history { result.1 ≡ self.history }
+        ensures kept { IsKept C.shown self }
+    {
+        let Book {
+            boot: _,
+            core,
+            history,
+        } = self;
+        (core, Items::of(history))
+    }
+
+    /// Makes a move, and answers whether one was made: after an even number of moves a due job's where one is ready, and none exactly where the
+    /// core has ended. Then, and for want of memory, all is as before.
+    ///
+    /// # Errors
+    ///
+    /// There is no memory for what the move makes.
+    #[tactic(auto, using(crate::proofs::Runs::come, crate::proofs::Runs::fits_now, crate::proofs::Runs::has_room, crate::proofs::Runs::more_run, crate::proofs::Runs::same_run, crate::proofs::Runs::goes_not, crate::proofs::Runs::goes_once))]
+    pub fn one(&mut self, table: &Table) -> Result<bool, NoMemory>
+        requires fits { AllFit (map (λ r. r.rule) table.now.list.items) (C.shown self.old.boot).core.servers }
+        ensures kept { IsKept C.shown self.old × IsKept C.shown self.new }
+        ensures goes { GoesOn self.old self.new }
+        ensures more { IfOk result (λ more. OnTrue more (HasOneMore C.shown self.old self.new)) }
+        ensures first { IfOk result (λ more. OnTrue more (TakesDue C.shown self.old self.new.history)) }
+        ensures ended { IfOk result (λ more. OnFalse more (HasEnded (C.shown self.new.core))) }
+        ensures same { IfOk result (λ more. OnFalse more (IsSame C.shown self.old self.new)) }
+        ensures lacking { OnErr result (IsSame C.shown self.old self.new) }
+    {
+        match self.core.make_any(table)? {
+            Some(m) => {
+                self.history.push_reserved(m);
+                Ok(true)
+            }
+            None => Ok(false),
+        }
+    }
+
+    /// Makes this move where it is ready and the budget has one more, and answers whether it was made. Where it wasn't, and for want of memory, all is
+    /// as before.
+    ///
+    /// # Errors
+    ///
+    /// There is no memory for what the move makes.
+    #[tactic(auto, using(crate::proofs::Runs::come, crate::proofs::Runs::fits_now, crate::proofs::Runs::has_room, crate::proofs::Runs::more_run, crate::proofs::Runs::same_run, crate::proofs::Runs::goes_not, crate::proofs::Runs::goes_once))]
+    pub fn play(&mut self, table: &Table, m: &Move) -> Result<bool, NoMemory>
+        requires fits { AllFit (map (λ r. r.rule) table.now.list.items) (C.shown self.old.boot).core.servers }
+        ensures kept { IsKept C.shown self.old × IsKept C.shown self.new }
+        ensures made { IfOk result (λ made. OnTrue made (IsOneMore C.shown self.old m.now self.new)) }
+        ensures unready { IfOk result (λ made. OnFalse made (MayMove (C.shown self.old.core) m.now → ⊥)) }
+        ensures same { IfOk result (λ made. OnFalse made (IsSame C.shown self.old self.new)) }
+        ensures lacking { OnErr result (IsSame C.shown self.old self.new) }
+    {
+        if self.core.make(table, m)? {
+            self.history.push_reserved(*m);
+            Ok(true)
+        } else {
+            Ok(false)
+        }
+    }
+
+    /// Makes moves while any is left, at most so many.
+    #[tactic(auto, using(crate::proofs::Runs::goes_further, crate::proofs::Runs::goes_not))]
+    fn several(&mut self, table: &Table, most: u32) -> Result<(), NoMemory>
+        requires fits { AllFit (map (λ r. r.rule) table.now.list.items) (C.shown self.old.boot).core.servers }
+        ensures goes { GoesOn self.old self.new }
+    {
+        for _ in 0..most {
+            if !self.one(table)? {
+                return Ok(());
+            }
+        }
+        Ok(())
+    }
+
+    /// The moves of one turn at the lock: at least one and at most 64, while any is left; and whether one was made. None is made exactly where the
+    /// core has ended, and then all is as before.
+    ///
+    /// # Errors
+    ///
+    /// There is no memory for what a move makes. Those before it stand in the book.
+    #[tactic(auto, using(crate::proofs::Runs::goes_further, crate::proofs::Runs::goes_longer))]
+    pub fn go_on(&mut self, table: &Table) -> Result<bool, NoMemory>
+        requires fits { AllFit (map (λ r. r.rule) table.now.list.items) (C.shown self.old.boot).core.servers }
+        ensures goes { GoesOn self.old self.new }
+        ensures ended { IfOk result (λ more. OnFalse more (HasEnded (C.shown self.new.core))) }
+        ensures same { IfOk result (λ more. OnFalse more (IsSame C.shown self.old self.new)) }
+    {
+        if !self.one(table)? {
+            return Ok(false);
+        }
+        self.several(table, MOVES - 1)?;
+        Ok(true)
+    }
+
+    /// Makes moves until none is left.
+    ///
+    /// # Errors
+    ///
+    /// There is no memory for what a move makes.
+    #[tactic(auto, using(crate::proofs::Runs::goes_further, crate::proofs::Runs::goes_not, crate::proofs::Runs::closer))]
+    pub fn finish(&mut self, table: &Table) -> Result<(), NoMemory>
+        requires fits { AllFit (map (λ r. r.rule) table.now.list.items) (C.shown self.old.boot).core.servers }
+        ensures goes { GoesOn self.old self.new }
+        ensures ended { OnOk result (HasEnded (C.shown self.new.core)) }
+    {
+        self.keeps();
+        while self.one(table)? {}
+        Ok(())
+    }
+}
