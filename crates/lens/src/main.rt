@@ -1,10 +1,10 @@
-//! The program `lens`: the words of its command line, over the standard streams.
+//! The program `lens`: the words of its command line, over the standard streams and the current folder.
 //!
-//! It stands on `lens_verbs` for all that it shows, and on `fk_causes` for the streams. It adds the arguments, the writing,
-//! the line on standard error, and the exit status.
+//! It stands on `lens_verbs` for all that it shows, and on `fk_causes` for the streams and the folder. It adds the
+//! arguments, the writing, the line on standard error, and the exit status.
 #![tactic(auto)]
 
-use fk_causes::{Failed, StdSink, StdSource, write_all};
+use fk_causes::{Failed, FolderShelf, StdSink, StdSource, write_all};
 use lens_verbs::{Problem, lens_top};
 use std::env::Env;
 use std::io::ErrorKind;
@@ -38,7 +38,8 @@ fn problem_of<R: AllocGlobal>(rt: &R, error: &io::Error) -> Problem {
 fn show(rt: &HostRuntime) -> Result<(), Problem> {
     let words = words_of(rt)?;
     let mut source = StdSource::new(rt.stdin());
-    let shown = lens_top(rt.alloc(), &words, &mut source)?;
+    let mut shelf = FolderShelf::new(rt);
+    let shown = lens_top(rt.alloc(), &words, &mut source, &mut shelf)?;
     let mut sink = StdSink::new(rt.stdout());
     match write_all(&mut sink, shown.as_bytes()) {
         Ok(()) => Ok(()),

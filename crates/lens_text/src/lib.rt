@@ -1,13 +1,18 @@
-//! What the verbs of `lens` have in common: why something isn't shown, the files of the shelf, and instructions as text.
+//! What the verbs of `lens` have in common: why something isn't shown, the files of the shelf, and instructions, calls and
+//! statuses as text.
 //!
-//! It stands on `fk_causes` for the shelf, on `fk_isa` for the instruction in a word, and on `fk_model` for want of memory. It
-//! promises no more than that each function ends.
+//! It stands on `fk_causes` for the shelf, on `fk_isa` for the instruction in a word, on `fk_stages` for porters' calls,
+//! and on `fk_model` for want of memory. It promises no more than that each function ends.
 #![tactic(auto)]
 
+mod calls;
 mod files;
 mod instructions;
 mod problem;
+mod statuses;
 
+pub use calls::{asked_text, call_text, first_stage, stage_text};
 pub use files::file_of;
 pub use instructions::{instruction_text, is_instruction};
 pub use problem::{Problem, given};
+pub use statuses::{halt_text, status_text};

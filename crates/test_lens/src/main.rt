@@ -1,7 +1,7 @@
 //! Cases of `lens`: the words of a call and what must be shown, from the files of `data/`.
 //!
 //! Each file `NAME.cases` of the current folder is read by `test_case_files` as a list of cases. `lens_top` of `lens_verbs` is called
-//! with each, over the source that `fk_causes` has in memory: its status, the line on standard error, and what is
+//! with each, over the source and the shelf that `fk_causes` has in memory: its status, the line on standard error, and what is
 //! shown are compared. A new case is a new file, or some more lines of one.
 //!
 //! The program says of each case what differs, and ends with a line of counts; it fails where a case differs, and where it
@@ -9,7 +9,7 @@
 #![tactic(auto)]
 
 use anyhow::{Context, ensure};
-use fk_causes::{MemSource, NoMemory};
+use fk_causes::{MemShelf, MemSource, NoMemory, Shelf};
 use lens_verbs::lens_top;
 use std::alloc::Global;
 use std::fs;
@@ -23,11 +23,28 @@ struct Tally {
     differ: u32,
 }
 
-/// What comes of the call of a case in which these calls of its source fail.
+/// A shelf with these files on it. What fails is counted from the next call on.
+fn shelf_of(alloc: Global, case: &Case, fails: &[u64]) -> Result<MemShelf, NoMemory> {
+    let puts = case.files.len() as u64;
+    let mut numbers = Vec::new(alloc);
+    for call in fails {
+        numbers.push(call.saturating_add(puts))?;
+    }
+    let mut shelf = MemShelf::new(numbers);
+    for (name, bytes) in &case.files {
+        if shelf.put(name.as_str(), bytes).is_err() {
+            return Err(NoMemory);
+        }
+    }
+    Ok(shelf)
+}
+
+/// What comes of the call of a case in which these calls of its source and its shelf fail.
 fn call(alloc: Global, case: &Case, fails: &Fails) -> Result<Ending, NoMemory> {
     let mut source = MemSource::new(case.source.clone()?, fails.source.clone()?);
+    let mut shelf = shelf_of(alloc, case, &fails.shelf)?;
     let files = case.files.clone()?;
-    match lens_top(alloc, &case.words, &mut source) {
+    match lens_top(alloc, &case.words, &mut source, &mut shelf) {
         Ok(shown) => Ok(Ending {
             status: 0,
             error: String::new(alloc),
