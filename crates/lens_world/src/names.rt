@@ -1,0 +1,77 @@
+//! Objects by their paths.
+use fk_model::{Body, Ptr, Who};
+use fk_store::Store;
+use std::alloc::{AllocError, Global};
+use std::collections::BTreeMap;
+
+/// The slots from the root down to an object.
+fn slots_of(alloc: Global, store: &Store, who: Who) -> Result<Vec<u8>, AllocError> {
+    let mut slots = Vec::new(alloc);
+    slots.push(who.slot)?;
+    let mut space = who.space;
+    for _ in 0..u64::MAX {
+        let Some(home) = store.home(space) else {
+            break;
+        };
+        slots.push(home.slot)?;
+        space = home.space;
+    }
+    slots.reverse();
+    Ok(slots)
+}
+
+/// The path of an object from the root.
+pub fn path_text(alloc: Global, store: &Store, who: Who) -> Result<String, AllocError> {
+    let mut text = String::new(alloc);
+    for slot in &slots_of(alloc, store, who)? {
+        text.push_str(format!(in alloc; "/{slot}")?.as_str())?;
+    }
+    Ok(text)
+}
+
+/// The path of the space with this birth number.
+pub fn space_text(alloc: Global, store: &Store, space: u32) -> Result<String, AllocError> {
+    match store.home(space) {
+        Some(home) => path_text(alloc, store, home),
+        None => String::from_str(alloc, "/"),
+    }
+}
+
+/// Where a pointer leads.
+pub fn pointer_text(alloc: Global, store: &Store, pointer: Ptr) -> Result<String, AllocError> {
+    match pointer {
+        Ptr::Null => String::from_str(alloc, "nothing"),
+        Ptr::Dead => String::from_str(alloc, "what was destroyed"),
+        Ptr::At(who) => path_text(alloc, store, who),
+    }
+}
+
+/// The object that a slot of a space holds, or to which the reference there leads.
+pub fn handled(store: &Store, space: u32, slot: u64) -> Option<Who> {
+    if slot > 255 {
+        return None;
+    }
+    let who = Who {
+        space,
+        slot: slot as u8,
+    };
+    match store.at(who)? {
+        Body::Reference { to: Ptr::At(to) } => Some(*to),
+        Body::Reference { .. } => None,
+        _ => Some(who),
+    }
+}
+
+/// All objects but the root, by their paths: each space before what lies in it, and what lies in one by rising slot.
+pub fn names_of(alloc: Global, store: &Store) -> Result<BTreeMap<Vec<u8>, Who>, AllocError> {
+    let mut names = BTreeMap::new(alloc);
+    let mut last = None;
+    for _ in 0..u64::MAX {
+        let Some(who) = store.after(last) else {
+            break;
+        };
+        names.insert(slots_of(alloc, store, who)?, who)?;
+        last = Some(who);
+    }
+    Ok(names)
+}
