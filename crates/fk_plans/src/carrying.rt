@@ -66,7 +66,12 @@ fn carry(store: &mut Store, deed: &Deed)
 
 /// Does all of a plan. For want of memory all stays as it was.
 #[tactic(auto, unfolding(fk_model::specs::World::apply_all))]
-fn carry_all(store: &mut Store, caller: Caller, given: &[u64], plan: &Plan) -> Result<(), NoMemory>
+pub fn carry_all(
+    store: &mut Store,
+    caller: Caller,
+    given: &[u64],
+    plan: &Plan,
+) -> Result<(), NoMemory>
     requires fits { IsPlanOf store.old caller plan.now }
     requires given { caller.is_porter ≡ true → length given.now ≡ 64 }
     ensures world { OnOk result (world store.new ≡ apply_all (changes_by (path store.old) given.now plan.now (world store.old)) (world store.old)) }

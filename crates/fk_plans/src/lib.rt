@@ -24,7 +24,7 @@ mod ties;
 mod waking;
 
 pub use blocks::Block;
-pub use carrying::carry_out;
+pub use carrying::{carry_all, carry_out};
 pub use fk_readers::{
     Caller, above, cond_in, handle, is_beneath, is_in, is_referable, is_within, kind_number,
     last_slot, led_to, mutex_in, object_in, place, pointer_in, port_in, reference_in, referred,
@@ -36,6 +36,6 @@ pub use opening::unfrozen;
 pub use own::own_page;
 pub use plan::{Deed, Effect, Moving, News, Plan, Verdict, Words};
 pub use readiness::{is_effect_ready, is_moving_ready, is_ready};
-pub use recording::Record;
+pub use recording::{Record, record_at, set_record};
 pub use sources::Source;
 pub use waking::sleeps;
