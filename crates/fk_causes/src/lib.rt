@@ -8,10 +8,13 @@
 //! `MemSource` and `MemSink` lie in memory, tell everything, and fail at the calls that they are
 //! told. `StdSource` and `StdSink` stand over a reader and a writer of std, and tell what those do.
 //!
+//! A `Gate` is called before each turn of those that share a run; nothing is said of it.
+//!
 //! It stands on `fk_model` for want of memory alone.
 #![tactic(auto)]
 
 mod folder_shelf;
+mod gate;
 mod mem_shelf;
 mod mem_sink;
 mod mem_source;
@@ -22,6 +25,7 @@ mod whole;
 
 pub use fk_model::NoMemory;
 pub use folder_shelf::{FILE_LIMIT, FolderShelf};
+pub use gate::{Gate, Open};
 pub use mem_shelf::MemShelf;
 pub use mem_sink::MemSink;
 pub use mem_source::MemSource;
