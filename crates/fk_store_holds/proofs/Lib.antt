@@ -1,0 +1,2 @@
+mod FrozenLaws
+mod HeldLaws
