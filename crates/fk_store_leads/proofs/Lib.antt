@@ -1,0 +1,9 @@
+pub mod NameLaws
+pub mod Found
+pub mod BirthLaws
+pub mod HeldLaws
+pub mod HintLaws
+pub mod PointerLaws
+pub mod LedLaws
+pub mod TargetLaws
+pub mod ProceedLaws

@@ -1,0 +1,9 @@
+pub mod Births
+pub mod Held
+pub mod Leading
+pub mod Marks
+pub mod Names
+pub mod Nudges
+pub mod Parts
+pub mod Pointers
+pub mod Sweeps
