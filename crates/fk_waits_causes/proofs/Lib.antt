@@ -1,0 +1,6 @@
+pub mod Numbers
+pub mod Placed
+pub mod Moved
+pub mod Named
+pub mod Shown
+pub mod Steps
