@@ -1,0 +1,69 @@
+-- Touches: which objects a move may change.
+use Rattle.std.specs.Prelude.{ℕ, Bool, true, ◌||◌, Option, Some, None}
+use Rattle.fk_model.specs.declared.names.Who.{Who}
+use Rattle.fk_model.specs.Objects.{holds}
+use Rattle.fk_model.specs.Places.{Path, same_path}
+use Rattle.fk_store.specs.Paths.{place}
+use Rattle.fk_plans.specs.declared.plan.Deed.{Deed}
+use Rattle.fk_plans.specs.declared.plan.Deed.TheVariants as deeds
+use Rattle.fk_plans.specs.declared.plan.Plan.{Plan}
+use Rattle.fk_plans.specs.declared.plan.Plan.TheVariants as plans
+use Rattle.fk_plans.specs.declared.plan.Verdict.{Verdict}
+use Rattle.fk_plans.specs.declared.plan.Verdict.TheVariants as verdicts
+use Rattle.fk_wakes.specs.declared.touching.Touched.{Touched}
+use Rattle.fk_wakes.specs.declared.touching.Touched.TheVariants.{All, Few}
+
+-- the object that a deed changes
+abbrev pub changed_by : Deed → Option Who
+changed_by (deeds.Locks mutex locked) = Some mutex
+changed_by (deeds.Points object to) = Some object
+changed_by (deeds.Wakes thread mutex) = Some thread
+changed_by (deeds.Sleeps thread cond mutex) = Some thread
+changed_by (deeds.Sends block) = None
+changed_by (deeds.Records object to at) = None
+changed_by (deeds.Counts client count) = Some client
+changed_by (deeds.Shifts thread count) = Some thread
+changed_by (deeds.Ends thread status) = Some thread
+changed_by (deeds.Finishes thread) = Some thread
+changed_by (deeds.Passes client turn) = Some client
+changed_by (deeds.Unlinks client) = Some client
+changed_by (deeds.Links client talk) = Some client
+changed_by (deeds.Serves client peer) = Some client
+changed_by (deeds.Frees thread) = Some thread
+changed_by (deeds.Raises thread fault) = Some thread
+changed_by (deeds.Takes thread taker) = Some thread
+changed_by (deeds.Holds space holder) = Some space
+changed_by (deeds.Stops thread stops) = Some thread
+changed_by (deeds.Copies from to) = None
+changed_by (deeds.Drops space page) = None
+
+-- the objects that a plan changes
+abbrev pub planned : Plan → Touched
+planned plans.Nothing = Few None None None
+planned (plans.One a) = Few (changed_by a) None None
+planned (plans.Two a b) = Few (changed_by a) (changed_by b) None
+planned (plans.Moves block client receiver sender) = Few (Some client) (Some receiver) (Some sender)
+planned (plans.Makes object kind) = Few (Some object) None None
+planned (plans.MakesHeld object holder) = Few (Some object) None None
+planned (plans.Gives space page source) = Few None None None
+
+-- and a verdict besides its caller
+abbrev pub judged : Verdict → Touched
+judged (verdicts.Done plan answers) = planned plan
+judged (verdicts.Ends plan answers) = planned plan
+judged (verdicts.Shows plan space page) = planned plan
+judged (verdicts.Goes plan) = planned plan
+judged (verdicts.Tells plan news last) = planned plan
+judged (verdicts.Sets object from) = All
+judged (verdicts.Renames object slot) = All
+judged (verdicts.Destroys object last) = All
+judged (verdicts.WakesAll cond) = All
+judged other = Few None None None
+
+-- a path is where a name leads
+abbrev pub is_at : (ℕ → Path) → Option Who → Path → Bool
+is_at p who x = holds (λ (w : Who). same_path x (place p w)) who
+
+abbrev pub is_touched : (ℕ → Path) → Touched → Path → Bool
+is_touched p (Few first second third) x = is_at p first x || (is_at p second x || is_at p third x)
+is_touched p All x = true

@@ -1,0 +1,128 @@
+//! What deeds, plans and verdicts change.
+ghost use Rattle.std.specs.Prelude.{◌≡◌, ◌||◌, ℕ, Bool, List, true, Option};
+ghost use Rattle.fk_model.specs.declared.names.Who as names_of;
+ghost use Rattle.fk_model.specs.Outcomes as outcomes;
+ghost use Rattle.fk_model.specs.Places.{Path, same_path};
+ghost use Rattle.fk_model.specs.World.{World};
+ghost use Rattle.fk_plans.specs.Plans.{changes_by};
+ghost use Rattle.fk_plans.specs.Verdicts.{move_by};
+ghost use Rattle.fk_readers.specs.declared.caller.Caller as callers;
+ghost use Rattle.fk_store.specs.Contents.{Contents};
+ghost use Rattle.fk_store.specs.Paths.{path, place};
+ghost use Rattle.fk_store.specs.World.{world};
+ghost use Rattle.laws_machine.specs.Frame.{name_body};
+ghost use Rattle.fk_wakes.specs.Touches as touches;
+ghost use Rattle.fk_wakes.specs.Touches.{changed_by, is_touched};
+
+use fk_model::Who;
+use fk_plans::{Deed, Plan, Verdict};
+
+/// Which objects a move may change besides its caller.
+#[derive(Clone, Copy)]
+pub enum Touched {
+    /// These alone.
+    Few {
+        first: Option<Who>,
+        second: Option<Who>,
+        third: Option<Who>,
+    },
+    /// Any.
+    All,
+}
+
+/// The object that a deed changes; none where it changes a page.
+pub fn changed(deed: &Deed) -> Option<Who>
+    ensures by { result ≡ changed_by deed.now }
+{
+    match *deed {
+        Deed::Locks { mutex, .. } => Some(mutex),
+        Deed::Points { object, .. } => Some(object),
+        Deed::Wakes { thread, .. } => Some(thread),
+        Deed::Sleeps { thread, .. } => Some(thread),
+        Deed::Shifts { thread, .. } => Some(thread),
+        Deed::Ends { thread, .. } => Some(thread),
+        Deed::Finishes { thread } => Some(thread),
+        Deed::Frees { thread } => Some(thread),
+        Deed::Raises { thread, .. } => Some(thread),
+        Deed::Takes { thread, .. } => Some(thread),
+        Deed::Stops { thread, .. } => Some(thread),
+        Deed::Counts { client, .. } => Some(client),
+        Deed::Passes { client, .. } => Some(client),
+        Deed::Unlinks { client } => Some(client),
+        Deed::Links { client, .. } => Some(client),
+        Deed::Serves { client, .. } => Some(client),
+        Deed::Holds { space, .. } => Some(space),
+        Deed::Sends(_) | Deed::Records { .. } | Deed::Copies { .. } | Deed::Drops { .. } => None,
+    }
+}
+
+/// These objects alone.
+fn few(first: Option<Who>, second: Option<Who>, third: Option<Who>) -> Touched
+    ensures { result ≡ Touched.Few first second third }
+{
+    Touched::Few {
+        first,
+        second,
+        third,
+    }
+}
+
+/// Which objects a plan changes.
+fn planned(plan: &Plan) -> Touched
+    ensures { result ≡ touches.planned plan.now }
+{
+    match plan {
+        Plan::Nothing | Plan::Gives { .. } => few(None, None, None),
+        Plan::One(deed) => few(changed(deed), None, None),
+        Plan::Two(first, second) => few(changed(first), changed(second), None),
+        Plan::Moves {
+            client,
+            receiver,
+            sender,
+            ..
+        } => few(Some(*client), Some(*receiver), Some(*sender)),
+        Plan::Makes { object, .. } | Plan::MakesHeld { object, .. } => few(
+            Some(*object),
+            None,
+            None,
+        ),
+    }
+}
+
+/// Which objects a verdict changes besides its caller.
+fn judged(verdict: &Verdict) -> Touched
+    ensures { result ≡ touches.judged verdict.now }
+{
+    match verdict {
+        Verdict::Runs(_)
+        | Verdict::Refused(_)
+        | Verdict::Waits
+        | Verdict::ShowsRecord { .. }
+        | Verdict::Faults { .. } => few(None, None, None),
+        Verdict::Done(plan, _)
+        | Verdict::Ends(plan, _)
+        | Verdict::Shows { plan, .. }
+        | Verdict::Goes(plan)
+        | Verdict::Tells { plan, .. } => planned(plan),
+        Verdict::Sets { .. }
+        | Verdict::Renames { .. }
+        | Verdict::Destroys { .. }
+        | Verdict::WakesAll { .. } => Touched::All,
+    }
+}
+
+/// Which objects a plan changes.
+pub fn touched_by_plan(plan: &Plan) -> Touched
+    ensures { (p : ℕ → Path) (given : List ℕ) (w : World) (x : Path) → name_body w (changes_by p given plan.now w) x ≡ true → is_touched p result x ≡ true }
+{
+    planned(plan)
+}
+
+/// Which objects the move of a caller changes besides the caller, where it is judged so.
+pub fn touched_by_move(verdict: &Verdict) -> Touched
+    ensures { (m : Contents) (c : callers.Caller) (words : List ℕ) (chooses : Bool) (pick : Option names_of.Who) (x : Path)
+        → name_body (world m) (outcomes.listed (move_by m c words chooses pick verdict.now)) x ≡ true
+        → (same_path x (place (path m) c.who) || is_touched (path m) result x) ≡ true }
+{
+    judged(verdict)
+}
