@@ -1,0 +1,4 @@
+pub mod There
+pub mod Renamed
+pub mod Settled
+pub mod Listed

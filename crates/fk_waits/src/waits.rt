@@ -1,0 +1,160 @@
+//! The lists of those who wait.
+ghost use Rattle.std.specs.Prelude.{◌≡◌, ◌≤◌, ◌+◌, ◌-◌, ◌<◌, ◌^◌, [], length, false, true, IfOk, OnOk, if◌then◌else◌};
+ghost use Rattle.fk_waits.specs.Lists.{Lists, first_queued, first_ready, is_cause, left, parked, passed, renamed, settled, stands, woken, StandOnce};
+
+use crate::threads::Threads;
+use fk_model::{NoMemory, Who};
+use std::alloc::Global;
+use std::marker::Model;
+
+/// Room is made for fewer threads than these.
+const MOST: usize = 1 << 62;
+
+/// The threads that are ready, in order, and those that are queued, each behind its cause, in the order in which they were parked.
+#[derive(Drop)]
+pub struct Waits {
+    threads: Threads,
+    queued: u64,
+}
+
+impl Model for Waits {
+    ghost use Rattle.fk_waits.specs.Lists.{Lists};
+
+    ghost Value = { Lists };
+
+    ghost use Rattle.fk_waits.specs.Threads.{lists_of, IsKept};
+
+    ghost view = { λ w. lists_of w.threads };
+
+    ghost invariant = { λ w. IsKept w.threads w.queued };
+}
+
+impl Waits {
+    /// Both lists are empty, and there is no room yet.
+    ///
+    /// # Errors
+    ///
+    /// There is no memory for the heads of the lists.
+    pub fn new(alloc: Global) -> Result<Waits, NoMemory>
+        ensures { IfOk result (λ w. w ≡ record { ready = []; queued = []; spare = 0 }) }
+    {
+        let threads = Threads::new(alloc)?;
+        Ok(Waits { threads, queued: 0 })
+    }
+
+    /// Makes room for so many more threads. The lists stay.
+    ///
+    /// # Errors
+    ///
+    /// There is no memory for them.
+    pub fn reserve(&mut self, threads: u64) -> Result<(), NoMemory>
+        ensures spare { OnOk result (threads ≤ self.new.spare) }
+        ensures ready { self.new.ready ≡ self.old.ready }
+        ensures queued { self.new.queued ≡ self.old.queued }
+        ensures kept { self.old.spare ≤ self.new.spare }
+    {
+        let more = threads as usize;
+        if more >= MOST {
+            return Err(NoMemory);
+        }
+        let seats = self.threads.len() + more;
+        if seats >= MOST {
+            return Err(NoMemory);
+        }
+        if seats <= self.threads.seats() {
+            return Ok(());
+        }
+        self.threads.reserve(seats)
+    }
+
+    /// Each thread stands once. What the type keeps is seen where it is made alone; by this call it is had above.
+    pub fn once(&self)
+        ensures { StandOnce self.now }
+    {
+        let _queued = self.queued;
+    }
+
+    /// A thread is taken out of where it is and goes last of the queued, with this cause.
+    pub fn park(&mut self, thread: Who, cause: Who)
+        requires { stands thread self.old ≡ false → 1 ≤ self.old.spare }
+        ensures { self.new ≡ parked thread cause self.old }
+    {
+        self.settle(thread, Some(cause));
+    }
+
+    /// A thread is taken out of where it is and goes last of the ready.
+    pub fn wake(&mut self, thread: Who)
+        requires { stands thread self.old ≡ false → 1 ≤ self.old.spare }
+        ensures { self.new ≡ woken thread self.old }
+    {
+        self.settle(thread, None);
+    }
+
+    /// A thread is taken out. Where it was in a list, there is room for one more.
+    pub fn leave(&mut self, thread: Who)
+        ensures { self.new ≡ left thread self.old }
+    {
+        let waited = self.threads.leave(thread);
+        self.queued = counted(self.queued, waited, false);
+    }
+
+    /// A name stands wherever another stood, as a thread and as a cause. It stood nowhere.
+    pub fn rename(&mut self, from: Who, to: Who)
+        requires thread { stands to self.old ≡ false }
+        requires cause { is_cause to self.old.queued ≡ false }
+        ensures { self.new ≡ renamed from to self.old }
+    {
+        self.threads.rename_cause(from, to);
+        self.threads.rename_thread(from, to);
+    }
+
+    /// The first thread that is queued at a cause.
+    pub fn first(&self, cause: Who) -> Option<Who>
+        ensures { result ≡ first_queued cause self.now.queued }
+    {
+        self.threads.first(Some(cause))
+    }
+
+    /// The front of the ready goes last.
+    pub fn pass(&mut self)
+        ensures { self.new ≡ passed self.old }
+    {
+        self.once();
+        if let Some(thread) = self.next() {
+            self.wake(thread);
+        }
+    }
+
+    /// The front of the ready.
+    pub fn next(&self) -> Option<Who>
+        ensures { result ≡ first_ready self.now.ready }
+    {
+        self.threads.first(None)
+    }
+
+    /// How many threads are queued.
+    pub fn len(&self) -> u64
+        ensures { result ≡ length self.now.queued }
+    {
+        self.queued
+    }
+
+    /// A thread goes last of the queued, or of the ready where it has no cause.
+    fn settle(&mut self, thread: Who, cause: Option<Who>)
+        requires { stands thread self.old ≡ false → 1 ≤ self.old.spare }
+        ensures { self.new ≡ settled thread cause self.old }
+    {
+        let waited = self.threads.settle(thread, cause);
+        self.queued = counted(self.queued, waited, cause.is_some());
+    }
+}
+
+/// How many are queued once one was and is no more, or wasn't and is.
+fn counted(queued: u64, was: bool, is: bool) -> u64
+    requires some { was ≡ true → 1 ≤ queued }
+    requires few { queued < 2 ^ 62 }
+    ensures { result ≡ (if was then queued - 1 else queued) + (if is then 1 else 0) }
+{
+    let others = if was { queued - 1 } else { queued };
+    if is { others + 1 } else { others }
+}
