@@ -1,0 +1,10 @@
+pub mod BodyLaws
+pub mod CountLaws
+pub mod AlikeLaws
+pub mod LinkedLaws
+pub mod TellLaws
+pub mod MarkLaws
+pub mod HomeLaws
+pub mod MemberBodies
+pub mod MemberLaws
+pub mod SweepLaws

@@ -1,0 +1,2 @@
+pub mod Bodied
+pub mod Homes

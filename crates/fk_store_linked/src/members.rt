@@ -1,0 +1,61 @@
+//! Ports in sets, where a set is destroyed or gets another name.
+ghost use Rattle.std.specs.Prelude.{◌≡◌, ◌<◌, ◌*◌, ◌+◌};
+ghost use Rattle.fk_model.specs.Objects.{holds};
+ghost use Rattle.fk_store_linked.specs.Bodied.{body_under, AreMarked, Maps, member_after, members_in};
+ghost use Rattle.fk_store_leads.specs.Marks as marks_of;
+ghost use Rattle.fk_store_leads.specs.Marks.{member_mark};
+
+use crate::replacing::sweep_one;
+use fk_model::Who;
+use fk_store_leads::{Sweep, is_port_in_set};
+use fk_store_objects::Objects;
+
+/// The ports of the object's space that are in it as their set are swept.
+pub fn sweep_members(objects: &mut Objects, sweep: Sweep)
+    requires { AreMarked objects.old marks_of.is_member member_mark }
+    ensures { Maps objects.old objects.new (member_after sweep objects.old) }
+{
+    objects.slots();
+    objects.filed();
+    for group in 0..16u8 {
+        if objects.is_marked(sweep.from.space, 16 + group) {
+            sweep_group(objects, group, sweep);
+        }
+    }
+}
+
+/// The ports of a group of slots of the object's space are swept.
+fn sweep_group(objects: &mut Objects, group: u8, sweep: Sweep)
+    requires { group < 16 }
+    ensures { Maps objects.old objects.new (members_in sweep objects.old (group * 16) (group * 16 + 16)) }
+{
+    for at in 0..16u8 {
+        sweep_port(objects, group * 16 + at, sweep);
+    }
+}
+
+/// The port in a slot of the object's space is swept, if it is in a set.
+fn sweep_port(objects: &mut Objects, slot: u8, sweep: Sweep)
+    ensures { Maps objects.old objects.new (members_in sweep objects.old slot (slot + 1)) }
+{
+    objects.filed();
+    let who = Who {
+        space: sweep.from.space,
+        slot,
+    };
+    if let Some(key) = objects.key(who) {
+        if is_member(objects, key) {
+            sweep_one(objects, key, sweep);
+        }
+    }
+}
+
+/// The object under a key is a port in a set.
+fn is_member(objects: &Objects, key: u32) -> bool
+    ensures { result ≡ holds marks_of.is_member (body_under objects.now key) }
+{
+    match objects.entry(key) {
+        None => false,
+        Some(entry) => is_port_in_set(&entry.body),
+    }
+}
