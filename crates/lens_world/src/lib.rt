@@ -1,18 +1,22 @@
-//! What stands in a store, in words: objects, threads and the tree of spaces.
+//! What is seen of a run at a moment, and what stands then, in words: objects, threads and the tree of spaces.
 //!
-//! `tree_text` shows all of a store, each space before what lies in it. `object_text` and `thread_text` show one object, and
-//! `path_text` its path from the root.
+//! `Seen` is what a watcher of a run sees, `Watcher` who watches, and `Stop` where a run stops. `tree_text` shows all of a store, each
+//! space before what lies in it. `object_text` and `thread_text` show one object, and `path_text` its path from the root.
 //!
-//! It stands on `fk_store` for what is there, and on `lens_text` for instructions and calls
-//! as text. It promises no more than that each function ends.
+//! It stands on `fk_store` for what is there, on `fk_natives` for native servers, and on `lens_text` for instructions and calls
+//! as text. It knows no core, so that what shows a run doesn't stand on what makes one. It promises no more than that each function ends.
 #![tactic(auto)]
 
 mod names;
 mod objects;
+mod seen;
+mod stops;
 mod threads;
 mod tree;
 
-pub use names::{handled, names_of, path_text, pointer_text, space_text};
+pub use names::{handled, names_of, object_named, path_text, pointer_text, space_text};
 pub use objects::{home_text, object_text};
+pub use seen::{Job, Ready, Seen, Watcher};
+pub use stops::Stop;
 pub use threads::{at_text, thread_text, word_at};
 pub use tree::tree_text;

@@ -1,4 +1,5 @@
 //! Objects by their paths.
+use fk_model::limits::OWN_SPACE;
 use fk_model::{Body, Ptr, Who};
 use fk_store::Store;
 use std::alloc::{AllocError, Global};
@@ -60,6 +61,23 @@ pub fn handled(store: &Store, space: u32, slot: u64) -> Option<Who> {
         Body::Reference { .. } => None,
         _ => Some(who),
     }
+}
+
+/// The birth number of a space.
+fn birth_of(store: &Store, who: Who) -> Option<u32> {
+    match store.at(who)? {
+        Body::Space { birth, .. } => Some(*birth),
+        _ => None,
+    }
+}
+
+/// The object in a slot of a place that is named in a space: 256 is that space itself.
+pub fn object_named(store: &Store, space: u32, place: u64, slot: u64) -> Option<Who> {
+    if place == OWN_SPACE {
+        return handled(store, space, slot);
+    }
+    let place = handled(store, space, place)?;
+    handled(store, birth_of(store, place)?, slot)
 }
 
 /// All objects but the root, by their paths: each space before what lies in it, and what lies in one by rising slot.
