@@ -1,5 +1,5 @@
 -- Naming: which bodies the changes of deeds, plans and verdicts name.
-use Rattle.std.proofs.Common.{◌≡◌, ◌||◌, ◌==◌, ℕ, Bool, true, false, List, [], ◌∷◌, ◌++◌, Option, Some, None, is_none, if◌then◌else◌, refl, sym, ap, ◌∙◌}
+use Rattle.std.proofs.Common.{◌≡◌, ◌||◌, ◌==◌, ℕ, Bool, true, false, List, [], ◌∷◌, ◌++◌, map, Option, Some, None, is_none, if◌then◌else◌, refl, sym, ap, ◌∙◌}
 use Rattle.std.proofs.lemmas.Bool.{or_right}
 use Rattle.fk_model.specs.declared.names.Who.{Who}
 use Rattle.fk_model.specs.ObjectRows.{new_object}
@@ -25,12 +25,15 @@ use Rattle.fk_plans.specs.declared.plan.Verdict.{Verdict}
 use Rattle.fk_plans.specs.declared.plan.Verdict.TheVariants as verdicts
 use Rattle.fk_plans.specs.Plans.{after, change_by, changes_by, made}
 use Rattle.fk_plans.specs.Verdicts.{news_by, outcome_by, tells}
-use Rattle.fk_records.specs.Settings.{record_there}
+use Rattle.fk_model.specs.Objects.{Body}
+use Rattle.fk_model.specs.Records.{set_edits, takes_state}
+use Rattle.fk_plans.specs.Recordings.{record_words}
+use Rattle.fk_records.specs.Settings.{record_there, sets_at, sets_of}
 use Rattle.fk_threads.specs.Answers.{all_four, listed as answers_of}
 use Rattle.fk_model.specs.Reach.{words_at}
 use Rattle.fk_model.specs.Searches.{thread_at}
 use Rattle.laws_machine.specs.Frame.{name_body, names_body}
-use Rattle.fk_wakes.specs.declared.touching.Touched.TheVariants.{Few}
+use Rattle.fk_wakes.specs.declared.touching.Touched.TheVariants.{Few, Moves}
 use Rattle.fk_wakes.specs.Touches.{changed_by, is_at, is_touched, judged, planned}
 
 pub none_names : {X : Type 0} → false ≡ true → X
@@ -147,7 +150,7 @@ module _ (w : World) (c : Caller) (cs : List Change) (x : Path) (t : Bool) (plan
   pub goes_names : name_body w cs x ≡ true → (same_path x (path_of c) || t) ≡ true
   goes_names names = only names
 
-told_listed : (said : Said) (o : Outcome) → listed (telling said o) ≡ listed o
+pub told_listed : (said : Said) (o : Outcome) → listed (telling said o) ≡ listed o
 told_listed said (Refused status) = refl
 told_listed said Waits = refl
 told_listed said (Goes changes Nothing) = refl
@@ -222,6 +225,27 @@ module _ (w : World) (c : Caller) (x : Path) (t : Bool) where
   closed_names chosen pick Waits plan names = none_names names
   closed_names chosen pick (Goes cs said) plan names = picked_names cs said (chosen || is_none pick) plan names
 
+-- ---- a record is set
+
+edit_name : (a b : Bool) → (a || b) ≡ true → (b ≡ true → (a || false) ≡ true) → (a || false) ≡ true
+edit_name true b names more = refl
+edit_name false b names more = more names
+
+edits_name : (w : World) (y x : Path) (es : List Edit) → name_body w (map (Alter y) es) x ≡ true → (same_path x y || false) ≡ true
+edits_name w y x [] names = none_names names
+edits_name w y x (e ∷ es) names =
+    edit_name (same_path x y) (name_body (apply (Alter y e) w) (map (Alter y) es) x) names (λ rest. edits_name (apply (Alter y e) w) y x es rest)
+
+taken_name : (w : World) (y x : Path) (es : List Edit) (takes : Bool) → name_body w (if takes then map (Alter y) es else []) x ≡ true →
+    (same_path x y || false) ≡ true
+taken_name w y x es true names = edits_name w y x es names
+taken_name w y x es false names = none_names names
+
+sets_name : (w v : World) (space y x : Path) (words : List ℕ) (o : Option Body) → name_body w (sets_of v space y words o) x ≡ true →
+    (same_path x y || false) ≡ true
+sets_name w v space y x words None names = none_names names
+sets_name w v space y x words (Some b) names = taken_name w y x (set_edits b words) (takes_state v space b words) names
+
 -- ---- plans and verdicts
 
 pub plan_names : (p : ℕ → Path) (given : List ℕ) (plan : Plan) (w : World) (x : Path) → name_body w (changes_by p given plan w) x ≡ true →
@@ -251,7 +275,11 @@ verdict_names w p c (verdicts.Shows plan space page) x names =
     done_names w c (changes_by p c.words plan w) x (is_touched p (planned plan) x) (plan_names p c.words plan w x) (words_at w (p space) page) names
 verdict_names w p c (verdicts.ShowsRecord object) x names =
     done_names w c [] x (is_touched p (Few None None None) x) (λ n. none_names n) (record_there (w.body (place p object))) names
-verdict_names w p c (verdicts.Sets object from) x names = all_named (same_path x (path_of c))
+verdict_names w p c (verdicts.Sets object from) x names =
+    let y = place p object in
+    let words = record_words p c.words from w in
+    done_names w c (sets_at w (p object.space) y words) x (is_touched p (Few (Some object) None None) x)
+    (λ n. sets_name w w (p object.space) y x words (w.body y) n) [] names
 verdict_names w p c (verdicts.Renames object slot) x names = all_named (same_path x (path_of c))
 verdict_names w p c (verdicts.Destroys object last) x names = all_named (same_path x (path_of c))
 verdict_names w p c (verdicts.WakesAll cond) x names = all_named (same_path x (path_of c))

@@ -1,8 +1,10 @@
 -- Touches: which objects a move may change.
-use Rattle.std.specs.Prelude.{ℕ, Bool, true, ◌||◌, Option, Some, None}
+use Rattle.std.specs.Prelude.{ℕ, Bool, true, false, ◌||◌, ◌&&◌, ◌==◌, List, [], ◌∷◌, Option, Some, None}
 use Rattle.fk_model.specs.declared.names.Who.{Who}
 use Rattle.fk_model.specs.Objects.{holds}
 use Rattle.fk_model.specs.Places.{Path, same_path}
+use Rattle.fk_model.specs.World.{Change}
+use Rattle.fk_model.specs.World.Change.{Kill, Move}
 use Rattle.fk_store.specs.Paths.{place}
 use Rattle.fk_plans.specs.declared.plan.Deed.{Deed}
 use Rattle.fk_plans.specs.declared.plan.Deed.TheVariants as deeds
@@ -11,7 +13,7 @@ use Rattle.fk_plans.specs.declared.plan.Plan.TheVariants as plans
 use Rattle.fk_plans.specs.declared.plan.Verdict.{Verdict}
 use Rattle.fk_plans.specs.declared.plan.Verdict.TheVariants as verdicts
 use Rattle.fk_wakes.specs.declared.touching.Touched.{Touched}
-use Rattle.fk_wakes.specs.declared.touching.Touched.TheVariants.{All, Few}
+use Rattle.fk_wakes.specs.declared.touching.Touched.TheVariants.{Any, Dies, Few, Moves}
 
 -- the object that a deed changes
 abbrev pub changed_by : Deed → Option Who
@@ -54,10 +56,10 @@ judged (verdicts.Ends plan answers) = planned plan
 judged (verdicts.Shows plan space page) = planned plan
 judged (verdicts.Goes plan) = planned plan
 judged (verdicts.Tells plan news last) = planned plan
-judged (verdicts.Sets object from) = All
-judged (verdicts.Renames object slot) = All
-judged (verdicts.Destroys object last) = All
-judged (verdicts.WakesAll cond) = All
+judged (verdicts.Sets object from) = Few (Some object) None None
+judged (verdicts.Renames object slot) = Moves object slot
+judged (verdicts.Destroys object last) = Dies object
+judged (verdicts.WakesAll cond) = Any
 judged other = Few None None None
 
 -- a path is where a name leads
@@ -66,4 +68,22 @@ is_at p who x = holds (λ (w : Who). same_path x (place p w)) who
 
 abbrev pub is_touched : (ℕ → Path) → Touched → Path → Bool
 is_touched p (Few first second third) x = is_at p first x || (is_at p second x || is_at p third x)
-is_touched p All x = true
+is_touched p other x = true
+
+abbrev pub dies : (ℕ → Path) → Touched → Path → Bool
+dies p (Dies object) x = same_path x (place p object)
+dies p other x = false
+
+abbrev pub moves : (ℕ → Path) → Touched → Path → ℕ → Bool
+moves p (Moves object slot) x to = same_path x (place p object) && slot == to
+moves p other x to = false
+
+-- a change takes nothing from its place but what is told
+abbrev pub leaves : (ℕ → Path) → Touched → Change → Bool
+leaves p touched (Kill x) = dies p touched x
+leaves p touched (Move x slot) = moves p touched x slot
+leaves p touched other = true
+
+abbrev pub leave : (ℕ → Path) → Touched → List Change → Bool
+leave p touched [] = true
+leave p touched (c ∷ cs) = leaves p touched c && leave p touched cs

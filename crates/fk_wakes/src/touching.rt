@@ -12,22 +12,31 @@ ghost use Rattle.fk_store.specs.Paths.{path, place};
 ghost use Rattle.fk_store.specs.World.{world};
 ghost use Rattle.laws_machine.specs.Frame.{name_body};
 ghost use Rattle.fk_wakes.specs.Touches as touches;
-ghost use Rattle.fk_wakes.specs.Touches.{changed_by, is_touched};
+ghost use Rattle.fk_wakes.specs.Touches.{changed_by, is_touched, leave};
 
 use fk_model::Who;
 use fk_plans::{Deed, Plan, Verdict};
 
-/// Which objects a move may change besides its caller.
+/// Which objects a move may change besides its caller, and what it takes from its place.
 #[derive(Clone, Copy)]
 pub enum Touched {
-    /// These alone.
+    /// These alone, and nothing goes from its place.
     Few {
         first: Option<Who>,
         second: Option<Who>,
         third: Option<Who>,
     },
-    /// Any.
-    All,
+    /// Any, and nothing goes from its place.
+    Any,
+    /// Any, and this one is destroyed.
+    Dies {
+        object: Who,
+    },
+    /// Any, and this one gets another slot.
+    Moves {
+        object: Who,
+        slot: u8,
+    },
 }
 
 /// The object that a deed changes; none where it changes a page.
@@ -104,10 +113,13 @@ fn judged(verdict: &Verdict) -> Touched
         | Verdict::Shows { plan, .. }
         | Verdict::Goes(plan)
         | Verdict::Tells { plan, .. } => planned(plan),
-        Verdict::Sets { .. }
-        | Verdict::Renames { .. }
-        | Verdict::Destroys { .. }
-        | Verdict::WakesAll { .. } => Touched::All,
+        Verdict::Sets { object, .. } => few(Some(*object), None, None),
+        Verdict::Renames { object, slot } => Touched::Moves {
+            object: *object,
+            slot: *slot,
+        },
+        Verdict::Destroys { object, .. } => Touched::Dies { object: *object },
+        Verdict::WakesAll { .. } => Touched::Any,
     }
 }
 
@@ -120,9 +132,11 @@ pub fn touched_by_plan(plan: &Plan) -> Touched
 
 /// Which objects the move of a caller changes besides the caller, where it is judged so.
 pub fn touched_by_move(verdict: &Verdict) -> Touched
-    ensures { (m : Contents) (c : callers.Caller) (words : List ℕ) (chooses : Bool) (pick : Option names_of.Who) (x : Path)
+    ensures names { (m : Contents) (c : callers.Caller) (words : List ℕ) (chooses : Bool) (pick : Option names_of.Who) (x : Path)
         → name_body (world m) (outcomes.listed (move_by m c words chooses pick verdict.now)) x ≡ true
         → (same_path x (place (path m) c.who) || is_touched (path m) result x) ≡ true }
+    ensures leaves { (m : Contents) (c : callers.Caller) (words : List ℕ) (chooses : Bool) (pick : Option names_of.Who)
+        → leave (path m) result (outcomes.listed (move_by m c words chooses pick verdict.now)) ≡ true }
 {
     judged(verdict)
 }
