@@ -1,5 +1,5 @@
 -- Judged: the move of a thread that is judged.
-use Rattle.std.proofs.Common.{◌≡◌, ◌≤◌, ℕ, Bool, true, false, cond, ◌↔◌, IsTrue, IfOk, Result, Ok, Err, is_some, ◌&&◌, List, [], ◌∷◌, length, Option, Some, None, option_map, IsSome, IfSome, refl, sym, ap, subst, ◌∙◌}
+use Rattle.std.proofs.Common.{◌≡◌, ◌≤◌, ℕ, Bool, true, false, cond, ◌↔◌, IsTrue, IfOk, Result, Ok, Err, is_some, is_none, ◌&&◌, ◌||◌, List, [], ◌∷◌, length, Option, Some, None, option_map, IsSome, IfSome, refl, sym, ap, subst, ◌∙◌}
 use Rattle.fk_model.specs.declared.moves.Ask.{Ask}
 use Rattle.fk_model.specs.declared.moves.Ask.TheVariants as asks
 use Rattle.fk_model.specs.declared.moves.Move.{Move}
@@ -22,8 +22,10 @@ use Rattle.fk_model.specs.Places.{Path, parent}
 use Rattle.fk_model.specs.Valid.{kind_there, IsValid}
 use Rattle.fk_model.specs.World.{World}
 use Rattle.fk_readers.specs.declared.caller.Caller.{Caller}
+use Rattle.fk_threads.specs.declared.answers.Answers.{Answers}
 use Rattle.fk_plans.specs.declared.plan.Effect.{Effect}
 use Rattle.fk_plans.specs.declared.plan.Effect.TheVariants as effects
+use Rattle.fk_plans.specs.declared.plan.Plan.TheVariants as plans
 use Rattle.fk_plans.specs.declared.plan.Verdict.{Verdict}
 use Rattle.fk_plans.specs.declared.plan.Verdict.TheVariants as verdicts
 use Rattle.fk_plans.specs.declared.plan.Moving.{Moving}
@@ -46,6 +48,7 @@ use Rattle.fk_endings.proofs.Verdicts.{verdict-ending}
 use Rattle.fk_calls.specs.declared.judging.Judgement.{Judgement}
 use Rattle.fk_calls.specs.Doings.{IsAtStage, is_free_porter_at}
 use Rattle.fk_calls.specs.Rows.{takes_memory, first_takes_memory}
+pub use Rattle.fk_calls.specs.Tried.{porter}
 use Rattle.fk_calls.specs.Judgements.{words_of, outcome_of, IsJudged, IsMoving, IsReadyMove, IsRun, IsStepTo, IsEnded}
 use Rattle.fk_model.specs.Searches.{depth, thread_at}
 
@@ -163,9 +166,6 @@ picked_unrefused c (Some q) (Goes changes said) same = refl
 
 abbrev pub user : Who → Caller
 user who = record { who = who; is_porter = false }
-
-abbrev pub porter : Who → Caller
-porter who = record { who = who; is_porter = true }
 
 pub instruction_judged : (m : Contents) (move : Move) (v : Verdict) →
     is_free_at (world m) (place (path m) move.who) ≡ true → is_running (thread_at (world m) (place (path m) move.who)) ≡ true →
@@ -338,3 +338,29 @@ quiet_judged m n move ask j said valid few left is made = record {
   ending = ended_judged m n move ask j said None is made.0 made.1 (verdict-ending m j.caller (words_of ask) valid few j.verdict None is.fits left);
   apart = tt;
 }
+
+-- ---- a porter's stage that changes nothing
+
+abbrev still : Who → Bool → Answers → Judgement
+still who chosen answers = record { caller = porter who; chooses = chosen; verdict = verdicts.Done plans.Nothing answers }
+
+-- it is ready where it picks as it may
+pub still_ready : (m : Contents) (move : Move) (ask : Ask) (chosen : Bool) (answers : Answers) → IsJudged m move ask (still move.who chosen answers) →
+    (chosen || is_none move.pick) ≡ true → IsReadyMove m move ask
+still_ready m move ask chosen answers is may = subst (GoesAllowed (world m) (place (path m) move.who)) (sym is.outcome) (by chosen move.pick may)
+  where
+    by : (chosen : Bool) (pick : Option Who) → (chosen || is_none pick) ≡ true →
+        GoesAllowed (world m) (place (path m) move.who) (move_by m (porter move.who) (words_of ask) chosen pick (verdicts.Done plans.Nothing answers))
+    by true pick may = tt
+    by false None may = tt
+    by false (Some q) may = absurd (cc)
+
+pub still_unready : (m : Contents) (move : Move) (ask : Ask) (chosen : Bool) (answers : Answers) → IsJudged m move ask (still move.who chosen answers) →
+    (chosen || is_none move.pick) ≡ false → IsReadyMove m move ask → ⊥
+still_unready m move ask chosen answers is may ready = by chosen move.pick may (subst (GoesAllowed (world m) (place (path m) move.who)) is.outcome ready)
+  where
+    by : (chosen : Bool) (pick : Option Who) → (chosen || is_none pick) ≡ false →
+        GoesAllowed (world m) (place (path m) move.who) (move_by m (porter move.who) (words_of ask) chosen pick (verdicts.Done plans.Nothing answers)) → ⊥
+    by true pick may goes = absurd (cc)
+    by false None may goes = absurd (cc)
+    by false (Some q) may goes = goes

@@ -3,3 +3,4 @@ pub mod Doings
 pub mod Judgements
 pub mod Choices
 pub mod Sayings
+pub mod Tried

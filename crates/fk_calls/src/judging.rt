@@ -17,6 +17,7 @@ ghost use Rattle.fk_calls.specs.Doings.{IsAtStage};
 ghost use Rattle.fk_calls.specs.Judgements.{IsJudged, IsMoving, IsReadyMove, outcome_of, words_of};
 ghost use Rattle.fk_calls.specs.Rows.{are_given, are_given_for};
 
+use crate::codes::begins_with_send;
 use crate::doing::{Doing, doing_of, is_free_porter, next_of};
 use crate::rows;
 use fk_model::{Ask, Mode, Move, Stage, Thread, Turn, Who};
@@ -170,8 +171,8 @@ fn user_moving(store: &Store, m: &Move) -> Option<Moving>
     requires valid { IsValid (world store.now) }
     ensures { IfSome result (λ moving. IsMoving store.now m.now asks.Run moving) }
 {
-    // These calls alone begin with a Send. Others needn't be looked at.
-    if !matches!(store.thread(m.who)?.regs[0], 34 | 37 | 51 | 53) {
+    // Other calls needn't be looked at.
+    if !begins_with_send(store.thread(m.who)?.regs[0]) {
         return None;
     }
     if !store.is_free(m.who) {

@@ -6,11 +6,13 @@
 //! the one match from a stage to its judge. It promises that `ready` answers exactly whether the
 //! abstract machine is ready to make a move, that `take` makes of the store's world what the machine
 //! makes of it, that `attempt` does both, judging once, and tells which native server lost its client,
-//! that `say` does the same of words for a native server, which it lays into the caller's room,
+//! that `say` does the same of words for a native server, which it lays into the caller's room, and `call` of a porter's answer,
 //! that `is_fit` tells which moves may be made at all, that `may_move` tells cheaply of whom no move is ready, and that
 //! `may_pick` tells whom a user may pick.
 #![tactic(auto)]
 
+mod answering;
+mod codes;
 mod doing;
 mod fitting;
 mod judging;
@@ -19,6 +21,7 @@ mod picking;
 mod rows;
 mod sayings;
 
+pub use answering::call;
 pub use fitting::is_fit;
 pub use judging::may_move;
 pub use moves::{Told, attempt, proceed, ready, take};

@@ -1,5 +1,5 @@
 //! Which moves are ready, and making them.
-ghost use Rattle.std.specs.Prelude.{◌≡◌, ◌↔◌, ℕ, List, None, true, false, IsTrue, IsOk, IfOk, IfSome, IfNone, OnErr};
+ghost use Rattle.std.specs.Prelude.{◌≡◌, ◌↔◌, ℕ, List, None, true, false, IsTrue, IsOk, IfOk, OnErr};
 ghost use Rattle.std.specs.Bool.{OnTrue, OnFalse};
 ghost use Rattle.fk_model.specs.declared.moves.Ask.TheVariants as asks;
 ghost use Rattle.fk_model.specs.Valid.{IsValid};
@@ -9,9 +9,10 @@ ghost use Rattle.fk_plans.specs.Hearers.{IsPadded};
 ghost use Rattle.fk_store.specs.Paths.{path, place, HasOwnPath};
 ghost use Rattle.fk_store.specs.World.{world};
 ghost use Rattle.fk_acts.specs.Acts.{is_act};
-ghost use Rattle.fk_calls.specs.Judgements.{is_fit_move, IsEnded, IsMoving, IsReadyMove, IsRun, IsStepTo, may_lack, IsHeardBy};
+ghost use Rattle.fk_calls.specs.Judgements.{is_fit_move, IsEnded, IsMoving, IsReadyMove, IsRun, IsStepTo, may_lack};
 ghost use Rattle.fk_plans.specs.Verdicts.{hearer_of, IsVerdict};
 ghost use Rattle.fk_store.specs.Named.{Each};
+ghost use Rattle.fk_calls.specs.Tried.{IsMade, HasEnded, IsTold, IsToldPadded, IsUnready, IsLacking};
 ghost use Rattle.fk_calls.specs.Rows as stages;
 ghost use Rattle.fk_calls.specs.Rows.{are_given_for};
 
@@ -101,12 +102,12 @@ fn ready_given(store: &Store, m: &Move, ask: &Ask) -> bool
 pub fn attempt(store: &mut Store, m: &Move, ask: &Ask) -> Result<Option<Told>, NoMemory>
     requires valid { IsValid (world store.old) }
     requires fit { is_fit_move store.old m.now ask.now ≡ true }
-    ensures made { IfOk result (λ tried. IfSome tried (λ told. IsReadyMove store.old m.now ask.now × IsStepTo store.old m.now ask.now store.new told.said)) }
-    ensures ended { IfOk result (λ tried. IfSome tried (λ told. IsEnded store.old store.new told.ended)) }
-    ensures heard { IfOk result (λ tried. IfSome tried (λ told. IsHeardBy store.old store.new told.said)) }
-    ensures padded { IfOk result (λ tried. IfSome tried (λ told. IsPadded told.said)) }
-    ensures unready { IfOk result (λ tried. IfNone tried ((IsReadyMove store.old m.now ask.now → ⊥) × (store.new ≡ store.old))) }
-    ensures lacking { OnErr result (IsReadyMove store.old m.now ask.now × (store.new ≡ store.old)) }
+    ensures made { IfOk result (IsMade store.old m.now ask.now store.new) }
+    ensures ended { IfOk result (HasEnded store.old store.new) }
+    ensures heard { IfOk result (IsTold store.old store.new) }
+    ensures padded { IfOk result IsToldPadded }
+    ensures unready { IfOk result (IsUnready store.old m.now ask.now store.new) }
+    ensures lacking { OnErr result (IsLacking store.old m.now ask.now store.new) }
     ensures sure { may_lack store.old m.now ask.now ≡ false → IsOk result }
 {
     match ask {
@@ -120,12 +121,12 @@ pub fn attempt(store: &mut Store, m: &Move, ask: &Ask) -> Result<Option<Told>, N
 fn attempt_other(store: &mut Store, m: &Move, ask: &Ask) -> Result<Option<Told>, NoMemory>
     requires valid { IsValid (world store.old) }
     requires fit { is_fit_move store.old m.now ask.now ≡ true }
-    ensures made { IfOk result (λ tried. IfSome tried (λ told. IsReadyMove store.old m.now ask.now × IsStepTo store.old m.now ask.now store.new told.said)) }
-    ensures ended { IfOk result (λ tried. IfSome tried (λ told. IsEnded store.old store.new told.ended)) }
-    ensures heard { IfOk result (λ tried. IfSome tried (λ told. IsHeardBy store.old store.new told.said)) }
-    ensures padded { IfOk result (λ tried. IfSome tried (λ told. IsPadded told.said)) }
-    ensures unready { IfOk result (λ tried. IfNone tried ((IsReadyMove store.old m.now ask.now → ⊥) × (store.new ≡ store.old))) }
-    ensures lacking { OnErr result (IsReadyMove store.old m.now ask.now × (store.new ≡ store.old)) }
+    ensures made { IfOk result (IsMade store.old m.now ask.now store.new) }
+    ensures ended { IfOk result (HasEnded store.old store.new) }
+    ensures heard { IfOk result (IsTold store.old store.new) }
+    ensures padded { IfOk result IsToldPadded }
+    ensures unready { IfOk result (IsUnready store.old m.now ask.now store.new) }
+    ensures lacking { OnErr result (IsLacking store.old m.now ask.now store.new) }
     ensures sure { may_lack store.old m.now ask.now ≡ false → IsOk result }
 {
     match ask {
@@ -155,11 +156,11 @@ fn attempt_other(store: &mut Store, m: &Move, ask: &Ask) -> Result<Option<Told>,
 fn attempt_act(store: &mut Store, m: &Move, ask: &Ask) -> Option<Told>
     requires valid { IsValid (world store.old) }
     requires act { is_act ask.now ≡ true }
-    ensures made { IfSome result (λ told. IsReadyMove store.old m.now ask.now × IsStepTo store.old m.now ask.now store.new told.said) }
-    ensures ended { IfSome result (λ told. IsEnded store.old store.new told.ended) }
-    ensures heard { IfSome result (λ told. IsHeardBy store.old store.new told.said) }
-    ensures padded { IfSome result (λ told. IsPadded told.said) }
-    ensures unready { IfNone result ((IsReadyMove store.old m.now ask.now → ⊥) × (store.new ≡ store.old)) }
+    ensures made { IsMade store.old m.now ask.now store.new result }
+    ensures ended { HasEnded store.old store.new result }
+    ensures heard { IsTold store.old store.new result }
+    ensures padded { IsToldPadded result }
+    ensures unready { IsUnready store.old m.now ask.now store.new result }
 {
     match fk_acts::attempt(store, m, ask) {
         // By no act does a server lose its client.
@@ -211,11 +212,11 @@ fn attempt_instruction(
         (thread_at (world store.old) (place (path store.old) m.now.who))
         ≡ effect_by (world store.old) (path store.old) (place (path store.old) m.now.who) effect registers counter }
     requires effect { IsEffect (path store.old) (world store.old) registers effect }
-    ensures made { IfSome result (λ told. IsReadyMove store.old m.now ask.now × IsStepTo store.old m.now ask.now store.new told.said) }
-    ensures ended { IfSome result (λ told. IsEnded store.old store.new told.ended) }
-    ensures heard { IfSome result (λ told. IsHeardBy store.old store.new told.said) }
-    ensures padded { IfSome result (λ told. IsPadded told.said) }
-    ensures unready { IfNone result ((IsReadyMove store.old m.now ask.now → ⊥) × (store.new ≡ store.old)) }
+    ensures made { IsMade store.old m.now ask.now store.new result }
+    ensures ended { HasEnded store.old store.new result }
+    ensures heard { IsTold store.old store.new result }
+    ensures padded { IsToldPadded result }
+    ensures unready { IsUnready store.old m.now ask.now store.new result }
 {
     if make_instruction(store, m, registers, counter, effect) {
         Some(Told {
@@ -263,11 +264,11 @@ fn make_instruction(
 fn attempt_moving(store: &mut Store, m: &Move, ask: &Ask, moving: &Moving) -> Option<Told>
     requires valid { IsValid (world store.old) }
     requires judged { IsMoving store.old m.now ask.now moving.now }
-    ensures made { IfSome result (λ told. IsReadyMove store.old m.now ask.now × IsStepTo store.old m.now ask.now store.new told.said) }
-    ensures ended { IfSome result (λ told. IsEnded store.old store.new told.ended) }
-    ensures heard { IfSome result (λ told. IsHeardBy store.old store.new told.said) }
-    ensures padded { IfSome result (λ told. IsPadded told.said) }
-    ensures unready { IfNone result ((IsReadyMove store.old m.now ask.now → ⊥) × (store.new ≡ store.old)) }
+    ensures made { IsMade store.old m.now ask.now store.new result }
+    ensures ended { HasEnded store.old store.new result }
+    ensures heard { IsTold store.old store.new result }
+    ensures padded { IsToldPadded result }
+    ensures unready { IsUnready store.old m.now ask.now store.new result }
 {
     let caller = Caller {
         who: m.who,
@@ -290,12 +291,12 @@ fn attempt_judged(store: &mut Store, m: &Move, ask: &Ask) -> Result<Option<Told>
     requires valid { IsValid (world store.old) }
     requires thread { is_act ask.now ≡ false }
     requires fit { is_fit_move store.old m.now ask.now ≡ true }
-    ensures made { IfOk result (λ tried. IfSome tried (λ told. IsReadyMove store.old m.now ask.now × IsStepTo store.old m.now ask.now store.new told.said)) }
-    ensures ended { IfOk result (λ tried. IfSome tried (λ told. IsEnded store.old store.new told.ended)) }
-    ensures heard { IfOk result (λ tried. IfSome tried (λ told. IsHeardBy store.old store.new told.said)) }
-    ensures padded { IfOk result (λ tried. IfSome tried (λ told. IsPadded told.said)) }
-    ensures unready { IfOk result (λ tried. IfNone tried ((IsReadyMove store.old m.now ask.now → ⊥) × (store.new ≡ store.old))) }
-    ensures lacking { OnErr result (IsReadyMove store.old m.now ask.now × (store.new ≡ store.old)) }
+    ensures made { IfOk result (IsMade store.old m.now ask.now store.new) }
+    ensures ended { IfOk result (HasEnded store.old store.new) }
+    ensures heard { IfOk result (IsTold store.old store.new) }
+    ensures padded { IfOk result IsToldPadded }
+    ensures unready { IfOk result (IsUnready store.old m.now ask.now store.new) }
+    ensures lacking { OnErr result (IsLacking store.old m.now ask.now store.new) }
     ensures sure { may_lack store.old m.now ask.now ≡ false → IsOk result }
 {
     let j = match judge(store, m, ask) {

@@ -9,7 +9,7 @@ ghost use Rattle.fk_store.specs.Paths.{path, place};
 ghost use Rattle.fk_store.specs.Threads.{todo_at};
 ghost use Rattle.fk_store.specs.World.{world, IsLive, IsSpace};
 ghost use Rattle.fk_plans.specs.Plans.{caller_by};
-ghost use Rattle.fk_plans.specs.Verdicts.{JudgesGiven, IsVerdict, IsSureVerdict, outcome_by};
+ghost use Rattle.fk_plans.specs.Verdicts.{JudgesGiven, IsVerdict, IsSureVerdict, outcome_by, outcome_of};
 ghost use Rattle.fk_calls.specs.Rows as stages;
 ghost use Rattle.fk_calls.specs.Rows.{are_given, takes_memory, IsFirst};
 
@@ -145,8 +145,34 @@ fn is_denied(caller: Caller, stage: &Stage) -> bool
     }
 }
 
-/// What a stage comes to, where a porter gives these words. One for the other kind of caller is
+/// What a stage comes to, where a porter gives these words, or why it is refused. One for the other kind of caller is
 /// denied.
+#[inline(always)]
+pub fn judged(
+    store: &Store,
+    caller: Caller,
+    given: &[u64],
+    stage: &Stage,
+    pick: Option<Who>,
+) -> Result<Verdict, u8>
+    requires space { IsSpace store.now caller.who.space }
+    requires live { IsLive store.now caller.who }
+    requires valid { IsValid (world store.now) }
+    requires first { IsFirst stage.now (todo_at (world store.now) (place (path store.now) caller.who)) }
+    requires given { caller.is_porter ≡ true → length given.now ≡ 64 }
+    requires words { caller.is_porter ≡ true → are_given stage.now given.now ≡ true }
+    ensures row { let c = caller_by (path store.now) caller given.now in
+        outcome_of (world store.now) (path store.now) c result ≡ allowed_row (world store.now) c (picked_by (path store.now) pick) stage.now }
+    ensures fits { IfOk result (IsVerdict store.now caller) }
+    ensures sure { takes_memory caller.is_porter stage.now ≡ false → IfOk result IsSureVerdict }
+{
+    if is_denied(caller, stage) {
+        return Err(DENIED);
+    }
+    row(store, caller, given, stage, pick)
+}
+
+/// The same as a verdict.
 pub fn judge(
     store: &Store,
     caller: Caller,
@@ -165,10 +191,7 @@ pub fn judge(
     ensures fits { IsVerdict store.now caller result }
     ensures sure { takes_memory caller.is_porter stage.now ≡ false → IsSureVerdict result }
 {
-    if is_denied(caller, stage) {
-        return Verdict::Refused(DENIED);
-    }
-    match row(store, caller, given, stage, pick) {
+    match judged(store, caller, given, stage, pick) {
         Ok(verdict) => verdict,
         Err(status) => Verdict::Refused(status),
     }

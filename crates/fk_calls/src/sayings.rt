@@ -18,6 +18,7 @@ ghost use Rattle.fk_plans.specs.Verdicts.{outcome_by, words_told, AreWords, IsVe
 ghost use Rattle.fk_calls.specs.Judgements.{IsEnded, IsHeardBy, IsReadyMove, IsStepTo};
 ghost use Rattle.fk_calls.specs.Sayings.{told_by, verdict_of};
 
+use crate::codes::begins_with_client_send;
 use crate::judging::judge;
 use crate::moves::apart;
 use fk_model::{Ask, Move, Peer, Thread, Who};
@@ -46,8 +47,8 @@ pub struct Saying {
 }
 
 /// Makes the next stage of the user in a slot, where that sends words to a native server and is ready, lays the words into the room, with zeros
-/// behind them, and gives whom they are for; none where it isn't so, and then the store stays as it is. By such a stage no server
-/// loses its client.
+/// behind them, and gives whom they are for. Else, and wherever it declines, it gives none and the store stays as it is: whether the move is
+/// ready then `attempt` tells. By such a stage no server loses its client.
 pub fn say(store: &mut Store, who: Who, room: &mut [u64; 64]) -> Option<Sent>
     requires valid { IsValid (world store.old) }
     ensures made { IfSome result (λ sent. IsReadyMove store.old (record { who = who; pick = None }) asks.Run
@@ -76,10 +77,10 @@ pub fn say(store: &mut Store, who: Who, room: &mut [u64; 64]) -> Option<Sent>
     })
 }
 
-/// A call begins with a send in a talk with a native server. No other needs to be judged for it.
+/// A user may be about to send words to a native server: its call begins with a send, in such a talk. Nobody else needs to be judged for it.
 fn may_say(store: &Store, who: Who) -> bool {
     match store.thread(who) {
-        Some(thread) => matches!(thread.regs[0], 34 | 37) && is_served(thread),
+        Some(thread) => begins_with_client_send(thread.regs[0]) && is_served(thread),
         None => false,
     }
 }

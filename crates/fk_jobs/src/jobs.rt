@@ -100,6 +100,23 @@ fn idle_end<W: Worker + Drop>(why: Unmoved) -> Ended<W>
     }
 }
 
+/// Makes the machine of the job whose turn it is. It stands apart, since it is rare and takes much room.
+#[inline(never)]
+fn make_new<W: Worker + Drop>(
+    alloc: Global,
+    plans: &[Plan],
+    ends: &[Ended<W>],
+    worker: &mut Option<W>,
+) -> Result<(), NoMemory>
+    requires { NameUsersSlots (map job_of plans.now) }
+    ensures made { OnOk result (option_map W.state worker.new
+        ≡ first_of (shown_ends W.state ends.now) (slice_get (map job_of plans.now) (length (shown_ends W.state ends.now)))) }
+    ensures lacking { OnErr result (worker.new ≡ worker.old) }
+{
+    *worker = make(alloc, plans, ends)?;
+    Ok(())
+}
+
 /// Makes the machine of the job whose turn it is, where it isn't made yet.
 fn make_in<W: Worker + Drop>(
     alloc: Global,
@@ -113,7 +130,7 @@ fn make_in<W: Worker + Drop>(
     ensures lacking { OnErr result (worker.new ≡ worker.old) }
 {
     if worker.is_none() {
-        *worker = make(alloc, plans, ends)?;
+        make_new(alloc, plans, ends, worker)?;
     }
     Ok(())
 }
@@ -200,6 +217,7 @@ impl<W: Worker + Drop> Jobs<W> {
     /// # Errors
     ///
     /// There is no memory for it.
+    #[inline(never)]
     pub fn reserve(&mut self) -> Result<(), NoMemory>
         ensures jobs { self.new.jobs ≡ self.old.jobs }
         ensures ends { self.new.ends ≡ self.old.ends }

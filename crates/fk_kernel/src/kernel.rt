@@ -11,8 +11,10 @@ ghost use Rattle.fk_store.specs.Moves.{said_by};
 ghost use Rattle.fk_store.specs.Paths.{place};
 ghost use Rattle.fk_store.specs.World.{world};
 ghost use Rattle.fk_plans.specs.Hearers.{says_to, says_to_who, IsPadded};
+ghost use Rattle.fk_answers.specs.Rooms.{IsRoom};
 ghost use Rattle.fk_calls.specs.Judgements.{IsReadyMove};
 ghost use Rattle.fk_calls.specs.Sayings.{told_by};
+ghost use Rattle.fk_calls.specs.Tried.{tried_of};
 ghost use Rattle.laws_prompt.specs.Events.{IsPrompt, IsCorrect};
 ghost use Rattle.laws_whole.specs.Runnable.{IsRunnable};
 ghost use Rattle.fk_model.specs.Endings.{has_ended};
@@ -21,7 +23,7 @@ ghost use Rattle.fk_kernel.specs.Events as events;
 ghost use Rattle.fk_kernel.specs.Events.{is_fit_event, is_who, AreNamed, IsAcceptReady, IsAnyReady, IsIdleBetween, IsIdleUpTo, IsLooked, IsMoveReady, IsReadyBesides, IsReadyEvent, may_lack, step_of};
 
 use fk_calls::{Sent, Told};
-use fk_model::{Ask, Move, NoMemory, Said, Who};
+use fk_model::{Ask, Move, NoMemory, Said, Stage, Who};
 use fk_store::Store;
 use std::marker::Model;
 
@@ -161,6 +163,39 @@ impl Kernel {
         tried
     }
 
+    /// Makes a porter's call where it is ready, as `attempt` does, and answers whether it was; what it tells, and the port whose native server lost
+    /// its client by it, are laid into the room, which has zeros.
+    pub fn call(
+        &mut self,
+        m: &Move,
+        stage: &Stage,
+        words: &[u64; 64],
+        told: &mut Told,
+    ) -> Result<bool, NoMemory>
+        requires fit { is_fit_event (world_of self.old) (event_of (world_of self.old) (asks.Call stage.now words.now) m.now) ≡ true }
+        requires room { IsRoom told.old.said }
+        ensures made { IfOk (tried_of result told.new) (λ tried. IfSome tried (λ told.
+            IsReadyEvent (world_of self.old) (event_of (world_of self.old) (asks.Call stage.now words.now) m.now)
+            × (step_of (world_of self.old) (event_of (world_of self.old) (asks.Call stage.now words.now) m.now)
+            ≡ record { world = world_of self.new; said = said_by (path_of self.new) told.said }))) }
+        ensures ended { IfOk (tried_of result told.new) (λ tried. IfSome tried (λ told. (port : Who) →
+            has_ended (world_of self.old) (world_of self.new) (named (world_of self.old) port) ≡ is_who told.ended port)) }
+        ensures told { IfOk (tried_of result told.new) (λ tried. IfSome tried (λ told. (port : Who) →
+            says_to (step_of (world_of self.old) (event_of (world_of self.old) (asks.Call stage.now words.now) m.now)).said (named (world_of self.old) port)
+            ≡ says_to_who told.said port)) }
+        ensures unready { IfOk (tried_of result told.new) (λ tried. IfNone tried (
+            (IsReadyEvent (world_of self.old) (event_of (world_of self.old) (asks.Call stage.now words.now) m.now) → ⊥)
+            × (self.new ≡ self.old))) }
+        ensures padded { IfOk (tried_of result told.new) (λ tried. IfSome tried (λ told. IsPadded told.said)) }
+        ensures lacking { OnErr (tried_of result told.new) (self.new ≡ self.old) }
+    {
+        self.store.names();
+        let made = fk_calls::call(&mut self.store, m, stage, words, told);
+        // And so they do in the world that the move leaves.
+        self.store.names();
+        made
+    }
+
     /// Makes the instruction of the user in a slot, where that is what it does next and where it is ready, and answers
     /// whether it did; else all stays as it is. It tells nothing, and no native server loses its client by it.
     pub fn proceed(&mut self, who: Who) -> bool
@@ -178,8 +213,8 @@ impl Kernel {
     }
 
     /// Makes the next stage of the user in a slot, where that sends words to a native server and is ready: lays the words into the room, with
-    /// zeros behind them, and gives whom they are for; none where it isn't so, and then all stays as it is. No native server loses its client
-    /// by it.
+    /// zeros behind them, and gives whom they are for. Else, and wherever it declines, it gives none and all stays as it is: whether the move is
+    /// ready then `attempt` tells. No native server loses its client by it.
     pub fn say(&mut self, who: Who, room: &mut [u64; 64]) -> Option<Sent>
         ensures made { IfSome result (λ sent.
             IsReadyEvent (world_of self.old) (event_of (world_of self.old) Ask.Run (record { who = who; pick = None }))

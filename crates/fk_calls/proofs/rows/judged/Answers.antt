@@ -4,11 +4,14 @@ use Rattle.fk_plans.specs.Plans.{caller_by}
 use Rattle.fk_store.specs.Paths.{path}
 use Rattle.fk_calls.proofs.Firsts.{takes_none}
 use Rattle.fk_calls.proofs.Given.{allowed_given}
-use Rattle.fk_calls.proofs.rows.judge.Goals as goal
+use Rattle.fk_calls.proofs.rows.judged.Goals as goal
 
 pub row-requires-clause-words : goal.row-requires-clause-words
 row-requires-clause-words c = allowed_given c.args.caller (path c.args.store.now) c.args.given.now c.args.stage.now
     (sym (c.is_denied.ensures (path c.args.store.now) c.args.given.now) ∙ c.if-is_denied.false) c.requires.words
+
+pub row-requires-clause-allowed : goal.row-requires-clause-allowed
+row-requires-clause-allowed c = sym (c.is_denied.ensures (path c.args.store.now) c.args.given.now) ∙ c.if-is_denied.false
 
 pub returns-then-is_denied-clause-row : goal.returns-then-is_denied-clause-row
 returns-then-is_denied-clause-row c =
@@ -16,23 +19,14 @@ returns-then-is_denied-clause-row c =
     c.args.stage.now ≡ true = sym (c.is_denied.ensures (path c.args.store.now) c.args.given.now) ∙ c.if-is_denied.true in
     rw denied refl
 
-pub returns-in-Ok-clause-row : goal.returns-in-Ok-clause-row
-returns-in-Ok-clause-row c =
+pub returns-clause-row : goal.returns-clause-row
+returns-clause-row c =
     let allowed : is_denied (caller_by (path c.args.store.now) c.args.caller c.args.given.now)
     c.args.stage.now ≡ false = sym (c.is_denied.ensures (path c.args.store.now) c.args.given.now) ∙ c.if-is_denied.false in
-    rw allowed c.in-Ok.ensures.row.outcome
+    rw allowed c.row.ensures.row.outcome
 
-pub returns-in-Err-clause-row : goal.returns-in-Err-clause-row
-returns-in-Err-clause-row c =
+pub returns-clause-sure : goal.returns-clause-sure
+returns-clause-sure c =
     let allowed : is_denied (caller_by (path c.args.store.now) c.args.caller c.args.given.now)
     c.args.stage.now ≡ false = sym (c.is_denied.ensures (path c.args.store.now) c.args.given.now) ∙ c.if-is_denied.false in
-    rw allowed c.in-Err.ensures.row.outcome
-
-pub row-requires-clause-allowed : goal.row-requires-clause-allowed
-row-requires-clause-allowed c = sym (c.is_denied.ensures (path c.args.store.now) c.args.given.now) ∙ c.if-is_denied.false
-
-pub returns-in-Ok-clause-sure : goal.returns-in-Ok-clause-sure
-returns-in-Ok-clause-sure c =
-    let allowed : is_denied (caller_by (path c.args.store.now) c.args.caller c.args.given.now)
-    c.args.stage.now ≡ false = sym (c.is_denied.ensures (path c.args.store.now) c.args.given.now) ∙ c.if-is_denied.false in
-    λ none. c.in-Ok.ensures.sure (takes_none c.args.caller (path c.args.store.now) c.args.given.now c.args.stage.now allowed none)
+    λ none. c.row.ensures.sure (takes_none c.args.caller (path c.args.store.now) c.args.given.now c.args.stage.now allowed none)

@@ -1,0 +1,20 @@
+//! The codes of the calls that begin with a send.
+
+/// A client sends words, passes the turn and receives.
+const CLIENT_SEND_OVER_RECEIVE: u64 = 34;
+/// A client sends words.
+const CLIENT_SEND: u64 = 37;
+/// A server sends words.
+const SERVER_SEND: u64 = 51;
+/// A server sends words, passes the turn and receives.
+const SERVER_SEND_OVER_RECEIVE: u64 = 53;
+
+/// A call begins with a client's send.
+pub fn begins_with_client_send(code: u64) -> bool {
+    code == CLIENT_SEND || code == CLIENT_SEND_OVER_RECEIVE
+}
+
+/// A call begins with a send.
+pub fn begins_with_send(code: u64) -> bool {
+    begins_with_client_send(code) || code == SERVER_SEND || code == SERVER_SEND_OVER_RECEIVE
+}
