@@ -1,5 +1,1 @@
-mod Coming
 mod Desks
-mod Playing
-mod Runs
-mod Fitting

@@ -1,4 +1,1 @@
-pub mod Shown
-pub mod Told
 pub mod Places
-pub mod Plays

@@ -1,14 +1,13 @@
 //! A crew: so many workers at one book, each in a thread of its own.
 ghost use Rattle.std.specs.Prelude.{◌≡◌, ◌≤◌, ◌<◌, All, length, map, IfOk, IfSome, IfNone};
 ghost use Rattle.fk_served.specs.Served.{AllFit};
-ghost use Rattle.fk_workers.specs.Shown.{IsSound, HasEnded};
-ghost use Rattle.fk_workers.specs.Told.{IsKept};
+ghost use Rattle.fk_books.specs.Shown.{IsSound, HasEnded};
+ghost use Rattle.fk_books.specs.Told.{IsKept};
 ghost use Rattle.fk_workers.specs.Places.{IsPlace};
 
-use crate::book::Book;
-use crate::gate::Gate;
-use crate::playable::Playable;
 use crate::worker::work;
+use fk_books::{Book, Playable};
+use fk_causes::Gate;
 use fk_model::NoMemory;
 use fk_responders::Table;
 use fk_rlock::{Pass, Ruled};

@@ -1,12 +1,11 @@
 //! A worker.
 ghost use Rattle.std.specs.Prelude.{◌≡◌, ◌≤◌, false, length, map, IfOk, OnOk};
 ghost use Rattle.fk_served.specs.Served.{AllFit};
-ghost use Rattle.fk_workers.specs.Shown.{HasEnded};
-ghost use Rattle.fk_workers.specs.Told.{Told, IsKept};
+ghost use Rattle.fk_books.specs.Shown.{HasEnded};
+ghost use Rattle.fk_books.specs.Told.{Told, IsKept};
 
-use crate::book::Book;
-use crate::gate::Gate;
-use crate::playable::Playable;
+use fk_books::{Book, Playable};
+use fk_causes::Gate;
 use fk_model::NoMemory;
 use fk_responders::Table;
 use fk_rlock::{Pass, Ruled};
@@ -18,7 +17,7 @@ use std::sync::Wait;
 /// # Errors
 ///
 /// There is no memory for what a move makes.
-#[tactic(auto, using(crate::proofs::Runs::goes_longer))]
+#[tactic(auto, using(fk_books::proofs::Runs::goes_longer))]
 pub fn work<R: Wait, G: Gate, C: Playable + Drop>(
     rt: &R,
     lock: &Ruled<Book<C>>,

@@ -1,5 +1,5 @@
 use Rattle.std.proofs.Common.{rules, ◌≡◌, ◌∙◌, false, length, ap, sym}
-use Rattle.fk_workers.specs.Told.{Told}
+use Rattle.fk_books.specs.Told.{Told}
 use Rattle.fk_workers.proofs.worker.work.Goals as goal
 
 -- the book that the last turn met and left

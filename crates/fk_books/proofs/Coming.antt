@@ -4,7 +4,7 @@ use Rattle.std.proofs.Common.{IfSome, Result, Ok, Err, IfOk, OnErr, sym, ap, sub
 use Rattle.std.specs.Bool.{OnTrue, OnFalse}
 use Rattle.fk_model.specs.declared.moves.Move.{Move}
 use Rattle.fk_core.specs.Cores.{IsReadyMove, IsAdvanced, IsOver, IsTried}
-use Rattle.fk_workers.specs.Shown.{Shown, MayMove, HasEnded, Moves, Comes, IsFirstDue, is_porter}
+use Rattle.fk_books.specs.Shown.{Shown, MayMove, HasEnded, Moves, Comes, IsFirstDue, is_porter}
 
 shown_same : (s t : Shown) → t.jobs ≡ s.jobs → t.budget ≡ s.budget → t.core ≡ s.core → t ≡ s
 shown_same s t jobs budget core = ap (λ j. record { jobs = j; budget = t.budget; core = t.core }) jobs

@@ -1,6 +1,6 @@
 use Rattle.std.proofs.Common.{◌-◌, length}
-use Rattle.fk_workers.specs.Told.{GoesOn, IsKept}
-use Rattle.fk_workers.proofs.book.Book.finish.Given as goal
+use Rattle.fk_books.specs.Told.{GoesOn, IsKept}
+use Rattle.fk_books.proofs.book.Book.finish.Given as goal
 
 abbrev pub invariant-loop : goal.invariant-loop
 invariant-loop g l = IsKept g.C.Playable.shown l.self × GoesOn l.fn.self l.self

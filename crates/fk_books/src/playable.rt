@@ -2,7 +2,7 @@
 ghost use Rattle.std.specs.Prelude.{◌≡◌, map, IfOk, OnErr, IfNone};
 ghost use Rattle.std.specs.Bool.{OnTrue, OnFalse};
 ghost use Rattle.fk_served.specs.Served.{AllFit};
-ghost use Rattle.fk_workers.specs.Shown.{Shown, MayMove, HasEnded, Moves, Comes, IsFirstDue, HasComeTo};
+ghost use Rattle.fk_books.specs.Shown.{Shown, MayMove, HasEnded, Moves, Comes, IsFirstDue, HasComeTo};
 
 use fk_model::{Move, NoMemory};
 use fk_responders::Table;

@@ -3,7 +3,7 @@ use Rattle.std.specs.Prelude.{◌≡◌, ◌%◌, true, List, [], ◌∷◌, ◌
 use Rattle.std.specs.Coded.{Coded, code_by, coded×, coded_list}
 use Rattle.fk_model.specs.declared.moves.Move.{Move}
 use Rattle.fk_model.specs.contracts.moves.Move as move
-use Rattle.fk_workers.specs.Shown.{Shown, Moves, MayMove, HasRun, is_porter}
+use Rattle.fk_books.specs.Shown.{Shown, Moves, MayMove, HasRun, is_porter}
 
 -- what it was begun from, the core to which its moves have come, and these
 pub record Told (C : Type 0) : Type 0 where

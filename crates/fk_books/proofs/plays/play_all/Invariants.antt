@@ -1,8 +1,8 @@
 use Rattle.std.proofs.Common.{◌≡◌, ◌++◌, length}
 use Rattle.fk_trace_text.specs.Trace.{trace_text, AreLegal}
-use Rattle.fk_workers.specs.Told.{IsKept}
-use Rattle.fk_workers.specs.Plays.{MayPlay}
-use Rattle.fk_workers.proofs.plays.play_all.Given as goal
+use Rattle.fk_books.specs.Told.{IsKept}
+use Rattle.fk_books.specs.Plays.{MayPlay}
+use Rattle.fk_books.proofs.plays.play_all.Given as goal
 
 -- the moves so far are legal and spelled, and stand in the book
 abbrev pub invariant-loop-rest : goal.invariant-loop-rest

@@ -1,8 +1,8 @@
 use Rattle.std.proofs.Common.{arith}
 use Rattle.std.proofs.lemmas.Bool.{OnTrue_at}
-use Rattle.fk_workers.specs.Shown.{Moves}
-use Rattle.fk_workers.proofs.Runs.{fits_in, was_kept, more_run}
-use Rattle.fk_workers.proofs.book.Book.play.Goals as goal
+use Rattle.fk_books.specs.Shown.{Moves}
+use Rattle.fk_books.proofs.Runs.{fits_in, was_kept, more_run}
+use Rattle.fk_books.proofs.book.Book.play.Goals as goal
 
 pub make-requires-clause-fits : goal.make-requires-clause-fits
 make-requires-clause-fits g c = fits_in g.C.Playable.shown _ _ _ _ _ c.self.view_is c.self.invariant.0 c.requires.fits

@@ -1,7 +1,7 @@
 use Rattle.std.proofs.lemmas.Bool.{OnFalse_at}
 use Rattle.fk_trace_text.proofs.Traces.{BeginsWithNone-first}
-use Rattle.fk_workers.specs.Shown.{MayMove}
-use Rattle.fk_workers.proofs.plays.play_next.Goals as goal
+use Rattle.fk_books.specs.Shown.{MayMove}
+use Rattle.fk_books.proofs.plays.play_next.Goals as goal
 
 -- the line that stands first is of a move that may not be made
 pub returns-else-branch-clause-none : goal.returns-else-branch-clause-none

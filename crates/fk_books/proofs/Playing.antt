@@ -5,8 +5,8 @@ use Rattle.laws_runs.proofs.Same.{one_run}
 use Rattle.fk_core.specs.Cores.{house, IsReadyMove}
 use Rattle.fk_trace_text.specs.Trace.{trace_text, AreLegal, BeginsWith, BeginsWithNone}
 use Rattle.fk_trace_text.proofs.Traces.{AreLegal-more, trace_text-more}
-use Rattle.fk_workers.specs.Shown.{Shown, MayMove, HasRun}
-use Rattle.fk_workers.specs.Plays.{MayPlay}
+use Rattle.fk_books.specs.Shown.{Shown, MayMove, HasRun}
+use Rattle.fk_books.specs.Plays.{MayPlay}
 
 may_follow : (first s : Shown) (past : List Move) (m : Move) → HasRun first past s → MayMove s m → MayPlay first past m
 may_follow first s past m run may =

@@ -3,10 +3,10 @@ ghost use Rattle.std.specs.Prelude.{◌≡◌, List, map, IfOk, IfErr, IfSome, I
 ghost use Rattle.fk_model.specs.declared.moves.Move as moves_of;
 ghost use Rattle.fk_served.specs.Served.{AllFit};
 ghost use Rattle.fk_trace_text.specs.Trace.{BeginsWith, BeginsWithNone, Spells};
-ghost use Rattle.fk_workers.specs.Shown.{IsSound, MayMove};
-ghost use Rattle.fk_workers.specs.Told.{IsKept, IsOneMore};
-ghost use Rattle.fk_workers.specs.Plays.{MayPlay, IsCause, GivesMoves};
-ghost use Rattle.fk_workers.specs.declared.plays.PlayFail.TheVariants as fails;
+ghost use Rattle.fk_books.specs.Shown.{IsSound, MayMove};
+ghost use Rattle.fk_books.specs.Told.{IsKept, IsOneMore};
+ghost use Rattle.fk_books.specs.Plays.{MayPlay, IsCause, GivesMoves};
+ghost use Rattle.fk_books.specs.declared.plays.PlayFail.TheVariants as fails;
 
 use crate::book::Book;
 use crate::playable::Playable;

@@ -1,7 +1,7 @@
 use Rattle.std.proofs.Common.{Some, arith}
-use Rattle.fk_workers.specs.Shown.{Moves, IsFirstDue}
-use Rattle.fk_workers.proofs.Runs.{fits_in, was_kept, more_run, took_due}
-use Rattle.fk_workers.proofs.book.Book.one.Goals as goal
+use Rattle.fk_books.specs.Shown.{Moves, IsFirstDue}
+use Rattle.fk_books.proofs.Runs.{fits_in, was_kept, more_run, took_due}
+use Rattle.fk_books.proofs.book.Book.one.Goals as goal
 
 pub make_any-requires-clause-fits : goal.make_any-requires-clause-fits
 make_any-requires-clause-fits g c = fits_in g.C.Playable.shown _ _ _ _ _ c.self.view_is c.self.invariant.0 c.requires.fits

@@ -1,10 +1,10 @@
 use Rattle.std.proofs.Common.{◌≡◌, length, ap, subst, ◌∙◌, inl, inr, rules, refl}
 use Rattle.fk_trace_text.specs.Trace.{trace_text, Spells, BeginsWithNone}
 use Rattle.fk_trace_text.proofs.Traces.{Spells-same, Spells-not_bad, trace_text-all}
-use Rattle.fk_workers.specs.Shown.{HasRun, MayMove}
-use Rattle.fk_workers.specs.Plays.{MayPlay}
-use Rattle.fk_workers.proofs.Playing.{none_follows, legal_more, spelled_more}
-use Rattle.fk_workers.proofs.plays.play_all.Goals as goal
+use Rattle.fk_books.specs.Shown.{HasRun, MayMove}
+use Rattle.fk_books.specs.Plays.{MayPlay}
+use Rattle.fk_books.proofs.Playing.{none_follows, legal_more, spelled_more}
+use Rattle.fk_books.proofs.plays.play_all.Goals as goal
 
 pub returns-in_default-clause-back : goal.returns-in_default-clause-back
 returns-in_default-clause-back g c = λ moves spells.

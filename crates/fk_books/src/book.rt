@@ -2,8 +2,8 @@
 ghost use Rattle.std.specs.Prelude.{◌≡◌, ◌≤◌, [], length, map, vec_capacity, IfOk, OnOk, OnErr};
 ghost use Rattle.std.specs.Bool.{OnTrue, OnFalse};
 ghost use Rattle.fk_served.specs.Served.{AllFit};
-ghost use Rattle.fk_workers.specs.Shown.{IsSound, MayMove, HasEnded};
-ghost use Rattle.fk_workers.specs.Told.{Told, IsKept, IsSame, IsOneMore, HasOneMore, TakesDue, GoesOn};
+ghost use Rattle.fk_books.specs.Shown.{IsSound, MayMove, HasEnded};
+ghost use Rattle.fk_books.specs.Told.{Told, IsKept, IsSame, IsOneMore, HasOneMore, TakesDue, GoesOn};
 
 use crate::playable::Playable;
 use fk_model::{List as Items, Move, NoMemory};
@@ -26,8 +26,8 @@ pub struct Book<C: Playable + Drop> {
 
 impl<C: Playable + Drop> Model for Book<C> {
     ghost use Rattle.std.specs.Prelude.{◌≤◌, vec_capacity};
-    ghost use Rattle.fk_workers.specs.Shown.{HasRun};
-    ghost use Rattle.fk_workers.specs.Told.{Told, told_code};
+    ghost use Rattle.fk_books.specs.Shown.{HasRun};
+    ghost use Rattle.fk_books.specs.Told.{Told, told_code};
 
     ghost Value = { Told C };
 

@@ -4,10 +4,10 @@ use Rattle.fk_model.specs.declared.moves.Move.{Move}
 use Rattle.laws_runs.specs.Cores.{IsRun}
 use Rattle.fk_core.specs.Cores.{RunCore, house, IsReadyMove}
 use Rattle.fk_trace_text.specs.Trace.{IsFirstBad}
-use Rattle.fk_workers.specs.declared.plays.PlayFail.{PlayFail}
-use Rattle.fk_workers.specs.declared.plays.PlayFail.TheVariants.{Trace, NoMemory}
-use Rattle.fk_workers.specs.Shown.{Shown}
-use Rattle.fk_workers.specs.Told.{Told}
+use Rattle.fk_books.specs.declared.plays.PlayFail.{PlayFail}
+use Rattle.fk_books.specs.declared.plays.PlayFail.TheVariants.{Trace, NoMemory}
+use Rattle.fk_books.specs.Shown.{Shown}
+use Rattle.fk_books.specs.Told.{Told}
 
 -- a move may follow those that are done: the budget has one more, and the move is ready after them
 abbrev pub MayPlay : Shown → List Move → Move → Type 0

@@ -1,0 +1,4 @@
+mod Coming
+mod Playing
+pub mod Runs
+mod Fitting
