@@ -41,8 +41,13 @@ fn before_comment(line: &[u8]) -> &[u8]
 pub fn tokens_of(alloc: Global, line: &[u8]) -> Result<Vec<&[u8]>, AllocError>
     ensures { IfOk result (λ tokens. map (λ token. token.now) tokens.items ≡ definitions.tokens_of line.now) }
 {
-    let pieces = pieces_of(alloc, before_comment(line))?;
+    let text = before_comment(line);
     let mut tokens = Vec::new(alloc);
+    if text.is_empty() {
+        // A line that says nothing takes no memory.
+        return Ok(tokens);
+    }
+    let pieces = pieces_of(alloc, text)?;
     for &piece in &pieces {
         if !piece.is_empty() {
             tokens.push(piece)?;
