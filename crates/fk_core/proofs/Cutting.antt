@@ -28,7 +28,7 @@ use Rattle.fk_served.specs.Served.{Services}
 use Rattle.fk_core.specs.Cores.{RunCore, house, IsReadyMove, IsTurned, IsTried}
 use Rattle.fk_core.specs.Cuts.{IsEvent, HasDone, KeepsCuts, LeavesStrangers, IsOfStranger}
 use Rattle.fk_core.specs.Goings.{HasCome}
-use Rattle.fk_core.proofs.Asking.{asked_other}
+use Rattle.fk_moment.proofs.Asking.{asked_other}
 use Rattle.fk_core.proofs.Going.{job_fits}
 use Rattle.fk_served.proofs.Acts.{fit-asked}
 

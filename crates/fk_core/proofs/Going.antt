@@ -27,7 +27,7 @@ use Rattle.fk_served.proofs.Acts.{servers_ask_as_users}
 use Rattle.fk_store.specs.Contents.{Contents}
 use Rattle.fk_core.specs.Cores.{RunCore, house, core_at, is_porter, IsReadyMove, IsTurned, IsTried, IsAdvanced}
 use Rattle.fk_core.specs.Goings.{HasCome}
-use Rattle.fk_core.proofs.Asking.{asks_for}
+use Rattle.fk_moment.proofs.Asking.{asks_for}
 
 settled_events : (jobs : List Job) (c d : RunCore) → Settles (house jobs) c d → d.events ≡ c.events
 settled_events jobs _ _ (Stays c none) = refl

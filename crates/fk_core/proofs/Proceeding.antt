@@ -22,7 +22,7 @@ use Rattle.fk_plans.specs.Hearers.{says_to, says_to_who}
 use Rattle.fk_served.specs.Served.{Services, told}
 use Rattle.fk_core.specs.Cores.{RunCore, house, core_at, porter_of, is_porter, IsAdvanced}
 use Rattle.fk_served.proofs.Acts.{runs}
-use Rattle.fk_core.proofs.Asking.{asks_other, others_ready}
+use Rattle.fk_moment.proofs.Asking.{asks_other, others_ready}
 use Rattle.fk_served.proofs.Lists.{untold}
 use Rattle.fk_core.proofs.Turning.{turned}
 

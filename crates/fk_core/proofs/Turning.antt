@@ -32,8 +32,8 @@ use Rattle.fk_plans.specs.Hearers.{says_to, says_to_who}
 use Rattle.fk_served.specs.Served.{Services, servers, hears_of, told}
 use Rattle.fk_core.specs.Cores.{RunCore, house, core_at, reply_to, porter_of, is_porter, IsTurned, IsCalledMove, IsCalledBy}
 use Rattle.fk_served.proofs.Hearing.{goes, hears-alike}
-use Rattle.fk_core.proofs.Asking.{AsksFor}
-use Rattle.fk_core.proofs.Asking.{asks_for as job_asks_for}
+use Rattle.fk_moment.proofs.Asking.{AsksFor}
+use Rattle.fk_moment.proofs.Asking.{asks_for as job_asks_for}
 
 -- a move of a user or a server, and then jobs that end without one
 pub turned : (m n : Contents) (services new : Services) (q : Queue) (events : ℕ) (mv : Move) (ask : Ask) (said : says_of.Said) (ended : Option Who)

@@ -1,17 +1,18 @@
 //! The core: a kernel with its native servers and its jobs, move by move.
 //!
-//! It stands on `fk_kernel` for the machine's steps, on `fk_served` for servers, on `fk_jobs` for jobs, on `laws_runs` for what a run is,
-//! and on `laws_further` for what becomes of subtrees. It is generic in its servers and in the code of its jobs.
+//! It stands on `fk_kernel` for the machine's steps, on `fk_served` for servers, on `fk_jobs` for jobs, on `fk_moment` for what is ready,
+//! on `fk_rounds` for who moves next, on `laws_runs` for what a run is, and on `laws_further` for what becomes of subtrees. It is generic in
+//! its servers and in the code of its jobs.
 //!
 //! It promises that `turn` is the turn of a run: the machine's step, that each server hears what the move tells
 //! at its port, or that its talk has ended, that the job whose move it is hears the answer, and that jobs end that are due and can't begin
 //! (`specs/Cores.antt`); that each plain subtree stays so, and its cut
 //! does the move as which it sees this one, or nothing (`specs/Cuts.antt`); that for want of memory all is as
 //! before; that `choose` finds a ready move, of a thread, a server or a due job, wherever there is one and the
-//! budget isn't used, and at an even number of moves a due job's; and that `ended` tells how a run has ended (`specs/Ends.antt`).
+//! budget isn't used, and at an even number of moves a due job's; and that `ended` tells how a run has ended (`fk_moment`).
 #![tactic(auto)]
 
-mod ends;
+mod advancing;
 mod looks;
 mod runs;
 mod settling;

@@ -1,21 +1,21 @@
 //! The core: a kernel with its native servers and its jobs.
 ghost use Rattle.fk_model.specs.declared.moves.Rule.{Rule};
-ghost use Rattle.std.specs.Prelude.{◌≡◌, ◌↔◌, List, ◌+◌, ◌<◌, Some, None, true, false, IsTrue, IfOk, OnOk, OnErr, IfSome, IsSome, map};
+ghost use Rattle.std.specs.Prelude.{◌≡◌, ◌↔◌, List, ◌+◌, ◌<◌, Some, true, false, IsTrue, OnOk, OnErr, map};
 ghost use Rattle.std.specs.Bool.{OnTrue, OnFalse};
-ghost use Rattle.fk_served.specs.Served.{asked, AllFit, shown};
-ghost use Rattle.laws_whole.specs.Runnable.{has_all_words};
-ghost use Rattle.fk_core.specs.Cores.{run_core, is_porter, reply_to, IsReadyMove, IsAskedMove, IsCalledMove, IsTurned, IsTried, IsAdvanced, IsDue};
+ghost use Rattle.fk_served.specs.Served.{AllFit, shown};
+ghost use Rattle.fk_core.specs.Cores.{run_core, is_porter, reply_to, IsReadyMove, IsAskedMove, IsCalledMove, IsTurned, IsTried, IsAdvanced};
 ghost use Rattle.fk_core.specs.Cuts.{KeepsCuts, LeavesStrangers};
 ghost use Rattle.fk_core.specs.Goings.{IsGoing};
 ghost use Rattle.fk_core.specs.Leaves.{LeavesTheRest};
 ghost use Rattle.fk_store.specs.World.{world};
-ghost use Rattle.fk_jobs.specs.Jobs.{Queue, hears};
+ghost use Rattle.fk_jobs.specs.Jobs.{hears};
 
 use fk_jobs::{Jobs, Worker};
 use fk_kernel::Kernel;
-use fk_model::{Answer, Ask, Body, Move, NoMemory, Reply, Said, Who};
+use fk_model::{Answer, Ask, Move, NoMemory, Reply, Said, Who};
 use fk_natives::Service;
 use fk_responders::Table;
+use fk_rounds::Rounds;
 use fk_served::Services;
 
 /// A kernel with its native servers and its jobs, and how many moves it has made of how many.
@@ -28,12 +28,7 @@ pub struct Core<S: Service + Drop, W: Worker + Drop> {
     pub(crate) events: u64,
     /// The thread that has moved last, after which the next is sought.
     pub(crate) last: Option<Who>,
-    /// The port whose server the last move told something.
-    pub(crate) heard: Option<Who>,
-    /// The place of the server that is looked at next.
-    pub(crate) next: usize,
-    /// The name after which the next few are looked at while a job works, where the few before came to no end.
-    pub(crate) sought: Option<Who>,
+    pub(crate) rounds: Rounds,
 }
 
 /// The thread that has moved last, once this one has or a server.
@@ -90,9 +85,7 @@ impl<S: Service + Drop, W: Worker + Drop> Core<S, W> {
             budget,
             events: 0,
             last: None,
-            heard: None,
-            next: 0,
-            sought: None,
+            rounds: Rounds::new(),
         }
     }
 
@@ -143,63 +136,6 @@ impl<S: Service + Drop, W: Worker + Drop> Core<S, W> {
         ensures { result ≡ self.now.events }
     {
         self.events
-    }
-
-    /// What a mover asks for that is no job's porter: what it gives is words. Whoever isn't a served port runs.
-    pub(crate) fn ask(&self, who: Who) -> Option<Ask>
-        ensures asked { result ≡ asked self.now.services.list (world self.now.kernel) who }
-        ensures words { IfSome result (λ ask. has_all_words ask ≡ true) }
-    {
-        let store = self.kernel.store();
-        store.names();
-        match store.at(who) {
-            Some(Body::Port { served: true, .. }) => self.services.ask(who),
-            _ => Some(Ask::Run),
-        }
-    }
-
-    /// Whether a move is ready: what its mover asks for is, and a job's is due.
-    pub fn ready(&self, m: &Move) -> bool
-        ensures { IsTrue result ↔ IsReadyMove self.now.jobs.jobs (run_core self.now) m.now }
-    {
-        if self.is_porter(m.who) {
-            self.ready_job(m)
-        } else {
-            self.ready_asked(m)
-        }
-    }
-
-    /// The same of a move whose name is no porter's.
-    fn ready_asked(&self, m: &Move) -> bool
-        ensures { IsTrue result ↔ IsAskedMove self.now.jobs.jobs (run_core self.now) m.now }
-    {
-        match self.ask(m.who) {
-            Some(ask) => self.kernel.ready(m, &ask),
-            None => false,
-        }
-    }
-
-    /// The same of a job's move.
-    pub(crate) fn ready_job(&self, m: &Move) -> bool
-        requires { is_porter self.now.jobs m.now.who ≡ true }
-        ensures { IsTrue result ↔ IsReadyMove self.now.jobs.jobs (run_core self.now) m.now }
-    {
-        if self.is_called(m) {
-            self.is_due()
-        } else {
-            false
-        }
-    }
-
-    /// Whether the call that the job asks for whose turn it is is ready, were it due.
-    fn is_called(&self, m: &Move) -> bool
-        ensures { IsTrue result ↔ IsCalledMove self.now.jobs (run_core self.now) m.now }
-    {
-        let mut words = [0; 64];
-        match self.jobs.next(&mut words) {
-            Some(stage) => self.kernel.ready(m, &Ask::Call { stage, words }),
-            None => false,
-        }
     }
 
     /// Makes a move that is ready, and tells the servers, or the jobs. For want of memory all is as before. That a run has come here
@@ -261,7 +197,7 @@ impl<S: Service + Drop, W: Worker + Drop> Core<S, W> {
         if self.kernel.proceed(m.who) {
             self.events += 1;
             self.last = Some(m.who);
-            self.heard = None;
+            self.rounds.hear(None);
             self.settle();
             return true;
         }
@@ -335,7 +271,7 @@ impl<S: Service + Drop, W: Worker + Drop> Core<S, W> {
         self.services.hear_words(sent.port, &words);
         self.events += 1;
         self.last = Some(m.who);
-        self.heard = Some(sent.port);
+        self.rounds.hear(Some(sent.port));
         self.settle();
         true
     }
@@ -368,7 +304,7 @@ impl<S: Service + Drop, W: Worker + Drop> Core<S, W> {
         self.services.hear(table, told);
         self.events += 1;
         self.last = last_thread(ask, m.who, self.last);
-        self.heard = hearer(&told.said);
+        self.rounds.hear(hearer(&told.said));
         self.settle();
         Ok(true)
     }
@@ -423,7 +359,7 @@ impl<S: Service + Drop, W: Worker + Drop> Core<S, W> {
         self.services.hear(table, told);
         tell_jobs(&mut self.jobs, self.events, &told.said);
         self.events += 1;
-        self.heard = hearer(&told.said);
+        self.rounds.hear(hearer(&told.said));
         self.settle();
         Ok(true)
     }

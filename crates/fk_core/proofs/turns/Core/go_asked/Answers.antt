@@ -4,7 +4,7 @@ use Rattle.fk_store.specs.World.{world}
 use Rattle.fk_served.specs.Served.{asked, told}
 use Rattle.fk_served.proofs.Acts.{fit-asked}
 use Rattle.fk_served.proofs.Hearing.{fits-told}
-use Rattle.fk_core.proofs.Asking.{asks_other, others_ready, ready_asked}
+use Rattle.fk_moment.proofs.Asking.{asks_other, others_ready, ready_asked}
 use Rattle.fk_core.proofs.Turning.{turned}
 use Rattle.fk_core.proofs.turns.Core.go_asked.Goals as goal
 

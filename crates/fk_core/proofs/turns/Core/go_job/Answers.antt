@@ -1,7 +1,7 @@
 use Rattle.std.proofs.Common.{refl}
 use Rattle.fk_store.specs.World.{world}
-use Rattle.fk_core.proofs.Asking.{called_ready, ready_called, ready_due}
-use Rattle.fk_core.proofs.Due.{tried_as}
+use Rattle.fk_moment.proofs.Asking.{called_ready, ready_called, ready_due}
+use Rattle.fk_core.proofs.Trying.{tried_as}
 use Rattle.fk_core.proofs.turns.Core.go_job.Goals as goal
 
 pub returns-then-is_due-clause-tried : goal.returns-then-is_due-clause-tried

@@ -1,7 +1,7 @@
 use Rattle.std.proofs.Common.{◌∙◌, sym}
 use Rattle.fk_store.specs.World.{world}
-use Rattle.fk_core.proofs.Asking.{asked_ready, ready_asked}
-use Rattle.fk_core.proofs.Due.{tried_as}
+use Rattle.fk_moment.proofs.Asking.{asked_ready, ready_asked}
+use Rattle.fk_core.proofs.Trying.{tried_as}
 use Rattle.fk_core.proofs.turns.Core.go_told.Goals as goal
 
 pub returns-else-is_porter-clause-tried : goal.returns-else-is_porter-clause-tried

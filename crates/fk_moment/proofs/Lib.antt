@@ -1,0 +1,3 @@
+pub mod Acting
+pub mod Asking
+pub mod Due

@@ -1,0 +1,23 @@
+use Rattle.fk_store.specs.World.{world}
+use Rattle.fk_moment.proofs.Acting.{runs-other, if-some, if-none}
+use Rattle.fk_moment.proofs.Asking.{others_ready}
+use Rattle.fk_moment.proofs.moment.Moment.user.Goals as goal
+
+pub returns-clause-other : goal.returns-clause-other
+returns-clause-other g c =
+    let self = c.args.self.now in
+    if-some c.next_besides.result _ _
+    (λ m ready. runs-other self.jobs.now (world self.kernel.now) self.services.now.list self.events m (rw c.porter.ensures at ready.0) ready.1)
+    c.next_besides.ensures.ready
+
+pub returns-clause-ready : goal.returns-clause-ready
+returns-clause-ready g c =
+    let self = c.args.self.now in
+    if-some c.next_besides.result _ _
+    (λ m ready. others_ready self.jobs.now (world self.kernel.now) self.services.now.list self.events m
+    (runs-other self.jobs.now (world self.kernel.now) self.services.now.list self.events m (rw c.porter.ensures at ready.0) ready.1))
+    c.next_besides.ensures.ready
+
+pub returns-clause-none : goal.returns-clause-none
+returns-clause-none g c =
+    if-none c.next_besides.result _ _ (λ none m other ready. none m (rw c.porter.ensures other, ready)) c.next_besides.ensures.none
