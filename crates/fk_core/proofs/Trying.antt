@@ -16,6 +16,10 @@ tried_as (Ok true) A B jobs c m d f g h = (f h.0, h.1, h.2)
 tried_as (Ok false) A B jobs c m d f g h = (λ b. h.0 (g b), h.1)
 tried_as (Err e) A B jobs c m d f g h = h
 
+-- what holds of jobs and a core holds of those that they are
+pub there : (P : Queue → RunCore → Type 0) (q r : Queue) (c d : RunCore) → r ≡ q → d ≡ c → P r d → P q c
+there P q r c d same at holds = subst (λ q. P q c) same (subst (P r) at holds)
+
 -- ---- what an advance says, part by part
 
 pub advanced_of : {E : Type 0} (r : Result (Option Move) E) (jobs : List Job) (budget : ℕ) (c d : RunCore) → IsAdvancedOrOver jobs budget c d r →

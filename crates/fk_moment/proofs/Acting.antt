@@ -21,7 +21,7 @@ use Rattle.fk_natives.specs.Natives.{State}
 use Rattle.laws_runs.specs.Cores.{IsOtherReady}
 use Rattle.fk_kernel.specs.declared.kernel.Look.{Look}
 use Rattle.fk_kernel.specs.declared.kernel.Look.TheVariants.{Found, Passed, Nobody}
-use Rattle.fk_kernel.specs.Events.{IsAcceptReady, IsLooked, IsReadyBesides, is_who}
+use Rattle.fk_kernel.specs.Events.{IsLooked, IsReadyBesides, is_who}
 use Rattle.fk_store.specs.Contents.{Contents}
 use Rattle.fk_store.specs.World.{world}
 use Rattle.fk_jobs.specs.Jobs.{Queue, current}
@@ -66,18 +66,6 @@ no-act c port ask is other unready m asked_for who asks_it act ready = by m.pick
     by None e = unready (there None e)
     by (Some p) e =
         unpicked-ready c.world (named c.world port) (named c.world p) ask (subst (λ a. is_act a ≡ true) same act) other (there (Some p) e)
-
-pub no-accept : (c : RunCore) (port : Who) → asked c.servers c.world port ≡ Some asks.Accept → (IsAcceptReady c.world (named c.world port) → ⊥)
-    → HasNoAct c port
-no-accept c port is none m ask who asks_it act ready = none (option_map (named c.world) m.pick, there)
-  where
-    same : ask ≡ asks.Accept
-    same = let e : Some ask ≡ Some asks.Accept = sym asks_it ∙ is in let f : ask ≡ asks.Accept = cc in f
-
-    there : IsReady c.world (named c.world port) (option_map (named c.world) m.pick) asks.Accept
-    there =
-        let asked_for : IsReadyAt c.world (event_of c.world asks.Accept m) = subst (λ a. IsReadyAt c.world (event_of c.world a m)) same ready in
-        subst (λ k. IsReadyAt c.world (event_of c.world asks.Accept (record { who = k; pick = m.pick }))) who asked_for
 
 pub if-none : {A : Type 0} (o : Option A) (X Y : Type 0) → (X → Y) → IfNone o X → IfNone o Y
 if-none None X Y f h = f h

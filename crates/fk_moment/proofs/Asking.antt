@@ -55,20 +55,6 @@ idle_work events (Some k) first is = idle_head k.begun k.state (machine.head k.s
 idle_work events None None is = refl
 idle_work events None (Some s) is = idle_head events s (machine.head s) is
 
-called_head : (begun from : ℕ) (s t : State) (stage : Stage) (words : List ℕ) (h : Head End) → job_asks begun s h ≡ OfJob from t stage words →
-    call_at h ≡ Some (asks.Call stage words)
-called_head begun from s t stage words (Stops end) is = absurd (cc)
-called_head begun from s t stage words (Asks other given) is =
-    let stages : other ≡ stage = cc in
-    let same : given ≡ words = cc in
-    ap (λ x. Some (asks.Call x given)) stages ∙ ap (λ x. Some (asks.Call stage x)) same
-
-called_work : (events from : ℕ) (t : State) (stage : Stage) (words : List ℕ) (work : Option (Work State)) (first : Option State) →
-    work_asks machine (work_of events work first) ≡ OfJob from t stage words → asked_by (state_from work first) ≡ Some (asks.Call stage words)
-called_work events from t stage words (Some k) first is = called_head k.begun from k.state t stage words (machine.head k.state) is
-called_work events from t stage words None None is = absurd (cc)
-called_work events from t stage words None (Some s) is = called_head events from s t stage words (machine.head s) is
-
 no_others_head : (begun : ℕ) (s : State) (ask : Ask) (h : Head End) → job_asks begun s h ≡ Others ask → ⊥
 no_others_head begun s ask (Stops end) is = cc
 no_others_head begun s ask (Asks stage words) is = cc
@@ -76,14 +62,6 @@ no_others_head begun s ask (Asks stage words) is = cc
 no_others_work : (ask : Ask) (work : Option (Work State)) → work_asks machine work ≡ Others ask → ⊥
 no_others_work ask None is = cc
 no_others_work ask (Some k) is = no_others_head k.begun k.state ask (machine.head k.state) is
-
-no_job : (o : Option Ask) (begun : ℕ) (s : State) (stage : Stage) (words : List ℕ) → ◌≡◌ {A = Asker State} (others_ask o) (OfJob begun s stage words) → ⊥
-no_job None begun s stage words is = cc
-no_job (Some ask) begun s stage words is = by (has_all_words ask) is
-  where
-    by : (b : Bool) → ◌≡◌ {A = Asker State} (if b then Others ask else Nobody) (OfJob begun s stage words) → ⊥
-    by true is = cc
-    by false is = cc
 
 pub record IsAsked (o : Option Ask) (ask : Ask) : Type 0 where
   pub is : o ≡ Some ask
@@ -242,10 +220,6 @@ module _ (q : Queue) (w : World) (services : Services) (events : ℕ) where
       → IsReadyMove q.jobs (core_of w services q events) m
   asked_ready m other is = subst (λ (T : Type 0). T) (sym (asked_is m other)) is
 
-  pub others_move : (m : Move) → is_porter q m.who ≡ false → IsAskedMove q.jobs (core_of w services q events) m
-      → IsOthersMove q.jobs (core_of w services q events) m
-  others_move m other is = ready_other m other (subst (λ (T : Type 0). T) (sym (asked_is m other)) is)
-
   pub runs_move : (m : Move) → is_porter q m.who ≡ false → asked services w m.who ≡ Some asks.Run → IsReadyAt w (event_of w asks.Run m) →
       IsOthersMove q.jobs (core_of w services q events) m
   runs_move m other is ready = (asks.Run, asks_other m.who asks.Run other is refl, ready)
@@ -269,12 +243,3 @@ module _ (q : Queue) (w : World) (services : Services) (events : ℕ) where
       by : (b : Bool) → is_porter q m.who ≡ b → ⊥
       by true e = jobs m e ready
       by false e = let as_other = ready_other m e ready in others (m, as_other.0, as_other.1, as_other.2)
-
-  -- what a job asks for is its next call
-  pub asked_job : (who : Who) (begun : ℕ) (s : State) (stage : Stage) (words : List ℕ) →
-      asker (house q.jobs) (core_of w services q events) who ≡ OfJob begun s stage words → asked_by (state_of q) ≡ Some (asks.Call stage words)
-  asked_job who begun s stage words is = by (is_porter q who) refl
-    where
-      by : (b : Bool) → is_porter q who ≡ b → asked_by (state_of q) ≡ Some (asks.Call stage words)
-      by true e = called_work events begun s stage words q.work (first_of q.ends (current q)) (sym (as_job who e) ∙ is)
-      by false e = absurd (no_job (asked services w who) begun s stage words (sym (as_other who e) ∙ is))
