@@ -1,0 +1,15 @@
+pub mod ScanLaws
+pub mod Lists
+pub mod Results
+pub mod FreshLaws
+pub mod QuietLaws
+pub mod NudgeLaws
+pub mod SettleLaws
+pub mod SetLaws
+pub mod MakeLaws
+pub mod KillLaws
+pub mod RenameLaws
+pub mod PlayLaws
+pub mod LeadingLaws
+pub mod LeaderWalks
+pub mod LeaderSums

@@ -1,0 +1,3 @@
+pub mod Orders
+pub mod Playing
+pub mod Threads
