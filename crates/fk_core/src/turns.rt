@@ -1,6 +1,6 @@
 //! The core: a kernel with its native servers and its jobs.
 ghost use Rattle.fk_model.specs.declared.moves.Rule.{Rule};
-ghost use Rattle.std.specs.Prelude.{◌≡◌, ◌↔◌, List, ◌+◌, ◌<◌, Some, true, false, IsTrue, OnOk, OnErr, map};
+ghost use Rattle.std.specs.Prelude.{◌≡◌, ◌↔◌, List, [], ◌+◌, ◌<◌, Some, true, false, IsTrue, OnOk, OnErr, map};
 ghost use Rattle.std.specs.Bool.{OnTrue, OnFalse};
 ghost use Rattle.fk_served.specs.Served.{AllFit, shown};
 ghost use Rattle.fk_core.specs.Cores.{run_core, is_porter, reply_to, IsReadyMove, IsAskedMove, IsCalledMove, IsTurned, IsTried, IsAdvanced};
@@ -11,7 +11,7 @@ ghost use Rattle.fk_store.specs.World.{world};
 ghost use Rattle.fk_jobs.specs.Jobs.{hears};
 
 use fk_jobs::{Jobs, Worker};
-use fk_kernel::Kernel;
+use fk_kernel::{Kernel, Told};
 use fk_model::{Answer, Ask, Move, NoMemory, Reply, Said, Who};
 use fk_natives::Service;
 use fk_responders::Table;
@@ -51,6 +51,22 @@ fn hearer(said: &Said) -> Option<Who> {
     }
 }
 
+/// The jobs hear that a move of theirs told nothing. It stands apart, since it is rare and takes much room.
+#[inline(never)]
+fn tell_nothing<W: Worker + Drop>(jobs: &mut Jobs<W>, events: u64)
+    requires { jobs.old.ready ≡ true }
+    ensures { jobs.new ≡ hears jobs.old events 0 [] }
+{
+    jobs.absorb(
+        events,
+        &Answer {
+            status: 0,
+            words: [0; 64],
+            len: 0,
+        },
+    );
+}
+
 /// The jobs hear what a move of theirs tells.
 fn tell_jobs<W: Worker + Drop>(jobs: &mut Jobs<W>, events: u64, said: &Said)
     requires { jobs.old.ready ≡ true }
@@ -58,14 +74,7 @@ fn tell_jobs<W: Worker + Drop>(jobs: &mut Jobs<W>, events: u64, said: &Said)
 {
     match said {
         Said::Answer(answer) => jobs.absorb(events, answer),
-        _ => jobs.absorb(
-            events,
-            &Answer {
-                status: 0,
-                words: [0; 64],
-                len: 0,
-            },
-        ),
+        _ => tell_nothing(jobs, events),
     }
 }
 
@@ -344,19 +353,24 @@ impl<S: Service + Drop, W: Worker + Drop> Core<S, W> {
         self.services.reserve()?;
         self.jobs.reserve()?;
         let mut words = [0; 64];
+        // What a porter is told is laid into this room, so that no call on the way copies it.
+        let mut told = Told {
+            said: Said::Answer(Answer {
+                status: 0,
+                words,
+                len: 0,
+            }),
+            ended: None,
+        };
         let next = self.jobs.next(&mut words);
         let Some(stage) = next else {
             return Ok(false);
         };
-        let ask = Ask::Call { stage, words };
-        let made = self.kernel.attempt(m, &ask);
-        let Ok(tried) = &made else {
-            return Err(NoMemory);
-        };
-        let Some(told) = tried else {
+        let made = self.kernel.call(m, &stage, &words, &mut told)?;
+        if !made {
             return Ok(false);
-        };
-        self.services.hear(table, told);
+        }
+        self.services.hear(table, &told);
         tell_jobs(&mut self.jobs, self.events, &told.said);
         self.events += 1;
         self.rounds.hear(hearer(&told.said));

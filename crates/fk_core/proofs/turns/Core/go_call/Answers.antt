@@ -1,4 +1,4 @@
-use Rattle.std.proofs.Common.{◌≡◌, ◌∙◌, sym, ap, length, map, Some}
+use Rattle.std.proofs.Common.{◌≡◌, ◌∙◌, sym, ap, length, map, Some, true, refl}
 use Rattle.std.specs.Prelude.{slice_get}
 use Rattle.fk_store.specs.World.{world}
 use Rattle.fk_model.specs.declared.moves.Ask.TheVariants as asks
@@ -9,8 +9,8 @@ use Rattle.fk_core.proofs.Going.{call_fits}
 use Rattle.fk_core.proofs.Turning.{hears-jobs, hears-same}
 use Rattle.fk_core.proofs.turns.Core.go_call.Goals as goal
 
-pub attempt-made-requires : goal.attempt-made-requires
-attempt-made-requires g c =
+pub call-requires : goal.call-requires
+call-requires g c =
     let self = c.args.self.now in
     let ask = asks.Call c.in-Some.stage c.next-next.new.words in
     let kept = c.reserve-2.ensures in
@@ -21,24 +21,26 @@ attempt-made-requires g c =
     record {
       fit = call_fits self.jobs (world self.kernel) self.services.list self.events self.budget c.args.m.now.who ask c.requires.come c.requires.few
           c.requires.job asked;
+      room = refl;
     }
 
 pub returns-clause-tried : goal.returns-clause-tried
 returns-clause-tried g c =
     let self = c.args.self.now in
     let m = self.kernel in
-    let n = c.attempt-made.new.self in
+    let n = c.call.new.self in
     let list = self.services.list in
     let ask = asks.Call c.in-Some.stage c.next-next.new.words in
-    let what = c.in-Some-tried.told in
-    let made = rw c.in-Some-tried.is at (rw c.in-Ok.is at c.attempt-made.ensures.made) in
+    let what = c.call.new.told in
+    let yes : c.in_ok-made.made ≡ true = cc in
+    let made = rw yes at c.in_ok-made.ensures.made in
     let kept = c.reserve-2.ensures in
     let next : asked_by (state_of c.reserve-2.new.self) ≡ Some ask =
     sym c.next-next.ensures.next ∙ ap (λ o. call_with o c.next-next.new.words) c.in-Some.is in
     let both = hears-same m n list c.hear.new.self.list self.jobs c.reserve-2.new.self c.tell_jobs.new.jobs self.events c.args.m.now ask what.said what.ended _
     kept.jobs kept.ends kept.work c.requires.job next made.0 made.1
-    (rw c.in-Some-tried.is at (rw c.in-Ok.is at c.attempt-made.ensures.ended))
-    (rw c.in-Some-tried.is at (rw c.in-Ok.is at c.attempt-made.ensures.told))
+    (rw yes at c.in_ok-made.ensures.ended)
+    (rw yes at c.in_ok-made.ensures.told)
     (c.hear.ensures ∙ ap (map (told what.said what.ended)) c.in_ok-reserve.ensures.same)
     c.tell_jobs.ensures
     c.settle.ensures.settles in
