@@ -1,7 +1,8 @@
 //! A case, called.
+use crate::slow::{SlowSink, SlowSource};
 use fk_causes::{MemShelf, MemSink, MemSource, NoMemory, Shelf};
 use fk_responders::Table;
-use fk_run::{End, Report, fault_line, fluke_top};
+use fk_run::{End, Outcome, Report, fault_line, fluke_top};
 use fk_trace_text::trace_text;
 use std::alloc::Global;
 use test_case_files::{Case, Ending, Fails};
@@ -34,6 +35,26 @@ fn report_of(alloc: Global, report: &Report) -> Result<Vec<u8>, NoMemory> {
     Ok(text.into_bytes())
 }
 
+/// What came of a call of which a sink and a shelf have this.
+fn ending_of(
+    alloc: Global,
+    outcome: &Outcome,
+    output: &[u8],
+    shelf: &MemShelf,
+) -> Result<Ending, NoMemory> {
+    let report = match &outcome.report {
+        Some(report) => Some(report_of(alloc, report)?),
+        None => None,
+    };
+    Ok(Ending {
+        status: outcome.status.number(),
+        error: fault_line(alloc, &outcome.status)?,
+        output: output.to_vec(alloc)?,
+        files: shelf.files().clone()?,
+        report,
+    })
+}
+
 /// What comes of the call of a case in which these calls of its source, its sink and its shelf fail.
 pub fn call(alloc: Global, table: &Table, case: &Case, fails: &Fails) -> Result<Ending, NoMemory> {
     let mut source = MemSource::new(case.source.clone()?, fails.source.clone()?);
@@ -47,15 +68,21 @@ pub fn call(alloc: Global, table: &Table, case: &Case, fails: &Fails) -> Result<
         &mut sink,
         &mut shelf,
     );
-    let report = match &outcome.report {
-        Some(report) => Some(report_of(alloc, report)?),
-        None => None,
-    };
-    Ok(Ending {
-        status: outcome.status.number(),
-        error: fault_line(alloc, &outcome.status)?,
-        output: sink.bytes().to_vec(alloc)?,
-        files: shelf.files().clone()?,
-        report,
-    })
+    ending_of(alloc, &outcome, sink.bytes(), &shelf)
+}
+
+/// What comes of the call of a case, a byte at a time.
+pub fn call_slowly(alloc: Global, table: &Table, case: &Case) -> Result<Ending, NoMemory> {
+    let mut source = SlowSource::new(case.source.clone()?);
+    let mut sink = SlowSink::new(alloc);
+    let mut shelf = shelf_of(alloc, case, &[])?;
+    let outcome = fluke_top(
+        alloc,
+        &case.words,
+        table,
+        &mut source,
+        &mut sink,
+        &mut shelf,
+    );
+    ending_of(alloc, &outcome, sink.bytes(), &shelf)
 }

@@ -6,7 +6,8 @@
 //! called with each, over the source, the sink and the shelf that `fk_causes` has in memory (`call`). A
 //! new case is a new file, or some more lines of one.
 //!
-//! A case may leave a trace that is then played, and has to come to the same.
+//! A case may leave a trace that is then played, and has to come to the same. The cases of a file `slow-NAME.cases` are
+//! called over a source that gives one byte a call and a sink that takes one (`slow`).
 //!
 //! The program says of each case what differs, and ends with a line of counts; it fails where a case
 //! differs, and where it finds none. It promises no more than that it always ends.
@@ -17,6 +18,7 @@ ghost use Rattle.fk_model.specs.Answers.{answer, reply_words};
 ghost use Rattle.fk_model.specs.declared.moves.Rule.TheVariants as rules;
 
 mod call;
+mod slow;
 
 use anyhow::{Context, ensure};
 use fk_model::{Reply, Rule};
@@ -61,6 +63,22 @@ fn try_call<R: Print + AllocGlobal>(
         .ok()
         .context("no memory")?;
     count(rt, tally, case, found.difference(rt.alloc(), &case.wanted)?)
+}
+
+/// Makes the calls of cases a byte at a time.
+fn try_slowly<R: Print + AllocGlobal>(
+    rt: &R,
+    table: &Table,
+    tally: &mut Tally,
+    cases: &[Case],
+) -> anyhow::Result<()> {
+    for case in cases {
+        let found = call::call_slowly(rt.alloc(), table, case)
+            .ok()
+            .context("no memory")?;
+        count(rt, tally, case, found.difference(rt.alloc(), &case.wanted)?)?;
+    }
+    Ok(())
 }
 
 /// What is wrong where a call has made no run.
@@ -121,6 +139,9 @@ fn try_file<R: Files + Print + AllocGlobal>(
     let text = fs::read_to_string(rt, path)?;
     let sections = sections_of(rt, text.as_str())?;
     let cases = cases_of(rt.alloc(), &sections)?;
+    if path.starts_with("slow-") {
+        return try_slowly(rt, table, tally, &cases);
+    }
     for case in &cases {
         try_case(rt, table, tally, case)?;
     }
