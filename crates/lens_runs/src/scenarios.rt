@@ -1,0 +1,103 @@
+//! The scenario that a text is, and why it is none.
+ghost use Rattle.std.specs.Prelude.{IfOk, map};
+ghost use Rattle.fk_scenario.specs.Kept.{KeepsScenario, HasRules};
+
+use fk_commands::{Status, scenario_in};
+use fk_responders::Table;
+use fk_scenario::Scenario;
+use lens_text::{Problem, given};
+use std::alloc::Global;
+
+/// What was expected of a scenario, by the rule by which it is refused.
+fn expected(rule: u8) -> &'static str {
+    match rule {
+        1 => "a TOML document",
+        2 => "the keys of this section, each that has to be there, with values of their types",
+        3 => "numbers and lengths in their ranges",
+        4 => "well-formed paths and names, a kind and a rule that there are",
+        5 => "a space in one that is there, once, with / first; an object in a space that is there",
+        6 => "a slot that is free, and bound once",
+        7 => "a path that leads to what its field can hold",
+        8 => "a program that is there and is assembled",
+        9 => "a port of the file that has no set and no other server; an alias once",
+        10 =>
+            "a nester of the file; to save a subtree without nesters and servers, and no image twice",
+        _ => "a job that can be done",
+    }
+}
+
+/// How a section is headed.
+fn heading(section: u8) -> &'static str {
+    match section {
+        2 => "[programs]",
+        3 => "[[space]]",
+        4 => "[[object]]",
+        5 => "[[server]]",
+        6 => "[[job]]",
+        _ => "top",
+    }
+}
+
+/// Whether a line of a text is this heading, and a comment behind it at most.
+fn is_heading(line: &str, heading: &str) -> bool {
+    let text = match line.split_once('#') {
+        Some((text, _)) => text,
+        None => line,
+    };
+    text.trim() == heading
+}
+
+/// The number of the line that begins an entry, where the text has it under a heading of its own.
+fn line_of(text: &str, heading: &str, index: u32) -> Option<u64> {
+    let mut number = 0u64;
+    let mut passed = 0u32;
+    for line in text.lines() {
+        number = number.saturating_add(1);
+        if is_heading(line, heading) {
+            if passed == index {
+                return Some(number);
+            }
+            passed = passed.saturating_add(1);
+        }
+    }
+    None
+}
+
+/// That a scenario is refused: the line of the entry, where that is found, else its place in its section.
+fn refused(alloc: Global, text: &[u8], rule: u8, section: u8, index: u32) -> Problem {
+    let (heading, expected) = (heading(section), expected(rule));
+    let line = match str::from_utf8(text) {
+        Ok(text) => line_of(text, heading, index),
+        Err(_) => None,
+    };
+    match line {
+        Some(line) => given(format!(in alloc;
+            "standard input, line {line}, {heading} {index}: expected {expected}"
+        )),
+        None => given(format!(in alloc;
+            "standard input, {heading}, entry {index}: expected {expected}"
+        )),
+    }
+}
+
+/// The scenario that a text is, by the rules that a table has for native servers.
+///
+/// # Errors
+///
+/// `Given` where it is none, and `NoMemory`.
+pub fn scenario_of(alloc: Global, table: &Table, text: &[u8]) -> Result<Scenario, Problem>
+    ensures keeps { IfOk result KeepsScenario }
+    ensures rules { IfOk result (HasRules (map (λ r. r.rule) table.now.list.items)) }
+{
+    match scenario_in(alloc, table, text) {
+        Ok(scenario) => Ok(scenario),
+        Err(
+            Status::BadScenario {
+                rule,
+                section,
+                index,
+            },
+        ) => Err(refused(alloc, text, rule, section, index)),
+        Err(_) => Err(Problem::NoMemory),
+    }
+}
