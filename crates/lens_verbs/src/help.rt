@@ -4,18 +4,24 @@
 pub const VERSION: &str = "lens 1\n";
 
 /// What there is, where a word is wrong.
-pub const VERBS: &str = "image, words, --help, --version";
+pub const VERBS: &str = "tree, steps, why, image, words, page, --help, --version";
 
 /// What `--help` says.
-pub const HELP: &str = "lens: shows what a program and an image hold
+pub const HELP: &str = "lens: shows what a program, a scenario, a trace and an image hold
 
-    lens image NAME               the image NAME.img, one thing a line
-    lens image NAME OTHER         the lines by which NAME.img and OTHER.img differ: - NAME alone, + OTHER alone
-    lens words < PROGRAM          the program's text, each word as a line that assembles to it
-    lens --help                   this text
-    lens --version                the program's version
+    lens tree < SCENARIO              the tree of spaces with their objects, at the beginning
+    lens tree NAME K < SCENARIO       the same after K moves of the trace NAME.trc
+    lens steps NAME < SCENARIO        the trace NAME.trc with what each move does: columns by tabs
+    lens steps NAME A B < SCENARIO    the same of the moves A to B, the last one included
+    lens why NAME K < SCENARIO        after K moves of NAME.trc: why threads aren't ready, and who could end that
+    lens image NAME                   the image NAME.img, one thing a line
+    lens image NAME OTHER             the lines by which NAME.img and OTHER.img differ: - NAME alone, + OTHER alone
+    lens words < PROGRAM              the program's text, each word as a line that assembles to it
+    lens page NAME < SCENARIO         the run of NAME.trc as one HTML page
+    lens --help                       this text
+    lens --version                    the program's version
 
-Images are those of the current folder. A NAME is 1 to 32 of a to z, 0 to 9 and _.
+Files are those of the current folder. A NAME is 1 to 32 of a to z, 0 to 9 and _. Moves are counted from 0.
 The exit status is 0 where something was shown, 1 where what was given can't be shown, 2 where the words are
 none of these, 3 where something couldn't be read or written, and 4 where memory ran out. All but 0 come with a
 line on standard error.

@@ -1,9 +1,10 @@
 //! The top call: the words of the command line, over the source and the shelf.
 use crate::help::{HELP, VERSION};
-use crate::image::{difference_text, image_text};
+use crate::responders::show;
 use crate::verb::{Verb, verb_of};
 use crate::words::words_text;
 use fk_causes::{ReadError, Shelf, Source, read_all};
+use lens_image::{difference_text, image_text};
 use lens_text::{Problem, file_of, given};
 use std::alloc::{AllocError, Global};
 
@@ -80,5 +81,6 @@ pub fn lens_top<R: Source, H: Shelf>(
         Verb::Words => words_text(alloc, &source_text(alloc, source)?),
         Verb::Image(name) => show_image(alloc, name, shelf),
         Verb::Differences(name, other) => show_differences(alloc, name, other, shelf),
+        verb => show(alloc, verb, &source_text(alloc, source)?, shelf),
     }
 }
