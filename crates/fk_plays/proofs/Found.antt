@@ -12,7 +12,7 @@ use Rattle.fk_commands.specs.Prepared.{IsRefusal}
 use Rattle.fk_commands.specs.Status.{was_cut_short}
 use Rattle.fk_image.specs.declared.image.Image.{Image}
 use Rattle.fk_model.specs.declared.job.JobSpec.{JobSpec}
-use Rattle.fk_plays.proofs.Rises.{rises}
+use Rattle.fk_commands.proofs.Rises.{rises}
 use Rattle.fk_plays.specs.Images.{needed, Finds, FindsImages, NeedImage, UnlessFailed}
 use Rattle.fk_plays.specs.Images.FindsImages.{NoJob, Found, Refused, Later}
 

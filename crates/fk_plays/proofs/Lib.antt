@@ -1,2 +1,1 @@
-pub mod Rises
 pub mod Found

@@ -1,4 +1,4 @@
--- The commands `play` and `run`: what a scenario comes to, by a trace or by itself.
+-- The commands `play`, `run` and `soak`: what a scenario comes to, by a trace or by itself.
 use Rattle.std.specs.Prelude.{◌≡◌, ℕ, List, [], Option, Some, None, Result, Ok, Err}
 use Rattle.fk_causes.specs.Shelf.{FileMap, HasAt}
 use Rattle.fk_commands.specs.declared.outcome.Outcome.{Outcome}
@@ -7,7 +7,8 @@ use Rattle.fk_commands.specs.declared.status.Status.TheVariants.{BadScenario, Ab
 use Rattle.fk_commands.specs.Files.{trace_name}
 use Rattle.fk_commands.specs.Outcomes.{IsRefused}
 use Rattle.fk_plays.specs.Images.{FindsImages, NeedImage}
-use Rattle.fk_runs.specs.Runs.{Images, IsPlayedFrom, IsRunFrom}
+use Rattle.fk_run_reports.specs.Made.{Images}
+use Rattle.fk_runs.specs.Runs.{IsPlayedFrom, IsRunFrom, IsSoakFrom}
 use Rattle.fk_scenario_fields.specs.declared.fail.ScenarioError.{ScenarioError}
 use Rattle.fk_scenario.specs.declared.scenario.Scenario.{Scenario}
 
@@ -39,6 +40,11 @@ IsPlay name files (Ok s) outcome text = IsWithImages files s (IsPlayedBy name fi
 abbrev pub IsWholeRun : Option FileMap → Result Scenario ScenarioError → Outcome → List ℕ → Type 0
 IsWholeRun files (Err e) outcome text = IsRefused (BadScenario e.rule e.section e.index) outcome text
 IsWholeRun files (Ok s) outcome text = IsWithImages files s (IsRunFrom s) outcome text
+
+-- what that of `soak` with so many processes comes to
+abbrev pub IsSoak : ℕ → Result Scenario ScenarioError → Outcome → List ℕ → Type 0
+IsSoak count (Err e) outcome text = IsRefused (BadScenario e.rule e.section e.index) outcome text
+IsSoak count (Ok s) outcome text = IsSoakFrom count s outcome text
 
 -- a text has a scenario
 abbrev pub IsScenario : Result Scenario ScenarioError → Type 0

@@ -6,23 +6,28 @@ ghost use Rattle.fk_plays.specs.Play.{IsScenarioWithImages, IsWholeRun};
 ghost use Rattle.fk_scenario.specs.Reading.{scenario_reading};
 
 use crate::images::images_for;
-use fk_causes::Shelf;
+use fk_causes::{Gate, Shelf};
 use fk_commands::{Prepared, Status, scenario_in};
 use fk_responders::Table;
 use fk_runs::run_first;
 use std::alloc::Global;
+use std::sync::Wait;
+use std::thread::Threads;
 
-/// Runs the scenario that a text is, by itself, with the images of the shelf that its jobs need.
+/// Runs the scenario that a text is, by itself, by as many workers as it says, with the images of the shelf that its jobs need. Each worker
+/// passes the gate before its turns.
 ///
 /// # Errors
 ///
 /// `BadScenario` for a text that is no scenario by the rules of the table. `Absent` and `BadImage` of the first image that is needed and
 /// isn't there or isn't spelled, and `ShelfFault` where the get of one failed. `NoMemory` where there is no memory for any of it.
-pub fn run<H: Shelf>(
+pub fn run<R: Threads + Wait + Sync, G: Gate + Sync, H: Shelf>(
+    rt: &R,
     alloc: Global,
     table: &Table,
     text: &[u8],
     shelf: &mut H,
+    gate: &G,
 ) -> Result<Prepared, Status>
     ensures comes { ComesTo (IsWholeRun (H.files shelf.old) (scenario_reading (map (λ r. (string_bytes r.name, r.rule)) table.now.list.items) text.now)) result }
     ensures refusal { IfErr result (IsRefusal ⊥ (Rose (H.failed_gets shelf.old) (H.failed_gets shelf.new)
@@ -32,5 +37,5 @@ pub fn run<H: Shelf>(
 {
     let scenario = scenario_in(alloc, table, text)?;
     let images = images_for(alloc, shelf, scenario.jobs.as_slice())?;
-    run_first(alloc, table, &scenario, images.as_slice())
+    run_first(rt, alloc, table, &scenario, images.as_slice(), gate)
 }

@@ -14,12 +14,14 @@ use Rattle.fk_model.specs.declared.job.JobSpec.{JobSpec}
 use Rattle.fk_plays.specs.Images.{needed, Finds, FindsImages}
 use Rattle.fk_plays.specs.Images.FindsImages.{NoJob, Found, Refused, Later}
 use Rattle.fk_plays.specs.Play.{IsPlay, IsPlayedBy, IsWith, IsWholeRun}
-use Rattle.fk_run.specs.Again.{AreSmall, HasSame, PlaysAgain}
-use Rattle.fk_run.specs.Commands.{Command, Exec, Check, Run, Play, Show}
-use Rattle.fk_run.specs.Puts.{HasPut}
+use Rattle.fk_run.specs.Again.{HasSame, PlaysAgain}
+use Rattle.fk_puts.specs.Small.{AreSmall}
+use Rattle.fk_words.specs.Commands.{Command, Exec, Check, Run, Play, Show, Soak}
+use Rattle.fk_puts.specs.Puts.{HasPut}
 use Rattle.fk_run.specs.Top.{Rules}
 use Rattle.fk_runs.proofs.Replayed.{plays-again}
-use Rattle.fk_runs.specs.Runs.{Images, IsRunFrom}
+use Rattle.fk_run_reports.specs.Made.{Images}
+use Rattle.fk_runs.specs.Runs.{IsRunFrom}
 use Rattle.fk_scenario.specs.declared.scenario.Scenario.{Scenario}
 use Rattle.fk_scenario.specs.Reading.{scenario_reading}
 use Rattle.fk_scenario_fields.specs.declared.fail.ScenarioError.{ScenarioError}
@@ -99,6 +101,7 @@ put rules (Some (Run (Some name))) None old now has small = again rules name now
 put rules (Some (Run (Some name))) (Some report) old now has small = again rules name now (Some report) has.2.0 small
 put rules (Some (Play name)) report old now has small = tt
 put rules (Some (Show name)) report old now has small = tt
+put rules (Some (Soak count)) report old now has small = tt
 
 pub again_by : (rules : Rules) (r : Result (Unit {0}) ShelfFail) (command : Option Command) (report : Option Report) (old now : Option FileMap)
     → OnOk r (HasPut command report old now) → OnOk r (AreSmall command report) → OnOk r (PlaysAgain rules command now report)

@@ -3,11 +3,11 @@ use Rattle.std.proofs.Common.{◌≡◌, ℕ, Bool, true, false, List, [], Optio
 use Rattle.std.specs.Bool.{OnFalse}
 use Rattle.std.specs.Io.KnownBytes.{Appends}
 use Rattle.fk_causes.specs.Causes.{MayHold, AppendsPrefix, Rose}
-use Rattle.fk_causes.specs.Shelf.{FileMap, KeepsOthers}
+use Rattle.fk_causes.specs.Shelf.{FileMap}
 use Rattle.fk_commands.specs.declared.prepared.Prepared.{Prepared}
 use Rattle.fk_commands.specs.declared.status.Status.{Status}
 use Rattle.fk_commands.specs.declared.status.Status.TheVariants.{Ok as Done, Usage, TooLong, BadText, BadScenario, Absent, BadImage, BadTrace, JobRefused, Budget, ReadFault, WriteFault, ShelfFault, NoMemory}
-use Rattle.fk_run.specs.Commands.{Command, Exec, Check, Run, Play, Show}
+use Rattle.fk_words.specs.Commands.{Command, Exec, Check, Run, Play, Show, Soak}
 use Rattle.fk_commands.specs.Outcomes.{without_report}
 use Rattle.fk_commands.specs.declared.outcome.Outcome.{Outcome}
 use Rattle.fk_commands.specs.declared.outcome.Report.{Report}
@@ -15,10 +15,10 @@ use Rattle.fk_commands.specs.Prepared.{ComesTo, IsRefusal, outcome_of}
 use Rattle.fk_commands.specs.Status.{progress_of, Finished, was_cut_short}
 use Rattle.fk_commands.proofs.Comes.{comes-also}
 use Rattle.fk_commands.specs.Show.{IsShow}
-use Rattle.fk_commands.specs.Files.{image_name}
-use Rattle.fk_report.specs.declared.job_end.JobEnd.{JobEnd}
-use Rattle.fk_report.specs.declared.job_end.JobEnd.TheVariants.{Checkpointed, Foreign, Dead, Restored, NoImage, Occupied, NoPort}
-use Rattle.fk_run.specs.Puts.{OpensEnd, HasPutSome}
+use Rattle.fk_gen.specs.Soak.{scenario}
+use Rattle.fk_plays.specs.Play.{IsSoak}
+use Rattle.fk_scenario.specs.Reading.{scenario_reading}
+use Rattle.fk_puts.specs.Puts.{HasPutSome}
 use Rattle.fk_run.specs.Top.{Rules, IsDue, IsDone, IsCutOff, IsUnput, HasFailed, GetsToShelf}
 
 -- what a source may hold: what it tells, or else anything
@@ -46,7 +46,14 @@ show-due rules name left files r comes =
     comes-also (IsShow name files)
     (IsDue rules (Some (Show name)) left files) (λ outcome text shown. record { bytes = (held left).0; held = (held left).1; called_for = shown }) r comes
 
--- and asks the shelf whatever the source holds
+-- nor does `soak`
+pub soak-due : (rules : Rules) (count : ℕ) (left : Option (List ℕ)) (files : Option FileMap) (r : Result Prepared Status) →
+    ComesTo (IsSoak count (scenario_reading rules (scenario count))) r → ComesTo (IsDue rules (Some (Soak count)) left files) r
+soak-due rules count left files r comes =
+    comes-also (IsSoak count (scenario_reading rules (scenario count)))
+    (IsDue rules (Some (Soak count)) left files) (λ outcome text ran. record { bytes = (held left).0; held = (held left).1; called_for = ran }) r comes
+
+-- `show` asks the shelf whatever the source holds
 pub show-refused : (rules : Rules) (AtSource AtShelf : Type 0) (name : List ℕ) (left : Option (List ℕ)) (r : Result Prepared Status) →
     IfErr r (IsRefusal ⊥ AtShelf) → IfErr r (IsRefusal AtSource (AtShelf × GetsToShelf rules (Some (Show name)) left))
 show-refused rules AtSource AtShelf name left (Ok run) h = h
@@ -68,22 +75,6 @@ show-refused rules AtSource AtShelf name left (Err status) h = by status h
     by ShelfFault h = (h, ((held left).0, (held left).1, tt))
     by NoMemory h = h
 
--- files that aren't touched are as before
-pub keeps_same : (files : Option FileMap) (name : List ℕ) → KeepsOthers files files name
-keeps_same None name = tt
-keeps_same (Some files) name = λ other differs. refl
-
--- nor is that of a job
-pub opens_same : (name : List ℕ) (end : Option JobEnd) (files : Option FileMap) → OpensEnd name end files files
-opens_same name None files = refl
-opens_same name (Some (Checkpointed hold release image)) files = keeps_same files (image_name name)
-opens_same name (Some (Foreign place hold release)) files = refl
-opens_same name (Some Dead) files = refl
-opens_same name (Some (Restored make release)) files = refl
-opens_same name (Some NoImage) files = refl
-opens_same name (Some Occupied) files = refl
-opens_same name (Some (NoPort port make release)) files = refl
-
 -- without a run nothing is put
 pub puts_nothing : (command : Option Command) (old new : Option FileMap) → new ≡ old → HasPutSome command None old new
 puts_nothing None old new same = same
@@ -92,6 +83,7 @@ puts_nothing (Some Check) old new same = same
 puts_nothing (Some (Run trace)) old new same = same
 puts_nothing (Some (Play name)) old new same = same
 puts_nothing (Some (Show name)) old new same = same
+puts_nothing (Some (Soak count)) old new same = same
 
 module _ (rules : Rules) (command : Option Command) (left : Option (List ℕ)) (files : Option FileMap) (run : Prepared) (outcome : Outcome) where
   -- what is prepared is due, and was done whole

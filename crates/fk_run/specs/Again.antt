@@ -1,28 +1,11 @@
 -- A run that left its trace plays again.
-use Rattle.std.specs.Prelude.{⊤, ℕ, List, Option, Some, None, All}
+use Rattle.std.specs.Prelude.{⊤, ℕ, List, Option, Some, None}
 use Rattle.fk_causes.specs.Shelf.{FileMap, HasAt}
 use Rattle.fk_commands.specs.Files.{image_name, trace_name}
 use Rattle.fk_commands.specs.declared.outcome.Report.{Report}
 use Rattle.fk_commands.specs.declared.status.Status.{Status}
-use Rattle.fk_model.specs.declared.moves.Move.{Move}
-use Rattle.fk_run.specs.Commands.{Command, Exec, Check, Run, Play, Show}
+use Rattle.fk_words.specs.Commands.{Command, Exec, Check, Run, Play, Show, Soak}
 use Rattle.fk_run.specs.Top.{Rules, IsCalledFor}
-use Rattle.fk_trace_text.specs.Trace.{IsMove}
-
--- a history that was put under a name has names as small as their types
-abbrev pub IsSmall : Option (List ℕ) → List Move → Type 0
-IsSmall None history = ⊤
-IsSmall (Some name) history = All IsMove history
-
--- the history that a command puts
-abbrev pub AreSmall : Option Command → Option Report → Type 0
-AreSmall None report = ⊤
-AreSmall (Some Exec) report = ⊤
-AreSmall (Some Check) report = ⊤
-AreSmall (Some (Run trace)) None = ⊤
-AreSmall (Some (Run trace)) (Some report) = IsSmall trace report.history
-AreSmall (Some (Play name)) report = ⊤
-AreSmall (Some (Show name)) report = ⊤
 
 -- whatever files have under a name, others have too
 abbrev pub HasSame : Option FileMap → Option FileMap → List ℕ → Type 0
@@ -41,3 +24,4 @@ PlaysAgain rules (Some (Run (Some name))) now report = (before later : Option Fi
     → IsCalledFor rules (Some (Play name)) later bytes (record { status = status; report = report }) text
 PlaysAgain rules (Some (Play name)) now report = ⊤
 PlaysAgain rules (Some (Show name)) now report = ⊤
+PlaysAgain rules (Some (Soak count)) now report = ⊤

@@ -5,14 +5,15 @@ use Rattle.fk_core.specs.Cores.{RunCore}
 use Rattle.fk_first.specs.First.{IsFirst}
 use Rattle.fk_run.specs.Top.{Rules}
 use Rattle.fk_runs.specs.Headline.{HasReportHeadline}
-use Rattle.fk_runs.specs.Runs.{Images, IsReported}
+use Rattle.fk_run_reports.specs.Made.{Images}
+use Rattle.fk_runs.specs.Runs.{IsReported}
 use Rattle.fk_scenario.specs.declared.scenario.Scenario.{Scenario}
 use Rattle.fk_scenario.specs.Reading.{scenario_reading}
 
 -- whatever scenario some bytes have from whose first core its history is a run, and whatever images were given for the jobs
 abbrev pub HasHeadline : Rules → Report → Type 0
-HasHeadline rules report = (bytes : List ℕ) (s : Scenario) (given : Images) (first : RunCore) (text : List ℕ) → scenario_reading rules bytes ≡ Ok s →
-    IsFirst s first → (is : IsReported s.jobs given first s.budget report text) → HasReportHeadline s given first report text is
+HasHeadline rules report = (bytes : List ℕ) (s : Scenario) (given : Images) (first : RunCore) → scenario_reading rules bytes ≡ Ok s →
+    IsFirst s first → (is : IsReported s.jobs given first s.budget report) → HasReportHeadline s given first report is
 
 -- of the run that was made, if one was
 abbrev pub HoldsOf : Rules → Option Report → Type 0

@@ -4,7 +4,11 @@ pub use Rattle.fk_commands.specs.Outcomes
 pub use Rattle.fk_commands.specs.Files
 pub use Rattle.fk_commands.specs.ExecText
 pub use Rattle.fk_commands.specs.Exec
-pub use Rattle.fk_runs.specs.Replay
+pub use Rattle.fk_books.specs.Plays
+pub use Rattle.fk_books.specs.Shown
+pub use Rattle.fk_soak.specs.Line
+pub use Rattle.fk_gen.specs.Soak
+pub use Rattle.fk_run_reports.specs.Made
 pub use Rattle.fk_runs.specs.Runs
 pub use Rattle.fk_runs.specs.Headline
 pub use Rattle.fk_first.specs.First
@@ -13,8 +17,9 @@ pub use Rattle.fk_plays.specs.Images
 pub use Rattle.fk_commands.specs.Check
 pub use Rattle.fk_commands.specs.Show
 pub use Rattle.fk_commands.specs.Prepared
-pub mod Commands
-pub mod Puts
+pub use Rattle.fk_words.specs.Commands
+pub use Rattle.fk_puts.specs.Puts
+pub use Rattle.fk_puts.specs.Small
 pub mod Top
 pub mod Again
 pub mod Jobs

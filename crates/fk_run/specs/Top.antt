@@ -13,10 +13,11 @@ use Rattle.fk_commands.specs.declared.status.Status.TheVariants.{Ok as Done, Usa
 use Rattle.fk_commands.specs.declared.outcome.Report.{Report}
 use Rattle.fk_commands.specs.declared.outcome.Outcome.{Outcome}
 use Rattle.fk_commands.specs.Check.{IsCheck}
-use Rattle.fk_run.specs.Commands.{Command, Exec, Check, Run, Play, Show, reads_source}
+use Rattle.fk_gen.specs.Soak.{scenario}
+use Rattle.fk_words.specs.Commands.{Command, Exec, Check, Run, Play, Show, Soak, reads_source}
 use Rattle.fk_commands.specs.Exec.{IsExec}
 use Rattle.fk_commands.specs.Outcomes.{IsRefused}
-use Rattle.fk_plays.specs.Play.{IsPlay, IsWholeRun, IsScenario, IsScenarioWithImages}
+use Rattle.fk_plays.specs.Play.{IsPlay, IsWholeRun, IsSoak, IsScenario, IsScenarioWithImages}
 use Rattle.fk_commands.specs.Show.{IsShow}
 use Rattle.fk_commands.specs.Status.{progress_of, is_past_reading, Finished}
 
@@ -36,6 +37,7 @@ IsCalledFor rules (Some Check) files bytes outcome text = IsUnlessTooLong bytes 
 IsCalledFor rules (Some (Run trace)) files bytes outcome text = IsUnlessTooLong bytes (IsWholeRun files (scenario_reading rules bytes)) outcome text
 IsCalledFor rules (Some (Play name)) files bytes outcome text = IsUnlessTooLong bytes (IsPlay name files (scenario_reading rules bytes)) outcome text
 IsCalledFor rules (Some (Show name)) files bytes outcome text = IsShow name files outcome text
+IsCalledFor rules (Some (Soak count)) files bytes outcome text = IsSoak count (scenario_reading rules (scenario count)) outcome text
 
 -- the same over whatever the source holds: where it tells its bytes, these
 pub record IsDue (rules : Rules) (command : Option Command) (left : Option (List ℕ)) (files : Option FileMap) (outcome : Outcome) (text : List ℕ) : Type 0 where
@@ -73,6 +75,7 @@ AsksShelf rules (Some Check) bytes = ⊥
 AsksShelf rules (Some (Run trace)) bytes = (length bytes ≤ LIMIT) × IsScenarioWithImages (scenario_reading rules bytes)
 AsksShelf rules (Some (Play name)) bytes = (length bytes ≤ LIMIT) × IsScenario (scenario_reading rules bytes)
 AsksShelf rules (Some (Show name)) bytes = ⊤
+AsksShelf rules (Some (Soak count)) bytes = ⊥
 
 -- the same over whatever the source holds
 abbrev pub GetsToShelf : Rules → Option Command → Option (List ℕ) → Type 0

@@ -1,24 +1,20 @@
 //! The top call: the words of the command line, the bytes of a source and the files of a shelf in, a
 //! text and an outcome out.
 //!
-//! `top` finds the command in the words (`command`), reads the source where the command reads it
-//! (`source_text`), lets `fk_commands` or `fk_plays` prepare its outcome and its output, puts what a run leaves on the
-//! shelf (`puts`), and alone writes and answers.
+//! `top` finds the command in the words (`fk_words`), reads the source where the command reads it (`source_text`), lets `fk_commands` or
+//! `fk_plays` prepare its outcome and its output, has what a run leaves put on the shelf (`fk_puts`), and alone writes and answers.
 //!
-//! It stands on these two for all that a command does, and on `fk_causes` for the source, the sink and
-//! the shelf.
+//! It stands on these for all that a command does, and on `fk_causes` for the source, the sink and the shelf.
 //!
 //! It promises that `fluke_top` ends with the outcome, and writes the bytes, that the words call for
-//! (`specs/Top.antt`); and that it answers a fault only where one happened in this call. It always
-//! returns.
+//! (`specs/Top.antt`); and that it answers a fault only where one happened in this call. `fluke_alone` does so for all words that
+//! workers don't share, and always returns.
 #![tactic(auto)]
 
-mod command;
-mod puts;
 mod source_text;
 mod top;
 
 pub use fk_commands::{Outcome, Report, Status, fault_line};
 pub use fk_lone::a_lone_move_is_an_instruction;
 pub use fk_report::{End, JobEnd};
-pub use top::fluke_top;
+pub use top::{fluke_alone, fluke_top};

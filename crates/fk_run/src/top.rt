@@ -1,41 +1,46 @@
 //! The top call: the words of the command line, from the source and the shelf to the sink.
-ghost use Rattle.std.specs.Prelude.{◌≡◌, ◌↔◌, Some, None, IsSome, OnOk, IfErr, map, string_bytes};
+ghost use Rattle.std.specs.Prelude.{◌≡◌, ◌↔◌, Some, None, Err, IsSome, OnOk, OnErr, IfErr, map, string_bytes, true, false};
 ghost use Rattle.std.specs.Bool.{OnTrue, OnFalse};
 ghost use Rattle.std.specs.Io.KnownBytes.{Appends, IsAtEnd, Keeps};
 ghost use Rattle.fk_causes.specs.Causes.{AppendsPrefix, Rose};
+ghost use Rattle.fk_causes.specs.declared.shelf.ShelfFail.TheVariants as fails;
 ghost use Rattle.fk_run.specs.Again.{PlaysAgain};
-ghost use Rattle.fk_run.specs.Commands.{command_of, reads_source, uses_shelf, seen};
+ghost use Rattle.fk_words.specs.Commands.{command_of, reads_source, uses_shelf, is_shared, seen, HasCount};
 ghost use Rattle.fk_commands.specs.Prepared.{ComesTo, IsRefusal, outcome_of};
 ghost use Rattle.fk_commands.specs.Status.{progress_of, Finished, was_cut_short, has_written_nothing};
 ghost use Rattle.fk_run.specs.Jobs.{HoldsOf};
-ghost use Rattle.fk_run.specs.Puts.{HasPut, HasPutSome, KeepsFiles};
+ghost use Rattle.fk_puts.specs.Puts.{HasPut, HasPutSome, KeepsFiles};
 ghost use Rattle.fk_run.specs.Top.{Rules, IsDue, IsDone, IsCutOff, HasFailed, GetsToShelf, has_no_report, has_put_all, has_put_none, has_read_all};
 
-use crate::command::{Command, command_of};
-use crate::puts::put_files;
 use crate::source_text::source_text;
-use fk_causes::{Failed, Shelf, ShelfFail, Sink, Source, write_all};
+use fk_causes::{Failed, Gate, Shelf, ShelfFail, Sink, Source, write_all};
 use fk_commands::check::check;
 use fk_commands::exec::exec;
 use fk_commands::show::show;
-use fk_commands::{Outcome, Prepared, Status};
+use fk_commands::{Outcome, Prepared, Report, Status};
 use fk_plays::play::play;
 use fk_plays::run::run;
+use fk_plays::soak::soak;
+use fk_puts::put_files;
 use fk_responders::Table;
+use fk_words::{Command, command_of, shared_command};
 use std::alloc::Global;
+use std::sync::Wait;
+use std::thread::Threads;
 
-/// Does all of a command but the puts and the writing.
+/// Does all of a command that no workers share but the puts and the writing.
 ///
 /// # Errors
 ///
 /// Why there is nothing to write.
-fn prepare<R: Source, H: Shelf>(
+fn prepare_alone<R: Source, H: Shelf>(
     alloc: Global,
     command: Command<'_>,
     table: &Table,
     source: &mut R,
     shelf: &mut H,
 ) -> Result<Prepared, Status>
+    requires alone { is_shared (Some (seen command)) ≡ false }
     ensures comes { ComesTo (IsDue (map (λ r. (string_bytes r.name, r.rule)) table.now.list.items) (Some (seen command.entry)) (R.left source.old) (H.files shelf.old)) result }
     ensures refusal { IfErr result (IsRefusal (Rose (R.faults source.old) (R.faults source.new))
         (Rose (H.failed_gets shelf.old) (H.failed_gets shelf.new)
@@ -50,10 +55,70 @@ fn prepare<R: Source, H: Shelf>(
     match command {
         Command::Exec => exec(alloc, &source_text(alloc, source)?),
         Command::Check => check(alloc, table, &source_text(alloc, source)?),
-        Command::Run(_) => run(alloc, table, &source_text(alloc, source)?, shelf),
         Command::Play(name) => play(alloc, table, name, &source_text(alloc, source)?, shelf),
         Command::Show(name) => show(alloc, name, shelf),
+        Command::Run(_) => unreachable!(),
+        Command::Soak(_) => unreachable!(),
     }
+}
+
+/// Does all of a command that workers share but the puts and the writing.
+///
+/// # Errors
+///
+/// Why there is nothing to write.
+fn prepare_shared<T: Threads + Wait + Sync, R: Source, H: Shelf, G: Gate + Sync>(
+    rt: &T,
+    alloc: Global,
+    command: Command<'_>,
+    table: &Table,
+    source: &mut R,
+    shelf: &mut H,
+    gate: &G,
+) -> Result<Prepared, Status>
+    requires shared { is_shared (Some (seen command)) ≡ true }
+    requires count { HasCount (seen command) }
+    ensures comes { ComesTo (IsDue (map (λ r. (string_bytes r.name, r.rule)) table.now.list.items) (Some (seen command.entry)) (R.left source.old) (H.files shelf.old)) result }
+    ensures refusal { IfErr result (IsRefusal (Rose (R.faults source.old) (R.faults source.new))
+        (Rose (H.failed_gets shelf.old) (H.failed_gets shelf.new)
+        × GetsToShelf (map (λ r. (string_bytes r.name, r.rule)) table.now.list.items) (Some (seen command.entry)) (R.left source.old))) }
+    ensures all_read { OnOk result (OnTrue (reads_source (Some (seen command.entry))) (IsAtEnd (R.left source.new))) }
+    ensures all_read_before { IfErr result (λ status. OnTrue (has_read_all (Some (seen command.entry)) status) (IsAtEnd (R.left source.new))) }
+    ensures source { OnFalse (reads_source (Some (seen command.entry))) (source.new ≡ source.old) }
+    ensures shelf { OnFalse (uses_shelf (Some (seen command.entry))) (shelf.new ≡ shelf.old) }
+    ensures same_files { H.files shelf.new ≡ H.files shelf.old }
+    ensures same_puts { H.failed_puts shelf.new ≡ H.failed_puts shelf.old }
+{
+    match command {
+        Command::Run(_) => run(rt, alloc, table, &source_text(alloc, source)?, shelf, gate),
+        Command::Soak(count) => soak(rt, alloc, table, count, gate),
+        Command::Exec => unreachable!(),
+        Command::Check => unreachable!(),
+        Command::Play(_) => unreachable!(),
+        Command::Show(_) => unreachable!(),
+    }
+}
+
+/// Puts what a command puts of its run: what `run --trace NAME` leaves plays again.
+///
+/// # Errors
+///
+/// `Failed` where a put failed, and `NoMemory` where there is no memory for a file.
+fn put_all<H: Shelf>(
+    alloc: Global,
+    command: Command<'_>,
+    report: &Option<Report>,
+    shelf: &mut H,
+) -> Result<(), ShelfFail>
+    ensures put { OnOk result (HasPut (Some (seen command.entry)) report.now (H.files shelf.old) (H.files shelf.new)) }
+    ensures some { OnErr result (HasPutSome (Some (seen command.entry)) report.now (H.files shelf.old) (H.files shelf.new)) }
+    ensures others { KeepsFiles (Some (seen command.entry)) (H.files shelf.old) (H.files shelf.new) }
+    ensures cause { result ≡ Err fails.Failed → IsSome report.now × Rose (H.failed_puts shelf.old) (H.failed_puts shelf.new) }
+    ensures same_gets { H.failed_gets shelf.new ≡ H.failed_gets shelf.old }
+    ensures shelf { OnFalse (uses_shelf (Some (seen command.entry))) (shelf.new ≡ shelf.old) }
+    ensures again { (rules : Rules) → OnOk result (PlaysAgain rules (Some (seen command.entry)) (H.files shelf.new) report.now) }
+{
+    put_files(alloc, command, report, shelf)
 }
 
 /// Puts what a command puts of its run, and then writes its output.
@@ -85,7 +150,7 @@ fn finish<W: Sink, H: Shelf>(
         report,
         output,
     } = prepared;
-    match put_files(alloc, command, &report, shelf) {
+    match put_all(alloc, command, &report, shelf) {
         Ok(()) => {}
         Err(ShelfFail::Failed) => {
             return Outcome {
@@ -109,34 +174,9 @@ fn finish<W: Sink, H: Shelf>(
     }
 }
 
-/// Does the command that the words are, over the bytes of the source and the files of the shelf, and
-/// writes to the sink. Native servers reply by the responders of the table.
-///
-/// `exec` assembles the source's text and runs it as one thread, with its words from address 0 on
-/// and zeros after them, for at most 100,000 instructions, and writes how that ended. `check` reads the source's scenario, and
-/// writes its counts. `run` reads the source's scenario, runs it by itself until no move is ready or its budget is used, and
-/// writes the report of that run; before it writes it puts on the shelf the images that its checkpoints have made, each as `NAME.img` of
-/// its name, in the order of the jobs, and `run --trace NAME` then its trace, as `NAME.trc`: with that, and with the images that the run read,
-/// `play NAME` comes to the same status, report and text. `play NAME`
-/// reads the source's scenario, makes the moves of the trace that lies on the shelf as `NAME.trc`,
-/// and writes the report of that run. Both first read the images that the scenario's restores need of the shelf. `show NAME` reads no source, and writes the counts of the image
-/// that lies on the shelf as `NAME.img`. NAME is 1 to 32 characters of `a` to `z`, `0` to `9` and `_`.
-///
-/// The status of the outcome says how the call ended. `Usage` comes exactly for words that are no
-/// command, and leaves the source, the sink and the shelf as they were. Unless a read, a write, a get, a put
-/// or the memory failed, the outcome and the output are those that the bytes of the source and the
-/// files of the shelf call for: where these are told, those that are told, and some that they may have
-/// held where not. `ReadFault`, `WriteFault` and `ShelfFault` come only where that object's count of
-/// faults rose in this call: `ShelfFault` of a get, of `play` only once the scenario is accepted and of `run` once one is that needs an image: there is no
-/// report, and no file has changed; that of a put, with the run's report, only once the run is made: what was to be put before that is put, and no other
-/// file has changed but that one; `WriteFault` only
-/// once all is done but the writing. `NoMemory` comes where there is no memory for the text, for what is
-/// made of it, or for the output.
-///
-/// The whole output is written after `Ok`, `JobRefused` and `Budget`, a prefix of it after `WriteFault`, and
-/// nothing otherwise. A run alone changes files of the shelf, and of these only such as have the name of an image, and the trace that it is to put. Which ones
-/// is said above for each end but `NoMemory`, where any of these may have changed.
-pub fn fluke_top<R: Source, W: Sink, H: Shelf>(
+/// Does the command that the words are where no workers share it: all but `run`, `run --trace NAME` and `soak N`. It takes no handle, and
+/// so it always returns; what comes of it is what `fluke_top` says.
+pub fn fluke_alone<R: Source, W: Sink, H: Shelf>(
     alloc: Global,
     words: &[String],
     table: &Table,
@@ -144,6 +184,7 @@ pub fn fluke_top<R: Source, W: Sink, H: Shelf>(
     sink: &mut W,
     shelf: &mut H,
 ) -> Outcome
+    requires alone { is_shared (command_of (map string_bytes words.now)) ≡ false }
     ensures usage { (result.status ≡ Status.Usage) ↔ (command_of (map string_bytes words.now) ≡ None) }
     ensures untouched { result.status ≡ Status.Usage
         → (source.new ≡ source.old) × (sink.new ≡ sink.old) × (shelf.new ≡ shelf.old) }
@@ -183,7 +224,88 @@ pub fn fluke_top<R: Source, W: Sink, H: Shelf>(
             report: None,
         };
     };
-    match prepare(alloc, command, table, source, shelf) {
+    match prepare_alone(alloc, command, table, source, shelf) {
+        Ok(prepared) => finish(alloc, command, prepared, sink, shelf),
+        Err(status) => Outcome {
+            status,
+            report: None,
+        },
+    }
+}
+
+/// Does the command that the words are, over the bytes of the source and the files of the shelf, and writes to the sink. Native servers
+/// reply by the responders of the table.
+///
+/// `exec` assembles the source's text and runs it as one thread, with its words from address 0 on and zeros after them, for at most 100,000
+/// instructions, and writes how that ended. `check` reads the source's scenario, and writes its counts. `run` reads the source's scenario,
+/// runs it by itself, by as many workers as it says, until no move is ready or its budget is used, and writes the report of that run;
+/// before it writes it puts on the shelf the images that its checkpoints have made, each as `NAME.img` of its name, in the order of the
+/// jobs, and `run --trace NAME` then its trace, as `NAME.trc`: with that, and with the images that the run read, `play NAME` comes to the
+/// same status, report and text. `play NAME` reads the source's scenario, makes the moves of the trace that lies on the shelf as
+/// `NAME.trc`, and writes the report of that run. Both first read the images that the scenario's restores need of the shelf. `show NAME`
+/// reads no source, and writes the counts of the image that lies on the shelf as `NAME.img`. `soak N` reads no source either: it runs the
+/// scenario with N processes that `fk_gen` makes, and writes one line of it. NAME is 1 to 32 characters of `a` to `z`, `0` to `9` and `_`,
+/// and N is 1 to 100. Each worker passes the gate before its turns.
+///
+/// The status of the outcome says how the call ended. `Usage` comes exactly for words that are no command, and leaves the source, the sink
+/// and the shelf as they were. Unless a read, a write, a get, a put or the memory failed, the outcome and the output are those that the
+/// bytes of the source and the files of the shelf call for: where these are told, those that are told, and some that they may have held
+/// where not. `ReadFault`, `WriteFault` and `ShelfFault` come only where that object's count of faults rose in this call: `ShelfFault` of a
+/// get, of `play` only once the scenario is accepted and of `run` once one is that needs an image: there is no report, and no file has
+/// changed; that of a put, with the run's report, only once the run is made: what was to be put before that is put, and no other file has
+/// changed but that one; `WriteFault` only once all is done but the writing. `NoMemory` comes where there is no memory for the text, for
+/// what is made of it, or for the output.
+///
+/// The whole output is written after `Ok`, `JobRefused` and `Budget`, a prefix of it after `WriteFault`, and nothing otherwise. A run alone
+/// changes files of the shelf, and of these only such as have the name of an image, and the trace that it is to put. Which ones is said
+/// above for each end but `NoMemory`, where any of these may have changed.
+pub fn fluke_top<T: Threads + Wait + Sync, R: Source, W: Sink, H: Shelf, G: Gate + Sync>(
+    rt: &T,
+    alloc: Global,
+    words: &[String],
+    table: &Table,
+    source: &mut R,
+    sink: &mut W,
+    shelf: &mut H,
+    gate: &G,
+) -> Outcome
+    ensures usage { (result.status ≡ Status.Usage) ↔ (command_of (map string_bytes words.now) ≡ None) }
+    ensures untouched { result.status ≡ Status.Usage
+        → (source.new ≡ source.old) × (sink.new ≡ sink.old) × (shelf.new ≡ shelf.old) }
+
+    ensures done { OnFalse (was_cut_short result.status) (IsDone (map (λ r. (string_bytes r.name, r.rule)) table.now.list.items)
+        (command_of (map string_bytes words.now))
+        (R.left source.old) (H.files shelf.old) (W.written sink.old) (W.written sink.new) result) }
+    ensures read_fault { result.status ≡ Status.ReadFault → Rose (R.faults source.old) (R.faults source.new) }
+    ensures shelf_fault { result.status ≡ Status.ShelfFault → HasFailed (H.failed_gets shelf.old) (H.failed_gets shelf.new)
+        (H.failed_puts shelf.old) (H.failed_puts shelf.new) (map (λ r. (string_bytes r.name, r.rule)) table.now.list.items)
+        (command_of (map string_bytes words.now)) (R.left source.old) (H.files shelf.old) result result.report }
+    ensures write_fault { result.status ≡ Status.WriteFault → Rose (W.faults sink.old) (W.faults sink.new) }
+    ensures cut_off { result.status ≡ Status.WriteFault → IsCutOff (map (λ r. (string_bytes r.name, r.rule)) table.now.list.items)
+        (command_of (map string_bytes words.now))
+        (R.left source.old) (H.files shelf.old) (W.written sink.old) (W.written sink.new) result }
+
+    ensures all_read { OnTrue (has_read_all (command_of (map string_bytes words.now)) result.status)
+        (IsAtEnd (R.left source.new)) }
+    ensures nothing { OnTrue (has_written_nothing result.status) (Keeps (W.written sink.old) (W.written sink.new)) }
+    ensures no_report { OnTrue (has_no_report result.status) (result.report ≡ None) }
+
+    ensures source { OnFalse (reads_source (command_of (map string_bytes words.now))) (source.new ≡ source.old) }
+    ensures shelf { OnFalse (uses_shelf (command_of (map string_bytes words.now))) (shelf.new ≡ shelf.old) }
+    ensures put { OnTrue (has_put_all result.status) (HasPut (command_of (map string_bytes words.now)) result.report (H.files shelf.old) (H.files shelf.new)) }
+    ensures some { result.status ≡ Status.ShelfFault
+        → HasPutSome (command_of (map string_bytes words.now)) result.report (H.files shelf.old) (H.files shelf.new) }
+    ensures again { OnTrue (has_put_all result.status) (PlaysAgain (map (λ r. (string_bytes r.name, r.rule)) table.now.list.items)
+        (command_of (map string_bytes words.now)) (H.files shelf.new) result.report) }
+    ensures headline { HoldsOf (map (λ r. (string_bytes r.name, r.rule)) table.now.list.items) result.report }
+    ensures files { KeepsFiles (command_of (map string_bytes words.now)) (H.files shelf.old) (H.files shelf.new) }
+    ensures no_put { OnTrue (has_put_none result.status)
+        ((H.files shelf.new ≡ H.files shelf.old) × (H.failed_puts shelf.new ≡ H.failed_puts shelf.old)) }
+{
+    let Some(command) = shared_command(words) else {
+        return fluke_alone(alloc, words, table, source, sink, shelf);
+    };
+    match prepare_shared(rt, alloc, command, table, source, shelf, gate) {
         Ok(prepared) => finish(alloc, command, prepared, sink, shelf),
         Err(status) => Outcome {
             status,

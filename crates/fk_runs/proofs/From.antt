@@ -1,12 +1,13 @@
 -- What comes of a first core is what comes of its scenario.
-use Rattle.std.proofs.Common.{◌≡◌, ℕ, List, Result, subst}
+use Rattle.std.proofs.Common.{◌≡◌, ℕ, List, [], Result, subst}
 use Rattle.fk_commands.specs.declared.prepared.Prepared.{Prepared}
 use Rattle.fk_commands.specs.declared.status.Status.{Status}
 use Rattle.fk_commands.specs.Prepared.{ComesTo}
 use Rattle.fk_commands.proofs.Comes.{comes-also}
 use Rattle.fk_core.specs.Cores.{RunCore}
 use Rattle.fk_first.specs.First.{IsFirst}
-use Rattle.fk_runs.specs.Runs.{IsPlayed, IsRunAlone, Images, IsPlayedFrom, IsRunFrom}
+use Rattle.fk_run_reports.specs.Made.{IsText, IsLine, Images}
+use Rattle.fk_runs.specs.Runs.{IsPlayed, IsAlone, IsPlayedFrom, IsRunFrom, IsSoakFrom}
 use Rattle.fk_scenario.specs.declared.scenario.Scenario.{Scenario}
 
 pub played-from : (s : Scenario) (given : Images) (trace : List ℕ) (first : RunCore) (budget : ℕ) (r : Result Prepared Status) → IsFirst s first → budget ≡ s.budget
@@ -20,11 +21,21 @@ played-from s given trace first budget r is same comes =
     }) r comes
 
 pub run-from : (s : Scenario) (given : Images) (first : RunCore) (budget : ℕ) (r : Result Prepared Status) → IsFirst s first → budget ≡ s.budget
-    → ComesTo (λ outcome. IsRunAlone s.jobs given first budget outcome.status outcome.report) r → ComesTo (IsRunFrom s given) r
+    → ComesTo (λ outcome. IsAlone (IsText s.jobs) s.jobs given first budget outcome.status outcome.report) r → ComesTo (IsRunFrom s given) r
 run-from s given first budget r is same comes =
-    comes-also (λ outcome. IsRunAlone s.jobs given first budget outcome.status outcome.report) (IsRunFrom s given)
+    comes-also (λ outcome. IsAlone (IsText s.jobs) s.jobs given first budget outcome.status outcome.report) (IsRunFrom s given)
     (λ outcome text ran. record {
       first = first;
       is_first = is;
-      ran = subst (λ b. IsRunAlone s.jobs given first b outcome.status outcome.report text) same ran;
+      ran = subst (λ b. IsAlone (IsText s.jobs) s.jobs given first b outcome.status outcome.report text) same ran;
+    }) r comes
+
+pub soak-from : (count : ℕ) (s : Scenario) (first : RunCore) (budget : ℕ) (r : Result Prepared Status) → IsFirst s first → budget ≡ s.budget
+    → ComesTo (λ outcome. IsAlone (IsLine count) s.jobs [] first budget outcome.status outcome.report) r → ComesTo (IsSoakFrom count s) r
+soak-from count s first budget r is same comes =
+    comes-also (λ outcome. IsAlone (IsLine count) s.jobs [] first budget outcome.status outcome.report) (IsSoakFrom count s)
+    (λ outcome text ran. record {
+      first = first;
+      is_first = is;
+      ran = subst (λ b. IsAlone (IsLine count) s.jobs [] first b outcome.status outcome.report text) same ran;
     }) r comes

@@ -1,15 +1,15 @@
 -- Reports have the headline.
-use Rattle.std.proofs.Common.{◌≡◌, ℕ, List, length, Some, sym, ap, subst, ◌∙◌}
+use Rattle.std.proofs.Common.{◌≡◌, ℕ, List, length, Some, ap, ◌∙◌}
 use Rattle.std.specs.List.{slice_get}
 use Rattle.fk_commands.specs.declared.outcome.Report.{Report}
 use Rattle.fk_core.specs.Cores.{RunCore}
 use Rattle.fk_served.specs.Served.{servers}
-use Rattle.fk_first.specs.First.{IsFirst}
 use Rattle.fk_image.specs.declared.image.Image.{Image}
 use Rattle.fk_report.specs.declared.job_end.JobEnd.TheVariants as told
 use Rattle.fk_runs.specs.Headline.{ReportsHaveTheHeadline}
-use Rattle.fk_runs.specs.Runs.{Images, IsReported}
-use Rattle.fk_runs.proofs.Ended.{told-end, is-saved, is-made}
+use Rattle.fk_run_reports.specs.Made.{Images}
+use Rattle.fk_runs.specs.Runs.{IsReported}
+use Rattle.fk_job_ends.proofs.Ended.{told-end, is-saved, is-made}
 use Rattle.fk_scenario.specs.declared.scenario.Scenario.{Scenario}
 use Rattle.laws_checkpoint.specs.Checkpoint as checkpoints
 use Rattle.laws_restore.specs.Restore as restores
@@ -18,7 +18,7 @@ use Rattle.laws_first.proofs.Programs.{programs_are_grounded, programs_have_the_
 use Rattle.laws_house.specs.Houses.End.{Checked, Restored}
 use Rattle.laws_runs.specs.Cores.JobEnd.{Worked}
 
-module _ (s : Scenario) (given : Images) (first : RunCore) (report : Report) (text : List ℕ) (is : IsReported s.jobs given first s.budget report text) where
+module _ (s : Scenario) (given : Images) (first : RunCore) (report : Report) (is : IsReported s.jobs given first s.budget report) where
   saved : (index hold release : ℕ) (image : Image) → slice_get report.jobs index ≡ Some (Some (told.Checkpointed hold release image))
       → slice_get is.last.ends index ≡ Some (Worked (Checked (checkpoints.Done image)) hold release)
   saved index hold release image got =
@@ -32,7 +32,7 @@ module _ (s : Scenario) (given : Images) (first : RunCore) (report : Report) (te
       at ∙ ap Some (is-made e make release tells)
 
 pub reports_have_the_headline : ReportsHaveTheHeadline
-reports_have_the_headline s given first report text keeps is_first is =
+reports_have_the_headline s given first report keeps is_first is =
     let run = programs_have_the_headline s given first is.last report.history is.run keeps is_first.world is_first.sound is_first.ends is_first.work is_first.events
     is.within in
     let grounded = programs_are_grounded s given first report.history keeps is_first.world is_first.sound is_first.ends is_first.work is_first.events
@@ -41,14 +41,14 @@ reports_have_the_headline s given first report text keeps is_first is =
       run = run;
       saved = λ index moment birth path slot name image hold release at told.
           entries_are_saved s.jobs given servers first is.last report.history is.run run index moment birth path slot name image hold release at
-          (saved s given first report text is index hold release image told);
+          (saved s given first report is index hold release image told);
       plain = λ index moment birth path slot name image hold release at told.
           entries_are_plain s.jobs given servers first is.last report.history is.run grounded index moment birth path slot name image hold release at
-          (saved s given first report text is index hold release image told);
+          (saved s given first report is index hold release image told);
       made = λ index moment birth slot name bind make release at told.
           entries_are_made s.jobs given servers first is.last report.history is.run run index moment birth slot name bind make release at
-          (made s given first report text is index make release told);
+          (made s given first report is index make release told);
       goes_on = λ from index moment birth path slot saves later other place name bind image hold release make done at told at_there told_there maker before.
           entries_go_on s.jobs given servers first is.last report.history is.run run from index moment birth path slot saves later other place name bind image
-          hold release make done at (saved s given first report text is from hold release image told) at_there (made s given first report text is index make done told_there) maker before;
+          hold release make done at (saved s given first report is from hold release image told) at_there (made s given first report is index make done told_there) maker before;
     }

@@ -1,7 +1,6 @@
-pub mod Replays
+pub mod Starting
+pub mod Books
 pub mod Made
 pub mod Replayed
-pub mod Fills
 pub mod From
-pub mod Ended
 pub mod Headlines

@@ -1,55 +1,59 @@
--- What is prepared of a core.
-use Rattle.std.proofs.Common.{◌≡◌, ℕ, ◌≤◌, List, [], ◌∷◌, length, map, Some, refl, ap, subst, string_bytes, arith}
-use Rattle.fk_model.specs.declared.names.Who.{Who}
-use Rattle.fk_natives.specs.Natives.{State}
-use Rattle.fk_report.specs.Report.{states}
+-- What is prepared of a book is what its run comes to.
+use Rattle.std.proofs.Common.{◌≡◌, ℕ, List, refl, subst, ◌∙◌, string_bytes}
 use Rattle.fk_report.specs.declared.end.End.{End}
 use Rattle.fk_report.specs.declared.end.End.TheVariants as ends
-use Rattle.fk_served.specs.Served.{shown}
 use Rattle.fk_core.specs.Cores.{RunCore, house, IsOver}
-use Rattle.fk_core.specs.Ends.{IsEnded}
 use Rattle.fk_commands.specs.declared.outcome.Report.{Report}
 use Rattle.fk_commands.specs.declared.prepared.Prepared.{Prepared}
 use Rattle.fk_commands.specs.Status.{progress_of, Finished}
 use Rattle.fk_model.specs.declared.job.JobSpec.{JobSpec}
 use Rattle.fk_model.specs.declared.moves.Move.{Move}
 use Rattle.laws_runs.specs.Cores.{IsRun}
-use Rattle.fk_runs.specs.Ends.{told_in, image_of}
-use Rattle.fk_runs.specs.Runs.{IsEnd, IsMade, IsReported, IsRunAlone, Images, status_of_end}
+use Rattle.fk_run_reports.specs.Made.{Images, IsEnd, IsMade, IsText, report_of}
+use Rattle.fk_runs.specs.Runs.{IsReported, IsPlayed, IsAlone, begun}
+use Rattle.fk_trace_text.specs.Trace.{Spells}
+use Rattle.fk_books.specs.Plays.{MayPlay}
+use Rattle.fk_books.specs.Shown.{Shown, HasRun, HasEnded}
 use Rattle.laws_house.specs.Houses.{Job, jobs_of}
 
-pub states-shown : {S : Type 0} (meaning : S → State) (xs : List (Who × S)) → states meaning xs ≡ map (λ (e : Who × State). e.1) (shown meaning xs)
-states-shown meaning [] = refl
-states-shown meaning (x ∷ xs) = ap (λ ss. meaning x.1 ∷ ss) (states-shown meaning xs)
+module _ (Is : RunCore → Report → List ℕ → Type 0) (specs : List JobSpec) (given : Images) (first last : Shown) (history : List Move)
+    (made : Prepared) (jobs : first.jobs ≡ jobs_of specs given) (run : HasRun first history last)
+    (is : IsMade Is specs given last.core first.budget history made) where
+  abbrev told : Report
+  told = report_of specs last.core history is.end
 
--- a run ends as its core has ended
-pub ended-end : (jobs : List Job) (budget : ℕ) (c : RunCore) (end : End) → IsEnded jobs budget c (Some end) → c.events ≤ budget → IsEnd jobs budget c end
-ended-end jobs budget c ends.Halted is within = is
-ended-end jobs budget c ends.Quiet is within = is
-ended-end jobs budget c ends.Budget is within = (is.0, (let used = is.1 in omega (arith, used, within)))
-ended-end jobs budget c ends.Listed is within = absurd is
+  reported : IsReported specs given first.core first.budget told
+  reported = record {
+    last = last.core;
+    run = subst (λ (j : List Job). IsRun (house j) first.core history last.core) jobs run.run;
+    within = is.within;
+    end = is.ends;
+    jobs = refl;
+    images = refl;
+  }
 
--- what is prepared of a run by itself, whose jobs and budget stayed, is the report of a run alone
-pub alone : (specs : List JobSpec) (given : Images) (jobs : List Job) (first last : RunCore) (budget later : ℕ) (history : List Move) (made : Prepared) → jobs ≡ jobs_of specs given
-    → later ≡ budget → IsRun (house jobs) first history last → IsOver jobs budget last → IsMade specs given last later history made
-    → IsRunAlone specs given first budget made.status made.report (string_bytes made.output) × (progress_of made.status ≡ Finished)
-alone specs given jobs first last budget later history made same_jobs same_budget run over is =
-    let told : Report = record { history = history; jobs = told_in (length specs) last.ends; images = map image_of specs; end = is.end } in
-    let end : IsEnd (jobs_of specs given) budget last is.end = subst (λ b. IsEnd (jobs_of specs given) b last is.end) same_budget is.ends in
-    let done : IsOver (jobs_of specs given) budget last = subst (λ (j : List Job). IsOver j budget last) same_jobs over in
-    let reported : IsReported specs given first budget told (string_bytes made.output) = record {
-      last = last;
-      run = subst (λ (j : List Job). IsRun (house j) first history last) same_jobs run;
-      within = subst (λ b. length history ≤ b) same_budget is.within;
-      end = end;
-      jobs = refl;
-      images = refl;
-      threads = is.threads;
-      are = is.are;
-      written = is.written;
-    } in
-    let not_listed : ¬ (is.end ≡ ends.Listed) = λ listed.
-    let open_ : IsEnd (jobs_of specs given) budget last ends.Listed = subst (λ (e : End). IsEnd (jobs_of specs given) budget last e) listed end in
-    done open_.1 open_.0 in
-    let status : made.status ≡ status_of_end budget told.jobs is.end = subst (λ b. made.status ≡ status_of_end b told.jobs is.end) same_budget is.status in
-    (rw is.report (reported, not_listed, status), is.finished)
+  -- of a run by itself
+  pub alone : HasEnded last → IsAlone Is specs given first.core first.budget made.status made.report (string_bytes made.output)
+      × (progress_of made.status ≡ Finished)
+  unfolding reported
+  alone over =
+      let done : IsOver (jobs_of specs given) first.budget last.core =
+      subst (λ (j : List Job). IsOver j first.budget last.core) (run.jobs ∙ jobs) (subst (λ b. IsOver last.jobs b last.core) run.budget over) in
+      let not_listed : ¬ (is.end ≡ ends.Listed) = λ listed. (
+      let open_ : IsEnd (jobs_of specs given) first.budget last.core ends.Listed =
+      subst (λ (e : End). IsEnd (jobs_of specs given) first.budget last.core e) listed is.ends in
+      done open_.1 open_.0
+      ) in
+      (rw is.report ((reported, is.written), not_listed, is.status), is.finished)
+
+module _ (specs : List JobSpec) (given : Images) (first last : Shown) (history : List Move) (made : Prepared) (trace : List ℕ)
+    (jobs : first.jobs ≡ jobs_of specs given) (run : HasRun first history last)
+    (is : IsMade (IsText specs) specs given last.core first.budget history made) where
+  -- and by a trace
+  pub played : Spells (MayPlay first) trace history
+      → IsPlayed specs given first.core first.budget trace made.status made.report (string_bytes made.output) × (progress_of made.status ≡ Finished)
+  unfolding reported
+  played spells =
+      let spelled : Spells (MayPlay (begun specs given first.budget first.core)) trace history =
+      subst (λ (j : List Job). Spells (MayPlay (record { jobs = j; budget = first.budget; core = first.core })) trace history) jobs spells in
+      (rw is.report (spelled, (reported (IsText specs) specs given first last history made jobs run is, is.written), is.status), is.finished)

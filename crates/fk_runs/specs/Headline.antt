@@ -12,7 +12,8 @@ use Rattle.fk_model.specs.Cut.{IsPlain}
 use Rattle.fk_model.specs.Places.{Path}
 use Rattle.fk_model.specs.Valid.{birth_at}
 use Rattle.fk_report.specs.declared.job_end.JobEnd.TheVariants as told
-use Rattle.fk_runs.specs.Runs.{Images, IsReported}
+use Rattle.fk_run_reports.specs.Made.{Images}
+use Rattle.fk_runs.specs.Runs.{IsReported}
 use Rattle.fk_scenario.specs.declared.scenario.Scenario.{Scenario}
 use Rattle.fk_scenario.specs.Kept.{KeepsScenario}
 use Rattle.laws_first.specs.Entries.{IsFrom}
@@ -24,8 +25,8 @@ use Rattle.laws_runs.specs.Cores.{world_at}
 use Rattle.laws_runs.specs.Headline.{Checkpointed, Restored}
 
 -- the report's history has all that the laws of jobs say of a run; and so have the jobs as the report tells their ends
-pub record HasReportHeadline (s : Scenario) (given : Images) (first : RunCore) (report : Report) (text : List ℕ)
-    (is : IsReported s.jobs given first s.budget report text) : Type 0 where
+pub record HasReportHeadline (s : Scenario) (given : Images) (first : RunCore) (report : Report)
+    (is : IsReported s.jobs given first s.budget report) : Type 0 where
   pub run : HasHeadline is.run
   -- a checkpoint that is told as done has a valid image, and from its hold to behind its release the subtree is what that shows
   pub saved : (index moment birth : ℕ) (path : List ℕ) (slot : ℕ) (name : List ℕ) (image : Image) (hold release : ℕ) →
@@ -51,5 +52,5 @@ pub record HasReportHeadline (s : Scenario) (given : Images) (first : RunCore) (
 
 -- of every scenario that was read, with whatever images
 abbrev pub ReportsHaveTheHeadline : Type 0
-ReportsHaveTheHeadline = (s : Scenario) (given : Images) (first : RunCore) (report : Report) (text : List ℕ) → KeepsScenario s → IsFirst s first →
-    (is : IsReported s.jobs given first s.budget report text) → HasReportHeadline s given first report text is
+ReportsHaveTheHeadline = (s : Scenario) (given : Images) (first : RunCore) (report : Report) → KeepsScenario s → IsFirst s first →
+    (is : IsReported s.jobs given first s.budget report) → HasReportHeadline s given first report is

@@ -1,4 +1,2 @@
-pub mod Ends
 pub mod Headline
-pub mod Replay
 pub mod Runs

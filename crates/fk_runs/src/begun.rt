@@ -1,16 +1,19 @@
 //! Whole runs from the first core of a scenario.
 ghost use Rattle.std.specs.Prelude.{IfErr, map};
 ghost use Rattle.fk_commands.specs.Prepared.{ComesTo, IsRefusal};
-ghost use Rattle.fk_runs.specs.Runs.{IsPlayedFrom, IsRunFrom};
+ghost use Rattle.fk_runs.specs.Runs.{IsPlayedFrom, IsRunFrom, IsSoakFrom};
 ghost use Rattle.fk_scenario.specs.Kept.{KeepsScenario, HasRules};
 
-use crate::whole::{play_core, run_core};
+use crate::whole::{play_core, run_core, soak_core};
+use fk_causes::Gate;
 use fk_commands::{Prepared, Status};
 use fk_finish::ValidImage;
 use fk_first::first_core;
 use fk_responders::Table;
 use fk_scenario::Scenario;
 use std::alloc::Global;
+use std::sync::Wait;
+use std::thread::Threads;
 
 /// Plays a trace from the first core of a scenario that was read by the rules of a table, with images for its jobs, and prepares the
 /// report.
@@ -34,16 +37,19 @@ pub fn play_first(
     play_core(alloc, core, scenario.jobs.as_slice(), images, table, trace)
 }
 
-/// Runs the first core of a scenario that was read by the rules of a table, with images for its jobs, and prepares the report.
+/// Runs the first core of a scenario that was read by the rules of a table, by as many workers as it says and with images for its jobs, and
+/// prepares the report. Each worker passes the gate before its turns.
 ///
 /// # Errors
 ///
 /// `NoMemory`.
-pub fn run_first(
+pub fn run_first<R: Threads + Wait + Sync, G: Gate + Sync>(
+    rt: &R,
     alloc: Global,
     table: &Table,
     scenario: &Scenario,
     images: &[Option<ValidImage>],
+    gate: &G,
 ) -> Result<Prepared, Status>
     requires keeps { KeepsScenario scenario.now }
     requires rules { HasRules (map (λ r. r.rule) table.now.list.items) scenario.now }
@@ -51,5 +57,45 @@ pub fn run_first(
     ensures refusal { IfErr result (IsRefusal ⊥ ⊥) }
 {
     let core = first_core(alloc, scenario, images)?;
-    run_core(alloc, core, scenario.jobs.as_slice(), images, table)
+    run_core(
+        rt,
+        alloc,
+        core,
+        scenario.jobs.as_slice(),
+        images,
+        scenario.workers,
+        table,
+        gate,
+    )
+}
+
+/// The same without images for its jobs, of which it prepares the line of `soak`: so many servers are counted.
+///
+/// # Errors
+///
+/// `NoMemory`.
+pub fn soak_first<R: Threads + Wait + Sync, G: Gate + Sync>(
+    rt: &R,
+    alloc: Global,
+    table: &Table,
+    count: u32,
+    scenario: &Scenario,
+    gate: &G,
+) -> Result<Prepared, Status>
+    requires keeps { KeepsScenario scenario.now }
+    requires rules { HasRules (map (λ r. r.rule) table.now.list.items) scenario.now }
+    ensures comes { ComesTo (IsSoakFrom count scenario.now) result }
+    ensures refusal { IfErr result (IsRefusal ⊥ ⊥) }
+{
+    let core = first_core(alloc, scenario, &[])?;
+    soak_core(
+        rt,
+        alloc,
+        count,
+        core,
+        scenario.jobs.as_slice(),
+        scenario.workers,
+        table,
+        gate,
+    )
 }

@@ -2,14 +2,17 @@
 //! folder.
 //!
 //! It stands on `fk_run` for all that it does, and on `fk_causes` for the streams and the folder. It
-//! adds only what no contract can speak of: the arguments, the line on standard error, and the exit
-//! status.
+//! adds only what no contract can speak of: the arguments, the threads, how far a run is (`progress`), the line on standard error, and
+//! the exit status.
 #![tactic(auto)]
 
 ghost use Rattle.std.specs.Prelude.{◌≡◌, ◌≤◌, length};
 ghost use Rattle.fk_model.specs.Answers.{answer, reply_words};
 ghost use Rattle.fk_model.specs.declared.moves.Rule.TheVariants as rules;
 
+mod progress;
+
+use crate::progress::Progress;
 use fk_causes::{FolderShelf, StdSink, StdSource};
 use fk_model::{Reply, Rule};
 use fk_responders::{Responder, Table, echo, feed, sum};
@@ -18,6 +21,8 @@ use std::alloc::AllocError;
 use std::env::Env;
 use std::io::ErrorKind;
 use std::process::ExitCode;
+use std::sync::Wait;
+use std::thread::Threads;
 use std::{env, io};
 
 /// The words after the program's name, or how the program ends without them: a word that isn't
@@ -41,8 +46,8 @@ fn status_of(error: &io::Error) -> Status {
     }
 }
 
-/// Does what the words of the command line ask for. Native servers reply by the responders of the table.
-fn status_by(rt: &HostRuntime, table: &Table) -> Status {
+/// Does what the words of the command line ask for, by the threads of a handle. Native servers reply by the responders of the table.
+fn status_by<T: Threads + Wait + Sync>(rt: &HostRuntime, threads: &T, table: &Table) -> Status {
     let words = match words_of(rt) {
         Ok(words) => words,
         Err(status) => return status,
@@ -51,18 +56,23 @@ fn status_by(rt: &HostRuntime, table: &Table) -> Status {
     let mut sink = StdSink::new(rt.stdout());
     let mut shelf = FolderShelf::new(rt);
     let Outcome { status, .. } = fluke_top(
+        threads,
         rt.alloc(),
         &words,
         table,
         &mut source,
         &mut sink,
         &mut shelf,
+        &Progress::new(rt),
     );
     status
 }
 
 /// The same, with a table of the three responders.
-fn status_of_call(rt: &HostRuntime) -> Result<Status, AllocError> {
+fn status_of_call<T: Threads + Wait + Sync>(
+    rt: &HostRuntime,
+    threads: &T,
+) -> Result<Status, AllocError> {
     let alloc = rt.alloc();
     let mut list = Vec::new(alloc);
     list.push(Responder::new(
@@ -96,11 +106,11 @@ fn status_of_call(rt: &HostRuntime) -> Result<Status, AllocError> {
             { sum(request) },
         )?,
     ))?;
-    Ok(status_by(rt, &Table { list }))
+    Ok(status_by(rt, threads, &Table { list }))
 }
 
 fn main(rt: HostRuntime) -> ExitCode {
-    let status = match status_of_call(&rt) {
+    let status = match status_of_call(&rt, &rt) {
         Ok(status) => status,
         Err(_) => Status::NoMemory,
     };

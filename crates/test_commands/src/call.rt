@@ -1,10 +1,12 @@
 //! A case, called.
 use crate::slow::{SlowSink, SlowSource};
-use fk_causes::{MemShelf, MemSink, MemSource, NoMemory, Shelf};
+use fk_causes::{MemShelf, MemSink, MemSource, NoMemory, Open, Shelf};
 use fk_responders::Table;
 use fk_run::{End, Outcome, Report, fault_line, fluke_top};
 use fk_trace_text::trace_text;
 use std::alloc::Global;
+use std::sync::Wait;
+use std::thread::Threads;
 use test_case_files::{Case, Ending, Fails};
 
 /// A shelf with these files on it. What fails is counted from the next call on.
@@ -56,33 +58,48 @@ fn ending_of(
 }
 
 /// What comes of the call of a case in which these calls of its source, its sink and its shelf fail.
-pub fn call(alloc: Global, table: &Table, case: &Case, fails: &Fails) -> Result<Ending, NoMemory> {
+pub fn call<R: Threads + Wait + Sync>(
+    rt: &R,
+    alloc: Global,
+    table: &Table,
+    case: &Case,
+    fails: &Fails,
+) -> Result<Ending, NoMemory> {
     let mut source = MemSource::new(case.source.clone()?, fails.source.clone()?);
     let mut sink = MemSink::new(alloc, case.room, fails.sink.clone()?)?;
     let mut shelf = shelf_of(alloc, case, &fails.shelf)?;
     let outcome = fluke_top(
+        rt,
         alloc,
         &case.words,
         table,
         &mut source,
         &mut sink,
         &mut shelf,
+        &Open,
     );
     ending_of(alloc, &outcome, sink.bytes(), &shelf)
 }
 
 /// What comes of the call of a case, a byte at a time.
-pub fn call_slowly(alloc: Global, table: &Table, case: &Case) -> Result<Ending, NoMemory> {
+pub fn call_slowly<R: Threads + Wait + Sync>(
+    rt: &R,
+    alloc: Global,
+    table: &Table,
+    case: &Case,
+) -> Result<Ending, NoMemory> {
     let mut source = SlowSource::new(case.source.clone()?);
     let mut sink = SlowSink::new(alloc);
     let mut shelf = shelf_of(alloc, case, &[])?;
     let outcome = fluke_top(
+        rt,
         alloc,
         &case.words,
         table,
         &mut source,
         &mut sink,
         &mut shelf,
+        &Open,
     );
     ending_of(alloc, &outcome, sink.bytes(), &shelf)
 }

@@ -26,6 +26,8 @@ use fk_responders::{Responder, Table, echo, feed, sum};
 use std::alloc::Global;
 use std::fs;
 use std::rt::Files;
+use std::sync::Wait;
+use std::thread::Threads;
 use test_case_files::{Case, Ending, Fails, cases_of, replay_of, sections_of};
 
 /// How many calls were made, and how many of them differ from what their case says.
@@ -52,28 +54,28 @@ fn count<R: Print>(
 }
 
 /// Makes the call of a case in which these calls of its source, its sink and its shelf fail.
-fn try_call<R: Print + AllocGlobal>(
+fn try_call<R: Print + AllocGlobal + Threads + Wait + Sync>(
     rt: &R,
     table: &Table,
     tally: &mut Tally,
     case: &Case,
     fails: &Fails,
 ) -> anyhow::Result<()> {
-    let found = call::call(rt.alloc(), table, case, fails)
+    let found = call::call(rt, rt.alloc(), table, case, fails)
         .ok()
         .context("no memory")?;
     count(rt, tally, case, found.difference(rt.alloc(), &case.wanted)?)
 }
 
 /// Makes the calls of cases a byte at a time.
-fn try_slowly<R: Print + AllocGlobal>(
+fn try_slowly<R: Print + AllocGlobal + Threads + Wait + Sync>(
     rt: &R,
     table: &Table,
     tally: &mut Tally,
     cases: &[Case],
 ) -> anyhow::Result<()> {
     for case in cases {
-        let found = call::call_slowly(rt.alloc(), table, case)
+        let found = call::call_slowly(rt, rt.alloc(), table, case)
             .ok()
             .context("no memory")?;
         count(rt, tally, case, found.difference(rt.alloc(), &case.wanted)?)?;
@@ -90,7 +92,7 @@ fn no_run(alloc: Global, found: &Ending) -> anyhow::Result<Option<String>> {
 }
 
 /// Makes the call of a case that leaves a trace, and plays that: both end alike.
-fn try_replay<R: Print + AllocGlobal>(
+fn try_replay<R: Print + AllocGlobal + Threads + Wait + Sync>(
     rt: &R,
     table: &Table,
     tally: &mut Tally,
@@ -98,19 +100,19 @@ fn try_replay<R: Print + AllocGlobal>(
     trace: &str,
 ) -> anyhow::Result<()> {
     let alloc = rt.alloc();
-    let left = call::call(alloc, table, case, &case.fails)
+    let left = call::call(rt, alloc, table, case, &case.fails)
         .ok()
         .context("no memory")?;
     count(rt, tally, case, no_run(alloc, &left)?)?;
     let replay = replay_of(alloc, case, trace, &left)?;
-    let found = call::call(alloc, table, &replay, &replay.fails)
+    let found = call::call(rt, alloc, table, &replay, &replay.fails)
         .ok()
         .context("no memory")?;
     count(rt, tally, case, found.difference(alloc, &left)?)
 }
 
 /// Makes the call of a case, or those in which one call fails in its turn, or plays what it leaves.
-fn try_case<R: Print + AllocGlobal>(
+fn try_case<R: Print + AllocGlobal + Threads + Wait + Sync>(
     rt: &R,
     table: &Table,
     tally: &mut Tally,
@@ -130,7 +132,7 @@ fn try_case<R: Print + AllocGlobal>(
 }
 
 /// Makes the calls of all cases of a file.
-fn try_file<R: Files + Print + AllocGlobal>(
+fn try_file<R: Files + Print + AllocGlobal + Threads + Wait + Sync>(
     rt: &R,
     table: &Table,
     tally: &mut Tally,
@@ -163,7 +165,10 @@ fn files_of_cases<R: Files + AllocGlobal + Clone + Drop>(rt: &R) -> anyhow::Resu
 }
 
 /// Makes the calls of all files.
-fn try_files(rt: &HostRuntime, table: &Table) -> anyhow::Result<()> {
+fn try_files<R: Files + Print + AllocGlobal + Clone + Drop + Threads + Wait + Sync>(
+    rt: &R,
+    table: &Table,
+) -> anyhow::Result<()> {
     let mut tally = Tally {
         calls: 0,
         differ: 0,

@@ -29,6 +29,8 @@ use machine::obstacle;
 use scarce::{Found, try_ample, try_scarce};
 use std::fs;
 use std::rt::Files;
+use std::sync::Wait;
+use std::thread::Threads;
 use test_case_files::{Case, cases_of, sections_of};
 
 /// The files of cases in the folder, in the order of their names.
@@ -69,19 +71,19 @@ fn all_cases<R: Files + AllocGlobal + Clone + Drop>(rt: &R) -> anyhow::Result<Ve
 }
 
 /// What is found of each case: with ample memory and then, where that may be, while memory is scarce.
-fn found_of<R: Files + Eprint + AllocGlobal>(
+fn found_of<R: Files + Eprint + AllocGlobal + Threads + Wait + Sync>(
     rt: &R,
     table: &Table,
     cases: &[Case],
 ) -> anyhow::Result<Vec<Found>> {
-    let ample = try_ample(rt.alloc(), table, cases)
+    let ample = try_ample(rt, rt.alloc(), table, cases)
         .ok()
         .context("no memory")?;
     if let Some(obstacle) = obstacle(rt) {
         eprintln!(rt; "memory isn't made scarce: {obstacle}")?;
         return Ok(ample);
     }
-    match try_scarce(rt.alloc(), table, cases, &ample)? {
+    match try_scarce(rt, rt.alloc(), table, cases, &ample)? {
         Some(found) => Ok(found),
         None => {
             eprintln!(rt; "memory isn't made scarce: there is more than can be taken")?;
@@ -104,7 +106,10 @@ fn say<R: Print>(rt: &R, cases: &[Case], found: &[Found]) -> anyhow::Result<u32>
 }
 
 /// Tries all cases of all files.
-fn try_all(rt: &HostRuntime, table: &Table) -> anyhow::Result<()> {
+fn try_all<R: Files + Print + Eprint + AllocGlobal + Clone + Drop + Threads + Wait + Sync>(
+    rt: &R,
+    table: &Table,
+) -> anyhow::Result<()> {
     let line = fault_line(rt.alloc(), &Status::NoMemory)
         .ok()
         .context("no memory")?;

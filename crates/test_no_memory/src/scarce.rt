@@ -1,11 +1,13 @@
 //! Cases, called with ample memory and while memory is scarce.
 use crate::hoard::Hoard;
-use fk_causes::{MemShelf, MemSink, MemSource, NoMemory, Shelf};
+use fk_causes::{MemShelf, MemSink, MemSource, NoMemory, Open, Shelf};
 use fk_responders::Table;
 use fk_run::fluke_top;
 use std::alloc::{AllocError, Global};
 use std::collections::BTreeMap;
 use std::fmt;
+use std::sync::Wait;
+use std::thread::Threads;
 use test_case_files::Case;
 
 /// Of the pieces that were given back, one in so many more is given at the next time.
@@ -81,17 +83,24 @@ fn are_in_order(case: &Case, files: &BTreeMap<String, Vec<u8>>) -> bool {
 }
 
 /// How a call of the case ends.
-fn call(alloc: Global, table: &Table, case: &Case) -> Result<End, NoMemory> {
+fn call<T: Threads + Wait + Sync>(
+    threads: &T,
+    alloc: Global,
+    table: &Table,
+    case: &Case,
+) -> Result<End, NoMemory> {
     let mut source = MemSource::new(case.source.clone()?, Vec::new(alloc));
     let mut sink = MemSink::new(alloc, case.room, Vec::new(alloc))?;
     let mut shelf = shelf_of(alloc, case)?;
     let outcome = fluke_top(
+        threads,
         alloc,
         &case.words,
         table,
         &mut source,
         &mut sink,
         &mut shelf,
+        &Open,
     );
     let status = outcome.status.number();
     let wanted = &case.wanted;
@@ -112,10 +121,15 @@ fn call(alloc: Global, table: &Table, case: &Case) -> Result<End, NoMemory> {
 /// # Errors
 ///
 /// For want of memory.
-pub fn try_ample(alloc: Global, table: &Table, cases: &[Case]) -> Result<Vec<Found>, NoMemory> {
+pub fn try_ample<T: Threads + Wait + Sync>(
+    threads: &T,
+    alloc: Global,
+    table: &Table,
+    cases: &[Case],
+) -> Result<Vec<Found>, NoMemory> {
     let mut found = Vec::new(alloc);
     for case in cases {
-        let (status, is_whole) = match call(alloc, table, case)? {
+        let (status, is_whole) = match call(threads, alloc, table, case)? {
             End::Short => (NO_MEMORY, false),
             End::Whole => (case.wanted.status, true),
             End::Other(status) => (status, false),
@@ -131,7 +145,13 @@ pub fn try_ample(alloc: Global, table: &Table, cases: &[Case]) -> Result<Vec<Fou
 }
 
 /// Calls a case again and again, with a little more memory each time, until it doesn't end for want of it.
-fn starve(alloc: Global, table: &Table, case: &Case, hoard: &mut Hoard) -> Found {
+fn starve<T: Threads + Wait + Sync>(
+    threads: &T,
+    alloc: Global,
+    table: &Table,
+    case: &Case,
+    hoard: &mut Hoard,
+) -> Found {
     let all = hoard.pieces();
     let mut found = Found {
         is_scarce: true,
@@ -142,7 +162,7 @@ fn starve(alloc: Global, table: &Table, case: &Case, hoard: &mut Hoard) -> Found
     for _ in 0..all {
         let given = all.saturating_sub(hoard.pieces());
         hoard.give(1 + given / PARTS);
-        match call(alloc, table, case) {
+        match call(threads, alloc, table, case) {
             Ok(End::Short) => found.short = found.short.saturating_add(1),
             Ok(End::Whole) => {
                 found.status = case.wanted.status;
@@ -165,7 +185,8 @@ fn starve(alloc: Global, table: &Table, case: &Case, hoard: &mut Hoard) -> Found
 /// # Errors
 ///
 /// For want of memory before any is taken.
-pub fn try_scarce(
+pub fn try_scarce<T: Threads + Wait + Sync>(
+    threads: &T,
     alloc: Global,
     table: &Table,
     cases: &[Case],
@@ -179,7 +200,7 @@ pub fn try_scarce(
             return Ok(None);
         }
         let next = if ample.is_whole {
-            starve(alloc, table, case, &mut hoard)
+            starve(threads, alloc, table, case, &mut hoard)
         } else {
             *ample
         };

@@ -10,4 +10,4 @@ returns-clause-comes g c =
     c.in_ok-core.ensures.first c.in_ok-core.ensures.budget (rw c.as_slice.ensures at c.run_core.ensures.comes)
 
 pub run_core-requires-clause-fits : goal.run_core-requires-clause-fits
-run_core-requires-clause-fits g c = c.in_ok-core.ensures.fits (map (λ r. r.rule) c.args.table.now.list.items) c.requires.rules
+run_core-requires-clause-fits g c = λ _ _. c.in_ok-core.ensures.fits (map (λ r. r.rule) c.args.table.now.list.items) c.requires.rules

@@ -1,11 +1,15 @@
 use Rattle.fk_core.specs.Cores.{run_core}
+use Rattle.fk_run_reports.specs.Made.{IsText}
+use Rattle.fk_runs.proofs.Starting.{may_begin}
 use Rattle.fk_runs.proofs.Made.{alone}
 use Rattle.fk_runs.proofs.whole.run_core.Goals as goal
 
+pub run_all-requires-clause-sound : goal.run_all-requires-clause-sound
+run_all-requires-clause-sound g c = λ _ _. let core = c.args.core in may_begin core.jobs.jobs core.budget (run_core core) c.requires.come c.requires.first
+
 pub returns-clause-comes : goal.returns-clause-comes
 returns-clause-comes g c =
-    let core = c.args.core in
-    let new = c.run.new.self in
-    alone c.args.specs.now c.args.images.now core.jobs.jobs (run_core core)
-    (run_core new) core.budget new.budget c.in_ok-history.history c.in_ok-prepared.field-0 c.requires.jobs
-    c.in_ok-history.ensures.budget c.in_ok-history.ensures.run c.in_ok-history.ensures.over c.in_ok-prepared.ensures
+    let made = rw c.in_ok-book.ensures.boot at c.in_ok-prepared_of.ensures in
+    let kept = rw c.in_ok-book.ensures.boot at c.in_ok-book.ensures.kept in
+    alone (IsText c.args.specs.now) c.args.specs.now c.args.images.now _ _ c.in_ok-book.book.history c.in_ok-prepared_of.field-0 c.requires.jobs kept made
+    c.in_ok-book.ensures.ended

@@ -1,0 +1,113 @@
+-- What is put leaves all other files.
+use Rattle.std.proofs.Common.{◌≡◌, ◌≢◌, ◌⊎◌, ℕ, ◌+◌, List, [], ◌∷◌, Option, Some, None, Result, Ok, Err, OnOk, OnErr, inl, inr, refl, sym, subst, ◌∙◌}
+use Rattle.std.specs.List.{slice_get}
+use Rattle.fk_causes.specs.declared.shelf.ShelfFail.{ShelfFail}
+use Rattle.fk_causes.specs.Shelf.{FileMap, KeepsOthers}
+use Rattle.fk_commands.specs.declared.outcome.Report.{Report}
+use Rattle.fk_commands.specs.Files.{image_name, trace_name}
+use Rattle.fk_report.specs.Jobs.{end_in}
+use Rattle.fk_report.specs.declared.job_end.JobEnd.{JobEnd}
+use Rattle.fk_report.specs.declared.job_end.JobEnd.TheVariants.{Checkpointed, Foreign, Dead, Restored, NoImage, Occupied, NoPort}
+use Rattle.fk_model.specs.declared.moves.Move.{Move}
+use Rattle.fk_words.specs.Commands.{Command, Exec, Check, Run, Play, Show, Soak}
+use Rattle.fk_puts.specs.Puts.{IsImageName, IsTraceName, KeepsBut, KeepsButTrace, KeepsFiles, OpensEnd, PutImages, PutSomeImages, PutsEnd, PutsTrace, PutsRun, PutsSome, HasPut, HasPutSome}
+
+module _ (May : List ℕ → Type 0) where
+  same : (old new : Option FileMap) → new ≡ old → KeepsBut May old new
+  same None new h = tt
+  same (Some old) None h = absurd (cc)
+  same (Some old) (Some new) h = λ file may. let is : new ≡ old = cc in subst (λ (f : FileMap). f file ≡ old file) (sym is) refl
+
+  then_ : (old between new : Option FileMap) → KeepsBut May old between → KeepsBut May between new → KeepsBut May old new
+  then_ None between new a b = tt
+  then_ (Some old) None new a b = absurd a
+  then_ (Some old) (Some between) None a b = absurd b
+  then_ (Some old) (Some between) (Some new) a b = λ file may. b file may ∙ a file may
+
+  but_one : (name : List ℕ) (old new : Option FileMap) → May name → KeepsOthers old new name → KeepsBut May old new
+  but_one name None new may h = tt
+  but_one name (Some old) None may h = absurd h
+  but_one name (Some old) (Some new) may h = λ file not. h file (λ is. not (subst May (sym is) may))
+
+  module _ (images : (name : List ℕ) → May (image_name name)) where
+    one : (name : List ℕ) (end : Option JobEnd) (old new : Option FileMap) → PutsEnd name end old new → KeepsBut May old new
+    one name None old new h = same old new h
+    one name (Some (Checkpointed hold release image)) old new h = but_one (image_name name) old new (images name) h.2.1
+    one name (Some (Foreign place hold release)) old new h = same old new h
+    one name (Some Dead) old new h = same old new h
+    one name (Some (Restored make release)) old new h = same old new h
+    one name (Some NoImage) old new h = same old new h
+    one name (Some Occupied) old new h = same old new h
+    one name (Some (NoPort port make release)) old new h = same old new h
+
+    all : (ends : List (Option JobEnd)) (place : ℕ) (names : List (List ℕ)) (old new : Option FileMap) → PutImages ends place names old new → KeepsBut May old new
+    all ends place [] old new h = same old new h
+    all ends place (name ∷ names) old new h =
+        then_ old h.0 new (one name (end_in (slice_get ends place)) old h.0 h.1) (all ends (place + 1) names h.0 new h.2)
+
+    opened : (name : List ℕ) (end : Option JobEnd) (old new : Option FileMap) → OpensEnd name end old new → KeepsBut May old new
+    opened name None old new h = same old new h
+    opened name (Some (Checkpointed hold release image)) old new h = but_one (image_name name) old new (images name) h
+    opened name (Some (Foreign place hold release)) old new h = same old new h
+    opened name (Some Dead) old new h = same old new h
+    opened name (Some (Restored make release)) old new h = same old new h
+    opened name (Some NoImage) old new h = same old new h
+    opened name (Some Occupied) old new h = same old new h
+    opened name (Some (NoPort port make release)) old new h = same old new h
+
+    some : (ends : List (Option JobEnd)) (place : ℕ) (names : List (List ℕ)) (old new : Option FileMap) → PutSomeImages ends place names old new
+        → KeepsBut May old new
+    some ends place [] old new h = same old new h
+    some ends place (name ∷ names) old new (inl open_) = opened name (end_in (slice_get ends place)) old new open_
+    some ends place (name ∷ names) old new (inr h) =
+        then_ old h.0 new (one name (end_in (slice_get ends place)) old h.0 h.1) (some ends (place + 1) names h.0 new h.2)
+
+module _ (trace : Option (List ℕ)) where
+  abbrev May : List ℕ → Type 0
+  May file = IsImageName file ⊎ IsTraceName trace file
+
+images : (trace : Option (List ℕ)) (name : List ℕ) → IsImageName (image_name name) ⊎ IsTraceName trace (image_name name)
+images trace name = inl (name, refl)
+
+traced : (trace : Option (List ℕ)) (history : List Move) (old new : Option FileMap) → PutsTrace trace history old new → KeepsBut (May trace) old new
+traced None history old new h = same (May None) old new h
+traced (Some name) history old new h = but_one (May (Some name)) (trace_name name) old new (inr refl) h.1
+
+untraced : (trace : Option (List ℕ)) (old new : Option FileMap) → KeepsButTrace trace old new → KeepsBut (May trace) old new
+untraced None old new h = same (May None) old new h
+untraced (Some name) old new h = but_one (May (Some name)) (trace_name name) old new (inr refl) h
+
+some_of : (trace : Option (List ℕ)) (report : Report) (old new : Option FileMap) → PutsSome trace report old new → KeepsBut (May trace) old new
+some_of trace report old new (inl h) = some (May trace) (images trace) report.jobs 0 report.images old new h
+some_of trace report old new (inr h) =
+    then_ (May trace) old h.0 new (all (May trace) (images trace) report.jobs 0 report.images old h.0 h.1) (untraced trace h.0 new h.2)
+
+whole_of : (trace : Option (List ℕ)) (report : Report) (old new : Option FileMap) → PutsRun trace report old new → KeepsBut (May trace) old new
+whole_of trace report old new h =
+    then_ (May trace) old h.0 new (all (May trace) (images trace) report.jobs 0 report.images old h.0 h.1) (traced trace report.history h.0 new h.2)
+
+kept : (command : Option Command) (report : Option Report) (old new : Option FileMap) → HasPut command report old new → KeepsFiles command old new
+kept None report old new h = h
+kept (Some Exec) report old new h = h
+kept (Some Check) report old new h = h
+kept (Some (Run trace)) None old new h = same (May trace) old new h
+kept (Some (Run trace)) (Some report) old new h = whole_of trace report old new h
+kept (Some (Play name)) report old new h = h
+kept (Some (Show name)) report old new h = h
+kept (Some (Soak count)) report old new h = h
+
+kept_some : (command : Option Command) (report : Option Report) (old new : Option FileMap) → HasPutSome command report old new → KeepsFiles command old new
+kept_some None report old new h = h
+kept_some (Some Exec) report old new h = h
+kept_some (Some Check) report old new h = h
+kept_some (Some (Run trace)) None old new h = same (May trace) old new h
+kept_some (Some (Run trace)) (Some report) old new h = some_of trace report old new h
+kept_some (Some (Play name)) report old new h = h
+kept_some (Some (Show name)) report old new h = h
+kept_some (Some (Soak count)) report old new h = h
+
+-- whether or not all of it was put
+pub kept_by : (r : Result (Unit {0}) ShelfFail) (command : Option Command) (report : Option Report) (old new : Option FileMap) →
+    OnOk r (HasPut command report old new) → OnErr r (HasPutSome command report old new) → KeepsFiles command old new
+kept_by (Ok done) command report old new all some = kept command report old new all
+kept_by (Err fail) command report old new all some = kept_some command report old new some

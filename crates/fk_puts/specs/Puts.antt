@@ -1,0 +1,126 @@
+-- What a command puts on the shelf.
+use Rattle.std.specs.Prelude.{◌≡◌, ◌⊎◌, ⊤, ℕ, ◌+◌, List, [], ◌∷◌, Option, Some, None}
+use Rattle.std.specs.List.{slice_get}
+use Rattle.fk_causes.specs.Shelf.{FileMap, HasAt, KeepsOthers}
+use Rattle.fk_commands.specs.declared.outcome.Report.{Report}
+use Rattle.fk_commands.specs.Files.{image_name, trace_name}
+use Rattle.fk_image.specs.declared.image.Image.{Image}
+use Rattle.fk_image_format.specs.Spells.{SpellsImage}
+use Rattle.fk_model.specs.declared.moves.Move.{Move}
+use Rattle.fk_report.specs.Jobs.{end_in}
+use Rattle.fk_report.specs.declared.job_end.JobEnd.{JobEnd}
+use Rattle.fk_report.specs.declared.job_end.JobEnd.TheVariants.{Checkpointed, Foreign, Dead, Restored, NoImage, Occupied, NoPort}
+use Rattle.fk_words.specs.Commands.{Command, Exec, Check, Run, Play, Show, Soak}
+use Rattle.fk_trace_text.specs.Trace.{trace_text}
+
+-- ---- one file
+
+-- a file has these bytes now, and all others are as before
+abbrev pub IsPut : Option FileMap → List ℕ → List ℕ → Option FileMap → Type 0
+IsPut old name bytes new = HasAt new name (Some bytes) × KeepsOthers old new name
+
+-- the spelling of an image
+abbrev pub PutsImage : List ℕ → Image → Option FileMap → Option FileMap → Type 0
+PutsImage name image old new = (bytes : List ℕ) × SpellsImage bytes image × IsPut old (image_name name) bytes new
+
+-- ---- of a whole run
+
+-- the image of a job, where it has made one
+abbrev pub PutsEnd : List ℕ → Option JobEnd → Option FileMap → Option FileMap → Type 0
+PutsEnd name None old new = new ≡ old
+PutsEnd name (Some (Checkpointed hold release image)) old new = PutsImage name image old new
+PutsEnd name (Some (Foreign place hold release)) old new = new ≡ old
+PutsEnd name (Some Dead) old new = new ≡ old
+PutsEnd name (Some (Restored make release)) old new = new ≡ old
+PutsEnd name (Some NoImage) old new = new ≡ old
+PutsEnd name (Some Occupied) old new = new ≡ old
+PutsEnd name (Some (NoPort port make release)) old new = new ≡ old
+
+-- the images of jobs with these names, one after the other, the first of which has this place
+abbrev pub PutImages : List (Option JobEnd) → ℕ → List (List ℕ) → Option FileMap → Option FileMap → Type 0
+PutImages ends place [] old new = new ≡ old
+PutImages ends place (name ∷ names) old new =
+    (between : Option FileMap) × PutsEnd name (end_in (slice_get ends place)) old between × PutImages ends (place + 1) names between new
+
+abbrev pub PutsTrace : Option (List ℕ) → List Move → Option FileMap → Option FileMap → Type 0
+PutsTrace None history old new = new ≡ old
+PutsTrace (Some name) history old new = IsPut old (trace_name name) (trace_text history) new
+
+-- the images of its jobs in their order, and then its trace
+abbrev pub PutsRun : Option (List ℕ) → Report → Option FileMap → Option FileMap → Type 0
+PutsRun trace report old new =
+    (between : Option FileMap) × PutImages report.jobs 0 report.images old between × PutsTrace trace report.history between new
+
+-- ---- the same up to a put that failed: what was to be put before it is put, its own file is open, and all others are as before
+
+-- of a job's image, where it has made one
+abbrev pub OpensEnd : List ℕ → Option JobEnd → Option FileMap → Option FileMap → Type 0
+OpensEnd name None old new = new ≡ old
+OpensEnd name (Some (Checkpointed hold release image)) old new = KeepsOthers old new (image_name name)
+OpensEnd name (Some (Foreign place hold release)) old new = new ≡ old
+OpensEnd name (Some Dead) old new = new ≡ old
+OpensEnd name (Some (Restored make release)) old new = new ≡ old
+OpensEnd name (Some NoImage) old new = new ≡ old
+OpensEnd name (Some Occupied) old new = new ≡ old
+OpensEnd name (Some (NoPort port make release)) old new = new ≡ old
+
+abbrev pub PutSomeImages : List (Option JobEnd) → ℕ → List (List ℕ) → Option FileMap → Option FileMap → Type 0
+PutSomeImages ends place [] old new = new ≡ old
+PutSomeImages ends place (name ∷ names) old new = OpensEnd name (end_in (slice_get ends place)) old new
+    ⊎ ((between : Option FileMap) × PutsEnd name (end_in (slice_get ends place)) old between × PutSomeImages ends (place + 1) names between new)
+
+abbrev pub KeepsButTrace : Option (List ℕ) → Option FileMap → Option FileMap → Type 0
+KeepsButTrace None old new = new ≡ old
+KeepsButTrace (Some name) old new = KeepsOthers old new (trace_name name)
+
+abbrev pub PutsSome : Option (List ℕ) → Report → Option FileMap → Option FileMap → Type 0
+PutsSome trace report old new = PutSomeImages report.jobs 0 report.images old new
+    ⊎ ((between : Option FileMap) × PutImages report.jobs 0 report.images old between × KeepsButTrace trace between new)
+
+-- ---- of a command
+
+-- what it is to put of its run is put
+abbrev pub HasPut : Option Command → Option Report → Option FileMap → Option FileMap → Type 0
+HasPut None report old new = new ≡ old
+HasPut (Some Exec) report old new = new ≡ old
+HasPut (Some Check) report old new = new ≡ old
+HasPut (Some (Run trace)) None old new = new ≡ old
+HasPut (Some (Run trace)) (Some report) old new = PutsRun trace report old new
+HasPut (Some (Play name)) report old new = new ≡ old
+HasPut (Some (Show name)) report old new = new ≡ old
+HasPut (Some (Soak count)) report old new = new ≡ old
+
+-- or some of it, up to a put that failed
+abbrev pub HasPutSome : Option Command → Option Report → Option FileMap → Option FileMap → Type 0
+HasPutSome None report old new = new ≡ old
+HasPutSome (Some Exec) report old new = new ≡ old
+HasPutSome (Some Check) report old new = new ≡ old
+HasPutSome (Some (Run trace)) None old new = new ≡ old
+HasPutSome (Some (Run trace)) (Some report) old new = PutsSome trace report old new
+HasPutSome (Some (Play name)) report old new = new ≡ old
+HasPutSome (Some (Show name)) report old new = new ≡ old
+HasPutSome (Some (Soak count)) report old new = new ≡ old
+
+-- files with names of images, and the trace of a run
+abbrev pub IsImageName : List ℕ → Type 0
+IsImageName file = (name : List ℕ) × (file ≡ image_name name)
+
+abbrev pub IsTraceName : Option (List ℕ) → List ℕ → Type 0
+IsTraceName None file = ⊥
+IsTraceName (Some name) file = file ≡ trace_name name
+
+-- told files are as before but for such
+abbrev pub KeepsBut : (List ℕ → Type 0) → Option FileMap → Option FileMap → Type 0
+KeepsBut May None new = ⊤
+KeepsBut May (Some old) None = ⊥
+KeepsBut May (Some old) (Some new) = (file : List ℕ) → (May file → ⊥) → new file ≡ old file
+
+-- all other files of the shelf are as before
+abbrev pub KeepsFiles : Option Command → Option FileMap → Option FileMap → Type 0
+KeepsFiles None old new = new ≡ old
+KeepsFiles (Some Exec) old new = new ≡ old
+KeepsFiles (Some Check) old new = new ≡ old
+KeepsFiles (Some (Run trace)) old new = KeepsBut (λ file. IsImageName file ⊎ IsTraceName trace file) old new
+KeepsFiles (Some (Play name)) old new = new ≡ old
+KeepsFiles (Some (Show name)) old new = new ≡ old
+KeepsFiles (Some (Soak count)) old new = new ≡ old

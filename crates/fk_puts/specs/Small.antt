@@ -1,0 +1,22 @@
+-- How small the names in a history are that is put.
+use Rattle.std.specs.Prelude.{⊤, ℕ, List, Option, Some, None, All}
+use Rattle.fk_commands.specs.declared.outcome.Report.{Report}
+use Rattle.fk_model.specs.declared.moves.Move.{Move}
+use Rattle.fk_words.specs.Commands.{Command, Exec, Check, Run, Play, Show, Soak}
+use Rattle.fk_trace_text.specs.Trace.{IsMove}
+
+-- a history that was put under a name has names as small as their types
+abbrev pub IsSmall : Option (List ℕ) → List Move → Type 0
+IsSmall None history = ⊤
+IsSmall (Some name) history = All IsMove history
+
+-- the history that a command puts
+abbrev pub AreSmall : Option Command → Option Report → Type 0
+AreSmall None report = ⊤
+AreSmall (Some Exec) report = ⊤
+AreSmall (Some Check) report = ⊤
+AreSmall (Some (Run trace)) None = ⊤
+AreSmall (Some (Run trace)) (Some report) = IsSmall trace report.history
+AreSmall (Some (Play name)) report = ⊤
+AreSmall (Some (Show name)) report = ⊤
+AreSmall (Some (Soak count)) report = ⊤

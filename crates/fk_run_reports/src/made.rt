@@ -1,0 +1,126 @@
+//! What is prepared of a run that has come to a core.
+ghost use Rattle.std.specs.Prelude.{◌≡◌, ◌≤◌, [], Some, length, map, string_bytes, IfOk};
+ghost use Rattle.fk_commands.specs.Status.{progress_of, Finished};
+ghost use Rattle.fk_core.specs.Cores.{run_core};
+ghost use Rattle.fk_job_ends.specs.Ends as definitions;
+ghost use Rattle.fk_report.specs.Jobs.{refused_from};
+ghost use Rattle.fk_run_reports.specs.Made.{IsEnd, IsMade, IsText, IsLine, status_of_end, status_of_refused};
+ghost use Rattle.laws_house.specs.Houses.{jobs_of};
+
+use fk_commands::{Prepared, Report, Status};
+use fk_core::Core;
+use fk_finish::ValidImage;
+use fk_job_ends::{images_of, told_in};
+use fk_jobs::Worker;
+use fk_model::{JobSpec, List as Items, Move, NoMemory};
+use fk_natives::Service;
+use fk_porters::Porter;
+use fk_report::{End, JobEnd, first_refused, outs_text, run_text, threads_of};
+use fk_soak::soak_line;
+use std::alloc::Global;
+
+/// How a run ends that has come to a core: as the core has ended, or with the list that was played.
+fn end_of<S: Service + Drop, W: Worker + Drop>(core: &Core<S, W>) -> End
+    requires within { core.now.events ≤ core.now.budget }
+    ensures { IsEnd core.now.jobs.jobs core.now.budget (run_core core.now) result }
+{
+    match core.ended() {
+        Some(end) => end,
+        None => End::Listed,
+    }
+}
+
+/// The status that tells of the first job that was refused, if one was.
+fn status_of_refused(jobs: &[Option<JobEnd>]) -> Result<Status, NoMemory>
+    ensures status { IfOk result (λ status. status ≡ status_of_refused (refused_from 0 jobs.now)) }
+    ensures finished { IfOk result (λ status. progress_of status ≡ Finished) }
+{
+    match first_refused(jobs)? {
+        Some(job) => Ok(Status::JobRefused { job }),
+        None => Ok(Status::Ok),
+    }
+}
+
+/// The status of a run that ended so.
+fn status_of(end: End, budget: u64, jobs: &[Option<JobEnd>]) -> Result<Status, NoMemory>
+    ensures status { IfOk result (λ status. status ≡ status_of_end budget jobs.now end) }
+    ensures finished { IfOk result (λ status. progress_of status ≡ Finished) }
+{
+    match end {
+        End::Budget => Ok(Status::Budget { budget }),
+        End::Halted | End::Quiet | End::Listed => status_of_refused(jobs),
+    }
+}
+
+/// What is prepared of a run that has ended so, as its jobs have, with what is to be written.
+fn concluded(
+    alloc: Global,
+    specs: &[JobSpec],
+    history: Items<Move>,
+    jobs: Items<Option<JobEnd>>,
+    end: End,
+    budget: u64,
+    output: String,
+) -> Result<Prepared, NoMemory>
+    ensures status { IfOk result (λ made. made.status ≡ status_of_end budget jobs end) }
+    ensures finished { IfOk result (λ made. progress_of made.status ≡ Finished) }
+    ensures report { IfOk result (λ made. made.report
+        ≡ Some (record { history = history; jobs = jobs; images = map definitions.image_of specs.now; end = end })) }
+    ensures output { IfOk result (λ made. string_bytes made.output ≡ string_bytes output) }
+{
+    let status = status_of(end, budget, jobs.as_slice())?;
+    let images = images_of(alloc, specs)?;
+    Ok(Prepared {
+        status,
+        report: Some(Report {
+            history,
+            jobs,
+            images,
+            end,
+        }),
+        output,
+    })
+}
+
+/// The report and the text of a run of jobs that has come to a core.
+pub fn prepared<S: Service + Drop>(
+    alloc: Global,
+    core: Core<S, Porter>,
+    specs: &[JobSpec],
+    images: &[Option<ValidImage>],
+    history: Items<Move>,
+) -> Result<Prepared, NoMemory>
+    requires jobs { core.jobs.jobs ≡ jobs_of specs.now images.now }
+    requires within { core.events ≤ core.budget }
+    requires few { length history ≤ core.budget }
+    ensures { IfOk result (λ made. IsMade (IsText specs.now) specs.now images.now (run_core core) core.budget history made) }
+{
+    let threads = threads_of(alloc, core.kernel().store())?;
+    let end = end_of(&core);
+    let outs = outs_text(alloc, core.services(), threads.as_slice())?;
+    let budget = core.budget();
+    let jobs = told_in(alloc, specs.len(), core.into_jobs().into_ends())?;
+    let events = history.len() as u64;
+    let output = run_text(alloc, events, end, specs, jobs.as_slice(), outs.as_str())?;
+    Ok(concluded(alloc, specs, history, jobs, end, budget, output)?)
+}
+
+/// The report of a run of jobs without images, and the line of `soak` in place of its text: so many servers are counted.
+pub fn soaked<S: Service + Drop>(
+    alloc: Global,
+    count: u32,
+    core: Core<S, Porter>,
+    specs: &[JobSpec],
+    history: Items<Move>,
+) -> Result<Prepared, NoMemory>
+    requires jobs { core.jobs.jobs ≡ jobs_of specs.now [] }
+    requires within { core.events ≤ core.budget }
+    requires few { length history ≤ core.budget }
+    ensures { IfOk result (λ made. IsMade (IsLine count) specs.now [] (run_core core) core.budget history made) }
+{
+    let end = end_of(&core);
+    let output = soak_line(alloc, count, end, core.services())?;
+    let budget = core.budget();
+    let jobs = told_in(alloc, specs.len(), core.into_jobs().into_ends())?;
+    Ok(concluded(alloc, specs, history, jobs, end, budget, output)?)
+}

@@ -1,0 +1,110 @@
+-- Commands: what the words of the command line ask for.
+use Rattle.std.specs.Prelude.{ℕ, ◌≤◌, ⊤, Bool, true, false, ◌&&◌, ◌==◌, List, [], ◌∷◌, Option, Some, None, option_map, nat_eq, if◌then◌else◌, codes}
+use Rattle.std.specs.Cmp.Lexicographic.{pointwise}
+use Rattle.fk_model.specs.Names.{is_name}
+use Rattle.fk_model.specs.Numbers.{plain_number_up_to}
+use Rattle.fk_words.specs.declared.command.Command as code
+use Rattle.fk_words.specs.declared.command.Command.TheVariants as variants
+
+pub data Command : Type 0 where
+  -- the source's text is assembled and run as one thread
+  Exec : Command
+  -- the source's scenario is read, and its counts are told
+  Check : Command
+  -- the source's scenario runs by itself, and its trace is put under a name where one is given
+  Run : (trace : Option (List ℕ)) → Command
+  -- the source's scenario is run by the moves of the trace with this name
+  Play : (name : List ℕ) → Command
+  -- the counts of the image with this name are shown
+  Show : (name : List ℕ) → Command
+  -- the scenario with so many processes runs by itself, and its line is told
+  Soak : (count : ℕ) → Command
+
+-- the same as the code has it
+abbrev pub seen : code.Command → Command
+seen variants.Exec = Exec
+seen variants.Check = Check
+seen (variants.Run trace) = Run (option_map (λ name. name.now) trace)
+seen (variants.Play name) = Play name.now
+seen (variants.Show name) = Show name.now
+seen (variants.Soak count) = Soak count
+
+-- a command with a name
+abbrev pub named : (List ℕ → Command) → List ℕ → Option Command
+named command name = if is_name name then Some (command name) else None
+
+-- the number of processes that a word says: 1 to 100, without leading zeros
+abbrev pub some_count : Option ℕ → Option ℕ
+some_count None = None
+some_count (Some count) = if count == 0 then None else Some count
+
+abbrev pub count_of : List ℕ → Option ℕ
+count_of word = some_count (plain_number_up_to 100 word)
+
+-- the command of a word alone
+abbrev pub command_alone : List ℕ → Option Command
+command_alone word =
+    if pointwise nat_eq word (codes "exec") then Some Exec
+    else if pointwise nat_eq word (codes "check") then Some Check
+    else if pointwise nat_eq word (codes "run") then Some (Run None)
+    else None
+
+-- of a word and what it is given
+abbrev pub command_with : List ℕ → List ℕ → Option Command
+command_with word given =
+    if pointwise nat_eq word (codes "soak") then option_map Soak (count_of given)
+    else if pointwise nat_eq word (codes "play") then named Play given
+    else if pointwise nat_eq word (codes "show") then named Show given
+    else None
+
+-- of a word with an option and a name
+abbrev pub command_traced : List ℕ → List ℕ → List ℕ → Option Command
+command_traced word option name =
+    if pointwise nat_eq word (codes "run") && pointwise nat_eq option (codes "--trace") then named (λ trace. Run (Some trace)) name else None
+
+-- the command that the words are; none where they are no command
+abbrev pub command_of : List (List ℕ) → Option Command
+command_of [] = None
+command_of (word ∷ []) = command_alone word
+command_of (word ∷ given ∷ []) = command_with word given
+command_of (word ∷ option ∷ name ∷ []) = command_traced word option name
+command_of (word ∷ option ∷ name ∷ more ∷ words) = None
+
+-- ---- what a command looks at
+
+abbrev pub reads_source : Option Command → Bool
+reads_source None = false
+reads_source (Some Exec) = true
+reads_source (Some Check) = true
+reads_source (Some (Run trace)) = true
+reads_source (Some (Play name)) = true
+reads_source (Some (Show name)) = false
+reads_source (Some (Soak count)) = false
+
+abbrev pub uses_shelf : Option Command → Bool
+uses_shelf None = false
+uses_shelf (Some Exec) = false
+uses_shelf (Some Check) = false
+uses_shelf (Some (Run trace)) = true
+uses_shelf (Some (Play name)) = true
+uses_shelf (Some (Show name)) = true
+uses_shelf (Some (Soak count)) = false
+
+-- whether workers share it
+abbrev pub is_shared : Option Command → Bool
+is_shared None = false
+is_shared (Some Exec) = false
+is_shared (Some Check) = false
+is_shared (Some (Run trace)) = true
+is_shared (Some (Play name)) = false
+is_shared (Some (Show name)) = false
+is_shared (Some (Soak count)) = true
+
+-- `soak` is given a number of processes that it can have
+abbrev pub HasCount : Command → Type 0
+HasCount Exec = ⊤
+HasCount Check = ⊤
+HasCount (Run trace) = ⊤
+HasCount (Play name) = ⊤
+HasCount (Show name) = ⊤
+HasCount (Soak count) = (1 ≤ count) × (count ≤ 100)

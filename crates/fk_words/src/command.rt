@@ -1,0 +1,115 @@
+//! The words of the command line.
+ghost use Rattle.std.specs.Prelude.{◌≡◌, ◌≤◌, ⊤, map, option_map, string_bytes, IfSome, IfNone, Some, true, false};
+ghost use Rattle.fk_words.specs.Commands as commands;
+
+use fk_model::{is_name, plain_number_up_to};
+
+/// What the words of the command line ask for.
+#[derive(Clone, Copy)]
+pub enum Command<'a> {
+    /// Assembles the source's text and runs it as one thread.
+    Exec,
+    /// Reads the source's scenario and tells its counts.
+    Check,
+    /// Runs the source's scenario by itself, and puts its trace under a name where one is given.
+    Run(Option<&'a str>),
+    /// Runs the source's scenario by the moves of the trace with this name.
+    Play(&'a str),
+    /// Shows the counts of the image with this name.
+    Show(&'a str),
+    /// Runs the scenario with so many processes by itself, and tells its line.
+    Soak(u32),
+}
+
+/// The number of processes that a word says: 1 to 100.
+fn count_of(word: &[u8]) -> Option<u32>
+    ensures value { result ≡ commands.count_of word.now }
+    ensures within { IfSome result (λ count. (1 ≤ count) × (count ≤ 100)) }
+{
+    match plain_number_up_to(100, word)? {
+        0 => None,
+        count => Some(count as u32),
+    }
+}
+
+/// The command of a word alone.
+fn command_alone(word: &str) -> Option<Command<'_>>
+    ensures value { option_map commands.seen result ≡ commands.command_alone word.now }
+    ensures count { IfSome result (λ command. commands.HasCount (commands.seen command)) }
+{
+    if word == "exec" {
+        Some(Command::Exec)
+    } else if word == "check" {
+        Some(Command::Check)
+    } else if word == "run" {
+        Some(Command::Run(None))
+    } else {
+        None
+    }
+}
+
+/// The command of a word and what it is given.
+fn command_with<'a>(word: &str, given: &'a str) -> Option<Command<'a>>
+    ensures value { option_map commands.seen result ≡ commands.command_with word.now given.now }
+    ensures count { IfSome result (λ command. commands.HasCount (commands.seen command)) }
+{
+    if word == "soak" {
+        match count_of(given.as_bytes()) {
+            Some(count) => Some(Command::Soak(count)),
+            None => None,
+        }
+    } else if word == "play" {
+        if is_name(given.as_bytes()) {
+            Some(Command::Play(given))
+        } else {
+            None
+        }
+    } else if word == "show" {
+        if is_name(given.as_bytes()) {
+            Some(Command::Show(given))
+        } else {
+            None
+        }
+    } else {
+        None
+    }
+}
+
+/// The command of a word with an option and a name.
+fn command_traced<'a>(word: &str, option: &str, name: &'a str) -> Option<Command<'a>>
+    ensures value { option_map commands.seen result ≡ commands.command_traced word.now option.now name.now }
+    ensures count { IfSome result (λ command. commands.HasCount (commands.seen command)) }
+{
+    if word == "run" && option == "--trace" && is_name(name.as_bytes()) {
+        Some(Command::Run(Some(name)))
+    } else {
+        None
+    }
+}
+
+/// The command of these words, if they are one.
+pub fn command_of(words: &[String]) -> Option<Command<'_>>
+    ensures value { option_map commands.seen result ≡ commands.command_of (map string_bytes words.now) }
+    ensures count { IfSome result (λ command. commands.HasCount (commands.seen command)) }
+{
+    match words {
+        [word] => command_alone(word.as_str()),
+        [word, given] => command_with(word.as_str(), given.as_str()),
+        [word, option, name] => command_traced(word.as_str(), option.as_str(), name.as_str()),
+        _ => None,
+    }
+}
+
+/// The command of these words where it is one that workers share.
+pub fn shared_command(words: &[String]) -> Option<Command<'_>>
+    ensures some { IfSome result (λ command. commands.command_of (map string_bytes words.now) ≡ Some (commands.seen command)) }
+    ensures shared { IfSome result (λ command. commands.is_shared (Some (commands.seen command)) ≡ true) }
+    ensures count { IfSome result (λ command. commands.HasCount (commands.seen command)) }
+    ensures none { IfNone result (commands.is_shared (commands.command_of (map string_bytes words.now)) ≡ false) }
+{
+    match command_of(words) {
+        Some(Command::Run(trace)) => Some(Command::Run(trace)),
+        Some(Command::Soak(count)) => Some(Command::Soak(count)),
+        Some(Command::Exec | Command::Check | Command::Play(_) | Command::Show(_)) | None => None,
+    }
+}

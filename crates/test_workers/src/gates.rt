@@ -1,0 +1,73 @@
+//! Gates that watch the workers.
+use fk_causes::Gate;
+use std::sync::atomic::{AtomicBool, AtomicU64, Ordering};
+use std::thread::yield_now;
+
+/// How often worker 0 looks whether worker 1 has passed.
+const LOOKS: u32 = 10_000_000;
+
+/// Holds worker 0 before its first turn until worker 1 has passed.
+#[derive(Drop)]
+pub struct Hold {
+    passed: AtomicBool,
+    gave_up: AtomicBool,
+}
+
+impl Hold {
+    /// A gate that nobody has passed.
+    pub fn new() -> Hold {
+        Hold {
+            passed: AtomicBool::new(false),
+            gave_up: AtomicBool::new(false),
+        }
+    }
+
+    /// Whether worker 1 passed while worker 0 was held.
+    pub fn held(&self) -> bool {
+        self.passed.load(Ordering::SeqCst) && !self.gave_up.load(Ordering::SeqCst)
+    }
+}
+
+impl Gate for Hold {
+    fn pass(&self, worker: u32, turn: u64) {
+        if worker == 1 {
+            self.passed.store(true, Ordering::SeqCst);
+        }
+        if worker > 0 || turn > 0 {
+            return;
+        }
+        for _ in 0..LOOKS {
+            if self.passed.load(Ordering::SeqCst) {
+                return;
+            }
+            yield_now();
+        }
+        self.gave_up.store(true, Ordering::SeqCst);
+    }
+}
+
+/// Counts its calls.
+#[derive(Drop)]
+pub struct Count {
+    calls: AtomicU64,
+}
+
+impl Count {
+    /// A gate that wasn't called.
+    pub fn new() -> Count {
+        Count {
+            calls: AtomicU64::new(0),
+        }
+    }
+
+    /// How often it was called.
+    pub fn calls(&self) -> u64 {
+        self.calls.load(Ordering::SeqCst)
+    }
+}
+
+impl Gate for Count {
+    fn pass(&self, _worker: u32, _turn: u64) {
+        self.calls.fetch_add(1, Ordering::SeqCst);
+    }
+}

@@ -1,0 +1,142 @@
+//! Runs by several workers: that each has a thread of its own, that they make the moves, and that a scenario of 40 processes comes to the same
+//! each time.
+//!
+//! It stands on `fk_run` for whole commands. It prints the same whatever turns the workers take.
+#![tactic(auto)]
+
+ghost use Rattle.std.specs.Prelude.{◌≡◌, ◌≤◌, length};
+ghost use Rattle.fk_model.specs.Answers.{answer, reply_words};
+ghost use Rattle.fk_model.specs.declared.moves.Rule.TheVariants as rules;
+
+mod calls;
+mod gates;
+
+use calls::call;
+use fk_causes::Open;
+use fk_model::{Reply, Rule};
+use fk_responders::{Responder, Table, echo, feed};
+use gates::{Count, Hold};
+use std::alloc::Global;
+use std::fs;
+use std::rt::Files;
+use std::sync::Wait;
+use std::thread::Threads;
+
+/// The most moves of one turn.
+const MOVES: u64 = 65;
+
+/// A body on one thread never comes to worker 1 while worker 0 is held.
+fn hold<R: Print + Files + AllocGlobal + Threads + Wait + Sync>(
+    rt: &R,
+    table: &Table,
+) -> anyhow::Result<()> {
+    let text = fs::read_to_string(rt, "two.toml")?;
+    let gate = Hold::new();
+    let done = call(rt, rt.alloc(), table, &["run"], text.as_str(), &gate)?;
+    let events = done.report.history.len();
+    let held = gate.held();
+    println!(rt; "{events} moves by two workers, worker 1 passed while worker 0 was held: {held}")?;
+    Ok(())
+}
+
+/// Where the workers make the moves, the gate is called at least once in 65 of them.
+fn count<R: Print + AllocGlobal + Threads + Wait + Sync>(
+    rt: &R,
+    table: &Table,
+) -> anyhow::Result<()> {
+    let gate = Count::new();
+    let done = call(rt, rt.alloc(), table, &["soak", "100"], "", &gate)?;
+    let events = done.report.history.len() as u64;
+    let often = gate.calls() >= events / MOVES;
+    print!(rt; "{}", done.output)?;
+    println!(rt; "the gate was called often enough: {often}")?;
+    Ok(())
+}
+
+/// The lines of what consoles were sent.
+fn outs(alloc: Global, output: &str) -> anyhow::Result<Vec<&str>> {
+    let mut outs = Vec::new(alloc);
+    for line in output.lines() {
+        if line.starts_with("out ") {
+            outs.push(line)?;
+        }
+    }
+    Ok(outs)
+}
+
+/// Whether one line's words, behind `out` and a name, end as those of the other.
+fn ends_as(alloc: Global, line: &str, copy: &str) -> anyhow::Result<bool> {
+    let words: Vec<&str> = line.split(' ').skip(2).collect(alloc)?;
+    let copied: Vec<&str> = copy.split(' ').skip(2).collect(alloc)?;
+    Ok(words.ends_with(&copied))
+}
+
+/// Whether what each of the ten copies was sent is what its original, one of the last ten of forty, was sent last.
+fn are_suffixes(alloc: Global, outs: &[&str]) -> anyhow::Result<bool> {
+    if outs.len() != 50 {
+        return Ok(false);
+    }
+    for (line, copy) in outs[30..40].iter().zip(&outs[40..]) {
+        if !ends_as(alloc, line, copy)? {
+            return Ok(false);
+        }
+    }
+    Ok(true)
+}
+
+/// Twenty runs of 40 processes: what their consoles were sent, and whether it was the same each time.
+fn many<R: Print + Files + AllocGlobal + Threads + Wait + Sync>(
+    rt: &R,
+    table: &Table,
+) -> anyhow::Result<()> {
+    let text = fs::read_to_string(rt, "many.toml")?;
+    let first = call(rt, rt.alloc(), table, &["run"], text.as_str(), &Open)?;
+    let wanted = outs(rt.alloc(), first.output.as_str())?;
+    for line in wanted.iter().take(40) {
+        println!(rt; "{line}")?;
+    }
+    let mut alike = 0u32;
+    let mut suffixes = 0u32;
+    for _ in 0..20 {
+        let again = call(rt, rt.alloc(), table, &["run"], text.as_str(), &Open)?;
+        let found = outs(rt.alloc(), again.output.as_str())?;
+        if found.iter().take(40).eq(wanted.iter().take(40)) {
+            alike = alike.saturating_add(1);
+        }
+        if are_suffixes(rt.alloc(), &found)? {
+            suffixes = suffixes.saturating_add(1);
+        }
+    }
+    println!(rt; "{alike} runs alike, in {suffixes} the copies end as their originals")?;
+    Ok(())
+}
+
+fn main(rt: HostRuntime) -> anyhow::Result<()> {
+    let alloc = rt.alloc();
+    let mut list = Vec::new(alloc);
+    list.push(Responder::new(
+        String::from_str(alloc, "echo")?,
+        Rule::Echo,
+        Box::new(
+            alloc,
+            |_config: &[u64], _position: u64, request: &[u64]| -> Reply
+                requires { length request.now ≤ 64 }
+                ensures { reply_words result ≡ answer rules.Echo _config.now _position request.now }
+            { echo(request) },
+        )?,
+    ))?;
+    list.push(Responder::new(
+        String::from_str(alloc, "feed")?,
+        Rule::Feed,
+        Box::new(
+            alloc,
+            |config: &[u64], position: u64, _request: &[u64]| -> Reply
+                ensures { reply_words result ≡ answer rules.Feed config.now position _request.now }
+            { feed(config, position) },
+        )?,
+    ))?;
+    let table = Table { list };
+    hold(&rt, &table)?;
+    count(&rt, &table)?;
+    many(&rt, &table)
+}
