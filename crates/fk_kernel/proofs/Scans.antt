@@ -16,7 +16,7 @@ use Rattle.fk_store.specs.World.{world, place_of, IsLive}
 use Rattle.fk_picks.specs.Stands.{IsPicked}
 use Rattle.fk_picks.proofs.Scans.{IsAhead, rootless, thread_there}
 use Rattle.std.specs.Ordering.{is_le, is_lt, ordering_reverse}
-use Rattle.fk_store_tables.proofs.NameLaws.{who_total}
+use Rattle.fk_store_leads.proofs.NameLaws.{who_total}
 use Rattle.std.specs.declared.cmp.Ordering.{Ordering}
 use Rattle.std.specs.declared.cmp.Ordering.TheVariants.{Less, Equal, Greater}
 use Rattle.fk_picks.specs.declared.moves.Picker.TheVariants.{User}

@@ -8,7 +8,7 @@ use Rattle.fk_model.specs.Reach.{words_at}
 use Rattle.fk_model.specs.World.{World, apply}
 use Rattle.fk_model.specs.World.Change.{Make, PutPage}
 use Rattle.fk_store.specs.Contents.{Contents}
-use Rattle.fk_store_tables.specs.Names.{at}
+use Rattle.fk_store_leads.specs.Names.{at}
 use Rattle.fk_store.specs.Bodies.{mode_by, thread_by}
 use Rattle.fk_store.specs.Paths.{path, place}
 use Rattle.fk_store.specs.World.{world, first_world, IsSpace}

@@ -20,7 +20,7 @@ use Rattle.fk_model.specs.Readers.{accessed}
 use Rattle.fk_model.specs.Outcomes.{Outcome}
 use Rattle.fk_model.specs.Moves.{stepped}
 use Rattle.fk_model.specs.UserRows.{proceeds, halts_with, word_at, loads, stores, performs, executes, run_row_by}
-use Rattle.fk_store_tables.specs.Names.{at}
+use Rattle.fk_store_leads.specs.Names.{at}
 use Rattle.fk_store.specs.Contents.{Contents}
 use Rattle.fk_store.specs.Bodies.{mode_by, thread_by}
 use Rattle.fk_store.specs.Paths.{path, place}

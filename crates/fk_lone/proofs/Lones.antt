@@ -9,7 +9,7 @@ use Rattle.fk_model.specs.World.Change.{Alter, PutPage}
 use Rattle.fk_model.specs.World.Edit.{Proceed}
 use Rattle.fk_model.specs.Reach.{words_at}
 use Rattle.fk_model.specs.Searches.{thread_at}
-use Rattle.fk_store_tables.specs.Names.{at}
+use Rattle.fk_store_leads.specs.Names.{at}
 use Rattle.fk_store.specs.Contents.{Contents}
 use Rattle.fk_store.specs.Bodies.{mode_by, thread_by}
 use Rattle.fk_store.specs.Paths.{path, place}

@@ -16,8 +16,8 @@ use Rattle.fk_model.specs.World.{World}
 use Rattle.fk_model.specs.Valid.{kind_there}
 use Rattle.fk_store.specs.Bodies.{mode_by, thread_by}
 use Rattle.fk_store.specs.Contents.{Contents}
-use Rattle.fk_store_tables.specs.Names.{who_cmp}
-use Rattle.fk_store_tables.specs.Orders.{IsFirstAfter}
+use Rattle.fk_store_leads.specs.Names.{who_cmp}
+use Rattle.fk_store_bodies.specs.Orders.{IsFirstAfter}
 use Rattle.fk_store.specs.World.{world, place_of, IsLive}
 use Rattle.fk_report.specs.declared.threads.ThreadState.{ThreadState}
 use Rattle.fk_report.specs.Threads.{state_in, state_at, is_halted, is_over, HasHalted, HaveHalted}

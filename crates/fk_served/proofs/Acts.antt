@@ -16,7 +16,7 @@ use Rattle.fk_model.specs.World.{World}
 use Rattle.fk_natives.specs.declared.service.Side.TheVariants as sides
 use Rattle.fk_natives.specs.Natives.{State, OfConsole, OfServer, asks_for, gives_left}
 use Rattle.fk_store.specs.Names.{same_who}
-use Rattle.fk_store_tables.proofs.NameLaws.{same_who_eq}
+use Rattle.fk_store_leads.proofs.NameLaws.{same_who_eq}
 use Rattle.laws_frozen.specs.Users.{is_users}
 use Rattle.laws_whole.specs.Runnable.{has_all_words}
 use Rattle.fk_served.specs.Served.{Services, serving, asked, asked_of, asked_at, gives_words, ServersAskAsUsers}

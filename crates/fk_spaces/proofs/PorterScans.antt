@@ -1,16 +1,16 @@
 -- PorterScans: which objects are yet to come in a search for a space that a porter holds.
-use Rattle.std.proofs.Common.{◌≡◌, ℕ, ◌+◌, ◌<◌, ◌==◌, arith, Bool, true, false, IsSome, List, [], ◌∷◌, Option, Some, None, refl, sym, ap, subst, ◌∙◌}
+use Rattle.std.proofs.Common.{◌≡◌, ℕ, suc, ◌+◌, ◌<◌, ◌≤◌, ◌==◌, arith, Bool, true, false, inl, inr, IsSome, List, [], ◌∷◌, length, get_or, Option, Some, None, refl, sym, ap, subst, ◌∙◌}
 use Rattle.std.specs.List.{list_any}
 use Rattle.std.proofs.lemmas.Bool.{and_parts}
+use Rattle.std.proofs.lemmas.List.{get_or_default}
 use Rattle.std.proofs.lemmas.Bool.Decides.{nat_tests}
 use Rattle.fk_model.specs.declared.names.Who.{Who}
 use Rattle.fk_model.specs.Places.{Path, same_path}
 use Rattle.fk_model.specs.Searches.{beneath}
 use Rattle.fk_model.specs.SpaceRows.{has_porter}
-use Rattle.fk_model.specs.Holds.{holder_of, decider}
-use Rattle.fk_model.specs.Objects.{holds, or_else}
-use Rattle.fk_model.specs.World.{World}
-use Rattle.fk_model.proofs.walks.Members.{any_in, of_any}
+use Rattle.fk_model.specs.Holds.{holder_of}
+use Rattle.fk_model.specs.Objects.{holds}
+use Rattle.fk_model.proofs.walks.Members.{IsIn, any_in, of_any}
 use Rattle.fk_model.proofs.walks.PlaceLaws.{same_path_refl}
 use Rattle.fk_store.specs.Contents.{Contents}
 use Rattle.fk_store.specs.Paths.{path}
@@ -57,18 +57,49 @@ is_nowhere m s born none = by (list_any (has_porter (world m)) (beneath (world m
         let off = subst (λ x. is_sought_at m s x ≡ false) n.4 (none n.0 n.1 n.2 n.3) in
         absurd (cc)
 
--- ---- where nothing is held
+-- ---- among those that are held
 
-list_none : {A : Type 0} (p : A → Bool) → ((a : A) → p a ≡ false) → (xs : List A) → list_any p xs ≡ false
-list_none p none [] = refl
-list_none p none (x ∷ xs) = rw (none x) (list_none p none xs)
+-- none of the first of them is sought
+abbrev pub NoneAmong : Contents → Path → List ℕ → ℕ → Type 0
+NoneAmong m s births most = (j : ℕ) → j < most → j < length births → 0 < get_or births j 0 → IsSpace m (get_or births j 0) →
+    is_sought_at m s (path m (get_or births j 0)) ≡ false
 
-module _ (w : World) (none : (x : Path) → decider w x ≡ None) where
-  holder_none : (x : Path) → holder_of (w.body x) ≡ None
-  unfolding decider
-  holder_none [] = none []
-  holder_none (k ∷ x) = sym (ap (λ o. or_else o (holder_of (w.body (k ∷ x)))) (none x)) ∙ none (k ∷ x)
+pub none_among : (m : Contents) (s : Path) (births : List ℕ) (index n : ℕ) → index < length births → n ≡ get_or births index n → NoneAmong m s births index →
+    (0 < n → IsSpace m n → is_sought_at m s (path m n) ≡ false) → NoneAmong m s births (index + 1)
+none_among m s births index n within is so_far here j low there = by (j == index) refl
+  where
+    read : n ≡ get_or births index 0
+    read = is ∙ get_or_default births index n 0 within
 
-  -- no porter holds a space
-  pub unheld-porters : (s : Path) → false ≡ list_any (has_porter w) (beneath w s)
-  unheld-porters s = sym (list_none (has_porter w) (λ x. rw (holder_none x) refl) (beneath w s))
+    by : (b : Bool) → (j == index) ≡ b → 0 < get_or births j 0 → IsSpace m (get_or births j 0) → is_sought_at m s (path m (get_or births j 0)) ≡ false
+    by true e =
+        let same : j ≡ index = grind (arith, nat_tests) in
+        subst (λ k. 0 < k → IsSpace m k → is_sought_at m s (path m k) ≡ false) (read ∙ ap (λ i. get_or births i 0) (sym same)) here
+    by false e = so_far j (grind (arith, nat_tests)) there
+
+-- what is among them is read somewhere
+in_read : (births : List ℕ) (n : ℕ) → IsIn n births → (i : ℕ) × (i < length births) × (get_or births i 0 ≡ n)
+in_read [] n is = absurd is
+in_read (b ∷ births) n (inl e) = (0, omega arith, e)
+in_read (b ∷ births) n (inr is) = let found = in_read births n is in let low = found.1 in (suc found.0, omega (arith, low), found.2)
+
+pub nowhere_among : (m : Contents) (s : Path) (births : List ℕ) (index : ℕ) → length births ≤ index →
+    ((x : Path) → IsSome (holder_of ((world m).body x)) → (n : ℕ) × IsIn n births × (0 < n) × IsSpace m n × (path m n ≡ x)) →
+    NoneAmong m s births index → false ≡ list_any (has_porter (world m)) (beneath (world m) s)
+nowhere_among m s births index past all none = by (list_any (has_porter (world m)) (beneath (world m) s)) refl
+  where
+    off : (n : ℕ) → IsIn n births → 0 < n → IsSpace m n → is_sought_at m s (path m n) ≡ false
+    off n is =
+        let found = in_read births n is in
+        let low = found.1 in
+        subst (λ k. 0 < k → IsSpace m k → is_sought_at m s (path m k) ≡ false) found.2 (none found.0 (omega (arith, low, past)) found.1)
+
+    by : (b : Bool) → list_any (has_porter (world m)) (beneath (world m) s) ≡ b → false ≡ b
+    by false e = refl
+    by true e =
+        let found = of_any (has_porter (world m)) (beneath (world m) s) e in
+        let n = all found.0 (holds_some _ (holder_of ((world m).body found.0)) found.2) in
+        let met = any_in (same_path found.0) found.0 (beneath (world m) s) found.1 (same_path_refl found.0) in
+        let sought : is_sought_at m s found.0 ≡ true = rw (found.2, met) refl in
+        let none = subst (λ x. is_sought_at m s x ≡ false) n.4 (off n.0 n.1 n.2 n.3) in
+        absurd (cc)

@@ -1,7 +1,8 @@
 //! Spaces beneath others that porters hold.
-ghost use Rattle.std.specs.Prelude.{◌≡◌, ◌<◌, IsTrue, true, false};
+ghost use Rattle.std.specs.Prelude.{◌≡◌, ◌<◌, ℕ, IsTrue, IsSome, true, false};
 ghost use Rattle.std.specs.List.{list_any};
-ghost use Rattle.fk_model.specs.Holds.{is_porter};
+ghost use Rattle.fk_model.proofs.walks.Members.{IsIn};
+ghost use Rattle.fk_model.specs.Holds.{holder_of, is_porter};
 ghost use Rattle.fk_model.specs.Objects.{Thread, holds};
 ghost use Rattle.fk_model.specs.Places.{Path};
 ghost use Rattle.fk_model.specs.Places.Ptr.{At};
@@ -62,14 +63,38 @@ fn is_held_beneath(store: &Store, space: u32, outer: u32) -> bool
     }
 }
 
-/// A porter holds a space beneath another one. It looks at spaces alone, by their birth numbers.
+/// A porter holds a space beneath another one. It looks at spaces that are held alone, and where there was
+/// no memory to note these at all spaces.
 pub fn has_porter_beneath(store: &Store, outer: u32) -> bool
     requires space { IsSpace store.now outer }
     ensures { result ≡ list_any (rows.has_porter (world store.now)) (beneath (world store.now) (path store.now outer)) }
 {
-    if !store.is_any_held() {
-        return false;
+    match store.held() {
+        Some(births) => is_any_beneath(store, births, outer),
+        None => is_born_beneath(store, outer),
     }
+}
+
+/// One of these spaces, which are all that are held, lies beneath another one, and a porter holds it.
+fn is_any_beneath(store: &Store, births: &[u32], outer: u32) -> bool
+    requires space { IsSpace store.now outer }
+    requires all { (x : Path) → IsSome (holder_of ((world store.now).body x))
+        → (n : ℕ) × IsIn n births.now × (0 < n) × IsSpace store.now n × (path store.now n ≡ x) }
+    ensures { result ≡ list_any (rows.has_porter (world store.now)) (beneath (world store.now) (path store.now outer)) }
+{
+    for index in 0..births.len() {
+        if is_held_beneath(store, births[index], outer) {
+            return true;
+        }
+    }
+    false
+}
+
+/// A space that has been born lies beneath another one, and a porter holds it.
+fn is_born_beneath(store: &Store, outer: u32) -> bool
+    requires space { IsSpace store.now outer }
+    ensures { result ≡ list_any (rows.has_porter (world store.now)) (beneath (world store.now) (path store.now outer)) }
+{
     store.held_births();
     for space in 0..store.next_birth() {
         if is_held_beneath(store, space, outer) {

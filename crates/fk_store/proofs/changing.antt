@@ -17,6 +17,7 @@ pub mod Kills
 pub mod Following
 pub mod Renames
 pub mod Residents
+pub mod Leads
 pub mod PartLaws
 pub mod InPlace
 pub mod Proceeding

@@ -7,6 +7,7 @@ pub mod Founded
 pub mod Firsts
 pub mod Results
 pub mod HoldLaws
+pub mod Unfrozen
 pub mod Enumerated
 pub mod ReachLaws
 pub mod Scans

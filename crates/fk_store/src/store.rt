@@ -27,14 +27,15 @@ mod sizes;
 mod words;
 
 use fk_model::{Body, NoMemory, Who};
-use fk_store_tables::{Bodies, Pages, Sweep};
+use fk_store_freezing::Tree;
+use fk_store_bodies::Pages;
 use std::alloc::Global;
 use std::marker::Model;
 
 /// Every object and every page, by the birth numbers of spaces.
 #[derive(Drop)]
 pub struct Store {
-    bodies: Bodies,
+    bodies: Tree,
     pages: Pages,
     next: u32,
 }
@@ -58,7 +59,7 @@ impl Store {
         ensures { IfOk result (λ store. world store ≡ first_world) }
     {
         Ok(Store {
-            bodies: Bodies::new(alloc),
+            bodies: Tree::new(alloc),
             pages: Pages::new(alloc),
             next: 1,
         })
@@ -198,11 +199,7 @@ impl Store {
         ensures paths { (n : ℕ) → path self.old n ≢ place_of self.old who → path self.new n ≡ path self.old n }
     {
         let space = self.bodies.birth(who);
-        self.bodies.sweep(Sweep {
-            from: who,
-            to: None,
-        });
-        self.bodies.remove(who);
+        self.bodies.kill(who);
         self.pages.remove_all(space);
     }
 
@@ -231,10 +228,6 @@ impl Store {
             space: from.space,
             slot: to,
         };
-        self.bodies.sweep(Sweep {
-            from,
-            to: Some(target),
-        });
         self.bodies.rename(from, target);
     }
 

@@ -1,2 +1,1 @@
-pub mod HintLaws
 pub mod FieldLaws

@@ -14,20 +14,6 @@ use Rattle.fk_store_hints.specs.declared.lead.Sort.{Sort}
 use Rattle.fk_store_hints.specs.declared.lead.Sort.TheVariants.{Pointer, Served, Taken}
 use Rattle.fk_store_hints.specs.declared.lead.Lead.{Lead}
 
-abbrev pub same_who : Who → Who → Bool
-same_who a b = a.space == b.space && a.slot == b.slot
-
-abbrev pub same_sort : Sort → Sort → Bool
-same_sort Pointer Pointer = true
-same_sort Pointer Served = false
-same_sort Pointer Taken = false
-same_sort Served Pointer = false
-same_sort Served Served = true
-same_sort Served Taken = false
-same_sort Taken Pointer = false
-same_sort Taken Served = false
-same_sort Taken Taken = true
-
 -- a lead of a sort to an object
 abbrev pub lead_by : Sort → Who → Lead
 lead_by sort who = record { to = who; sort = sort }

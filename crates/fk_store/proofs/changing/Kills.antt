@@ -9,16 +9,16 @@ use Rattle.fk_model.specs.Objects.{and_then}
 use Rattle.fk_model.specs.World.{apply, through, death_sweep}
 use Rattle.fk_model.specs.World.Change.{Kill}
 use Rattle.fk_model.specs.Valid.{kind_there}
-use Rattle.fk_store_tables.specs.declared.sweeps.Sweep.{Sweep}
+use Rattle.fk_store_leads.specs.declared.sweeps.Sweep.{Sweep}
 use Rattle.fk_store.specs.Names.{at, same_who, who_cmp, page_cmp}
 use Rattle.fk_store.specs.Contents.{Contents, stored_birth, birth_there, is_number, home, is_live}
 use Rattle.fk_store.specs.Paths.{place, path, space_at}
 use Rattle.fk_store.specs.Bodies.{body_by}
 use Rattle.fk_store.specs.Named.{OnNamed}
 use Rattle.fk_store.specs.World.{world, body_at, page_at, IsLive}
-use Rattle.fk_store_tables.specs.Sweeps.{body_after}
+use Rattle.fk_store_leads.specs.Sweeps.{body_after}
 use Rattle.fk_store.specs.WellFormed.{is_there, IsSized, IsWellFormed}
-use Rattle.fk_store_tables.proofs.NameLaws.{who_total, same_tied, same_who_eq}
+use Rattle.fk_store_leads.proofs.NameLaws.{who_total, same_tied, same_who_eq}
 use Rattle.fk_store.proofs.finding.NamedLaws.{body_by-named}
 use Rattle.fk_store.proofs.finding.Homes.{home-found, home-none, is_the_number}
 use Rattle.fk_store.proofs.finding.Walks.{same_path_refl, same_path_true, and_back, path-space_at, same_space}
@@ -27,12 +27,6 @@ use Rattle.fk_store.proofs.changing.Changes.{kinds-kill}
 use Rattle.fk_store.proofs.changing.SweepLaws.{birth-after, sized-after, named-after}
 use Rattle.fk_store.proofs.finding.Alone.{none_either, apart, own, left_off, housed_off, path_off, empty_at, inner, path_stays, place_stays, number_off}
 use Rattle.fk_store.proofs.changing.Without.{body-without}
-
--- all bodies are swept, and one is taken away, with the pages of its space
-pub bodies-taken : (old swept new : FinMap who_cmp bodies_of.Body) (who : Who) →
-    ((q : Who) → get swept q ≡ option_map (body_after (record { from = who; to = None }) q.space) (get old q)) → new ≡ remove swept who →
-    (q : Who) → get new q ≡ cond (same_who q who) None (option_map (body_after (record { from = who; to = None }) q.space) (get old q))
-bodies-taken old swept new who sweeps takes q = rw (takes, get-remove who_total swept who q, same_tied q who, sweeps q) refl
 
 pub pages-taken : (old new : FinMap page_cmp (List ℕ)) (space birth : Option ℕ) →
     space ≡ birth → ((n g : ℕ) → get new (n, g) ≡ cond (is_number n space) None (get old (n, g))) →

@@ -8,16 +8,16 @@ use Rattle.fk_model.specs.Objects.{Body, and_then}
 use Rattle.fk_model.specs.World.{apply, through, following}
 use Rattle.fk_model.specs.World.Change.{Move}
 use Rattle.fk_model.specs.Valid.{kind_there}
-use Rattle.fk_store_tables.specs.declared.sweeps.Sweep.{Sweep}
+use Rattle.fk_store_leads.specs.declared.sweeps.Sweep.{Sweep}
 use Rattle.fk_store.specs.Names.{at, same_who, who_cmp}
 use Rattle.fk_store.specs.Contents.{Contents, stored_birth, birth_there, is_number, home, is_live}
 use Rattle.fk_store.specs.Paths.{place, path, space_at}
 use Rattle.fk_store.specs.Bodies.{body_by}
 use Rattle.fk_store.specs.Named.{OnNamed}
 use Rattle.fk_store.specs.World.{world, body_at, page_at, IsLive}
-use Rattle.fk_store_tables.specs.Sweeps.{body_after}
+use Rattle.fk_store_leads.specs.Sweeps.{body_after}
 use Rattle.fk_store.specs.WellFormed.{is_there, IsSized, IsWellFormed}
-use Rattle.fk_store_tables.proofs.NameLaws.{same_who_refl, same_who_eq, same_who_back}
+use Rattle.fk_store_leads.proofs.NameLaws.{same_who_refl, same_who_eq, same_who_back}
 use Rattle.fk_store.proofs.finding.NamedLaws.{body_by-named}
 use Rattle.fk_store.proofs.finding.Homes.{home-found, home-none, number_is, is_the_number}
 use Rattle.fk_store.proofs.finding.Walks.{same_path_refl, same_path_true, and_back, path-home, space_at-path, path-space_at, same_space}
@@ -28,15 +28,6 @@ use Rattle.fk_store.proofs.finding.Alone.{apart, own, left_off, off_path, none_i
 use Rattle.fk_store.proofs.changing.Sets.{lost_apart, false_right}
 use Rattle.fk_store.proofs.changing.MadeSpaces.{longer_apart}
 use Rattle.fk_store.proofs.changing.Following.{body-following}
-
--- all bodies are swept, and one gets another name
-pub bodies-renamed : (old swept new : FinMap who_cmp bodies_of.Body) (who : Who) (slot : ℕ) →
-    ((q : Who) → get swept q ≡ option_map (body_after (record { from = who; to = Some (at who.space slot) }) q.space) (get old q)) →
-    ((q : Who) → get new q ≡ cond (same_who q (at who.space slot)) (get swept who) (cond (same_who q who) None (get swept q))) →
-    (q : Who) → get new
-    q ≡ cond (same_who q (at who.space slot)) (option_map (body_after (record { from = who; to = Some (at who.space slot) }) who.space) (get old who))
-    (cond (same_who q who) None (option_map (body_after (record { from = who; to = Some (at who.space slot) }) q.space) (get old q)))
-bodies-renamed old swept new who slot sweeps renames q = rw (renames q, sweeps who, sweeps q) refl
 
 module _ (m : Contents) (kept : IsWellFormed m) (who : Who) (there : is_there m who ≡ true)
     (empty : (k : ℕ) → (world m).body (k ∷ place (path m) who) ≡ None) (slot : ℕ) (low : slot < 256) (free : get m.bodies (at who.space slot) ≡ None) where

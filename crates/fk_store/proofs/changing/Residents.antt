@@ -43,6 +43,12 @@ none_there m kept who none = by (get m.bodies who) refl
         let some : (world m).body (place (path m) who) ≡ Some (body_by (path m) b) = body-place m kept who ∙ ap (option_map (body_by (path m))) e in
         absurd (cc)
 
+-- and so the names of its inside have nothing
+pub nobody-inside : (m : Contents) → IsWellFormed m → (who : Who) (n : ℕ) (q : Who) → birth_there m who ≡ Some n → q.space ≡ n →
+    ((k : ℕ) → (world m).body (k ∷ place (path m) who) ≡ None) → get m.bodies q ≡ None
+nobody-inside m kept who n q birth in_it empty = none_there m kept q
+    (ap (λ s. (world m).body (q.slot ∷ s)) (ap (path m) in_it ∙ path-home m kept n who (kept.alone who n birth)) ∙ empty q.slot)
+
 -- what is looked up is there where the look-up finds it
 pub found-there : {A B : Type 0} (f : A → B) (o : Option (Bor A)) (b : Option B) → b ≡ option_map f (option_copied o) → is_some o ≡ is_some b
 found-there f None b is = sym (ap is_some is)
@@ -157,3 +163,45 @@ module _ (m : Contents) (kept : IsWellFormed m) (who : Who) where
             (world m).body (j ∷ path m n) ≡ o → option_map (λ b. j) o ≡ Some k → is_some (option_map kind_of ((world m).body (k ∷ path m n))) ≡ true
         by j None e h = absurd (cc)
         by j (Some b) e h = let same : j ≡ k = cc in rw (← same, e) refl
+
+-- ---- the lowest name of a space's inside
+
+none_lowest : {A : Type 0} (n : ℕ) (f : ℕ → Option A) → ((k : ℕ) → k < n → f k ≡ None) → lowest n f ≡ None
+unfolding lowest
+none_lowest zero f none = refl
+none_lowest (suc n) f none = rw (none_lowest n f (λ k low. none k (omega (arith, low))), none n (omega arith)) refl
+
+module _ (m : Contents) (kept : IsWellFormed m) (space : ℕ) where
+  abbrev seen : ℕ → Option ℕ
+  seen = taken (world m) (path m space)
+
+  seen-there : (k : ℕ) → seen k ≡ option_map (λ b. k) (option_map (body_by (path m)) (get m.bodies (at space k)))
+  seen-there k = ap (option_map (λ b. k)) (body-place m kept (at space k))
+
+  seen-none : (k : ℕ) → get m.bodies (at space k) ≡ None → seen k ≡ None
+  seen-none k none = seen-there k ∙ ap (λ o. option_map (λ b. k) (option_map (body_by (path m)) o)) none
+
+  pub first-found : (slot : ℕ) → slot < 256 → IsSome (get m.bodies (at space slot)) → ((k : ℕ) → IsSome (get m.bodies (at space k)) → slot ≤ k) →
+      Some slot ≡ first_resident (world m) (path m space)
+  first-found slot low there lowest_one = sym (lowest-first 256 slot seen (Some slot) (none_lowest slot seen before) (here (get m.bodies (at space slot)) there refl) refl low)
+    where
+      here : (o : Option bodies_of.Body) → IsSome o → get m.bodies (at space slot) ≡ o → seen slot ≡ Some slot
+      here None h e = absurd (cc)
+      here (Some b) h e = seen-there slot ∙ ap (λ o. option_map (λ b. slot) (option_map (body_by (path m)) o)) e
+
+      before : (k : ℕ) → k < slot → seen k ≡ None
+      before k less = by (get m.bodies (at space k)) refl
+        where
+          by : (o : Option bodies_of.Body) → get m.bodies (at space k) ≡ o → seen k ≡ None
+          by None e = seen-none k e
+          by (Some b) e = let past = lowest_one k (rw e refl) in absurd (omega (arith, past, less))
+
+  pub none-found : ((k : ℕ) → get m.bodies (at space k) ≡ None) → None ≡ first_resident (world m) (path m space)
+  none-found none = sym (none_lowest SLOTS seen (λ k low. seen-none k (none k)))
+
+pub short_name : (m : Contents) → IsWellFormed m → (who : Who) → IsSome (get m.bodies who) → who.slot < 256
+short_name m kept who there = kept.slots who (by (get m.bodies who) there)
+  where
+    by : (o : Option bodies_of.Body) → IsSome o → is_some o ≡ true
+    by None h = absurd (cc)
+    by (Some b) h = refl

@@ -11,8 +11,8 @@ use Rattle.fk_model.specs.Places.{Path}
 use Rattle.fk_model.specs.Searches.{depth, objects}
 use Rattle.fk_model.proofs.walks.Members.{IsIn}
 use Rattle.std.proofs.lemmas.Cmp.{tied_itself}
-use Rattle.fk_store_tables.proofs.NameLaws.{who_total, who_exact, who_tied}
-use Rattle.fk_store_tables.proofs.Found.{found-member}
+use Rattle.fk_store_leads.proofs.NameLaws.{who_total, who_exact, who_tied}
+use Rattle.fk_store_leads.proofs.Found.{found-member}
 use Rattle.fk_store.specs.Contents.{Contents}
 use Rattle.fk_store.specs.Names.{who_cmp, rank}
 use Rattle.fk_store.specs.Orders.{IsFirstAfter}
@@ -20,7 +20,7 @@ use Rattle.fk_store.specs.Paths.{path, place}
 use Rattle.fk_store.specs.World.{world, IsLive}
 use Rattle.fk_store.specs.WellFormed.{IsWellFormed}
 use Rattle.fk_store.proofs.finding.LookUps.{there-IsLive, IsLive-there}
-use Rattle.fk_store_tables.proofs.Lists.{Differ, sum_same, sum_none, sum_without, in_mapped, of_mapped, sum_mapped}
+use Rattle.fk_store_bodies.proofs.Lists.{Differ, sum_same, sum_none, sum_without, in_mapped, of_mapped, sum_mapped}
 use Rattle.fk_store.proofs.finding.PointerLaws.{in_map, places-differ, sum-objects, there}
 
 -- ---- names, and those that are yet to come

@@ -9,7 +9,7 @@ use Rattle.fk_model.specs.Places.{Path, Ptr}
 use Rattle.fk_model.specs.Places.Ptr.{At}
 use Rattle.fk_model.specs.Objects.{and_then, or_else}
 use Rattle.fk_model.specs.Holds.{holder_of, decider, is_frozen}
-use Rattle.fk_store_tables.specs.Held.{is_held}
+use Rattle.fk_store_leads.specs.Held.{is_held}
 use Rattle.fk_store.specs.Names.{at}
 use Rattle.fk_store.specs.Contents.{Contents, home, is_live}
 use Rattle.fk_store.specs.Paths.{place, path, space_at, HasOwnPath}
@@ -54,7 +54,7 @@ module _ (m : Contents) (kept : IsWellFormed m) where
   decider-none (suc n) h = decider-lost (suc n) (rw (not_root (suc n) (omega arith), h) refl)
 
   -- and else goes on from there
-  decider-home : (n : ℕ) (who : Who) →
+  pub decider-home : (n : ℕ) (who : Who) →
       home m n ≡ Some who → decider (world m) (path m n) ≡ or_else (decider (world m) (path m who.space)) (holder_of ((world m).body (place (path m) who)))
   unfolding decider
   decider-home n who h = rw (path-home m kept n who h) refl
@@ -113,7 +113,7 @@ is_frozen-some m kept n who found up is = rw (path-home m kept n who up, ← is)
 
 -- ---- where nothing is held
 
-holder_by : (p : ℕ → Path) (b : bodies_of.Body) → is_held b ≡ false → holder_of (Some (body_by p b)) ≡ None
+pub holder_by : (p : ℕ → Path) (b : bodies_of.Body) → is_held b ≡ false → holder_of (Some (body_by p b)) ≡ None
 holder_by p (bodies.Mutex locked) h = refl
 holder_by p bodies.Cond h = refl
 holder_by p (bodies.Mapping first count offset write region) h = refl

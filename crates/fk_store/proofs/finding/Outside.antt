@@ -19,15 +19,15 @@ use Rattle.fk_model.specs.Places.Ptr.{At}
 use Rattle.fk_model.specs.Searches.{depth, objects, pointers_to, option_list, peer_pointer, talk_pointers, fault_pointers}
 use Rattle.fk_model.specs.World.{World}
 use Rattle.fk_model.proofs.walks.Members.{IsIn}
-use Rattle.fk_store_tables.specs.Held.{one_if}
-use Rattle.fk_store_tables.specs.Pointers.{body_hits, hits_in}
+use Rattle.fk_store_leads.specs.Held.{one_if}
+use Rattle.fk_store_leads.specs.Pointers.{body_hits, hits_in}
 use Rattle.fk_store.specs.Bodies.{peer_by, talk_by, fault_by, body_by}
 use Rattle.fk_store.specs.Contents.{Contents, home}
 use Rattle.fk_store.specs.Names.{at}
 use Rattle.fk_store.specs.Paths.{path, place, space_at, HasOwnPath}
 use Rattle.fk_store.specs.World.{world, IsSpace}
 use Rattle.fk_store.specs.WellFormed.{is_there, IsWellFormed}
-use Rattle.fk_store_tables.proofs.Lists.{sum_same, sum_none, sum_filtered, sum_mapped}
+use Rattle.fk_store_bodies.proofs.Lists.{sum_same, sum_none, sum_filtered, sum_mapped}
 use Rattle.fk_store.proofs.finding.LookUps.{body-place}
 use Rattle.fk_store.proofs.finding.NamedLaws.{OnNamed-map}
 use Rattle.fk_store.proofs.finding.Enumerated.{named-object}

@@ -2,6 +2,7 @@
 ghost use Rattle.std.specs.Prelude.{◌≡◌, ◌<◌, ℕ, Some, IsSome, IfSome, false, option_map, nat_eq, ◌&&◌};
 ghost use Rattle.fk_model.specs.Places.{Path};
 ghost use Rattle.fk_model.specs.Places.Ptr.{At};
+ghost use Rattle.fk_model.proofs.walks.Members.{IsIn};
 ghost use Rattle.fk_model.specs.Holds as holds;
 ghost use Rattle.fk_model.specs.World.{apply};
 ghost use Rattle.fk_model.specs.World.Change.{Alter};
@@ -26,9 +27,24 @@ impl Store {
         ensures apart { Each (HasOwnPath (path self.now)) result }
     {
         if self.bodies.is_any_held() {
-            self.decider_above(object)
+            self.decider_held(object)
         } else {
             None
+        }
+    }
+
+    /// The same, where some space may be held. Where none above the object is, there is no walk.
+    #[inline(never)]
+    fn decider_held(&self, object: Who) -> Option<Who>
+        ensures decider { option_map (λ who. At (place_of self.now who)) result
+            ≡ holds.decider (world self.now) (place_of self.now object) }
+        ensures live { Each (IsLive self.now) result }
+        ensures apart { Each (HasOwnPath (path self.now)) result }
+    {
+        if self.bodies.may_be_frozen(object.space) {
+            self.decider_above(object)
+        } else {
+            self.holder(object)
         }
     }
 
@@ -67,6 +83,15 @@ impl Store {
             → (n : ℕ) × (n < (world self.now).next) × (0 < n) × IsSpace self.now n × (path self.now n ≡ x) }
     {
         let _below_2_32 = self.next;
+    }
+
+    /// The birth numbers of all spaces that are held, and perhaps of some that were; nothing where there
+    /// was no memory for them.
+    pub fn held(&self) -> Option<&[u32]>
+        ensures { IfSome result (λ births. (x : Path) → IsSome (holds.holder_of ((world self.now).body x))
+            → (n : ℕ) × IsIn n births.now × (0 < n) × IsSpace self.now n × (path self.now n ≡ x)) }
+    {
+        self.bodies.held()
     }
 
     /// A space is held, or one above it.

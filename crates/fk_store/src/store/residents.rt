@@ -13,13 +13,7 @@ impl Store {
     pub fn first_resident(&self, space: u32) -> Option<u8>
         ensures { result ≡ searches.first_resident (world self.now) (path self.now space) }
     {
-        for slot in 0..256u16 {
-            let slot = slot as u8;
-            if self.at(Who { space, slot }).is_some() {
-                return Some(slot);
-            }
-        }
-        None
+        self.bodies.first_in(space)
     }
 
     /// Something stands in an object.

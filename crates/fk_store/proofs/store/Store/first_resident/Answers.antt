@@ -1,20 +1,19 @@
-use Rattle.std.proofs.Common.{arith, sym, ◌∙◌}
+use Rattle.std.proofs.Common.{◌≡◌, ℕ, ◌<◌, ◌≤◌, Option, Some, None, IfSome, IsSome, refl, arith}
+use Rattle.std.specs.FinMap.{get}
+use Rattle.fk_model.specs.Searches.{first_resident}
+use Rattle.fk_store.specs.Contents.{Contents}
+use Rattle.fk_store.specs.Names.{at}
 use Rattle.fk_store.specs.Paths.{path}
+use Rattle.fk_store.specs.WellFormed.{IsWellFormed}
 use Rattle.fk_store.specs.World.{world}
-use Rattle.fk_store.proofs.finding.ReachLaws.{lowest-zero, lowest-none, none_mapped}
-use Rattle.fk_store.proofs.changing.Residents.{taken, found-there, resident-found, resident-none}
+use Rattle.fk_store.proofs.changing.Residents.{first-found, none-found, short_name}
 use Rattle.fk_store.proofs.store.Store.first_resident.Goals as goal
 
-pub loop-slot-init : goal.loop-slot-init
-loop-slot-init c = lowest-zero _
-
-pub returns-then-is_some : goal.returns-then-is_some
-returns-then-is_some c = resident-found (world c.args.self.now) (path c.args.self.now c.args.space)
-    c.loop-slot.slot (omega arith) c.loop-slot.invariant (sym (found-there _ _ _ c.at.ensures.body) ∙ sym c.is_some.ensures ∙ c.if-is_some.true)
-
-pub loop-slot-preserved : goal.loop-slot-preserved
-loop-slot-preserved c = lowest-none c.loop-slot.slot (taken (world c.args.self.now) (path c.args.self.now c.args.space))
-    c.loop-slot.invariant (none_mapped (λ b. c.loop-slot.slot) _ (sym (found-there _ _ _ c.at.ensures.body) ∙ sym c.is_some.ensures ∙ c.if-is_some.false))
+found : (m : Contents) → IsWellFormed m → (space : ℕ) (r : Option ℕ) →
+    IfSome r (λ slot. IsSome (get m.bodies (at space slot)) × ((k : ℕ) → IsSome (get m.bodies (at space k)) → slot ≤ k)) →
+    (r ≡ None → (k : ℕ) → get m.bodies (at space k) ≡ None) → r ≡ first_resident (world m) (path m space)
+found m kept space None some none = none-found m kept space (none refl)
+found m kept space (Some slot) some none = first-found m kept space slot (short_name m kept (at space slot) some.0) some.0 some.1
 
 pub returns : goal.returns
-returns c = resident-none (world c.args.self.now) (path c.args.self.now c.args.space) c.loop-slot.slot (omega arith) (omega arith) c.loop-slot.invariant
+returns c = rw (← c.self.view_is) (found _ c.self.invariant c.args.space c.first_in.result c.first_in.ensures.some c.first_in.ensures.none)

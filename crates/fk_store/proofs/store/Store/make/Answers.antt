@@ -1,12 +1,17 @@
 use Rattle.std.proofs.Common.{◌<◌, arith}
 use Rattle.fk_store.specs.World.{world}
 use Rattle.fk_store.proofs.changing.Making.{is_empty, is_fresh, make-kept, make-world, make-home, make-paths, make-places, make-kinds}
+use Rattle.fk_store.proofs.changing.Leads.{leads-named}
+use Rattle.fk_store.proofs.finding.Unfrozen.{known_well, younger_next}
 use Rattle.fk_store.proofs.store.Store.make.Goals as goal
 
 pub put-requires-clause-empty : goal.put-requires-clause-empty
 put-requires-clause-empty c =
     let slot : c.args.who.slot < 256 = omega arith in
     is_empty _ c.self.invariant c.args.who slot (rw (← c.self.view_is) at c.requires.space) (rw (← c.self.view_is) at c.requires.empty)
+
+pub put-requires-clause-leads : goal.put-requires-clause-leads
+put-requires-clause-leads c = leads-named _ c.self.invariant c.args.body (rw (← c.self.view_is) at c.requires.named)
 
 pub put-requires-clause-birth : goal.put-requires-clause-birth
 put-requires-clause-birth c =
@@ -40,3 +45,9 @@ returns c =
       places = make-places _ c.self.invariant c.args.who slot space empty c.args.body birth named c.requires.sized;
       paths = make-paths _ c.self.invariant c.args.who slot space empty c.args.body birth named c.requires.sized;
     })
+
+pub put-requires-clause-known : goal.put-requires-clause-known
+put-requires-clause-known c = known_well _ c.self.invariant
+
+pub put-requires-clause-younger : goal.put-requires-clause-younger
+put-requires-clause-younger c = younger_next _ c.self.invariant c.args.who c.args.body (rw (← c.self.view_is) at c.requires.space) (rw (← c.self.view_is) at c.requires.birth)

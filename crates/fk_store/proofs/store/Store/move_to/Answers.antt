@@ -1,20 +1,16 @@
-use Rattle.std.proofs.Common.{◌<◌, arith, ap, is_some, option_map, ◌∙◌}
+use Rattle.std.proofs.Common.{◌<◌, arith}
 use Rattle.fk_store.specs.Names.{at}
-use Rattle.fk_store.proofs.finding.LookUps.{some_mapped, IsLive-there}
+use Rattle.fk_store.proofs.finding.LookUps.{IsLive-there}
 use Rattle.fk_store.proofs.changing.Residents.{no_residents, none_there}
-use Rattle.fk_store.proofs.changing.Renames.{bodies-renamed, kept-renamed, world-renamed, none-renamed, kind-renamed, place-target, path-follows, kinds-renamed, lives-renamed, places-renamed, path-stays}
+use Rattle.fk_store.proofs.changing.Renames.{kept-renamed, world-renamed, none-renamed, kind-renamed, place-target, path-follows, kinds-renamed, lives-renamed, places-renamed, path-stays}
 use Rattle.fk_store.proofs.store.Store.move_to.Goals as goal
 
--- the object is there still
 pub rename-requires-clause-there : goal.rename-requires-clause-there
-rename-requires-clause-there c =
-    ap is_some (c.sweep.ensures c.args.from) ∙ some_mapped _ _ ∙ IsLive-there _ c.self.invariant c.args.from (rw (← c.self.view_is) at c.requires.there)
+rename-requires-clause-there c = IsLive-there _ c.self.invariant c.args.from (rw (← c.self.view_is) at c.requires.there)
 
--- and the new slot is free
+-- the new slot is free
 pub rename-requires-clause-free : goal.rename-requires-clause-free
-rename-requires-clause-free c =
-    let free = none_there _ c.self.invariant (at c.args.from.space c.args.to) (rw (← c.self.view_is) at c.requires.free) in
-    c.sweep.ensures (at c.args.from.space c.args.to) ∙ ap (option_map _) free
+rename-requires-clause-free c = none_there _ c.self.invariant (at c.args.from.space c.args.to) (rw (← c.self.view_is) at c.requires.free)
 
 pub invariant_of-self : goal.invariant_of-self
 invariant_of-self c =
@@ -22,7 +18,7 @@ invariant_of-self c =
     let empty = no_residents _ c.self.invariant _ (rw (← c.self.view_is) at c.requires.empty) in
     let low : c.args.to < 256 = omega arith in
     let free = none_there _ c.self.invariant (at c.args.from.space c.args.to) (rw (← c.self.view_is) at c.requires.free) in
-    let bodies = bodies-renamed c.self.inside.bodies c.sweep.new.self c.rename.new.self c.args.from c.args.to c.sweep.ensures c.rename.ensures in
+    let bodies = c.rename.ensures in
     kept-renamed _ c.self.invariant c.args.from there empty c.args.to low free c.rename.new.self bodies
 
 pub returns : goal.returns
@@ -31,7 +27,7 @@ returns c =
     let empty = no_residents _ c.self.invariant _ (rw (← c.self.view_is) at c.requires.empty) in
     let low : c.args.to < 256 = omega arith in
     let free = none_there _ c.self.invariant (at c.args.from.space c.args.to) (rw (← c.self.view_is) at c.requires.free) in
-    let bodies = bodies-renamed c.self.inside.bodies c.sweep.new.self c.rename.new.self c.args.from c.args.to c.sweep.ensures c.rename.ensures in
+    let bodies = c.rename.ensures in
     rw (← c.self.view_is) (record {
       world = world-renamed _ c.self.invariant c.args.from there empty c.args.to low free c.rename.new.self bodies;
       left = none-renamed _ c.self.invariant c.args.from there empty c.args.to low free c.rename.new.self bodies;

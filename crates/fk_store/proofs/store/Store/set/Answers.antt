@@ -1,9 +1,14 @@
 use Rattle.fk_store.proofs.changing.Sets.{set-there, set-birth, set-pages, set-kept, set-world, set-edits, set-kinds, set-paths}
+use Rattle.fk_store.proofs.changing.Leads.{leads-named}
+use Rattle.fk_store.proofs.finding.Unfrozen.{known_well}
 use Rattle.fk_store.proofs.store.Store.set.Goals as goal
 
 pub set-requires-clause-there : goal.set-requires-clause-there
 set-requires-clause-there c =
     set-there _ c.self.invariant c.args.who c.args.body (rw (← c.self.view_is) at c.requires.kind) (rw (← c.self.view_is) at c.requires.home)
+
+pub set-requires-clause-leads : goal.set-requires-clause-leads
+set-requires-clause-leads c = leads-named _ c.self.invariant c.args.body (rw (← c.self.view_is) at c.requires.named)
 
 pub set-requires-clause-birth : goal.set-requires-clause-birth
 set-requires-clause-birth c =
@@ -27,3 +32,6 @@ returns c =
       kinds = set-kinds _ c.self.invariant c.args.who c.args.body kind home;
       paths = set-paths _ c.self.invariant c.args.who c.args.body kind home;
     })
+
+pub set-requires-clause-known : goal.set-requires-clause-known
+set-requires-clause-known c = known_well _ c.self.invariant

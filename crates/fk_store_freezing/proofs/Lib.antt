@@ -1,0 +1,2 @@
+mod FreezeLaws
+mod TreeLaws

@@ -1,5 +1,0 @@
-mod LinkLaws
-pub mod Lists
-pub mod NodeLaws
-mod RingLaws
-mod WalkLaws
