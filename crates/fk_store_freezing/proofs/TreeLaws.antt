@@ -118,7 +118,7 @@ here_now old who b = here old who b who (same_who_refl who)
 -- marks that say the same
 pub frozen_marks : (m : FinMap who_cmp Body) (marks now : List Bool) (top : Who) → ((n : ℕ) → mark_at now n ≡ mark_at marks n) →
     AreFrozenBut m marks top → AreFrozenBut m now top
-frozen_marks m marks now top same closed who n off born under = same n ∙ closed who n off born (elim under [
+frozen_marks m marks after top same closed who n off born under = same n ∙ closed who n off born (elim under [
   | inl held ↦ inl held
   | inr above ↦ inr (sym (same who.space) ∙ above)
 ])

@@ -16,16 +16,16 @@ loop-next-init c = record {
 }
 
 pub loop-next-preserved : goal.loop-next-preserved
-loop-next-preserved c = record { closed = c.freeze_next.ensures.closed; marked = c.freeze_next.ensures.marked; slot = c.freeze_next.ensures.slot }
+loop-next-preserved c = record { closed = c.freeze_next-next.ensures.closed; marked = c.freeze_next-next.ensures.marked; slot = c.freeze_next-next.ensures.slot }
 
 pub loop-next-smaller : goal.loop-next-smaller
-loop-next-smaller c = rw c.in-Some.is c.freeze_next.ensures.falls
+loop-next-smaller c = rw c.in-Some.is c.freeze_next-next.ensures.falls
 
-pub freeze_next-requires-clause-slot : goal.freeze_next-requires-clause-slot
-freeze_next-requires-clause-slot c = rw c.in-Some.is at c.loop-next.invariant.slot
+pub freeze_next-next-requires-clause-slot : goal.freeze_next-next-requires-clause-slot
+freeze_next-next-requires-clause-slot c = rw c.in-Some.is at c.loop-next.invariant.slot
 
-pub freeze_next-requires-clause-closed : goal.freeze_next-requires-clause-closed
-freeze_next-requires-clause-closed c = rw c.in-Some.is at c.loop-next.invariant.closed
+pub freeze_next-next-requires-clause-closed : goal.freeze_next-next-requires-clause-closed
+freeze_next-next-requires-clause-closed c = rw c.in-Some.is at c.loop-next.invariant.closed
 
 pub returns : goal.returns
 returns c = ends c.args.bodies.now c.requires.known c.args.top c.loop-next.frozen
