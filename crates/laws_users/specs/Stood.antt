@@ -1,0 +1,31 @@
+-- Stood: who was a user's thread before a move.
+use Rattle.std.specs.Prelude.{◌≡◌, Bool, true, false, not, ◌||◌, List, [], ◌∷◌, Option}
+use Rattle.fk_model.specs.declared.moves.Ask.{Ask}
+use Rattle.fk_model.specs.Holds.{is_porter}
+use Rattle.fk_model.specs.Moves.{outcome, step}
+use Rattle.fk_model.specs.Objects.{Thread, holds}
+use Rattle.fk_model.specs.Outcomes.{listed}
+use Rattle.fk_model.specs.Places.{Path, same_path, parent}
+use Rattle.fk_model.specs.Searches.{thread_at}
+use Rattle.fk_model.specs.Valid.{IsRooted}
+use Rattle.fk_model.specs.World.{World, Change}
+use Rattle.fk_model.specs.World.Change.{Make, MakeSpace, Move}
+
+-- a user's thread stands at a path
+abbrev pub is_users_at : World → Path → Bool
+is_users_at w x = holds (λ (t : Thread). not (is_porter t.mode)) (thread_at w x)
+
+-- a change puts something there
+abbrev pub puts : Change → Path → Bool
+puts (Make x body) q = same_path q x
+puts (MakeSpace x holder) q = same_path q x
+puts (Move x slot) q = same_path q (slot ∷ parent x)
+puts other q = false
+
+abbrev pub put : List Change → Path → Bool
+put [] q = false
+put (c ∷ cs) q = puts c q || put cs q
+
+abbrev pub UsersStood : Type 0
+UsersStood = (w : World) (x : Path) (pick : Option Path) (ask : Ask) (q : Path) → IsRooted w → put (listed (outcome w x pick ask)) q ≡ false →
+    is_users_at (step w x pick ask).world q ≡ true → is_users_at w q ≡ true
