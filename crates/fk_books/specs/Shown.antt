@@ -8,7 +8,7 @@ use Rattle.laws_house.specs.Houses.{Job}
 use Rattle.laws_house.specs.Laws.{NameUsersSlots}
 use Rattle.laws_runs.specs.Cores.{IsRun}
 use Rattle.laws_runs.specs.Composed.{IsStart}
-use Rattle.fk_kernel.specs.Events.{is_who}
+use Rattle.fk_core.specs.Events.{is_who}
 use Rattle.fk_core.specs.Cores.{RunCore, house, porter_of, IsReadyMove, IsTurned, IsOver}
 use Rattle.fk_core.specs.Goings.{HasCome}
 

@@ -17,7 +17,7 @@ use Rattle.fk_store.specs.World.{world}
 use Rattle.laws_runs.specs.Cores.{Settles}
 use Rattle.laws_runs.specs.Cores.Settles.{Stays}
 use Rattle.fk_jobs.specs.Jobs.{Queue, current}
-use Rattle.fk_kernel.specs.Events.{IsReadyEvent, is_who, step_of}
+use Rattle.fk_moment.specs.Events.{IsReadyEvent, is_who, step_of}
 use Rattle.fk_plans.specs.Hearers.{says_to, says_to_who}
 use Rattle.fk_served.specs.Served.{Services, told}
 use Rattle.fk_core.specs.Cores.{RunCore, house, core_at, porter_of, is_porter, IsAdvanced}

@@ -27,7 +27,7 @@ use Rattle.fk_jobs.specs.Jobs.{Queue, current, first_of, state_from, state_of, a
 use Rattle.fk_jobs.specs.Jobs.{hears as jobs_hear}
 use Rattle.fk_jobs.specs.Turns.{core_of}
 use Rattle.fk_jobs.proofs.Turns.{job_moves}
-use Rattle.fk_kernel.specs.Events.{step_of, is_who}
+use Rattle.fk_moment.specs.Events.{step_of, is_who}
 use Rattle.fk_plans.specs.Hearers.{says_to, says_to_who}
 use Rattle.fk_served.specs.Served.{Services, servers, hears_of, told}
 use Rattle.fk_core.specs.Cores.{RunCore, house, core_at, reply_to, porter_of, is_porter, IsTurned, IsCalledMove, IsCalledBy}

@@ -11,7 +11,7 @@ ghost use Rattle.fk_store.specs.World.{world};
 ghost use Rattle.fk_jobs.specs.Jobs.{hears};
 
 use fk_jobs::{Jobs, Worker};
-use fk_kernel::{Kernel, Told};
+use fk_moment::{Kernel, Told};
 use fk_model::{Answer, Ask, Move, NoMemory, Reply, Said, Who};
 use fk_natives::Service;
 use fk_responders::Table;

@@ -3,7 +3,7 @@ use Rattle.std.proofs.Common.{◌≡◌, List, [], ◌∷◌, map, reverse, refl
 use Rattle.std.proofs.lemmas.List.Elements.{All-head, All-tail}
 use Rattle.std.specs.List.{All}
 use Rattle.fk_boot.specs.Services.{first_state, first_services, by_paths}
-use Rattle.fk_served.specs.Served.{AllFit, shown}
+use Rattle.fk_core.specs.Served.{AllFit, shown}
 use Rattle.fk_model.specs.declared.moves.Rule.{Rule}
 use Rattle.fk_model.specs.declared.names.Who.{Who}
 use Rattle.fk_model.specs.Who.{named}

@@ -1,1 +1,2 @@
+pub use Rattle.laws_first.specs.Entries
 pub mod First

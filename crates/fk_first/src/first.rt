@@ -5,7 +5,7 @@ ghost use Rattle.fk_core.specs.Cores.{run_core};
 ghost use Rattle.fk_core.specs.Goings.{IsGoing};
 ghost use Rattle.fk_first.specs.First.{IsFirst};
 ghost use Rattle.fk_scenario.specs.Kept.{KeepsScenario, HasRules};
-ghost use Rattle.fk_served.specs.Served.{AllFit};
+ghost use Rattle.fk_core.specs.Served.{AllFit};
 ghost use Rattle.laws_house.specs.Houses.{jobs_of};
 
 use crate::plans::plans_of;

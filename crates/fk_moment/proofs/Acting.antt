@@ -19,9 +19,8 @@ use Rattle.fk_model.specs.Places.Ptr.{At}
 use Rattle.fk_model.specs.Valid.{is_served_port}
 use Rattle.fk_natives.specs.Natives.{State}
 use Rattle.laws_runs.specs.Cores.{IsOtherReady}
-use Rattle.fk_kernel.specs.declared.kernel.Look.{Look}
-use Rattle.fk_kernel.specs.declared.kernel.Look.TheVariants.{Found, Passed, Nobody}
-use Rattle.fk_kernel.specs.Events.{IsLooked, IsReadyBesides, is_who}
+use Rattle.fk_served.specs.Looks.{Look, Found, Passed, Nobody}
+use Rattle.fk_served.specs.Events.{IsLooked, IsReadyBesides, is_who}
 use Rattle.fk_store.specs.Contents.{Contents}
 use Rattle.fk_store.specs.World.{world}
 use Rattle.fk_jobs.specs.Jobs.{Queue, current}

@@ -16,7 +16,7 @@ use Rattle.laws_runs.specs.Cores.{Asker, Work, asker, asks_of_job, others_ask, j
 use Rattle.laws_runs.specs.Cores.Asker.{Nobody, Others, Job as OfJob}
 use Rattle.laws_runs.proofs.Named.{unpicked}
 use Rattle.fk_store_leads.proofs.NameLaws.{same_who_eq}
-use Rattle.fk_kernel.specs.Events.{is_who}
+use Rattle.fk_served.specs.Events.{is_who}
 use Rattle.fk_jobs.specs.Jobs.{Queue, current, first_of, state_from, state_of, call_at, asked_by}
 use Rattle.fk_jobs.specs.Plain.{picks_nobody}
 use Rattle.fk_jobs.proofs.Plainly.{pick_nobody}

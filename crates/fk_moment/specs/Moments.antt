@@ -10,9 +10,8 @@ use Rattle.fk_model.specs.declared.names.Who.{Who}
 use Rattle.fk_model.specs.Who.{event_of}
 use Rattle.fk_jobs.specs.Jobs.{Queue, current, asked_by, state_of}
 use Rattle.fk_jobs.specs.Turns.{core_of}
-use Rattle.fk_kernel.specs.declared.kernel.Look.{Look}
-use Rattle.fk_kernel.specs.declared.kernel.Look.TheVariants.{Found, Passed, Nobody}
-use Rattle.fk_kernel.specs.Events.{is_who}
+use Rattle.fk_served.specs.Looks.{Look, Found, Passed, Nobody}
+use Rattle.fk_served.specs.Events.{is_who}
 use Rattle.fk_natives.specs.Natives.{State}
 use Rattle.fk_store.specs.Contents.{Contents}
 use Rattle.fk_store.specs.World.{world}

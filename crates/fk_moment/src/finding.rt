@@ -9,7 +9,7 @@ ghost use Rattle.laws_jobs.specs.Machines.{IsReadyAt};
 
 use crate::moment::Moment;
 use fk_jobs::Worker;
-use fk_kernel::Look;
+use fk_served::Look;
 use fk_model::{Move, Who};
 use fk_natives::Service;
 

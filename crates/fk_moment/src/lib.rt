@@ -15,4 +15,5 @@ mod job;
 mod moment;
 mod readiness;
 
+pub use fk_served::{Kernel, Look, Told};
 pub use moment::Moment;

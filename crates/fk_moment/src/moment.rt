@@ -4,7 +4,7 @@ ghost use Rattle.fk_jobs.specs.Jobs.{current};
 ghost use Rattle.fk_moment.specs.Moments.{porter_of, is_porter, is_timely, has_come};
 
 use fk_jobs::{Jobs, Worker};
-use fk_kernel::Kernel;
+use fk_served::Kernel;
 use fk_model::Who;
 use fk_model::limits::LAST_PORTER_SLOT;
 use fk_natives::Service;

@@ -1,2 +1,9 @@
+pub use Rattle.fk_runs.specs.Runs
+pub use Rattle.fk_runs.specs.Headline
+pub use Rattle.fk_runs.specs.Made
+pub use Rattle.fk_runs.specs.First
+pub use Rattle.fk_runs.specs.Plays
+pub use Rattle.fk_runs.specs.Shown
+pub use Rattle.fk_runs.specs.Cores
 pub mod Images
 pub mod Play

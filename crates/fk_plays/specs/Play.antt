@@ -7,7 +7,7 @@ use Rattle.fk_commands.specs.declared.status.Status.TheVariants.{BadScenario, Ab
 use Rattle.fk_commands.specs.Files.{trace_name}
 use Rattle.fk_commands.specs.Outcomes.{IsRefused}
 use Rattle.fk_plays.specs.Images.{FindsImages, NeedImage}
-use Rattle.fk_run_reports.specs.Made.{Images}
+use Rattle.fk_runs.specs.Made.{Images}
 use Rattle.fk_runs.specs.Runs.{IsPlayedFrom, IsRunFrom, IsSoakFrom}
 use Rattle.fk_scenario_fields.specs.declared.fail.ScenarioError.{ScenarioError}
 use Rattle.fk_scenario.specs.declared.scenario.Scenario.{Scenario}

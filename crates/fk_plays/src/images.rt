@@ -7,7 +7,7 @@ ghost use Rattle.fk_plays.specs.Images.{needed, Finds, FindsImages, NeedImage, U
 use fk_causes::Shelf;
 use fk_commands::{Status, file_of, image_of};
 use fk_finish::ValidImage;
-use fk_first::maker_of;
+use fk_runs::maker_of;
 use fk_model::{JobSpec, List as Items};
 use std::alloc::Global;
 

@@ -4,7 +4,7 @@ ghost use Rattle.fk_moment.specs.Moments.{seen, IsFound, IsReadyNow, MayBeMade};
 
 use crate::rounds::Rounds;
 use fk_jobs::Worker;
-use fk_kernel::Look;
+use fk_moment::Look;
 use fk_model::Move;
 use fk_moment::Moment;
 use fk_natives::Service;

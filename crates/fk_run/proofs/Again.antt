@@ -19,9 +19,9 @@ use Rattle.fk_puts.specs.Small.{AreSmall}
 use Rattle.fk_words.specs.Commands.{Command, Exec, Check, Run, Play, Show, Soak}
 use Rattle.fk_puts.specs.Puts.{HasPut}
 use Rattle.fk_run.specs.Top.{Rules}
-use Rattle.fk_runs.proofs.Replayed.{plays-again}
-use Rattle.fk_run_reports.specs.Made.{Images}
-use Rattle.fk_runs.specs.Runs.{IsRunFrom}
+use Rattle.fk_plays.proofs.Replayed.{plays-again}
+use Rattle.fk_plays.specs.Made.{Images}
+use Rattle.fk_plays.specs.Runs.{IsRunFrom}
 use Rattle.fk_scenario.specs.declared.scenario.Scenario.{Scenario}
 use Rattle.fk_scenario.specs.Reading.{scenario_reading}
 use Rattle.fk_scenario_fields.specs.declared.fail.ScenarioError.{ScenarioError}

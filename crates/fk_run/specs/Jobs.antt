@@ -1,12 +1,12 @@
 -- What a report says of the subtrees that the jobs of its run have saved and made again.
 use Rattle.std.specs.Prelude.{◌≡◌, ℕ, List, Option, Ok, IfSome}
 use Rattle.fk_commands.specs.declared.outcome.Report.{Report}
-use Rattle.fk_core.specs.Cores.{RunCore}
-use Rattle.fk_first.specs.First.{IsFirst}
+use Rattle.fk_plays.specs.Cores.{RunCore}
+use Rattle.fk_plays.specs.First.{IsFirst}
 use Rattle.fk_run.specs.Top.{Rules}
-use Rattle.fk_runs.specs.Headline.{HasReportHeadline}
-use Rattle.fk_run_reports.specs.Made.{Images}
-use Rattle.fk_runs.specs.Runs.{IsReported}
+use Rattle.fk_plays.specs.Headline.{HasReportHeadline}
+use Rattle.fk_plays.specs.Made.{Images}
+use Rattle.fk_plays.specs.Runs.{IsReported}
 use Rattle.fk_scenario.specs.declared.scenario.Scenario.{Scenario}
 use Rattle.fk_scenario.specs.Reading.{scenario_reading}
 

@@ -5,7 +5,7 @@ use Rattle.fk_natives.specs.Natives.{State}
 use Rattle.fk_report.specs.Report.{states}
 use Rattle.fk_report.specs.declared.end.End.{End}
 use Rattle.fk_report.specs.declared.end.End.TheVariants as ends
-use Rattle.fk_served.specs.Served.{shown}
+use Rattle.fk_core.specs.Served.{shown}
 use Rattle.fk_core.specs.Cores.{RunCore}
 use Rattle.fk_core.specs.Ends.{IsEnded}
 use Rattle.fk_run_reports.specs.Made.{IsEnd}

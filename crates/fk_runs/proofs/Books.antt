@@ -6,7 +6,7 @@ use Rattle.fk_core.specs.Cores.{RunCore}
 use Rattle.fk_model.specs.declared.job.JobSpec.{JobSpec}
 use Rattle.fk_model.specs.declared.moves.Move.{Move}
 use Rattle.fk_run_reports.specs.Made.{Images, IsMade}
-use Rattle.fk_books.specs.Shown.{Shown, HasRun}
+use Rattle.fk_workers.specs.Shown.{Shown, HasRun}
 
 -- its core has made no more moves than its budget
 pub counted : (first last : Shown) (history : List Move) → HasRun first history last → last.core.events ≤ last.budget

@@ -3,7 +3,7 @@ use Rattle.std.proofs.Common.{◌≡◌, ℕ, List, length, Some, ap, ◌∙◌}
 use Rattle.std.specs.List.{slice_get}
 use Rattle.fk_commands.specs.declared.outcome.Report.{Report}
 use Rattle.fk_core.specs.Cores.{RunCore}
-use Rattle.fk_served.specs.Served.{servers}
+use Rattle.fk_workers.specs.Served.{servers}
 use Rattle.fk_image.specs.declared.image.Image.{Image}
 use Rattle.fk_report.specs.declared.job_end.JobEnd.TheVariants as told
 use Rattle.fk_runs.specs.Headline.{ReportsHaveTheHeadline}
@@ -13,8 +13,8 @@ use Rattle.fk_job_ends.proofs.Ended.{told-end, is-saved, is-made}
 use Rattle.fk_scenario.specs.declared.scenario.Scenario.{Scenario}
 use Rattle.laws_checkpoint.specs.Checkpoint as checkpoints
 use Rattle.laws_restore.specs.Restore as restores
-use Rattle.laws_first.proofs.Entries.{entries_are_saved, entries_are_plain, entries_are_made, entries_go_on}
-use Rattle.laws_first.proofs.Programs.{programs_are_grounded, programs_have_the_headline}
+use Rattle.fk_first.proofs.Entries.{entries_are_saved, entries_are_plain, entries_are_made, entries_go_on}
+use Rattle.fk_first.proofs.Programs.{programs_are_grounded, programs_have_the_headline}
 use Rattle.laws_house.specs.Houses.End.{Checked, Restored}
 use Rattle.laws_runs.specs.Cores.JobEnd.{Worked}
 

@@ -12,8 +12,8 @@ use Rattle.laws_runs.specs.Cores.{IsRun}
 use Rattle.fk_run_reports.specs.Made.{Images, IsEnd, IsMade, IsText, report_of}
 use Rattle.fk_runs.specs.Runs.{IsReported, IsPlayed, IsAlone, begun}
 use Rattle.fk_trace_text.specs.Trace.{Spells}
-use Rattle.fk_books.specs.Plays.{MayPlay}
-use Rattle.fk_books.specs.Shown.{Shown, HasRun, HasEnded}
+use Rattle.fk_workers.specs.Plays.{MayPlay}
+use Rattle.fk_workers.specs.Shown.{Shown, HasRun, HasEnded}
 use Rattle.laws_house.specs.Houses.{Job, jobs_of}
 
 module _ (Is : RunCore → Report → List ℕ → Type 0) (specs : List JobSpec) (given : Images) (first last : Shown) (history : List Move)

@@ -9,7 +9,7 @@ use Rattle.fk_run_reports.specs.Made.{Images}
 use Rattle.fk_runs.specs.Runs.{RunPlaysAgain, begun}
 use Rattle.fk_trace_text.specs.Trace.{IsMove, AreLegal}
 use Rattle.fk_trace_text.proofs.Traces.{AreLegal-more, none_are_legal}
-use Rattle.fk_books.specs.Plays.{MayPlay}
+use Rattle.fk_workers.specs.Plays.{MayPlay}
 use Rattle.laws_house.specs.Houses.{jobs_of}
 use Rattle.laws_runs.specs.Cores.{IsRun, Begins, Goes}
 

@@ -5,7 +5,7 @@ use Rattle.fk_model.specs.Runs.{Event}
 use Rattle.fk_model.specs.Searches.{depth}
 use Rattle.fk_core.specs.Cores.{RunCore, house}
 use Rattle.fk_core.specs.Goings.{HasCome}
-use Rattle.fk_books.specs.Shown.{IsSound}
+use Rattle.fk_workers.specs.Shown.{IsSound}
 use Rattle.laws_house.specs.Houses as houses
 use Rattle.laws_house.specs.Houses.{Job}
 use Rattle.laws_jobs.specs.Machines.{Head}

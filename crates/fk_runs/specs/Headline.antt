@@ -16,7 +16,7 @@ use Rattle.fk_run_reports.specs.Made.{Images}
 use Rattle.fk_runs.specs.Runs.{IsReported}
 use Rattle.fk_scenario.specs.declared.scenario.Scenario.{Scenario}
 use Rattle.fk_scenario.specs.Kept.{KeepsScenario}
-use Rattle.laws_first.specs.Entries.{IsFrom}
+use Rattle.fk_first.specs.Entries.{IsFrom}
 use Rattle.laws_house.specs.Houses.{maker_from}
 use Rattle.laws_house.specs.Headline.{HasHeadline}
 use Rattle.laws_house.specs.Laws.{GoesOnAgain}

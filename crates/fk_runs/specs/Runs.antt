@@ -14,8 +14,8 @@ use Rattle.fk_job_ends.specs.Ends.{told_in, image_of}
 use Rattle.fk_run_reports.specs.Made.{Images, IsEnd, IsText, IsLine, status_of_end}
 use Rattle.fk_scenario.specs.declared.scenario.Scenario.{Scenario}
 use Rattle.fk_trace_text.specs.Trace.{Spells, IsFirstBad, IsMove, trace_text}
-use Rattle.fk_books.specs.Plays.{MayPlay}
-use Rattle.fk_books.specs.Shown.{Shown}
+use Rattle.fk_workers.specs.Plays.{MayPlay}
+use Rattle.fk_workers.specs.Shown.{Shown}
 
 -- the report's moves are a legal history from the first core, and it ends as they do, its jobs too
 pub record IsReported (specs : List JobSpec) (given : Images) (first : RunCore) (budget : ℕ) (report : Report) : Type 0 where

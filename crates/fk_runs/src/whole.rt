@@ -5,7 +5,7 @@ ghost use Rattle.fk_core.specs.Cores.{run_core};
 ghost use Rattle.fk_core.specs.Goings.{IsGoing};
 ghost use Rattle.fk_run_reports.specs.Made.{IsMade, IsText, IsLine};
 ghost use Rattle.fk_runs.specs.Runs.{IsPlayed, IsAlone};
-ghost use Rattle.fk_served.specs.Served.{AllFit};
+ghost use Rattle.fk_workers.specs.Served.{AllFit};
 ghost use Rattle.laws_house.specs.Houses.{jobs_of};
 
 use fk_causes::Gate;

@@ -1,6 +1,6 @@
 //! A crew: so many workers at one book, each in a thread of its own.
 ghost use Rattle.std.specs.Prelude.{◌≡◌, ◌≤◌, ◌<◌, All, length, map, IfOk, IfSome, IfNone};
-ghost use Rattle.fk_served.specs.Served.{AllFit};
+ghost use Rattle.fk_books.specs.Served.{AllFit};
 ghost use Rattle.fk_books.specs.Shown.{IsSound, HasEnded};
 ghost use Rattle.fk_books.specs.Told.{IsKept};
 ghost use Rattle.fk_workers.specs.Places.{IsPlace};

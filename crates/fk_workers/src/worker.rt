@@ -1,6 +1,6 @@
 //! A worker.
 ghost use Rattle.std.specs.Prelude.{◌≡◌, ◌≤◌, false, length, map, IfOk, OnOk};
-ghost use Rattle.fk_served.specs.Served.{AllFit};
+ghost use Rattle.fk_books.specs.Served.{AllFit};
 ghost use Rattle.fk_books.specs.Shown.{HasEnded};
 ghost use Rattle.fk_books.specs.Told.{Told, IsKept};
 

@@ -4,7 +4,7 @@ use Rattle.fk_runs.specs.Runs.{begun}
 use Rattle.fk_runs.proofs.Starting.{may_begin}
 use Rattle.fk_runs.proofs.Made.{played}
 use Rattle.fk_trace_text.specs.Trace.{IsFirstBad}
-use Rattle.fk_books.specs.Plays.{MayPlay}
+use Rattle.fk_workers.specs.Plays.{MayPlay}
 use Rattle.fk_runs.proofs.whole.play_core.Goals as goal
 
 pub play_all-requires-clause-sound : goal.play_all-requires-clause-sound

@@ -1,5 +1,5 @@
 use Rattle.fk_store.specs.World.{world}
-use Rattle.fk_kernel.specs.Events.{IsReadyBesides}
+use Rattle.fk_served.specs.Events.{IsReadyBesides}
 use Rattle.fk_moment.specs.Moments.{seen, IsOthersMove, IsReadyNow}
 use Rattle.fk_moment.proofs.Acting.{runs-other, if-some, if-none}
 use Rattle.fk_moment.proofs.Asking.{others_ready}
