@@ -1,8 +1,7 @@
 -- PorterScans: which objects are yet to come in a search for a space that a porter holds.
-use Rattle.std.proofs.Common.{◌≡◌, ℕ, suc, ◌+◌, ◌<◌, ◌≤◌, ◌==◌, arith, Bool, true, false, inl, inr, IsSome, List, [], ◌∷◌, length, get_or, Option, Some, None, refl, sym, ap, subst, ◌∙◌}
+use Rattle.std.proofs.Common.{◌≡◌, ℕ, suc, ◌+◌, ◌<◌, ◌≤◌, ◌==◌, arith, Bool, true, false, inl, inr, IsSome, List, [], ◌∷◌, length, get_or, Option, Some, None, refl, sym, subst}
 use Rattle.std.specs.List.{list_any}
 use Rattle.std.proofs.lemmas.Bool.{and_parts}
-use Rattle.std.proofs.lemmas.List.{get_or_default}
 use Rattle.std.proofs.lemmas.Bool.Decides.{nat_tests}
 use Rattle.fk_model.specs.declared.names.Who.{Who}
 use Rattle.fk_model.specs.Places.{Path, same_path}
@@ -64,17 +63,14 @@ abbrev pub NoneAmong : Contents → Path → List ℕ → ℕ → Type 0
 NoneAmong m s births most = (j : ℕ) → j < most → j < length births → 0 < get_or births j 0 → IsSpace m (get_or births j 0) →
     is_sought_at m s (path m (get_or births j 0)) ≡ false
 
-pub none_among : (m : Contents) (s : Path) (births : List ℕ) (index n : ℕ) → index < length births → n ≡ get_or births index n → NoneAmong m s births index →
-    (0 < n → IsSpace m n → is_sought_at m s (path m n) ≡ false) → NoneAmong m s births (index + 1)
-none_among m s births index n within is so_far here j low there = by (j == index) refl
+pub none_among : (m : Contents) (s : Path) (births : List ℕ) (index : ℕ) → NoneAmong m s births index →
+    (0 < get_or births index 0 → IsSpace m (get_or births index 0) → is_sought_at m s (path m (get_or births index 0)) ≡ false) → NoneAmong m s births (index + 1)
+none_among m s births index so_far here j low there = by (j == index) refl
   where
-    read : n ≡ get_or births index 0
-    read = is ∙ get_or_default births index n 0 within
-
     by : (b : Bool) → (j == index) ≡ b → 0 < get_or births j 0 → IsSpace m (get_or births j 0) → is_sought_at m s (path m (get_or births j 0)) ≡ false
     by true e =
         let same : j ≡ index = grind (arith, nat_tests) in
-        subst (λ k. 0 < k → IsSpace m k → is_sought_at m s (path m k) ≡ false) (read ∙ ap (λ i. get_or births i 0) (sym same)) here
+        subst (λ k. 0 < get_or births k 0 → IsSpace m (get_or births k 0) → is_sought_at m s (path m (get_or births k 0)) ≡ false) (sym same) here
     by false e = so_far j (grind (arith, nat_tests)) there
 
 -- what is among them is read somewhere

@@ -27,8 +27,8 @@ mod sizes;
 mod words;
 
 use fk_model::{Body, NoMemory, Who};
-use fk_store_freezing::Tree;
 use fk_store_bodies::Pages;
+use fk_store_freezing::Tree;
 use std::alloc::Global;
 use std::marker::Model;
 

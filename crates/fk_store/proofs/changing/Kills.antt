@@ -1,7 +1,7 @@
 -- Kills: an object with nothing in it that is taken away and swept from all bodies is the one destroyed at the path.
 use Rattle.std.proofs.Common.{◌≡◌, ◌≢◌, ℕ, Bool, true, false, cond, ◌&&◌, ◌==◌, List, [], ◌∷◌, Option, Some, None, option_map, is_some, length, refl, sym, ap, subst, ◌∙◌}
 use Rattle.fk_model.specs.declared.limits.TheConstants.{PAGE_WORDS}
-use Rattle.std.specs.FinMap.{FinMap, get, remove, get-remove}
+use Rattle.std.specs.FinMap.{FinMap, get}
 use Rattle.fk_model.specs.declared.names.Who.{Who}
 use Rattle.fk_model.specs.declared.body.Body as bodies_of
 use Rattle.fk_model.specs.Places.{Path, same_path}
@@ -18,7 +18,7 @@ use Rattle.fk_store.specs.Named.{OnNamed}
 use Rattle.fk_store.specs.World.{world, body_at, page_at, IsLive}
 use Rattle.fk_store_leads.specs.Sweeps.{body_after}
 use Rattle.fk_store.specs.WellFormed.{is_there, IsSized, IsWellFormed}
-use Rattle.fk_store_leads.proofs.NameLaws.{who_total, same_tied, same_who_eq}
+use Rattle.fk_store_leads.proofs.NameLaws.{same_who_eq}
 use Rattle.fk_store.proofs.finding.NamedLaws.{body_by-named}
 use Rattle.fk_store.proofs.finding.Homes.{home-found, home-none, is_the_number}
 use Rattle.fk_store.proofs.finding.Walks.{same_path_refl, same_path_true, and_back, path-space_at, same_space}

@@ -1,6 +1,5 @@
 -- Leads: what a body leads to is what it names.
-use Rattle.std.proofs.Common.{◌≡◌, ℕ, Bool, true, false, cond, ◌==◌, nat_lt, Option, Some, None, IsSome, is_some, option_map, refl, sym, ap, subst, ◌∙◌}
-use Rattle.std.specs.FinMap.{get}
+use Rattle.std.proofs.Common.{◌≡◌, ℕ, Bool, true, false, cond, ◌==◌, nat_lt, Option, Some, None, IsSome, is_some, option_map, refl, subst}
 use Rattle.fk_model.specs.Objects.{and_then}
 use Rattle.fk_model.specs.declared.names.Who.{Who}
 use Rattle.fk_model.specs.declared.names.Ptr.{Ptr}
@@ -14,7 +13,7 @@ use Rattle.fk_model.specs.declared.body.Body.TheVariants.{Mutex, Cond, Mapping, 
 use Rattle.fk_store_hints.specs.declared.lead.Sort.{Sort}
 use Rattle.fk_store_hints.specs.declared.lead.Sort.TheVariants.{Pointer, Served, Taken}
 use Rattle.fk_store_hints.specs.declared.lead.Lead.{Lead}
-use Rattle.fk_store_hints.specs.Leads.{led, pointer, peer, server, of_talk, of_fault, of_thread, lead_by, first}
+use Rattle.fk_store_hints.specs.Leads.{led, pointer, peer, server, of_talk, of_fault, of_thread, lead_by}
 use Rattle.fk_store_leads.specs.Leading.{LeadsAmong}
 use Rattle.fk_store.specs.Contents.{Contents}
 use Rattle.fk_store.specs.Named.{Each, OnPointer, OnPeer, OnTalk, OnFault, OnNamed}

@@ -67,9 +67,13 @@ module _ (m : Contents) (kept : IsWellFormed m) where
   held_among births all x h =
       let found = held-found x h in
       let here = kept.alone found.0 found.1 found.2 in
-      let low = kept.younger found.0 found.1 found.2 in
-      (found.1, all found.0 found.1 found.2 found.3, omega (arith, low), live-IsSpace m kept found.1 (live-home m kept found.1 found.0 here),
-      path-home m kept found.1 found.0 here ∙ found.4)
+      let low = kept.younger found.0 found.1 found.2 in (
+        found.1,
+        all found.0 found.1 found.2 found.3,
+        omega (arith, low),
+        live-IsSpace m kept found.1 (live-home m kept found.1 found.0 here),
+        path-home m kept found.1 found.0 here ∙ found.4,
+      )
 
   pub all-held : (o : Option (Bor (List ℕ))) →
       IfSome o (λ births. (who : Who) (n : ℕ) → birth_there m who ≡ Some n → is_held_at m.bodies who ≡ true → IsIn n births.now) →

@@ -1,5 +1,5 @@
 -- Sizes: every page of a store's world has its words, and every thread its registers, in good shape.
-use Rattle.std.proofs.Common.{◌≡◌, ℕ, true, is_some, List, [], ◌∷◌, length, Option, Some, None, option_map, unwrap_or, refl, sym, ap, subst, ◌∙◌}
+use Rattle.std.proofs.Common.{◌≡◌, ℕ, true, is_some, List, [], ◌∷◌, length, Option, Some, None, option_map, unwrap_or, refl, subst, ◌∙◌}
 use Rattle.std.proofs.lemmas.Option.{same_Some}
 use Rattle.std.specs.FinMap.{get}
 use Rattle.fk_model.specs.declared.thread.Mode.{Mode as StoredMode}

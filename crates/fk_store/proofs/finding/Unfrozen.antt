@@ -1,10 +1,10 @@
 -- Unfrozen: where no space above is held, nobody decides above.
-use Rattle.std.proofs.Common.{◌≡◌, ◌≢◌, ℕ, zero, suc, ◌+◌, ◌<◌, ◌≤◌, Bool, true, false, Option, Some, None, option_map, refl, sym, ap, ◌∙◌, arith}
+use Rattle.std.proofs.Common.{◌≡◌, ℕ, zero, suc, ◌<◌, false, Option, Some, None, option_map, refl, sym, ap, ◌∙◌, arith}
 use Rattle.std.specs.FinMap.{get}
 use Rattle.fk_model.specs.declared.names.Who.{Who}
 use Rattle.fk_model.specs.declared.body.Body as bodies_of
 use Rattle.fk_model.specs.declared.body.Body.TheVariants as bodies
-use Rattle.fk_model.specs.Objects.{and_then, or_else, holds}
+use Rattle.fk_model.specs.Objects.{or_else, holds}
 use Rattle.fk_model.specs.Places.Ptr.{At}
 use Rattle.fk_model.specs.Holds.{holder_of, decider}
 use Rattle.fk_store_freezing.specs.Freezing.{AreKnown, IsAbove, is_held_at}
@@ -55,15 +55,16 @@ module _ (m : Contents) (kept : IsWellFormed m) where
   -- by birth numbers, from a space to the older one in which it lies
   none-from : (fuel n : ℕ) → n < fuel → ((q : Who) → IsAbove m.bodies n q → is_held_at m.bodies q ≡ false) → decider (world m) (path m n) ≡ None
   none-from zero n low off = absurd (omega (arith, low))
-  none-from (suc fuel) n low off = by (home m n) refl
+  none-from (suc fuel) n low off = by (home m n) refl (λ who older more. none-from fuel who.space (omega (arith, older, low)) more)
     where
-      by : (o : Option Who) → home m n ≡ o → decider (world m) (path m n) ≡ None
-      by None up = decider-none m kept n up
-      by (Some who) up =
-          let older = kept.younger who n (home-found m n who up) in
-          let above = none-from fuel who.space (omega (arith, older, low)) (λ q more. off q (Further n who q up more)) in
+      by : (o : Option Who) → home m n ≡ o →
+          ((who : Who) → who.space < n → ((q : Who) → IsAbove m.bodies who.space q → is_held_at m.bodies q ≡ false) → decider (world m) (path m who.space) ≡ None) →
+          decider (world m) (path m n) ≡ None
+      by None up above = decider-none m kept n up
+      by (Some who) up above =
           decider-home m kept n who up
-          ∙ ap (λ o. or_else o (holder_of ((world m).body (place (path m) who)))) above
+          ∙ ap (λ o. or_else o (holder_of ((world m).body (place (path m) who))))
+          (above who (kept.younger who n (home-found m n who up)) (λ q more. off q (Further n who q up more)))
           ∙ unheld-place m kept who (off who (Home n who up))
 
   -- who decides over an object in such a space is its own holder

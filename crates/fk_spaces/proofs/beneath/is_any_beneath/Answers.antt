@@ -8,7 +8,7 @@ returns-then-is_held_beneath c = c.is_held_beneath.ensures.some c.if-is_held_ben
 
 pub loop-index-preserved : goal.loop-index-preserved
 loop-index-preserved c =
-    none_among c.args.store.now (path c.args.store.now c.args.outer) c.args.births.now c.loop-index.index _ (omega arith) c.index.ensures c.loop-index.invariant
+    none_among c.args.store.now (path c.args.store.now c.args.outer) c.args.births.now c.loop-index.index c.loop-index.invariant
     (c.is_held_beneath.ensures.none c.if-is_held_beneath.false)
 
 pub returns : goal.returns

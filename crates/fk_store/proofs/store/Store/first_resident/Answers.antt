@@ -1,4 +1,4 @@
-use Rattle.std.proofs.Common.{◌≡◌, ℕ, ◌<◌, ◌≤◌, Option, Some, None, IfSome, IsSome, refl, arith}
+use Rattle.std.proofs.Common.{◌≡◌, ℕ, ◌≤◌, Option, Some, None, IfSome, IsSome, refl}
 use Rattle.std.specs.FinMap.{get}
 use Rattle.fk_model.specs.Searches.{first_resident}
 use Rattle.fk_store.specs.Contents.{Contents}
