@@ -160,6 +160,13 @@ image_of spaces more e = subst (λ ss. ◌≡◌ {A = Image} (record { spaces = 
 pub all_taken : (words : List ℕ) → length words ≤ 64 → take 64 words ≡ words
 all_taken words few = take_all 64 words few
 
+-- a whole page is as it was read
+pub whole_page : (words : List ℕ) (len : ℕ) → length words ≡ 64 → len ≡ 64 → words ≡ padded 64 (take len words)
+whole_page words len long whole =
+    let all : take len words ≡ words = take_all len words (omega (arith, long, whole)) in
+    let none : 64 - length (take len words) ≡ 0 = ap (λ ws. 64 - length ws) all ∙ omega (arith, long) in
+    sym (ap (λ n. take len words ++ replicate n 0) none ∙ append-nil (take len words) ∙ all)
+
 -- words that are laid over the front of 64 zeros
 pub filled : (words put : List ℕ) (count : ℕ) → count ≡ min (length words) 64 → put ≡ take count words →
     put ++ drop count (replicate 64 0) ≡ padded 64 (take 64 words)

@@ -83,14 +83,16 @@ fn objects(
 fn pages(alloc: Global, items: &[Item]) -> Result<List<PageRec>, NoMemory>
     ensures { IfOk result (λ pages. pages ≡ map narrow.narrow_page (map parts.page_rec (items_of items.now))) }
 {
-    let mut pages = List::new(alloc);
+    let mut pages = Vec::with_capacity(alloc, items.len())?;
     for item in items {
-        pages.push(PageRec {
+        // A push that has no way back copies no page.
+        pages.reserve(1)?;
+        pages.push_reserved(PageRec {
             page: item.number,
             words: page_words(item),
-        })?;
+        });
     }
-    Ok(pages)
+    Ok(List::of(pages))
 }
 
 /// Who holds a space.

@@ -64,7 +64,8 @@ pub fn registers(item: &Item) -> [u64; 16]
     sixteen(&words[words.len().min(1)..])
 }
 
-/// The first 64 of these words, with zeros behind them.
+/// The first 64 of these words, with zeros behind them. It stands apart, since it takes room that is cleared at entry.
+#[inline(never)]
 fn sixty_four(words: &[u64]) -> [u64; 64]
     ensures { result ≡ padded 64 (take 64 words.now) }
 {
@@ -74,10 +75,14 @@ fn sixty_four(words: &[u64]) -> [u64; 64]
     all
 }
 
-/// The words of a page.
-#[tactic(auto, using(crate::proofs::Loops::all_taken))]
+/// The words of a page. A whole one has them as they were read.
+#[tactic(auto, using(crate::proofs::Loops::all_taken, crate::proofs::Loops::whole_page))]
+#[inline(always)]
 pub fn page_words(item: &Item) -> [u64; 64]
     ensures { result ≡ padded 64 (item_of item.now).words }
 {
+    if item.len == 64 {
+        return item.words;
+    }
     sixty_four(words_of(item))
 }

@@ -148,15 +148,13 @@ fn part(is_over: bool) -> Heard
     }
 }
 
-/// A part that is long hears an answer where it stands, and so does the search where it goes on.
-fn hear(slot: u8, phase: &mut Phase, answer: &Answer) -> Heard
-    requires { HasRoomIn phase.old }
+/// The search hears an answer where it stands, where it goes on. It stands apart, since what it may come to takes room that is cleared at entry.
+#[inline(never)]
+fn hear_brief(slot: u8, phase: &mut Phase, answer: &Answer) -> Heard
+    requires { IsBrief phase.old }
     ensures { HasHeard slot result phase.old phase.new (machine.next slot (phase_of slot phase.old) answer.now.status (answered answer.now)) }
 {
     match phase {
-        Phase::Walks(walk) => part(walk.absorb(answer.status, words_of(answer))),
-        Phase::Reads(read) => part(read.absorb(answer)),
-        Phase::Gathers { contents, gather } => part(gather.absorb(contents.as_slice(), answer)),
         Phase::Seeks { walk, seek } => {
             match seek.absorb(slot, walk.mets(), answer.status, words_of(answer)) {
                 Sought::Goes(next) => {
@@ -167,6 +165,19 @@ fn hear(slot: u8, phase: &mut Phase, answer: &Answer) -> Heard
             }
         }
         _ => Heard::Waits,
+    }
+}
+
+/// A part that is long hears an answer where it stands, and so does the search where it goes on.
+fn hear(slot: u8, phase: &mut Phase, answer: &Answer) -> Heard
+    requires { HasRoomIn phase.old }
+    ensures { HasHeard slot result phase.old phase.new (machine.next slot (phase_of slot phase.old) answer.now.status (answered answer.now)) }
+{
+    match phase {
+        Phase::Walks(walk) => part(walk.absorb(answer.status, words_of(answer))),
+        Phase::Reads(read) => part(read.absorb(answer)),
+        Phase::Gathers { contents, gather } => part(gather.absorb(contents.as_slice(), answer)),
+        _ => hear_brief(slot, phase, answer),
     }
 }
 
@@ -274,14 +285,47 @@ fn stage(slot: u8, phase: &Phase) -> Option<Stage>
     })
 }
 
+/// A part that has come to its end is left. It stands apart, since it is rare and takes room that is cleared at entry.
+#[inline(never)]
+fn leave(alloc: Global, phase: &mut Phase)
+    ensures { (slot : _) → phase_of slot phase.new ≡ over_of slot phase.old }
+{
+    let left = mem::replace(phase, Phase::Holds);
+    *phase = behind(alloc, left);
+}
+
+/// A brief phase takes an answer. It stands apart too.
+#[inline(never)]
+fn go_on(alloc: Global, slot: u8, phase: &mut Phase, answer: &Answer)
+    requires room { HasRoomIn phase.old }
+    requires brief { IsBrief phase.old }
+    ensures { phase_of slot phase.new ≡ machine.next slot (phase_of slot phase.old) answer.now.status (answered answer.now) }
+{
+    let left = mem::replace(phase, Phase::Holds);
+    *phase = after(alloc, slot, left, answer);
+}
+
+/// The spaces of a closed subtree are listed, and nothing else changes. It stands apart, since it takes room that is cleared at entry.
+#[inline(never)]
+fn open_closed(alloc: Global, phase: &mut Phase) -> Result<(), NoMemory>
+    ensures same { (slot : _) → phase_of slot phase.new ≡ phase_of slot phase.old }
+    ensures opened { OnOk result (IsOpened phase.new) }
+{
+    if let Phase::Closed(walk) = phase {
+        let most = walk.mets().len();
+        let left = spaces_left(alloc, walk.mets())?;
+        *phase = Phase::Reads(Read::new(alloc, left, most));
+    }
+    Ok(())
+}
+
 /// Where the subtree is closed its spaces are listed, and nothing else changes.
 fn open(alloc: Global, phase: &mut Phase) -> Result<(), NoMemory>
     ensures same { (slot : _) → phase_of slot phase.new ≡ phase_of slot phase.old }
     ensures opened { OnOk result (IsOpened phase.new) }
 {
-    if let Phase::Closed(walk) = phase {
-        let left = spaces_left(alloc, walk.mets())?;
-        *phase = Phase::Reads(Read::new(alloc, left));
+    if let Phase::Closed(_) = phase {
+        return open_closed(alloc, phase);
     }
     Ok(())
 }
@@ -339,15 +383,11 @@ impl Checkpoint {
         ensures slot { self.new.slot ≡ self.old.slot }
         ensures state { state_of self.new ≡ machine.next self.old.slot (state_of self.old) answer.now.status (answered answer.now) }
     {
-        let heard = hear(self.slot, &mut self.phase, answer);
-        if let Heard::GoesOn = heard {
-            return;
+        match hear(self.slot, &mut self.phase, answer) {
+            Heard::GoesOn => {}
+            Heard::IsOver => leave(self.alloc, &mut self.phase),
+            Heard::Waits => go_on(self.alloc, self.slot, &mut self.phase, answer),
         }
-        let phase = mem::replace(&mut self.phase, Phase::Holds);
-        self.phase = match heard {
-            Heard::Waits => after(self.alloc, self.slot, phase, answer),
-            _ => behind(self.alloc, phase),
-        };
     }
 
     /// How it has ended; nothing while it has a call to make.

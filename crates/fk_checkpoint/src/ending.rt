@@ -62,7 +62,8 @@ fn made(alloc: Global, slot: u8, ending: &Ending) -> Result<Option<Finish>, NoMe
     }
 }
 
-/// Makes what a checkpoint ends with, which needs memory, and changes nothing else.
+/// Makes what a checkpoint ends with, which needs memory, and changes nothing else. It stands apart, since it is rare and takes much room.
+#[inline(never)]
 pub fn make(alloc: Global, slot: u8, ending: &mut Ending) -> Result<(), NoMemory>
     ensures same { ending_of slot ending.new ≡ ending_of slot ending.old }
     ensures ready { OnOk result (IsReady ending.new) }

@@ -44,7 +44,8 @@ fn push_at(alloc: Global, left: &mut Vec<List<u8>>, mets: &[Met], at: usize) -> 
     }
 }
 
-/// The spaces that were met, the first one last.
+/// The spaces that were met, the first one last. It stands apart, since it is asked for once.
+#[inline(never)]
 pub fn spaces_left(alloc: Global, mets: &[Met]) -> Result<Vec<List<u8>>, NoMemory>
     ensures { IfOk result (λ left. spaces_met (mets_of mets.now) ≡ [] ∷ paths_left left.items) }
 {

@@ -1,12 +1,13 @@
 //! What was gathered.
 use fk_model::List;
 
-/// The record of the object in a slot, or the words of the page with a number: the first `len`.
+/// The record of the object in a slot, or the words of the page with a number: the first `len`. They stand first: what is cleared between a byte and
+/// words would have them copied twice.
 #[derive(Clone, Copy)]
 pub struct Item {
+    pub words: [u64; 64],
     pub number: u8,
     pub len: u8,
-    pub words: [u64; 64],
 }
 
 /// A space: the slots from the subtree's root down to it, the records of its objects but spaces, and its pages.

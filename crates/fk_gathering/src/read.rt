@@ -1,5 +1,5 @@
 //! The reading of spaces, one after the other.
-ghost use Rattle.std.specs.Prelude.{◌≡◌, ◌++◌, ◌∷◌, [], drop, map, OnOk};
+ghost use Rattle.std.specs.Prelude.{◌≡◌, ◌++◌, ◌∷◌, [], ◌<◌, drop, map, vec_len, vec_capacity, OnOk};
 ghost use Rattle.laws_jobs.specs.Machines.{no_words};
 ghost use Rattle.laws_jobs.specs.Machines.Head.{Asks};
 ghost use Rattle.laws_checkpoint.specs.Contents as reads;
@@ -43,9 +43,12 @@ pub struct Read {
     objects: Vec<Item>,
     pages: Vec<Item>,
     contents: Vec<Content>,
+    /// So many objects were met in the subtree.
+    most: usize,
 }
 
 /// What an answer tells of an object or a page.
+#[inline(always)]
 fn item(number: u8, answer: &Answer) -> Item
     ensures { item_of result ≡ record { number = number; words = answered answer.now } }
 {
@@ -56,9 +59,32 @@ fn item(number: u8, answer: &Answer) -> Item
     }
 }
 
+/// Makes room for one item, by so many places where there is none. A list that grows is copied, which costs most: so there is room for as many
+/// objects as were met, though for no more than a space has slots, and for pages as the calls made so far allow, which are two for each.
+fn make_room(items: &mut Vec<Item>, more: usize) -> Result<(), NoMemory>
+    requires { 0 < more }
+    ensures items { items.new.items ≡ items.old.items }
+    ensures room { OnOk result (vec_len items.new < vec_capacity items.new) }
+{
+    if items.len() < items.capacity() {
+        return Ok(());
+    }
+    items.reserve(more)?;
+    Ok(())
+}
+
+/// Items that take no more room than they need.
+fn cut(mut items: Vec<Item>) -> List<Item>
+    ensures { result ≡ items.items }
+{
+    items.shrink_to_fit();
+    List::of(items)
+}
+
 impl Read {
-    /// A reader that begins at the root, and goes on with these spaces, the next one last.
-    pub fn new(alloc: Global, left: Vec<List<u8>>) -> Read
+    /// A reader that begins at the root, and goes on with these spaces, the next one last. So many objects were met in the subtree, for which it
+    /// makes room.
+    pub fn new(alloc: Global, left: Vec<List<u8>>, most: usize) -> Read
         ensures { (slot : _) → read_of slot result ≡ reads.begin slot ([] ∷ paths_left left.items) [] }
     {
         Read {
@@ -68,6 +94,7 @@ impl Read {
             objects: Vec::new(alloc),
             pages: Vec::new(alloc),
             contents: Vec::new(alloc),
+            most,
         }
     }
 
@@ -107,9 +134,15 @@ impl Read {
         ensures room { OnOk result (HasRoom self.new) }
     {
         match self.step {
-            Reading::Record { .. } => self.objects.reserve(1)?,
+            Reading::Record { .. } => {
+                let more = self.most.min(SLOTS as usize).max(1);
+                make_room(&mut self.objects, more)?;
+            }
             Reading::Looks { .. } => self.contents.reserve(1)?,
-            Reading::Copies { .. } => self.pages.reserve(1)?,
+            Reading::Copies { .. } => {
+                let more = self.objects.len().min(256) + self.pages.len().min(256) + 1;
+                make_room(&mut self.pages, more)?;
+            }
             Reading::Down { .. } | Reading::Searches { .. } => {}
         }
         Ok(())
@@ -168,7 +201,8 @@ impl Read {
         false
     }
 
-    /// The space is read.
+    /// The space is read. It stands apart, since it takes room that is cleared at entry.
+    #[inline(never)]
     fn leave(&mut self) -> bool
         requires { HasRoomForContent self.old }
         ensures { (slot : _) → was_read result slot self.new ≡ reads.begin slot (paths_left self.old.left.items)
@@ -181,8 +215,8 @@ impl Read {
         let pages = mem::replace(&mut self.pages, Vec::new(alloc));
         self.contents.push_reserved(Content {
             path,
-            objects: List::of(objects),
-            pages: List::of(pages),
+            objects: cut(objects),
+            pages: cut(pages),
         });
         self.go_on()
     }

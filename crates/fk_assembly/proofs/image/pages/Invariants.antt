@@ -5,4 +5,4 @@ use Rattle.fk_gathering.specs.Gathering.{items_of}
 use Rattle.fk_assembly.proofs.image.pages.Given as goal
 
 abbrev pub invariant-loop-item : goal.invariant-loop-item
-invariant-loop-item l = l.pages ++ map narrow_page (map page_rec (items_of (drop l.item-index l.items))) ≡ map narrow_page (map page_rec (items_of l.items))
+invariant-loop-item l = l.pages.items ++ map narrow_page (map page_rec (items_of (drop l.item-index l.items))) ≡ map narrow_page (map page_rec (items_of l.items))
