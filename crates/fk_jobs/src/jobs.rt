@@ -255,7 +255,8 @@ impl<W: Worker + Drop> Jobs<W> {
         self.pass(events);
     }
 
-    /// The one at work has ended with the move at this place.
+    /// The one at work has ended with the move at this place. It stands apart, since it is rare and takes much room.
+    #[inline(never)]
     fn pass(&mut self, last: u64)
         requires { IsSome self.old.work }
         ensures { self.new ≡ passed self.old last }
@@ -271,7 +272,8 @@ impl<W: Worker + Drop> Jobs<W> {
         self.used = true;
     }
 
-    /// The one whose turn it is has ended without a move.
+    /// The one whose turn it is has ended without a move. It stands apart too.
+    #[inline(never)]
     pub fn end_idle(&mut self, why: Unmoved)
         requires there { IsSome (current self.old) }
         requires idle { self.old.work ≡ None }
