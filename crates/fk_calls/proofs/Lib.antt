@@ -4,3 +4,5 @@ pub mod Firsts
 pub mod Choices
 pub mod Given
 pub mod Restored
+mod Families
+mod Quiet

@@ -4,3 +4,4 @@ pub mod Judgements
 pub mod Choices
 pub mod Sayings
 pub mod Tried
+pub mod Quiet

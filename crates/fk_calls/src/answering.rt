@@ -1,26 +1,39 @@
 //! Porters' calls, their answers laid into the caller's room. What a move may tell takes much room, which each call on the way clears and copies; a
 //! porter's answer mostly takes little of it.
-ghost use Rattle.std.specs.Prelude.{◌≡◌, ◌||◌, is_none, true, false, IsOk, IfOk, IfSome, OnErr};
+ghost use Rattle.std.specs.Prelude.{◌≡◌, ◌||◌, [], is_none, true, false, IsOk, IfOk, IfSome, OnErr};
 ghost use Rattle.fk_model.specs.declared.moves.Ask.TheVariants as asks;
 ghost use Rattle.fk_model.specs.Moves as machine;
+ghost use Rattle.fk_model.specs.Moves.{allowed_row};
 ghost use Rattle.fk_model.specs.Valid.{IsValid};
 ghost use Rattle.fk_answers.specs.Rooms.{IsRoom};
-ghost use Rattle.fk_store.specs.World.{world};
+ghost use Rattle.fk_store.specs.Moves.{picked_by};
+ghost use Rattle.fk_store.specs.Paths.{path, place};
+ghost use Rattle.fk_store.specs.Threads.{todo_at};
+ghost use Rattle.fk_store.specs.World.{world, IsSpace};
+ghost use Rattle.fk_plans.specs.Plans.{caller_by};
+ghost use Rattle.fk_plans.specs.Verdicts.{outcome_of, IsVerdict, IsSureVerdict};
+ghost use Rattle.fk_calls.specs.Doings.{is_free_porter_at};
+ghost use Rattle.fk_calls.specs.Rows.{takes_memory};
 ghost use Rattle.fk_calls.specs.Judgements.{is_fit_move, IsJudged, may_lack};
 ghost use Rattle.fk_calls.specs.Tried.{porter, tried_if, tried_of, IsMade, HasEnded, IsTold, IsToldPadded, IsUnready, IsLacking};
 
 use crate::doing::is_free_porter;
 use crate::moves::{Told, apart};
 use crate::rows;
+use crate::straight::{is_quiet, point_at, sets_pointer, show};
 use fk_answers::{answer, lay};
 use fk_endings::ended_by;
 use fk_model::status::OK;
 use fk_model::{Move, NoMemory, Stage, Who};
+use fk_objects::{count_in, locate, point, search};
 use fk_plans::{Caller, Plan, Verdict, is_ready};
+use fk_spaces::{page_next, page_read};
+use fk_state::{get_ptr, get_state};
 use fk_store::Store;
 use fk_threads::Answers;
 
 /// Makes a porter's move that comes to this verdict, where it is ready, and answers whether it was.
+#[inline(never)]
 fn make(
     store: &mut Store,
     m: &Move,
@@ -54,8 +67,33 @@ fn make(
     Ok(true)
 }
 
+/// The same of one that is refused. It stands apart, since a verdict takes room that is cleared at entry.
+#[inline(never)]
+fn refuse(
+    store: &mut Store,
+    m: &Move,
+    stage: &Stage,
+    words: &[u64; 64],
+    status: u8,
+    told: &mut Told,
+) -> Result<bool, NoMemory>
+    requires judged { IsJudged store.old m.now (asks.Call stage.now words.now)
+        (record { caller = porter m.now.who; chooses = machine.chooses stage.now; verdict = Verdict.Refused status }) }
+    requires valid { IsValid (world store.old) }
+    requires room { IsRoom told.old.said }
+    ensures made { IfOk (tried_of result told.new) (IsMade store.old m.now (asks.Call stage.now words.now) store.new) }
+    ensures ended { IfOk (tried_of result told.new) (HasEnded store.old store.new) }
+    ensures heard { IfOk (tried_of result told.new) (IsTold store.old store.new) }
+    ensures padded { IfOk (tried_of result told.new) IsToldPadded }
+    ensures unready { IfOk (tried_of result told.new) (IsUnready store.old m.now (asks.Call stage.now words.now) store.new) }
+    ensures lacking { OnErr (tried_of result told.new) (IsLacking store.old m.now (asks.Call stage.now words.now) store.new) }
+    ensures sure { may_lack store.old m.now (asks.Call stage.now words.now) ≡ false → IsOk (tried_of result told.new) }
+{
+    make(store, m, stage, words, &Verdict::Refused(status), told)
+}
+
 /// Whether a porter may pick so.
-fn may_pick(chooses: bool, pick: Option<Who>) -> bool
+pub fn may_pick(chooses: bool, pick: Option<Who>) -> bool
     ensures { result ≡ (chooses || is_none pick) }
 {
     chooses || pick.is_none()
@@ -104,6 +142,40 @@ fn few_words(verdict: &Verdict) -> Option<Answers>
     Some(*answers)
 }
 
+/// Makes a porter's move that comes to this verdict, which isn't a few words alone, where it is ready, and answers whether it was. What sets a pointer
+/// and what shows words go straight.
+fn answer_besides(
+    store: &mut Store,
+    m: &Move,
+    stage: &Stage,
+    words: &[u64; 64],
+    verdict: &Verdict,
+    told: &mut Told,
+) -> Result<bool, NoMemory>
+    requires judged { IsJudged store.old m.now (asks.Call stage.now words.now)
+        (record { caller = porter m.now.who; chooses = machine.chooses stage.now; verdict = verdict.now }) }
+    requires valid { IsValid (world store.old) }
+    requires room { IsRoom told.old.said }
+    ensures made { IfOk (tried_of result told.new) (IsMade store.old m.now (asks.Call stage.now words.now) store.new) }
+    ensures ended { IfOk (tried_of result told.new) (HasEnded store.old store.new) }
+    ensures heard { IfOk (tried_of result told.new) (IsTold store.old store.new) }
+    ensures padded { IfOk (tried_of result told.new) IsToldPadded }
+    ensures unready { IfOk (tried_of result told.new) (IsUnready store.old m.now (asks.Call stage.now words.now) store.new) }
+    ensures lacking { OnErr (tried_of result told.new) (IsLacking store.old m.now (asks.Call stage.now words.now) store.new) }
+    ensures sure { may_lack store.old m.now (asks.Call stage.now words.now) ≡ false → IsOk (tried_of result told.new) }
+{
+    match sets_pointer(verdict) {
+        Some(set) => Ok(point_at(store, m, stage, words, verdict, set, told)),
+        None => {
+            if is_quiet(verdict) {
+                show(store, m, stage, words, verdict, told)
+            } else {
+                make(store, m, stage, words, verdict, told)
+            }
+        }
+    }
+}
+
 /// Makes a porter's move that comes to this verdict, where it is ready, and answers whether it was. Most of what a checkpoint asks changes nothing.
 fn answer_verdict(
     store: &mut Store,
@@ -127,13 +199,357 @@ fn answer_verdict(
 {
     match few_words(verdict) {
         Some(answers) => Ok(tell(store, m, stage, words, answers, told)),
-        None => make(store, m, stage, words, verdict, told),
+        None => answer_besides(store, m, stage, words, verdict, told),
+    }
+}
+
+/// Makes a porter's move that was judged so, where it is ready, and answers whether it was. The judge's answer comes first, so that it is made where
+/// it is read.
+#[inline(always)]
+fn answer_judged(
+    judged: &Result<Verdict, u8>,
+    store: &mut Store,
+    m: &Move,
+    stage: &Stage,
+    words: &[u64; 64],
+    told: &mut Told,
+) -> Result<bool, NoMemory>
+    requires free { is_free_porter_at (world store.old) (place (path store.old) m.now.who) ≡ true }
+    requires row { let c = caller_by (path store.old) (porter m.now.who) words.now in
+        outcome_of (world store.old) (path store.old) c judged.now ≡ allowed_row (world store.old) c (picked_by (path store.old) m.now.pick) stage.now }
+    requires fits { IfOk judged.now (IsVerdict store.old (porter m.now.who)) }
+    requires sure { takes_memory true stage.now ≡ false → IfOk judged.now IsSureVerdict }
+    requires valid { IsValid (world store.old) }
+    requires room { IsRoom told.old.said }
+    ensures made { IfOk (tried_of result told.new) (IsMade store.old m.now (asks.Call stage.now words.now) store.new) }
+    ensures ended { IfOk (tried_of result told.new) (HasEnded store.old store.new) }
+    ensures heard { IfOk (tried_of result told.new) (IsTold store.old store.new) }
+    ensures padded { IfOk (tried_of result told.new) IsToldPadded }
+    ensures unready { IfOk (tried_of result told.new) (IsUnready store.old m.now (asks.Call stage.now words.now) store.new) }
+    ensures lacking { OnErr (tried_of result told.new) (IsLacking store.old m.now (asks.Call stage.now words.now) store.new) }
+    ensures sure { may_lack store.old m.now (asks.Call stage.now words.now) ≡ false → IsOk (tried_of result told.new) }
+{
+    match judged {
+        Ok(verdict) => answer_verdict(store, m, stage, words, verdict, told),
+        Err(status) => refuse(store, m, stage, words, *status, told),
+    }
+}
+
+/// The same of any stage of a free porter.
+#[inline(never)]
+fn call_any(
+    store: &mut Store,
+    m: &Move,
+    stage: &Stage,
+    words: &[u64; 64],
+    told: &mut Told,
+) -> Result<bool, NoMemory>
+    requires valid { IsValid (world store.old) }
+    requires fit { is_fit_move store.old m.now (asks.Call stage.now words.now) ≡ true }
+    requires free { is_free_porter_at (world store.old) (place (path store.old) m.now.who) ≡ true }
+    requires space { IsSpace store.old m.now.who.space }
+    requires idle { todo_at (world store.old) (place (path store.old) m.now.who) ≡ [] }
+    requires room { IsRoom told.old.said }
+    ensures made { IfOk (tried_of result told.new) (IsMade store.old m.now (asks.Call stage.now words.now) store.new) }
+    ensures ended { IfOk (tried_of result told.new) (HasEnded store.old store.new) }
+    ensures heard { IfOk (tried_of result told.new) (IsTold store.old store.new) }
+    ensures padded { IfOk (tried_of result told.new) IsToldPadded }
+    ensures unready { IfOk (tried_of result told.new) (IsUnready store.old m.now (asks.Call stage.now words.now) store.new) }
+    ensures lacking { OnErr (tried_of result told.new) (IsLacking store.old m.now (asks.Call stage.now words.now) store.new) }
+    ensures sure { may_lack store.old m.now (asks.Call stage.now words.now) ≡ false → IsOk (tried_of result told.new) }
+{
+    let caller = Caller {
+        who: m.who,
+        is_porter: true,
+    };
+    answer_judged(
+        &rows::judged(store, caller, words, stage, m.pick),
+        store,
+        m,
+        stage,
+        words,
+        told,
+    )
+}
+
+/// The same of a search, judged by its judge alone. What a judge answers takes much room, which is cleared at entry and copied by each function on the
+/// way: so the stages of which a job makes most stand apart, each with the answer of its judge alone.
+#[inline(never)]
+fn call_search(
+    store: &mut Store,
+    m: &Move,
+    stage: &Stage,
+    words: &[u64; 64],
+    told: &mut Told,
+) -> Result<bool, NoMemory>
+    requires valid { IsValid (world store.old) }
+    requires fit { is_fit_move store.old m.now (asks.Call stage.now words.now) ≡ true }
+    requires free { is_free_porter_at (world store.old) (place (path store.old) m.now.who) ≡ true }
+    requires space { IsSpace store.old m.now.who.space }
+    requires idle { todo_at (world store.old) (place (path store.old) m.now.who) ≡ [] }
+    requires room { IsRoom told.old.said }
+    ensures made { IfOk (tried_of result told.new) (IsMade store.old m.now (asks.Call stage.now words.now) store.new) }
+    ensures ended { IfOk (tried_of result told.new) (HasEnded store.old store.new) }
+    ensures heard { IfOk (tried_of result told.new) (IsTold store.old store.new) }
+    ensures padded { IfOk (tried_of result told.new) IsToldPadded }
+    ensures unready { IfOk (tried_of result told.new) (IsUnready store.old m.now (asks.Call stage.now words.now) store.new) }
+    ensures lacking { OnErr (tried_of result told.new) (IsLacking store.old m.now (asks.Call stage.now words.now) store.new) }
+    ensures sure { may_lack store.old m.now (asks.Call stage.now words.now) ≡ false → IsOk (tried_of result told.new) }
+{
+    let caller = Caller {
+        who: m.who,
+        is_porter: true,
+    };
+    match *stage {
+        Stage::Search { s, from } => {
+            answer_judged(
+                &search(store, caller, s, from),
+                store,
+                m,
+                stage,
+                words,
+                told,
+            )
+        }
+        _ => call_any(store, m, stage, words, told),
+    }
+}
+
+/// The same of a reference that is pointed elsewhere.
+#[inline(never)]
+fn call_point(
+    store: &mut Store,
+    m: &Move,
+    stage: &Stage,
+    words: &[u64; 64],
+    told: &mut Told,
+) -> Result<bool, NoMemory>
+    requires valid { IsValid (world store.old) }
+    requires fit { is_fit_move store.old m.now (asks.Call stage.now words.now) ≡ true }
+    requires free { is_free_porter_at (world store.old) (place (path store.old) m.now.who) ≡ true }
+    requires space { IsSpace store.old m.now.who.space }
+    requires idle { todo_at (world store.old) (place (path store.old) m.now.who) ≡ [] }
+    requires room { IsRoom told.old.said }
+    ensures made { IfOk (tried_of result told.new) (IsMade store.old m.now (asks.Call stage.now words.now) store.new) }
+    ensures ended { IfOk (tried_of result told.new) (HasEnded store.old store.new) }
+    ensures heard { IfOk (tried_of result told.new) (IsTold store.old store.new) }
+    ensures padded { IfOk (tried_of result told.new) IsToldPadded }
+    ensures unready { IfOk (tried_of result told.new) (IsUnready store.old m.now (asks.Call stage.now words.now) store.new) }
+    ensures lacking { OnErr (tried_of result told.new) (IsLacking store.old m.now (asks.Call stage.now words.now) store.new) }
+    ensures sure { may_lack store.old m.now (asks.Call stage.now words.now) ≡ false → IsOk (tried_of result told.new) }
+{
+    let caller = Caller {
+        who: m.who,
+        is_porter: true,
+    };
+    match *stage {
+        Stage::Point { s, x, s2, x2 } => {
+            answer_judged(
+                &point(store, caller, s, x, s2, x2),
+                store,
+                m,
+                stage,
+                words,
+                told,
+            )
+        }
+        _ => call_any(store, m, stage, words, told),
+    }
+}
+
+/// The same of a stage that asks where an object lies.
+#[inline(never)]
+fn call_locate(
+    store: &mut Store,
+    m: &Move,
+    stage: &Stage,
+    words: &[u64; 64],
+    told: &mut Told,
+) -> Result<bool, NoMemory>
+    requires valid { IsValid (world store.old) }
+    requires fit { is_fit_move store.old m.now (asks.Call stage.now words.now) ≡ true }
+    requires free { is_free_porter_at (world store.old) (place (path store.old) m.now.who) ≡ true }
+    requires space { IsSpace store.old m.now.who.space }
+    requires idle { todo_at (world store.old) (place (path store.old) m.now.who) ≡ [] }
+    requires room { IsRoom told.old.said }
+    ensures made { IfOk (tried_of result told.new) (IsMade store.old m.now (asks.Call stage.now words.now) store.new) }
+    ensures ended { IfOk (tried_of result told.new) (HasEnded store.old store.new) }
+    ensures heard { IfOk (tried_of result told.new) (IsTold store.old store.new) }
+    ensures padded { IfOk (tried_of result told.new) IsToldPadded }
+    ensures unready { IfOk (tried_of result told.new) (IsUnready store.old m.now (asks.Call stage.now words.now) store.new) }
+    ensures lacking { OnErr (tried_of result told.new) (IsLacking store.old m.now (asks.Call stage.now words.now) store.new) }
+    ensures sure { may_lack store.old m.now (asks.Call stage.now words.now) ≡ false → IsOk (tried_of result told.new) }
+{
+    let caller = Caller {
+        who: m.who,
+        is_porter: true,
+    };
+    match *stage {
+        Stage::Locate { reference, s } => {
+            answer_judged(
+                &locate(store, caller, reference, s),
+                store,
+                m,
+                stage,
+                words,
+                told,
+            )
+        }
+        _ => call_any(store, m, stage, words, told),
+    }
+}
+
+/// The same of a stage that counts the pointers to an object.
+#[inline(never)]
+fn call_count_in(
+    store: &mut Store,
+    m: &Move,
+    stage: &Stage,
+    words: &[u64; 64],
+    told: &mut Told,
+) -> Result<bool, NoMemory>
+    requires valid { IsValid (world store.old) }
+    requires fit { is_fit_move store.old m.now (asks.Call stage.now words.now) ≡ true }
+    requires free { is_free_porter_at (world store.old) (place (path store.old) m.now.who) ≡ true }
+    requires space { IsSpace store.old m.now.who.space }
+    requires idle { todo_at (world store.old) (place (path store.old) m.now.who) ≡ [] }
+    requires room { IsRoom told.old.said }
+    ensures made { IfOk (tried_of result told.new) (IsMade store.old m.now (asks.Call stage.now words.now) store.new) }
+    ensures ended { IfOk (tried_of result told.new) (HasEnded store.old store.new) }
+    ensures heard { IfOk (tried_of result told.new) (IsTold store.old store.new) }
+    ensures padded { IfOk (tried_of result told.new) IsToldPadded }
+    ensures unready { IfOk (tried_of result told.new) (IsUnready store.old m.now (asks.Call stage.now words.now) store.new) }
+    ensures lacking { OnErr (tried_of result told.new) (IsLacking store.old m.now (asks.Call stage.now words.now) store.new) }
+    ensures sure { may_lack store.old m.now (asks.Call stage.now words.now) ≡ false → IsOk (tried_of result told.new) }
+{
+    let caller = Caller {
+        who: m.who,
+        is_porter: true,
+    };
+    match *stage {
+        Stage::CountIn { base, s, x } => {
+            answer_judged(
+                &count_in(store, caller, base, s, x),
+                store,
+                m,
+                stage,
+                words,
+                told,
+            )
+        }
+        _ => call_any(store, m, stage, words, told),
+    }
+}
+
+/// The same of a stage that reads an object.
+#[inline(never)]
+fn call_state(
+    store: &mut Store,
+    m: &Move,
+    stage: &Stage,
+    words: &[u64; 64],
+    told: &mut Told,
+) -> Result<bool, NoMemory>
+    requires valid { IsValid (world store.old) }
+    requires fit { is_fit_move store.old m.now (asks.Call stage.now words.now) ≡ true }
+    requires free { is_free_porter_at (world store.old) (place (path store.old) m.now.who) ≡ true }
+    requires space { IsSpace store.old m.now.who.space }
+    requires idle { todo_at (world store.old) (place (path store.old) m.now.who) ≡ [] }
+    requires room { IsRoom told.old.said }
+    ensures made { IfOk (tried_of result told.new) (IsMade store.old m.now (asks.Call stage.now words.now) store.new) }
+    ensures ended { IfOk (tried_of result told.new) (HasEnded store.old store.new) }
+    ensures heard { IfOk (tried_of result told.new) (IsTold store.old store.new) }
+    ensures padded { IfOk (tried_of result told.new) IsToldPadded }
+    ensures unready { IfOk (tried_of result told.new) (IsUnready store.old m.now (asks.Call stage.now words.now) store.new) }
+    ensures lacking { OnErr (tried_of result told.new) (IsLacking store.old m.now (asks.Call stage.now words.now) store.new) }
+    ensures sure { may_lack store.old m.now (asks.Call stage.now words.now) ≡ false → IsOk (tried_of result told.new) }
+{
+    let caller = Caller {
+        who: m.who,
+        is_porter: true,
+    };
+    match *stage {
+        Stage::GetState { s, x, addr } => {
+            answer_judged(
+                &get_state(store, caller, s, x, addr),
+                store,
+                m,
+                stage,
+                words,
+                told,
+            )
+        }
+        Stage::GetPtr {
+            s,
+            x,
+            field,
+            reference,
+        } => answer_judged(
+            &get_ptr(store, caller, s, x, field, reference),
+            store,
+            m,
+            stage,
+            words,
+            told,
+        ),
+        _ => call_any(store, m, stage, words, told),
+    }
+}
+
+/// The same of a stage that reads pages.
+#[inline(never)]
+fn call_pages(
+    store: &mut Store,
+    m: &Move,
+    stage: &Stage,
+    words: &[u64; 64],
+    told: &mut Told,
+) -> Result<bool, NoMemory>
+    requires valid { IsValid (world store.old) }
+    requires fit { is_fit_move store.old m.now (asks.Call stage.now words.now) ≡ true }
+    requires free { is_free_porter_at (world store.old) (place (path store.old) m.now.who) ≡ true }
+    requires space { IsSpace store.old m.now.who.space }
+    requires idle { todo_at (world store.old) (place (path store.old) m.now.who) ≡ [] }
+    requires room { IsRoom told.old.said }
+    ensures made { IfOk (tried_of result told.new) (IsMade store.old m.now (asks.Call stage.now words.now) store.new) }
+    ensures ended { IfOk (tried_of result told.new) (HasEnded store.old store.new) }
+    ensures heard { IfOk (tried_of result told.new) (IsTold store.old store.new) }
+    ensures padded { IfOk (tried_of result told.new) IsToldPadded }
+    ensures unready { IfOk (tried_of result told.new) (IsUnready store.old m.now (asks.Call stage.now words.now) store.new) }
+    ensures lacking { OnErr (tried_of result told.new) (IsLacking store.old m.now (asks.Call stage.now words.now) store.new) }
+    ensures sure { may_lack store.old m.now (asks.Call stage.now words.now) ≡ false → IsOk (tried_of result told.new) }
+{
+    let caller = Caller {
+        who: m.who,
+        is_porter: true,
+    };
+    match *stage {
+        Stage::PageRead { s, page, addr } => {
+            answer_judged(
+                &page_read(store, caller, s, page, addr),
+                store,
+                m,
+                stage,
+                words,
+                told,
+            )
+        }
+        Stage::PageNext { s, from } => {
+            answer_judged(
+                &page_next(store, caller, s, from),
+                store,
+                m,
+                stage,
+                words,
+                told,
+            )
+        }
+        _ => call_any(store, m, stage, words, told),
     }
 }
 
 /// Makes a porter's move where it is ready, as `attempt` does, and answers whether it was; what it tells, and the port whose native server lost its
 /// client by it, are laid into the room, which has zeros.
-#[inline(never)]
 pub fn call(
     store: &mut Store,
     m: &Move,
@@ -155,12 +571,13 @@ pub fn call(
     if !is_free_porter(store, m.who) {
         return Ok(false);
     }
-    let caller = Caller {
-        who: m.who,
-        is_porter: true,
-    };
-    match &rows::judged(store, caller, words, stage, m.pick) {
-        Ok(verdict) => answer_verdict(store, m, stage, words, verdict, told),
-        Err(status) => make(store, m, stage, words, &Verdict::Refused(*status), told),
+    match stage {
+        Stage::Search { .. } => call_search(store, m, stage, words, told),
+        Stage::Point { .. } => call_point(store, m, stage, words, told),
+        Stage::Locate { .. } => call_locate(store, m, stage, words, told),
+        Stage::CountIn { .. } => call_count_in(store, m, stage, words, told),
+        Stage::GetState { .. } | Stage::GetPtr { .. } => call_state(store, m, stage, words, told),
+        Stage::PageRead { .. } | Stage::PageNext { .. } => call_pages(store, m, stage, words, told),
+        _ => call_any(store, m, stage, words, told),
     }
 }

@@ -20,6 +20,7 @@ mod moves;
 mod picking;
 mod rows;
 mod sayings;
+mod straight;
 
 pub use answering::call;
 pub use fitting::is_fit;

@@ -1,0 +1,143 @@
+//! Porters' calls of which a checkpoint makes many, and whose verdicts need little: one sets a pointer and nothing else, one shows words and changes
+//! nothing. By neither does a native server lose its client, so no look for that is needed, and what they do stands here straight.
+ghost use Rattle.std.specs.Prelude.{◌≡◌, true, false, IsOk, IfOk, IfSome, OnErr};
+ghost use Rattle.fk_model.specs.declared.moves.Ask.TheVariants as asks;
+ghost use Rattle.fk_model.specs.Moves as machine;
+ghost use Rattle.fk_model.specs.Valid.{IsValid};
+ghost use Rattle.fk_answers.specs.Rooms.{IsRoom};
+ghost use Rattle.fk_store.specs.World.{world};
+ghost use Rattle.fk_calls.specs.Quiet as quiet;
+ghost use Rattle.fk_calls.specs.Judgements.{IsJudged, may_lack};
+ghost use Rattle.fk_calls.specs.Tried.{porter, tried_if, tried_of, IsMade, HasEnded, IsTold, IsToldPadded, IsUnready, IsLacking};
+
+use crate::answering::may_pick;
+use crate::moves::Told;
+use crate::rows;
+use fk_answers::{answer, lay};
+use fk_model::status::OK;
+use fk_model::{Move, NoMemory, Ptr, Stage, Who};
+use fk_plans::{Caller, Deed, Plan, Verdict, is_ready};
+use fk_store::Store;
+use fk_threads::Answers;
+
+/// A pointer that is set, and the few words with which the stage is answered.
+#[derive(Clone, Copy)]
+pub struct Pointing {
+    pub object: Who,
+    pub to: Ptr,
+    pub answers: Answers,
+}
+
+/// The pointer that a verdict sets, where it does nothing else.
+#[inline(always)]
+pub fn sets_pointer(verdict: &Verdict) -> Option<Pointing>
+    ensures { IfSome result (λ set. verdict.now ≡ Verdict.Done (Plan.One (Deed.Points set.object set.to)) set.answers) }
+{
+    let Verdict::Done(plan, answers) = verdict else {
+        return None;
+    };
+    let Plan::One(deed) = plan else {
+        return None;
+    };
+    let Deed::Points { object, to } = deed else {
+        return None;
+    };
+    Some(Pointing {
+        object: *object,
+        to: *to,
+        answers: *answers,
+    })
+}
+
+/// Whether a plan does nothing.
+fn is_nothing(plan: &Plan) -> bool
+    ensures { result ≡ quiet.is_nothing plan.now }
+{
+    matches!(plan, Plan::Nothing)
+}
+
+/// Whether a verdict shows words and changes nothing.
+#[inline(always)]
+pub fn is_quiet(verdict: &Verdict) -> bool
+    ensures { result ≡ quiet.is_quiet verdict.now }
+{
+    match verdict {
+        Verdict::ShowsRecord { .. } => true,
+        Verdict::Shows { plan, .. } => is_nothing(plan),
+        _ => false,
+    }
+}
+
+/// Makes a porter's move that sets a pointer, where it is ready, and answers whether it was.
+#[inline(never)]
+pub fn point_at(
+    store: &mut Store,
+    m: &Move,
+    stage: &Stage,
+    words: &[u64; 64],
+    verdict: &Verdict,
+    set: Pointing,
+    told: &mut Told,
+) -> bool
+    requires judged { IsJudged store.old m.now (asks.Call stage.now words.now)
+        (record { caller = porter m.now.who; chooses = machine.chooses stage.now; verdict = verdict.now }) }
+    requires set { verdict.now ≡ Verdict.Done (Plan.One (Deed.Points set.object set.to)) set.answers }
+    requires valid { IsValid (world store.old) }
+    requires room { IsRoom told.old.said }
+    ensures made { IsMade store.old m.now (asks.Call stage.now words.now) store.new (tried_if result told.new) }
+    ensures ended { HasEnded store.old store.new (tried_if result told.new) }
+    ensures heard { IsTold store.old store.new (tried_if result told.new) }
+    ensures padded { IsToldPadded (tried_if result told.new) }
+    ensures unready { IsUnready store.old m.now (asks.Call stage.now words.now) store.new (tried_if result told.new) }
+{
+    let caller = Caller {
+        who: m.who,
+        is_porter: true,
+    };
+    if !is_ready(store, caller, rows::chooses(stage), m.pick, verdict) {
+        return false;
+    }
+    // Tells that names and paths agree.
+    store.names();
+    told.ended = None;
+    store.point(set.object, set.to);
+    lay(&mut told.said, OK, set.answers);
+    true
+}
+
+/// The same of one that shows words and changes nothing.
+#[inline(never)]
+pub fn show(
+    store: &mut Store,
+    m: &Move,
+    stage: &Stage,
+    words: &[u64; 64],
+    verdict: &Verdict,
+    told: &mut Told,
+) -> Result<bool, NoMemory>
+    requires judged { IsJudged store.old m.now (asks.Call stage.now words.now)
+        (record { caller = porter m.now.who; chooses = machine.chooses stage.now; verdict = verdict.now }) }
+    requires quiet { quiet.is_quiet verdict.now ≡ true }
+    requires valid { IsValid (world store.old) }
+    requires room { IsRoom told.old.said }
+    ensures made { IfOk (tried_of result told.new) (IsMade store.old m.now (asks.Call stage.now words.now) store.new) }
+    ensures ended { IfOk (tried_of result told.new) (HasEnded store.old store.new) }
+    ensures heard { IfOk (tried_of result told.new) (IsTold store.old store.new) }
+    ensures padded { IfOk (tried_of result told.new) IsToldPadded }
+    ensures unready { IfOk (tried_of result told.new) (IsUnready store.old m.now (asks.Call stage.now words.now) store.new) }
+    ensures lacking { OnErr (tried_of result told.new) (IsLacking store.old m.now (asks.Call stage.now words.now) store.new) }
+    ensures sure { may_lack store.old m.now (asks.Call stage.now words.now) ≡ false → IsOk (tried_of result told.new) }
+{
+    if !may_pick(rows::chooses(stage), m.pick) {
+        return Ok(false);
+    }
+    let caller = Caller {
+        who: m.who,
+        is_porter: true,
+    };
+    // Tells that names and paths agree.
+    store.names();
+    told.ended = None;
+    answer(store, caller, words, verdict, &mut told.said)?;
+    Ok(true)
+}
