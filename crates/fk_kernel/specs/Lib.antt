@@ -1,2 +1,5 @@
 pub mod Events
 pub mod Kernels
+pub use Rattle.fk_answers.specs.Rooms
+pub use Rattle.fk_calls.specs.Tried
+pub mod Tolds

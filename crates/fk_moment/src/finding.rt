@@ -9,9 +9,9 @@ ghost use Rattle.laws_jobs.specs.Machines.{IsReadyAt};
 
 use crate::moment::Moment;
 use fk_jobs::Worker;
-use fk_served::Look;
 use fk_model::{Move, Who};
 use fk_natives::Service;
+use fk_served::Look;
 
 impl<'a, S: Service + Drop, W: Worker + Drop> Moment<'a, S, W> {
     /// A thread's move that is ready, sought from the one after that which moved last.

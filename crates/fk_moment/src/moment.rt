@@ -1,14 +1,13 @@
 //! What there is to look at, and the job whose turn it is.
 ghost use Rattle.std.specs.Prelude.{◌≡◌, ◌↔◌, ◌<◌, IsTrue, length};
 ghost use Rattle.fk_jobs.specs.Jobs.{current};
-ghost use Rattle.fk_moment.specs.Moments.{porter_of, is_porter, is_timely, has_come};
+ghost use Rattle.fk_moment.specs.Moments.{core_at, seen, porter_of, is_porter, is_timely, has_come};
 
 use fk_jobs::{Jobs, Worker};
-use fk_served::Kernel;
 use fk_model::Who;
 use fk_model::limits::LAST_PORTER_SLOT;
 use fk_natives::Service;
-use fk_served::Services;
+use fk_served::{Kernel, Services};
 
 /// A kernel with its native servers and its jobs, and how many moves it has made of how many.
 #[derive(Drop)]
@@ -37,6 +36,7 @@ impl<'a, S: Service + Drop, W: Worker + Drop> Moment<'a, S, W> {
         ensures jobs { result.jobs.now ≡ jobs.now }
         ensures budget { result.budget ≡ budget }
         ensures events { result.events ≡ events }
+        ensures seen { seen result ≡ core_at kernel.now services.now.list jobs.now events }
     {
         Moment {
             kernel,

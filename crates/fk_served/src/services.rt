@@ -101,7 +101,8 @@ fn tell_one<S: Service>(entry: &mut (Who, S), table: &Table, what: &Told)
     }
 }
 
-/// Tells each server what a move tells it.
+/// Tells each server what a move tells it. It stands apart, since most of what jobs are told is for none.
+#[inline(never)]
 fn tell_in<S: Service>(list: &mut Vec<(Who, S)>, table: &Table, what: &Told)
     requires fits { AllFit (map (λ r. r.rule) table.now.list.items) (shown S.meaning list.old.items) }
     requires room { HaveRoom S.has_room list.old.items }
