@@ -100,7 +100,7 @@ or-right true b h = refl
 or-right false b h = h
 
 -- a page that is used stays so
-acted-used : (a : Act) (d c : Burst) (p : ℕ) → acted a d ≡ Some c → d.used p ≡ true → c.used p ≡ true
+pub acted-used : (a : Act) (d c : Burst) (p : ℕ) → acted a d ≡ Some c → d.used p ≡ true → c.used p ≡ true
 acted-used (Put register value) d c p h is = subst (λ (e : Burst). e.used p ≡ true) (same_Some _ _ h) is
 acted-used (Jump counter) d c p h is = subst (λ (e : Burst). e.used p ≡ true) (same_Some _ _ h) is
 acted-used (Halt code) d c p h is = absurd (cc)
@@ -116,7 +116,7 @@ acted-used (Store address value) d c p h is = by (d.page (address / 64)) h
     by None h = absurd (cc)
     by (Some words) h = subst (λ (e : Burst). e.used p ≡ true) (same_Some _ _ h) (or-right (p == address / 64) (d.used p) is)
 
-instructed-used : (b c : Burst) (p : ℕ) → instructed b ≡ Some c → b.used p ≡ true → c.used p ≡ true
+pub instructed-used : (b c : Burst) (p : ℕ) → instructed b ≡ Some c → b.used p ≡ true → c.used p ≡ true
 instructed-used b c p h is = by (b.page (b.counter / 64)) h
   where
     by : (o : Option (List ℕ)) → and_then (λ words. fetched b words (using (b.counter / 64) b)) o ≡ Some c → c.used p ≡ true
@@ -125,7 +125,7 @@ instructed-used b c p h is = by (b.page (b.counter / 64)) h
         (or-right (p == b.counter / 64) (b.used p) is)
 
 -- no page comes to it
-acted-pages : (a : Act) (d c : Burst) (p : ℕ) → acted a d ≡ Some c → is_some (c.page p) ≡ true → is_some (d.page p) ≡ true
+pub acted-pages : (a : Act) (d c : Burst) (p : ℕ) → acted a d ≡ Some c → is_some (c.page p) ≡ true → is_some (d.page p) ≡ true
 acted-pages (Put register value) d c p h is = subst (λ (e : Burst). is_some (e.page p) ≡ true) (sym (same_Some _ _ h)) is
 acted-pages (Jump counter) d c p h is = subst (λ (e : Burst). is_some (e.page p) ≡ true) (sym (same_Some _ _ h)) is
 acted-pages (Halt code) d c p h is = absurd (cc)
@@ -147,7 +147,7 @@ acted-pages (Store address value) d c p h is = by (d.page (address / 64)) refl h
     by None there h = absurd (cc)
     by (Some words) there h = was words there (p == address / 64) refl (subst (λ (e : Burst). is_some (e.page p) ≡ true) (sym (same_Some _ _ h)) is)
 
-instructed-pages : (b c : Burst) (p : ℕ) → instructed b ≡ Some c → is_some (c.page p) ≡ true → is_some (b.page p) ≡ true
+pub instructed-pages : (b c : Burst) (p : ℕ) → instructed b ≡ Some c → is_some (c.page p) ≡ true → is_some (b.page p) ≡ true
 instructed-pages b c p h is = by (b.page (b.counter / 64)) h
   where
     by : (o : Option (List ℕ)) → and_then (λ words. fetched b words (using (b.counter / 64) b)) o ≡ Some c → is_some (b.page p) ≡ true

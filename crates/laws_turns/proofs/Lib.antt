@@ -1,0 +1,3 @@
+mod Settling
+mod Stays
+mod Quiets
