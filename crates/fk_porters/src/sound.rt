@@ -42,7 +42,9 @@ impl Sound {
         }
     }
 
-    /// Its next call, whose words it writes over zeros. It has none exactly where it has ended.
+    /// Its next call, whose words it writes over zeros. It has none exactly where it has ended. It stands apart, so that its room isn't cleared at a
+    /// checkpoint's calls.
+    #[inline(never)]
     pub fn next(&self, words: &mut [u64; 64]) -> Option<Stage>
         requires { words.old ≡ no_words }
         ensures { call_with result words.new ≡ call_at (machine.head (restoring self.now)) }
@@ -57,7 +59,8 @@ impl Sound {
         self.restore.end().is_none()
     }
 
-    /// Takes the answer to its next call.
+    /// Takes the answer to its next call. It stands apart too.
+    #[inline(never)]
     pub fn absorb(&mut self, answer: &Answer)
         ensures { restoring self.new ≡ machine.next (restoring self.old) answer.now.status (take answer.now.len answer.now.words) }
     {
