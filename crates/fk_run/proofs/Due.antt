@@ -22,7 +22,7 @@ use Rattle.fk_puts.specs.Puts.{HasPutSome}
 use Rattle.fk_run.specs.Top.{Rules, IsDue, IsDone, IsCutOff, IsUnput, HasFailed, GetsToShelf}
 
 -- what a source may hold: what it tells, or else anything
-held : (left : Option (List ℕ)) → (bytes : List ℕ) × MayHold left bytes
+pub held : (left : Option (List ℕ)) → (bytes : List ℕ) × MayHold left bytes
 held None = ([], tt)
 held (Some bytes) = (bytes, refl)
 

@@ -23,3 +23,4 @@ pub use Rattle.fk_puts.specs.Small
 pub mod Top
 pub mod Again
 pub mod Jobs
+pub mod Complete

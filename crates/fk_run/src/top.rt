@@ -5,6 +5,7 @@ ghost use Rattle.std.specs.Io.KnownBytes.{Appends, IsAtEnd, Keeps};
 ghost use Rattle.fk_causes.specs.Causes.{AppendsPrefix, Rose};
 ghost use Rattle.fk_causes.specs.declared.shelf.ShelfFail.TheVariants as fails;
 ghost use Rattle.fk_run.specs.Again.{PlaysAgain};
+ghost use Rattle.fk_run.specs.Complete.{IsComplete};
 ghost use Rattle.fk_words.specs.Commands.{command_of, reads_source, uses_shelf, is_shared, seen, HasCount};
 ghost use Rattle.fk_commands.specs.Prepared.{ComesTo, IsRefusal, outcome_of};
 ghost use Rattle.fk_commands.specs.Status.{progress_of, Finished, was_cut_short, has_written_nothing};
@@ -192,6 +193,10 @@ pub fn fluke_alone<R: Source, W: Sink, H: Shelf>(
     ensures done { OnFalse (was_cut_short result.status) (IsDone (map (λ r. (string_bytes r.name, r.rule)) table.now.list.items)
         (command_of (map string_bytes words.now))
         (R.left source.old) (H.files shelf.old) (W.written sink.old) (W.written sink.new) result) }
+    ensures complete { ¬ (Rose (R.faults source.old) (R.faults source.new)) → ¬ (Rose (W.faults sink.old) (W.faults sink.new))
+        → ¬ (Rose (H.failed_gets shelf.old) (H.failed_gets shelf.new)) → ¬ (Rose (H.failed_puts shelf.old) (H.failed_puts shelf.new))
+        → IsComplete (map (λ r. (string_bytes r.name, r.rule)) table.now.list.items) (command_of (map string_bytes words.now))
+        (R.left source.old) (H.files shelf.old) (H.files shelf.new) (W.written sink.old) (W.written sink.new) result }
     ensures read_fault { result.status ≡ Status.ReadFault → Rose (R.faults source.old) (R.faults source.new) }
     ensures shelf_fault { result.status ≡ Status.ShelfFault → HasFailed (H.failed_gets shelf.old) (H.failed_gets shelf.new)
         (H.failed_puts shelf.old) (H.failed_puts shelf.new) (map (λ r. (string_bytes r.name, r.rule)) table.now.list.items)
@@ -256,6 +261,10 @@ pub fn fluke_alone<R: Source, W: Sink, H: Shelf>(
 /// changed but that one; `WriteFault` only once all is done but the writing. `NoMemory` comes where there is no memory for the text, for
 /// what is made of it, or for the output.
 ///
+/// Right input is answered: where the words are a command, its text or its scenario is accepted, each image and the trace that it needs are
+/// there, spelled and legal, and no count of faults rises, the call ends with `Ok`, `JobRefused` or `Budget`, its whole output written and
+/// all puts made, or with `NoMemory`.
+///
 /// The whole output is written after `Ok`, `JobRefused` and `Budget`, a prefix of it after `WriteFault`, and nothing otherwise. A run alone
 /// changes files of the shelf, and of these only such as have the name of an image, and the trace that it is to put. Which ones is said
 /// above for each end but `NoMemory`, where any of these may have changed.
@@ -276,6 +285,10 @@ pub fn fluke_top<T: Threads + Wait + Sync, R: Source, W: Sink, H: Shelf, G: Gate
     ensures done { OnFalse (was_cut_short result.status) (IsDone (map (λ r. (string_bytes r.name, r.rule)) table.now.list.items)
         (command_of (map string_bytes words.now))
         (R.left source.old) (H.files shelf.old) (W.written sink.old) (W.written sink.new) result) }
+    ensures complete { ¬ (Rose (R.faults source.old) (R.faults source.new)) → ¬ (Rose (W.faults sink.old) (W.faults sink.new))
+        → ¬ (Rose (H.failed_gets shelf.old) (H.failed_gets shelf.new)) → ¬ (Rose (H.failed_puts shelf.old) (H.failed_puts shelf.new))
+        → IsComplete (map (λ r. (string_bytes r.name, r.rule)) table.now.list.items) (command_of (map string_bytes words.now))
+        (R.left source.old) (H.files shelf.old) (H.files shelf.new) (W.written sink.old) (W.written sink.new) result }
     ensures read_fault { result.status ≡ Status.ReadFault → Rose (R.faults source.old) (R.faults source.new) }
     ensures shelf_fault { result.status ≡ Status.ShelfFault → HasFailed (H.failed_gets shelf.old) (H.failed_gets shelf.new)
         (H.failed_puts shelf.old) (H.failed_puts shelf.new) (map (λ r. (string_bytes r.name, r.rule)) table.now.list.items)
