@@ -1,4 +1,5 @@
 mod Scans
 mod Kept
 mod Endings
+mod Replacing
 pub mod Promises

@@ -41,7 +41,7 @@ pub enum Look {
 /// A store whose threads move. Its world is valid.
 #[derive(Drop)]
 pub struct Kernel {
-    store: Store,
+    pub(crate) store: Store,
 }
 
 impl Model for Kernel {

@@ -1,0 +1,54 @@
+//! A thread and some pages get other words at once, as by several instructions.
+ghost use Rattle.std.specs.Prelude.{◌≡◌, All};
+ghost use Rattle.fk_model.specs.Who.{space_born};
+ghost use Rattle.fk_model.specs.World.{apply};
+ghost use Rattle.fk_model.specs.World.Change.{PutPage};
+ghost use Rattle.fk_store.specs.Paths.{path};
+ghost use Rattle.fk_store.specs.World.{world};
+ghost use Rattle.fk_kernel.specs.Kernels.{path_of, world_of};
+ghost use Rattle.fk_kernel.specs.Replaced.{IsPageThere, replaced, rewritten};
+
+use crate::Kernel;
+use fk_model::{Mode, Who};
+use fk_store::Store;
+
+/// A page of the space with this birth number, and words for it.
+#[derive(Clone, Copy)]
+pub struct BurstPage {
+    pub space: u32,
+    pub page: u8,
+    pub words: [u64; 64],
+}
+
+/// A page that is there gets other words, which takes no memory.
+fn rewrite_one(store: &mut Store, page: &BurstPage)
+    requires { IsPageThere (path store.old) (world store.old) page.now }
+    ensures world { world store.new ≡ apply (PutPage (path store.old page.now.space) page.now.page page.now.words) (world store.old) }
+    ensures paths { path store.new ≡ path store.old }
+{
+    let done = store.put_page(page.space, page.page, &page.words);
+}
+
+/// Pages that are there get other words, one after the other.
+fn rewrite(store: &mut Store, pages: &[BurstPage])
+    requires { All (IsPageThere (path store.old) (world store.old)) pages.now }
+    ensures world { world store.new ≡ rewritten (path store.old) pages.now (world store.old) }
+    ensures paths { path store.new ≡ path store.old }
+{
+    for page in pages {
+        rewrite_one(store, page);
+    }
+}
+
+impl Kernel {
+    /// A thread goes on, running, with these registers at this counter, and pages that are there get these words. All else stays.
+    pub fn replace(&mut self, thread: Who, regs: &[u64; 16], pc: u64, pages: &[BurstPage])
+        requires { All (IsPageThere (space_born (world_of self.old)) (world_of self.old)) pages.now }
+        ensures world { world_of self.new ≡ replaced (world_of self.old) thread regs.now pc pages.now }
+        ensures paths { path_of self.new ≡ path_of self.old }
+    {
+        self.names();
+        rewrite(&mut self.store, pages);
+        self.store.proceed(thread, regs, pc, Mode::Running);
+    }
+}
