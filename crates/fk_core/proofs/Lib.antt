@@ -6,3 +6,4 @@ pub mod Going
 mod Trying
 mod Settles
 mod Leaving
+mod Rooms

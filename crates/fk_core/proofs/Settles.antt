@@ -1,5 +1,6 @@
 -- Settling goes on, and ends.
-use Rattle.std.proofs.Common.{◌≡◌, ℕ, ◌+◌, ◌-◌, ◌<◌, List, length, Option, Some, None, IfNone, refl, sym, ap, subst, ◌∙◌, arith}
+use Rattle.std.proofs.Common.{◌≡◌, ℕ, ◌+◌, ◌-◌, ◌<◌, List, length, Option, Some, None, IfNone, true, refl, sym, ap, subst, ◌∙◌, arith}
+use Rattle.std.specs.Prelude.{is_some}
 use Rattle.std.proofs.lemmas.List.{length-append}
 use Rattle.std.proofs.lemmas.Option.{slice_get_within}
 use Rattle.fk_model.specs.World.{World}
@@ -30,6 +31,11 @@ stays jobs start w services q events same all none = all (core_of w services q e
   where
     by : (why : Unmoved) → EndsNow (house jobs) (core_of w services q events) why → ⊥
     by why ends = none why (subst (λ j. EndsNow (house j) (core_of w services q events) why) (sym same) ends)
+
+-- while one is at work none ends without a move
+pub busy : (jobs : List Job) (w : World) (services : Services) (q : Queue) (events : ℕ) → is_some q.work ≡ true →
+    Settles (house jobs) (core_of w services q events) (core_of w services q events)
+busy jobs w services q events at = Stays (core_of w services q events) (λ why ends. let none = ap is_some ends.unmoved in absurd (cc))
 
 -- what holds where there is none
 pub none_of : {A : Type 0} (o : Option A) (X : Type 0) → ((a : A) → o ≡ Some a → ⊥) → IfNone o X → X

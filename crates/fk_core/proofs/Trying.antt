@@ -20,6 +20,17 @@ tried_as (Err e) A B jobs c m d f g h = h
 pub there : (P : Queue → RunCore → Type 0) (q r : Queue) (c d : RunCore) → r ≡ q → d ≡ c → P r d → P q c
 there P q r c d same at holds = subst (λ q. P q c) same (subst (P r) at holds)
 
+-- and of the budget that they have
+pub there_by : (P : Queue → ℕ → RunCore → Type 0) (q r : Queue) (budget other : ℕ) (c d : RunCore) → r ≡ q → other ≡ budget → d ≡ c → P r other d →
+    P q budget c
+there_by P q r budget other c d same few at holds = there (λ q c. P q budget c) q r c d same at (subst (λ b. P r b d) few holds)
+
+-- what holds at any time holds once the time has come
+pub whenever : {E : Type 0} (r : Result (Option Move) E) (A B : Type 0) → (A → B) → IfOk r (λ made. IfNone made A) → IfOk r (λ made. IfNone made B)
+whenever (Ok (Some m)) A B f h = tt
+whenever (Ok None) A B f h = f h
+whenever (Err e) A B f h = tt
+
 -- ---- what an advance says, part by part
 
 pub advanced_of : {E : Type 0} (r : Result (Option Move) E) (jobs : List Job) (budget : ℕ) (c d : RunCore) → IsAdvancedOrOver jobs budget c d r →

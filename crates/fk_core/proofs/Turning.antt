@@ -124,18 +124,14 @@ pub hears-same : (m n : Contents) (services new : Services) (q r s : Queue) (eve
     → Settles (house s.jobs) (core_at n new s (events + 1)) d
     → IsCalledMove q (core_at m services q events) mv × IsTurned q.jobs (core_at m services q events) mv d
 hears-same m n services new q r s events mv ask said ended d jobs ends work porter next ready made over tells heard hears_it settles =
-    let there : is_porter r mv.who ≡ true = ap (λ es. is_who (porter_of (slice_get r.jobs (length es))) mv.who) ends
-    ∙ ap (λ js. is_who (porter_of (slice_get js (length q.ends))) mv.who) jobs ∙ porter in
+    let there : is_porter r mv.who ≡ true = (λ i. is_who (porter_of (slice_get (jobs i) (length (ends i)))) mv.who) ∙ porter in
     let call : IsCalledMove r (core_at m services r events) mv = subst (IsCalledBy (core_at m services r events) mv) (sym next) ready in
     let turn : IsTurned r.jobs (core_at m services r events) mv d =
     job-turned m n services new r s events mv ask said ended d
     (job_asks_for r (world m) services events mv.who ask there next) made over tells heard hears_it settles in
-    let is_state : state_of r ≡ state_of q = ap (λ k. state_from k (first_of r.ends (slice_get r.jobs (length r.ends)))) work
-    ∙ ap (λ es. state_from q.work (first_of es (slice_get r.jobs (length es)))) ends
-    ∙ ap (λ js. state_from q.work (first_of q.ends (slice_get js (length q.ends)))) jobs in
-    let is_core : core_at m services r events ≡ core_at m services q events = ap
-    (λ es. record { world = world m; servers = services; ends = es; work = r.work; events = events }) ends
-    ∙ ap (λ k. record { world = world m; servers = services; ends = q.ends; work = k; events = events }) work in (
+    let is_state : state_of r ≡ state_of q = λ i. state_from (work i) (first_of (ends i) (slice_get (jobs i) (length (ends i)))) in
+    let is_core : core_at m services r events ≡ core_at m services q events =
+    λ i. record { world = world m; servers = services; ends = ends i; work = work i; events = events } in (
       subst (IsCalledBy (core_at m services q events) mv) (ap asked_by is_state) call,
       subst (λ c. IsTurned q.jobs c mv d) is_core (subst (λ j. IsTurned j (core_at m services r events) mv d) jobs turn),
     )

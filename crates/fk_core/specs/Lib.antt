@@ -5,3 +5,4 @@ pub mod Goings
 pub mod Ends
 pub mod Cuts
 pub mod Leaves
+pub mod Rooms

@@ -1,5 +1,5 @@
 //! Moves that a core makes by itself, one after the other.
-ghost use Rattle.std.specs.Prelude.{◌≡◌, true, None, IfOk, OnErr, IfSome, IfNone, map};
+ghost use Rattle.std.specs.Prelude.{◌≡◌, ◌<◌, true, None, IfOk, OnErr, IfSome, IfNone, map};
 ghost use Rattle.fk_served.specs.Served.{AllFit};
 ghost use Rattle.fk_core.specs.Cores.{run_core, is_porter, has_come, IsReadyMove, IsOver, IsAdvanced, IsAdvancedBy, IsAdvancedOrOver, IsFirstDue};
 ghost use Rattle.fk_core.specs.Goings.{IsGoing};
@@ -84,6 +84,31 @@ impl<S: Service + Drop, W: Worker + Drop> Core<S, W> {
         }
     }
 
+    /// Makes the move of the job whose turn it is, where it is due and ready.
+    #[inline(never)]
+    fn go_due(&mut self, table: &Table) -> Result<Option<Move>, NoMemory>
+        requires few { self.old.events < self.old.budget }
+        requires fits { AllFit (map (λ r. r.rule) table.now.list.items) self.old.services.list }
+        requires come { IsGoing self.old }
+        ensures made { IsAdvancedBy self.old.jobs.jobs self.old.budget (run_core self.old) (run_core self.new) result }
+        ensures porter { IfOk result (λ made. IfSome made (λ m. is_porter self.old.jobs m.who ≡ true)) }
+        ensures none { IfOk result (λ made. IfNone made ((m : _) → is_porter self.old.jobs m.who ≡ true
+            → IsReadyMove self.old.jobs.jobs (run_core self.old) m → ⊥)) }
+        ensures fits { AllFit (map (λ r. r.rule) table.now.list.items) self.new.services.list }
+        ensures budget { self.new.budget ≡ self.old.budget }
+        ensures jobs { self.new.jobs.jobs ≡ self.old.jobs.jobs }
+    {
+        let Some(who) = self.porter() else {
+            return Ok(None);
+        };
+        let m = Move { who, pick: None };
+        if self.go_job(table, &m)? {
+            Ok(Some(m))
+        } else {
+            Ok(None)
+        }
+    }
+
     /// Makes the move of the job whose turn it is, at an even number of moves, where it is due and ready and its time has come.
     fn go_first(&mut self, table: &Table) -> Result<Option<Move>, NoMemory>
         requires fits { AllFit (map (λ r. r.rule) table.now.list.items) self.old.services.list }
@@ -99,15 +124,7 @@ impl<S: Service + Drop, W: Worker + Drop> Core<S, W> {
         if !self.has_come() {
             return Ok(None);
         }
-        let Some(who) = self.porter() else {
-            return Ok(None);
-        };
-        let m = Move { who, pick: None };
-        if self.go_job(table, &m)? {
-            Ok(Some(m))
-        } else {
-            Ok(None)
-        }
+        self.go_due(table)
     }
 
     /// Makes the same job's move at any number of moves below the budget, where its time has come. Whether it is ready is judged once.
@@ -122,15 +139,7 @@ impl<S: Service + Drop, W: Worker + Drop> Core<S, W> {
         if self.events >= self.budget || !self.moment().is_timely() {
             return Ok(None);
         }
-        let Some(who) = self.porter() else {
-            return Ok(None);
-        };
-        let m = Move { who, pick: None };
-        if self.go_job(table, &m)? {
-            Ok(Some(m))
-        } else {
-            Ok(None)
-        }
+        self.go_due(table)
     }
 
     /// Makes the job's move whose time has come, or else that of whoever comes next.

@@ -14,7 +14,7 @@
 
 mod advancing;
 mod looks;
-mod runs;
+mod room;
 mod settling;
 mod turns;
 

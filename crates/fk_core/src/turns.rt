@@ -10,12 +10,13 @@ ghost use Rattle.fk_core.specs.Leaves.{LeavesTheRest};
 ghost use Rattle.fk_store.specs.World.{world};
 ghost use Rattle.fk_jobs.specs.Jobs.{hears};
 
+use crate::room::Room;
 use fk_jobs::{Jobs, Worker};
-use fk_moment::{Kernel, Told};
 use fk_model::{Answer, Ask, Move, NoMemory, Reply, Said, Who};
+use fk_moment::Kernel;
 use fk_natives::Service;
 use fk_responders::Table;
-use fk_rounds::Rounds;
+use fk_rounds::{Rounds, is_look};
 use fk_served::Services;
 
 /// A kernel with its native servers and its jobs, and how many moves it has made of how many.
@@ -29,6 +30,8 @@ pub struct Core<S: Service + Drop, W: Worker + Drop> {
     /// The thread that has moved last, after which the next is sought.
     pub(crate) last: Option<Who>,
     pub(crate) rounds: Rounds,
+    /// What a porter is told is laid here, so that no call on the way copies it.
+    pub(crate) room: Room,
 }
 
 /// The thread that has moved last, once this one has or a server.
@@ -95,6 +98,7 @@ impl<S: Service + Drop, W: Worker + Drop> Core<S, W> {
             events: 0,
             last: None,
             rounds: Rounds::new(),
+            room: Room::new(),
         }
     }
 
@@ -353,27 +357,19 @@ impl<S: Service + Drop, W: Worker + Drop> Core<S, W> {
         self.services.reserve()?;
         self.jobs.reserve()?;
         let mut words = [0; 64];
-        // What a porter is told is laid into this room, so that no call on the way copies it.
-        let mut told = Told {
-            said: Said::Answer(Answer {
-                status: 0,
-                words,
-                len: 0,
-            }),
-            ended: None,
-        };
         let next = self.jobs.next(&mut words);
         let Some(stage) = next else {
             return Ok(false);
         };
-        let made = self.kernel.call(m, &stage, &words, &mut told)?;
+        let made = self.room.call(&mut self.kernel, m, &stage, &words)?;
         if !made {
             return Ok(false);
         }
-        self.services.hear(table, &told);
+        let told = self.room.told();
+        self.services.hear(table, told);
         tell_jobs(&mut self.jobs, self.events, &told.said);
         self.events += 1;
-        self.rounds.hear(hearer(&told.said));
+        self.rounds.hear_call(hearer(&told.said), is_look(&stage));
         self.settle();
         Ok(true)
     }

@@ -2,15 +2,31 @@
 ghost use Rattle.std.specs.Prelude.{◌≡◌, IfSome};
 ghost use Rattle.fk_moment.specs.Moments.{seen, IsFound, IsReadyNow, MayBeMade};
 
-use crate::rounds::Rounds;
+use crate::rounds::{Circle, Rounds};
 use fk_jobs::Worker;
-use fk_moment::Look;
-use fk_model::Move;
-use fk_moment::Moment;
+use fk_model::limits::{FIRST_SCRATCH_SLOT, OWN_SPACE};
+use fk_model::{Move, Stage};
+use fk_moment::{Look, Moment};
 use fk_natives::Service;
 
 /// So many names, and so many servers besides who is met, are looked at before the move is taken of a job whose time has come.
 const FEW: u32 = 4;
+
+/// Whether a call of a job only looks: it changes nothing but where a scratch reference of its nester leads, which no user names. So a user who
+/// wasn't ready before it isn't ready after it. (Where it says no of one that looks, names are looked at once more than need be.)
+pub fn is_look(stage: &Stage) -> bool {
+    match *stage {
+        Stage::Search { .. }
+        | Stage::Locate { .. }
+        | Stage::CountIn { .. }
+        | Stage::GetState { .. }
+        | Stage::PageRead { .. }
+        | Stage::PageNext { .. } => true,
+        Stage::Point { s, x, .. } => s == OWN_SPACE && x >= FIRST_SCRATCH_SLOT,
+        Stage::GetPtr { reference, .. } => reference >= FIRST_SCRATCH_SLOT,
+        _ => false,
+    }
+}
 
 impl Rounds {
     /// While its time has come, a ready move of the server that heard of the last move, or of a server in its turn, or of one of some few.
@@ -56,15 +72,31 @@ impl Rounds {
     ) -> Option<Move>
         ensures { IfSome result (λ m. IsReadyNow moment.now m) }
     {
-        match self.next_few(moment) {
-            Some(m) => Some(m),
-            None => moment.find_act(moment.servers().min(FEW as usize)),
+        if let Some(m) = self.next_few(moment) {
+            return Some(m);
         }
+        if moment.servers() == 0 {
+            return None;
+        }
+        moment.find_act(moment.servers().min(FEW as usize))
     }
 
     /// A ready move of one of the next few names: after those of the look before where that came to no end, and else after the thread that
-    /// moved last, and then from the first on.
+    /// moved last, and then from the first on. None where all names were looked at since anybody moved but a job that looks: nobody is ready.
     fn next_few<S: Service + Drop, W: Worker + Drop>(
+        &mut self,
+        moment: &Moment<'_, S, W>,
+    ) -> Option<Move>
+        ensures { IfSome result (λ m. IsReadyNow moment.now m) }
+    {
+        if let Circle::Closed = self.circle {
+            return None;
+        }
+        self.look_few(moment)
+    }
+
+    /// The same, where a look at all names may find somebody.
+    fn look_few<S: Service + Drop, W: Worker + Drop>(
         &mut self,
         moment: &Moment<'_, S, W>,
     ) -> Option<Move>
@@ -75,7 +107,10 @@ impl Rounds {
             None => moment.last(),
         };
         match moment.look_on(from, FEW) {
-            Look::Nobody => self.take_few(moment, moment.look_on(None, FEW)),
+            Look::Nobody => {
+                self.circle = self.circle.turned();
+                self.take_few(moment, moment.look_on(None, FEW))
+            }
             look => self.take_few(moment, look),
         }
     }
@@ -91,7 +126,10 @@ impl Rounds {
     {
         self.sought = None;
         match look {
-            Look::Found(m) => Some(m),
+            Look::Found(m) => {
+                self.circle = Circle::Open;
+                Some(m)
+            }
             Look::Passed(who) => {
                 self.sought = Some(who);
                 None

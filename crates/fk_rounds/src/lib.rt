@@ -8,4 +8,5 @@
 mod few;
 mod rounds;
 
+pub use few::is_look;
 pub use rounds::{Rounds, same_thread};

@@ -10,6 +10,27 @@ use fk_natives::Service;
 /// After so many moves the look goes round.
 const ROUND: u64 = 64;
 
+/// How far a look has come that goes over all names while a job only looks, and has found nobody.
+#[derive(Clone, Copy)]
+pub(crate) enum Circle {
+    /// It hasn't begun at the first name.
+    Open,
+    /// It has begun there.
+    Begun,
+    /// It has come to the last: till anybody moves but the job that looks, nobody is ready.
+    Closed,
+}
+
+impl Circle {
+    /// It has come to the last name, and begins at the first.
+    pub(crate) fn turned(self) -> Circle {
+        match self {
+            Circle::Open => Circle::Begun,
+            Circle::Begun | Circle::Closed => Circle::Closed,
+        }
+    }
+}
+
 /// Where the look for the next move has come to.
 #[derive(Drop)]
 pub struct Rounds {
@@ -19,6 +40,8 @@ pub struct Rounds {
     pub(crate) next: usize,
     /// The name after which the next few are looked at while a job works, where the few before came to no end.
     pub(crate) sought: Option<Who>,
+    /// Whether these have come round, so that the look may be left out.
+    pub(crate) circle: Circle,
 }
 
 /// The place after one, among so many.
@@ -68,6 +91,7 @@ impl Rounds {
             heard: None,
             next: 0,
             sought: None,
+            circle: Circle::Open,
         }
     }
 
@@ -76,6 +100,17 @@ impl Rounds {
         ensures { self.new.heard ≡ heard }
     {
         self.heard = heard;
+        self.circle = Circle::Open;
+    }
+
+    /// The same of a job's call, which may only look (`is_look`): then the look at names needn't begin again.
+    pub fn hear_call(&mut self, heard: Option<Who>, looks: bool)
+        ensures { self.new.heard ≡ heard }
+    {
+        self.heard = heard;
+        if !looks {
+            self.circle = Circle::Open;
+        }
     }
 
     /// A move that is ready. There is none exactly where none is ready or the budget is used.

@@ -1,4 +1,4 @@
-use Rattle.std.proofs.Common.{◌≡◌, ◌∙◌, sym, ap, length, map, Some, true, refl}
+use Rattle.std.proofs.Common.{◌≡◌, ◌∙◌, sym, ap, length, map, Some, true}
 use Rattle.std.specs.Prelude.{slice_get}
 use Rattle.fk_store.specs.World.{world}
 use Rattle.fk_model.specs.declared.moves.Ask.TheVariants as asks
@@ -21,17 +21,16 @@ call-requires g c =
     record {
       fit = call_fits self.jobs (world self.kernel) self.services.list self.events self.budget c.args.m.now.who ask c.requires.come c.requires.few
           c.requires.job asked;
-      room = refl;
     }
 
 pub returns-clause-tried : goal.returns-clause-tried
 returns-clause-tried g c =
     let self = c.args.self.now in
     let m = self.kernel in
-    let n = c.call.new.self in
+    let n = c.call.new.kernel in
     let list = self.services.list in
     let ask = asks.Call c.in-Some.stage c.next-next.new.words in
-    let what = c.call.new.told in
+    let what = c.call.new.self in
     let yes : c.in_ok-made.made ≡ true = cc in
     let made = rw yes at c.in_ok-made.ensures.made in
     let kept = c.reserve-2.ensures in
@@ -41,8 +40,8 @@ returns-clause-tried g c =
     kept.jobs kept.ends kept.work c.requires.job next made.0 made.1
     (rw yes at c.in_ok-made.ensures.ended)
     (rw yes at c.in_ok-made.ensures.told)
-    (c.hear.ensures ∙ ap (map (told what.said what.ended)) c.in_ok-reserve.ensures.same)
-    c.tell_jobs.ensures
+    ((rw c.told-told.ensures at c.hear.ensures) ∙ ap (map (told what.said what.ended)) c.in_ok-reserve.ensures.same)
+    (rw c.told-told.ensures at c.tell_jobs.ensures)
     c.settle.ensures.settles in
     (both.0, both.1, c.settle.ensures.events)
 

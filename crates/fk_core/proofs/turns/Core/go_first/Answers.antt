@@ -1,13 +1,5 @@
-use Rattle.std.proofs.Common.{◌∙◌, None, sym}
-use Rattle.fk_store.specs.World.{world}
-use Rattle.fk_core.specs.Cores.{run_core}
-use Rattle.fk_moment.proofs.Asking.{none_ready}
-use Rattle.fk_core.proofs.Cutting.{of-unready}
+use Rattle.fk_core.proofs.Trying.{whenever}
 use Rattle.fk_core.proofs.turns.Core.go_first.Goals as goal
 
-pub returns-else-branch-clause-none : goal.returns-else-branch-clause-none
-returns-else-branch-clause-none g c come m porter ready =
-    let self = c.args.self.now in
-    none_ready self.jobs (world self.kernel) self.services.list self.events c.in-Some.who (sym c.porter.ensures ∙ c.in-Some.is)
-    (of-unready c.in_ok-go_job.field-0 _ _ (run_core self) (record { who = c.in-Some.who; pick = None })
-    (run_core c.go_job.new.self) c.if-branch.false c.in_ok-go_job.ensures.tried) m porter ready
+pub returns-clause-none : goal.returns-clause-none
+returns-clause-none g c = whenever c.go_due.result _ _ (λ none come. none) c.go_due.ensures.none

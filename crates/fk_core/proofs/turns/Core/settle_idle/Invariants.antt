@@ -1,7 +1,7 @@
 use Rattle.std.proofs.Common.{◌≡◌, ◌-◌, length}
 use Rattle.fk_core.specs.Cores.{run_core}
 use Rattle.fk_core.proofs.Settles.{Carries}
-use Rattle.fk_core.proofs.turns.Core.settle.Given as goal
+use Rattle.fk_core.proofs.turns.Core.settle_idle.Given as goal
 
 abbrev pub invariant-loop-why : goal.invariant-loop-why
 invariant-loop-why g l = record {
