@@ -1,12 +1,12 @@
 -- Unfrozen: where no space above is held, nobody decides above.
-use Rattle.std.proofs.Common.{◌≡◌, ℕ, zero, suc, ◌<◌, false, Option, Some, None, option_map, refl, sym, ap, ◌∙◌, arith}
+use Rattle.std.proofs.Common.{◌≡◌, ℕ, zero, suc, ◌<◌, false, Option, Some, None, is_some, option_map, refl, sym, ap, ◌∙◌, arith}
 use Rattle.std.specs.FinMap.{get}
 use Rattle.fk_model.specs.declared.names.Who.{Who}
 use Rattle.fk_model.specs.declared.body.Body as bodies_of
 use Rattle.fk_model.specs.declared.body.Body.TheVariants as bodies
 use Rattle.fk_model.specs.Objects.{or_else, holds}
 use Rattle.fk_model.specs.Places.Ptr.{At}
-use Rattle.fk_model.specs.Holds.{holder_of, decider}
+use Rattle.fk_model.specs.Holds.{holder_of, decider, is_frozen}
 use Rattle.fk_store_freezing.specs.Freezing.{AreKnown, IsAbove, is_held_at}
 use Rattle.fk_store_freezing.specs.Freezing.IsAbove.{Home, Further}
 use Rattle.fk_store_leads.specs.Held.{is_held}
@@ -77,3 +77,7 @@ module _ (m : Contents) (kept : IsWellFormed m) where
       option_map (λ q. At (place (path m) q)) found ≡ holder_of ((world m).body (place (path m) who)) →
       option_map (λ q. At (place (path m) q)) found ≡ decider (world m) (place (path m) who)
   decided_own who off found is = is ∙ sym (decider-own who off)
+
+  -- a space in which nothing above is held isn't frozen
+  pub unfrozen : (n : ℕ) → ((q : Who) → IsAbove m.bodies n q → is_held_at m.bodies q ≡ false) → false ≡ is_frozen (world m) (path m n)
+  unfrozen n off = ap is_some (sym (none-from (suc n) n (omega arith) off))

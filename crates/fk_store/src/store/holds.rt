@@ -95,7 +95,19 @@ impl Store {
     }
 
     /// A space is held, or one above it.
+    #[inline]
     pub fn is_frozen(&self, space: u32) -> bool
+        ensures { result ≡ holds.is_frozen (world self.now) (path self.now space) }
+    {
+        if self.bodies.may_be_frozen(space) {
+            self.is_decided(space)
+        } else {
+            false
+        }
+    }
+
+    /// The same, by a look at who decides there.
+    fn is_decided(&self, space: u32) -> bool
         ensures { result ≡ holds.is_frozen (world self.now) (path self.now space) }
     {
         match self.bodies.home(space) {

@@ -1,10 +1,6 @@
-use Rattle.std.proofs.Common.{sym, ◌∙◌}
-use Rattle.fk_store.proofs.finding.HoldLaws.{is_frozen-none, is_frozen-some}
+use Rattle.fk_store.proofs.finding.Unfrozen.{unfrozen}
 use Rattle.fk_store.proofs.store.Store.is_frozen.Goals as goal
 
-pub returns-in-None : goal.returns-in-None
-returns-in-None c = rw (← c.self.view_is) (is_frozen-none _ c.self.invariant c.args.space (sym c.home.ensures ∙ c.in-None.is))
-
-pub returns-in-Some : goal.returns-in-Some
-returns-in-Some c = rw (c.is_some.ensures, ← c.self.view_is) (is_frozen-some _
-    c.self.invariant c.args.space c.in-Some.who c.decider.result (sym c.home.ensures ∙ c.in-Some.is) (rw (← c.self.view_is) at c.decider.ensures.decider))
+-- nothing above it is held
+pub returns-else-may_be_frozen : goal.returns-else-may_be_frozen
+returns-else-may_be_frozen c = rw (← c.self.view_is) (unfrozen _ c.self.invariant c.args.space (c.may_be_frozen.ensures c.if-may_be_frozen.false))
