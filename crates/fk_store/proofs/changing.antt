@@ -5,6 +5,7 @@ pub mod EditLaws
 pub mod Sets
 pub mod Changes
 pub mod SameKinds
+pub mod Aims
 pub mod PageLaws
 pub mod Makes
 pub mod MadeSpaces

@@ -12,7 +12,7 @@ ghost use Rattle.fk_store.specs.World.{world, IsLive};
 
 use crate::edits::with_pointer;
 use crate::store::Store;
-use fk_model::{Ptr, Who};
+use fk_model::{Body, Ptr, Who};
 
 impl Store {
     /// The pointer of a mapping, a region or a reference leads elsewhere. What is none of them stays
@@ -24,8 +24,10 @@ impl Store {
         ensures kinds { kind_there (world self.new) ≡ kind_there (world self.old) }
         ensures paths { path self.new ≡ path self.old }
     {
-        if let Some(&body) = self.at(who) {
-            self.set(who, with_pointer(body, to));
+        match self.at(who) {
+            None => {}
+            Some(Body::Reference { .. }) => self.aim(who, to),
+            Some(&body) => self.set(who, with_pointer(body, to)),
         }
     }
 

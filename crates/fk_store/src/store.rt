@@ -9,11 +9,12 @@ ghost use Rattle.fk_model.specs.Searches.{depth, has_residents};
 ghost use Rattle.fk_model.specs.Places.{Path, same_path};
 ghost use Rattle.fk_model.specs.Who.{space_born};
 ghost use Rattle.fk_model.specs.declared.names.Who.{Who};
+ghost use Rattle.fk_model.specs.declared.body.Body.TheVariants.{Reference};
 ghost use Rattle.fk_store.specs.Names.{who_cmp, rank, at, same_who};
 ghost use Rattle.fk_store.specs.Orders.{IsFirstAfter};
 ghost use Rattle.fk_store.specs.Makes.{making, IsNext, next_by};
 ghost use Rattle.fk_store.specs.Paths.{path, IsAtHome, HasOwnPath};
-ghost use Rattle.fk_store.specs.Named.{OnNamed};
+ghost use Rattle.fk_store.specs.Named.{OnNamed, OnPointer};
 ghost use Rattle.fk_store.specs.WellFormed.{IsSized};
 ghost use Rattle.fk_store.specs.World.{world, first_world, place_of, body_of, IsLive, IsSpace};
 
@@ -26,7 +27,7 @@ mod served;
 mod sizes;
 mod words;
 
-use fk_model::{Body, NoMemory, Who};
+use fk_model::{Body, NoMemory, Ptr, Who};
 use fk_store_bodies::Pages;
 use fk_store_freezing::Tree;
 use std::alloc::Global;
@@ -155,6 +156,20 @@ impl Store {
         ensures paths { path self.new ≡ path self.old }
     {
         self.bodies.set(who, body);
+    }
+
+    /// A reference leads elsewhere, to what is there.
+    pub fn aim(&mut self, who: Who, to: Ptr)
+        requires kind { kind_there (world self.old) (place_of self.old who) ≡ Some (kind_of (body_of self.old (Reference to))) }
+        requires to { OnPointer (IsLive self.old) to }
+        ensures edits { (e : Edit)
+            → option_map (edited e) ((world self.old).body (place_of self.old who))
+            ≡ Some (body_of self.old (Reference to))
+            → world self.new ≡ apply (Alter (place_of self.old who) e) (world self.old) }
+        ensures kinds { kind_there (world self.new) ≡ kind_there (world self.old) }
+        ensures paths { path self.new ≡ path self.old }
+    {
+        self.bodies.aim(who, to);
     }
 
     /// Puts a new object into an empty slot of a live space. A space has the next birth number,

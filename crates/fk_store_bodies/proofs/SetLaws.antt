@@ -3,9 +3,10 @@ use Rattle.std.proofs.Common.{◌≡◌, ◌≢◌, ℕ, ◌+◌, ◌*◌, ◌�
 use Rattle.std.proofs.lemmas.Bool.Decides.{nat_tests}
 use Rattle.std.specs.FinMap as finmap
 use Rattle.std.specs.FinMap.{get}
-use Rattle.fk_model.specs.Objects.{and_then}
+use Rattle.fk_model.specs.Objects.{and_then, holds}
 use Rattle.fk_model.specs.declared.names.Who.{Who}
 use Rattle.fk_model.specs.declared.body.Body.{Body}
+use Rattle.fk_model.specs.declared.body.Body.TheVariants.{Mutex, Cond, Mapping, Region, Port, Portset, Space, Thread, Reference}
 use Rattle.fk_store_hints.specs.declared.lead.Lead.{Lead}
 use Rattle.fk_store_hints.specs.Leads.{led}
 use Rattle.fk_store_keys.specs.Tables.{mark_at}
@@ -16,7 +17,7 @@ use Rattle.fk_store_objects.specs.Filed.{Filed, IsFiled, entry_under, key_of}
 use Rattle.fk_store_leads.specs.Births.{stored_birth, birth_in}
 use Rattle.fk_store_linked.specs.Bodied.{body_under, bodies, owner, Tells, told_by, HaveNodes, AreThere, IsTold, AreTold, AreHomed, AreAlike, AreBodies, Retells, IsMarked, StillMarked}
 use Rattle.fk_store_leads.specs.Held.{held_in, IsCount}
-use Rattle.fk_store_leads.specs.Leading.{LeadsAmong}
+use Rattle.fk_store_leads.specs.Leading.{LeadsAmong, is_reference}
 use Rattle.fk_store_leads.specs.Marks.{is_of_pages, is_member, page_mark, member_mark}
 use Rattle.fk_store_leads.specs.Names.{same_who}
 use Rattle.fk_store_linked.proofs.AlikeLaws.{hints_were, nodes_kept, replaced_map}
@@ -24,6 +25,32 @@ use Rattle.fk_store_linked.proofs.BodyLaws.{get-bodies, keys_apart, under_name}
 use Rattle.fk_store_leads.proofs.NameLaws.{same_who_refl}
 use Rattle.fk_store_bodies.proofs.ScanLaws.{there_keyed}
 use Rattle.fk_store_bodies.proofs.SettleLaws.{settled, settled_map}
+
+-- what is true of the body with a name is true under its key
+pub under_key : (o : Filed) (who : Who) (key : ℕ) → key_of o who ≡ Some key → (is : Body → Bool) → holds is (get (bodies o) who) ≡ true →
+    holds is (body_under o key) ≡ true
+under_key o who key here is h = ap (holds is) (sym (get-bodies o who ∙ ap (and_then (body_under o)) here)) ∙ h
+
+-- a reference is there
+pub reference_there : (x : Option Body) → holds is_reference x ≡ true → IsSome x
+reference_there None h = absurd (cc)
+reference_there (Some b) h = refl
+
+-- and has no birth number
+pub reference_unborn : (x : Option Body) → holds is_reference x ≡ true → and_then stored_birth x ≡ None
+reference_unborn None h = refl
+reference_unborn (Some b) h = by b h
+  where
+    by : (b : Body) → is_reference b ≡ true → stored_birth b ≡ None
+    by (Mutex locked) h = refl
+    by Cond h = refl
+    by (Mapping first count offset write region) h = refl
+    by (Region first count write keeper) h = refl
+    by (Port set served) h = refl
+    by Portset h = refl
+    by (Space birth holder) h = absurd (cc)
+    by (Thread thread) h = refl
+    by (Reference to) h = refl
 
 module _ (o p : Filed) (links : List Link) (homes : List ℕ) (held : ℕ) (filed : IsFiled o) (are : AreBodies o links homes held)
     (who : Who) (key : ℕ) (b : Body) (here : key_of o who ≡ Some key) (alike : AreAlike o p)

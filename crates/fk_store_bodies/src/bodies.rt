@@ -21,7 +21,8 @@ ghost use Rattle.fk_store_leads.specs.Births.{stored_birth, home_in, birth_in};
 ghost use Rattle.fk_store_leads.specs.Held as held_by;
 ghost use Rattle.fk_store_leads.specs.Held.{one_if, held_in, IsCount};
 ghost use Rattle.fk_store_linked.specs.Homes.{home_at};
-ghost use Rattle.fk_store_leads.specs.Leading.{LeadsAmong};
+ghost use Rattle.fk_model.specs.declared.body.Body.TheVariants.{Reference};
+ghost use Rattle.fk_store_leads.specs.Leading.{LeadsAmong, is_reference};
 ghost use Rattle.fk_store_leads.specs.Marks as marks_of;
 ghost use Rattle.fk_store_leads.specs.Names.{at, who_cmp, same_who};
 ghost use Rattle.fk_store_leads.specs.Nudges.{nudged};
@@ -33,10 +34,10 @@ ghost use Rattle.fk_store_bodies.specs.Threads.{proceeded};
 
 use crate::leaders::Leaders;
 use crate::scans::{first_leading, first_told, told_of_part};
-use fk_model::{Body, Mode, NoMemory, Who};
+use fk_model::{Body, Mode, NoMemory, Ptr, Who};
 use fk_store_leads::{Nudge, Part, Sweep, birth_of, counted, ends, is_held};
 use fk_store_linked::{
-    free_all, home_of, leave, link_all, make_room, mark_again, mark_all, rename_all, replace,
+    aim, free_all, home_of, leave, link_all, make_room, mark_again, mark_all, rename_all, replace,
     settle, tell, unlink_all,
 };
 use fk_store_links::{Links, head_of};
@@ -119,6 +120,21 @@ impl Bodies {
                 key,
                 &body,
             );
+            tell(&mut self.objects, key, &body);
+            mark_all(&mut self.objects, who, &body);
+        }
+    }
+
+    /// A reference leads elsewhere, to what is there.
+    pub fn aim(&mut self, who: Who, to: Ptr)
+        requires reference { holds is_reference (map.get self.old who) ≡ true }
+        requires leads { LeadsAmong self.old (Reference to) }
+        ensures { self.new ≡ map.insert self.old who (Reference to) }
+    {
+        self.objects.filed();
+        if let Some(key) = self.objects.key(who) {
+            let body = Body::Reference { to };
+            aim(&mut self.objects, &mut self.links, key, to);
             tell(&mut self.objects, key, &body);
             mark_all(&mut self.objects, who, &body);
         }

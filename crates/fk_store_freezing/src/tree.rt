@@ -6,13 +6,14 @@ ghost use Rattle.std.specs.FinMap.{entries};
 ghost use Rattle.std.specs.List.{sum_by};
 ghost use Rattle.fk_model.specs.declared.names.Who.{Who};
 ghost use Rattle.fk_model.specs.declared.body.Body.{Body};
-ghost use Rattle.fk_model.specs.Objects.{and_then};
+ghost use Rattle.fk_model.specs.declared.body.Body.TheVariants.{Reference};
+ghost use Rattle.fk_model.specs.Objects.{and_then, holds};
 ghost use Rattle.fk_model.proofs.walks.Members.{IsIn};
 ghost use Rattle.fk_store_freezing.specs.Freezing.{AreFrozen, AreKnown, AreTold, IsAbove, is_held_at};
 ghost use Rattle.fk_store_leads.specs.Births.{stored_birth, home_in, birth_in};
 ghost use Rattle.fk_store_leads.specs.Held as held_by;
 ghost use Rattle.fk_store_leads.specs.Held.{one_if};
-ghost use Rattle.fk_store_leads.specs.Leading.{LeadsAmong};
+ghost use Rattle.fk_store_leads.specs.Leading.{LeadsAmong, is_reference};
 ghost use Rattle.fk_store_leads.specs.Marks as marks_of;
 ghost use Rattle.fk_store_leads.specs.Names.{at, who_cmp, same_who};
 ghost use Rattle.fk_store_leads.specs.Nudges.{nudged};
@@ -23,7 +24,7 @@ ghost use Rattle.fk_store_leads.specs.Sweeps.{body_after};
 ghost use Rattle.fk_store_bodies.specs.Threads.{proceeded};
 
 use crate::settle::{forget, make_room, settle};
-use fk_model::{Body, Mode, NoMemory, Who};
+use fk_model::{Body, Mode, NoMemory, Ptr, Who};
 use fk_store_bodies::{Bodies, Leaders, Nudge, Part};
 use fk_store_holds::{Frozen, Held};
 use std::alloc::Global;
@@ -94,6 +95,23 @@ impl Tree {
     {
         self.bodies.set(who, body);
         settle(&self.bodies, &mut self.frozen, &mut self.held, who, &body);
+    }
+
+    /// A reference leads elsewhere, to what is there.
+    pub fn aim(&mut self, who: Who, to: Ptr)
+        requires reference { holds is_reference (map.get self.old who) ≡ true }
+        requires leads { LeadsAmong self.old (Reference to) }
+        requires known { AreKnown self.old }
+        ensures { self.new ≡ map.insert self.old who (Reference to) }
+    {
+        self.bodies.aim(who, to);
+        settle(
+            &self.bodies,
+            &mut self.frozen,
+            &mut self.held,
+            who,
+            &Body::Reference { to },
+        );
     }
 
     /// A thread goes on with these registers, at this counter and in this mode. What is no thread

@@ -21,7 +21,8 @@ impl Sweep {
         if who == self.from { self.to } else { Some(who) }
     }
 
-    fn pointer(self, pointer: Ptr) -> Ptr
+    /// Where a pointer leads afterwards.
+    pub fn pointer(self, pointer: Ptr) -> Ptr
         ensures { result ≡ sweeps.pointer_after self pointer }
     {
         match pointer {

@@ -150,6 +150,38 @@ single_rings o links owner key old b one none was = rings_along links (put_at ow
             by zero e = absurd (off (omega (arith, space, e)))
             by (suc r) e = omega arith
 
+-- ---- one field leads elsewhere, and it is the only one
+
+pub single_led : (o : Filed) (links : List Link) (owner : ℕ → Option ℕ) (key : ℕ) (old b : Body) → ((i : ℕ) → 1 ≤ i → led old i ≡ None) →
+    ((i : ℕ) → 1 ≤ i → led b i ≡ None) → ((i : ℕ) → i < 5 → owner (node_of key i) ≡ head_led o (Some old) i) →
+    AreRings links (put_at owner (node_of key 0) (head_led o (Some b) 0)) → AreRings links (owner_with o owner key (Some b))
+unfolding owner_with
+single_led o links owner key old b one other was =
+    rings_along links (put_at owner (node_of key 0) (head_led o (Some b) 0)) (owner_with o owner key (Some b)) (λ n field.
+    go n (n / 5 == key) refl (n == node_of key 0) refl)
+  where
+    past : (n : ℕ) → n / 5 ≡ key → n ≢ node_of key 0 → 1 ≤ n % 5
+    past n space off = by (n % 5) refl
+      where
+        by : (r : ℕ) → n % 5 ≡ r → 1 ≤ r
+        by zero e = absurd (off (omega (arith, space, e)))
+        by (suc r) e = omega arith
+
+    go : (n : ℕ) (a : Bool) → (n / 5 == key) ≡ a → (c : Bool) → (n == node_of key 0) ≡ c →
+        cond a (head_led o (Some b) (n % 5)) (owner n) ≡ cond c (head_led o (Some b) 0) (owner n)
+    go n false e true f = let same : n ≡ node_of key 0 = grind (arith, nat_tests) in let here : n / 5 ≡ key = omega (arith, same) in absurd (grind (arith, nat_tests))
+    go n false e false f = refl
+    go n true e true f =
+        let same : n ≡ node_of key 0 = grind (arith, nat_tests) in
+        let rest : n % 5 ≡ 0 = omega (arith, same) in ap (head_led o (Some b)) rest
+    go n true e false f =
+        let space : n / 5 ≡ key = grind (arith, nat_tests) in
+        let off : n ≢ node_of key 0 = grind (arith, nat_tests) in
+        let is : n ≡ node_of key (n % 5) = omega (arith, space) in
+        let few : n % 5 < 5 = omega arith in
+        let low = past n space off in
+        no_lead o b (n % 5) (other (n % 5) low) ∙ sym (ap owner is ∙ was (n % 5) few ∙ no_lead o old (n % 5) (one (n % 5) low))
+
 -- ---- nowhere
 
 module _ (others : ℕ → Option ℕ) (key : ℕ) where

@@ -19,5 +19,5 @@ pub use hinting::{tell, told_of};
 pub use homes::{home_of, leave, make_room, settle};
 pub use linking::{link_all, unlink_all};
 pub use marks::{mark_again, mark_all};
-pub use replacing::replace;
+pub use replacing::{aim, replace};
 pub use sweeping::{free_all, rename_all};

@@ -36,7 +36,7 @@ pub fn link_all(objects: &Objects, links: &mut Links, key: u32, body: &Body)
 }
 
 /// A field of an object leads where its body says, if it is a pointer.
-fn link_field(objects: &Objects, links: &mut Links, key: u32, field: u8, body: &Body)
+pub fn link_field(objects: &Objects, links: &mut Links, key: u32, field: u8, body: &Body)
     requires field { field < 5 }
     requires small { key < 858993458 }
     requires long { key * 5 + 5 ≤ length links.old }

@@ -10,7 +10,7 @@ ghost use Rattle.fk_store_leads.specs.Leading.{is_reference};
 ghost use Rattle.fk_store_leads.specs.Held as held_by;
 ghost use Rattle.fk_store_leads.specs.Held.{held_in, one_if, IsCount};
 
-use crate::linking::link_anew;
+use crate::linking::{link_anew, link_field};
 use fk_model::{Body, Ptr};
 use fk_store_leads::{Sweep, counted, is_held};
 use fk_store_links::{Links, node_of};
@@ -66,12 +66,34 @@ pub fn kill_reference(objects: &mut Objects, links: &mut Links, key: u32)
     objects.put(key, Body::Reference { to: Ptr::Dead });
 }
 
+/// The reference under a key leads elsewhere. So it costs less than by `replace`.
+pub fn aim(objects: &mut Objects, links: &mut Links, key: u32, to: Ptr)
+    requires there { holds is_reference (body_under objects.old key) ≡ true }
+    requires rings { AreRings links.old (owner objects.old) }
+    requires long { HaveNodes objects.old (length links.old) }
+    ensures alike { AreAlike objects.old objects.new }
+    ensures bodies { (j : ℕ) → body_under objects.new j ≡ (if j == key then Some (Reference to) else body_under objects.old j) }
+    ensures rings { AreRings links.new (owner objects.new) }
+    ensures long { length links.new ≡ length links.old }
+    ensures held { (n : ℕ) → IsCount (held_in (bodies objects.old)) n → IsCount (held_in (bodies objects.new)) n }
+{
+    objects.filed();
+    let body = Body::Reference { to };
+    link_field(objects, links, key, 0, &body);
+    objects.put(key, body);
+}
+
 /// The object under a key is swept where it stands. No ring changes.
 pub fn sweep_one(objects: &mut Objects, key: u32, sweep: Sweep)
     ensures { Maps objects.old objects.new (swept_at sweep objects.old key) }
 {
     if let Some(entry) = objects.entry(key) {
-        let new = sweep.body(entry.who.space, entry.body);
-        objects.put(key, new);
+        if let Body::Reference { to } = entry.body {
+            let to = sweep.pointer(to);
+            objects.put(key, Body::Reference { to });
+        } else {
+            let new = sweep.body(entry.who.space, entry.body);
+            objects.put(key, new);
+        }
     }
 }
