@@ -1,12 +1,12 @@
 -- Trying: what comes of moves that are tried, and of advances.
-use Rattle.std.proofs.Common.{◌≡◌, ℕ, ◌<◌, Bool, true, false, List, Option, Some, None, Result, Ok, Err, IfOk, IfSome, IfNone, OnErr, refl, sym, subst}
+use Rattle.std.proofs.Common.{◌≡◌, ℕ, ◌<◌, Bool, true, false, List, Option, Some, None, Result, Ok, Err, IfOk, IfSome, IfNone, OnErr, subst}
 use Rattle.fk_model.specs.declared.moves.Move.{Move}
 use Rattle.fk_model.specs.World.{World}
 use Rattle.laws_house.specs.Houses.{Job}
 use Rattle.fk_jobs.specs.Jobs.{Queue}
 use Rattle.fk_jobs.specs.Turns.{core_of}
 use Rattle.fk_served.specs.Served.{Services}
-use Rattle.fk_core.specs.Cores.{RunCore, has_come, is_porter, IsReadyMove, IsFirstDue, IsOver, IsTried, IsAdvanced, IsAdvancedBy, IsAdvancedOrOver}
+use Rattle.fk_core.specs.Cores.{RunCore, has_come, is_porter, IsReadyMove, IsFirstDue, IsOver, IsTried, IsAdvanced, IsAdvancedOrOver}
 use Rattle.fk_moment.proofs.Due.{chosen_first}
 
 -- a move that is tried is ready as this exactly where it is as that

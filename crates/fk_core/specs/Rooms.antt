@@ -1,5 +1,5 @@
 -- Room for what calls tell: whether a call was made.
-use Rattle.std.specs.Prelude.{Bool, true, false, Result, Ok, Err}
+use Rattle.std.specs.Prelude.{Bool, false, Result, Ok, Err}
 
 abbrev pub is_made : {E : Type 0} → Result Bool E → Bool
 is_made (Ok made) = made

@@ -1,4 +1,4 @@
-use Rattle.std.proofs.Common.{◌≡◌, ◌∙◌, false, is_some, IsSome, Some, None, refl, sym, ap, map, subst}
+use Rattle.std.proofs.Common.{◌≡◌, ◌∙◌, false, is_some, Some, None, refl, sym, ap, map, subst}
 use Rattle.fk_model.specs.declared.moves.Move.{Move}
 use Rattle.fk_model.specs.declared.moves.Said.TheVariants as says
 use Rattle.fk_served.specs.Served.{told}
