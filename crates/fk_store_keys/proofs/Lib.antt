@@ -1,3 +1,4 @@
 pub mod KeyLaws
 pub mod TableLaws
+pub mod PlaceLaws
 mod Results

@@ -1,10 +1,11 @@
 -- Tables: the keys and the marks of a space.
-use Rattle.std.specs.Prelude.{ℕ, ◌==◌, ◌<◌, ◌≤◌, Bool, false, List, [], map, length, Option, Some, None, IsSome, Box, if◌then◌else◌, slice_index_or}
+use Rattle.std.specs.Prelude.{◌≡◌, ◌≢◌, ℕ, ◌==◌, ◌<◌, ◌≤◌, Bool, true, false, List, [], map, length, Option, Some, None, IsSome, is_some, Box, if◌then◌else◌, slice_index_or}
 use Rattle.std.specs.declared.alloc.Global.{Global}
+use Rattle.slab.specs.Slab.{Slab, get}
 use Rattle.fk_store_slots.specs.Cells.{cell_in}
-use Rattle.fk_store_keys.specs.declared.slots.Table.{Table}
+use Rattle.fk_store_keys.specs.declared.tables.Table.{Table}
 
--- what stands for no key
+-- what stands for no key, and for no table
 abbrev pub nothing : ℕ
 nothing = 4294967295
 
@@ -52,3 +53,62 @@ marked_at tables space mark = marked_in (table_of tables space).1 mark
 pub record AreTables (tables : List (List (Option ℕ) × List Bool)) : Type 0 where
   pub few : length tables ≤ 4294967296
   pub short : (space slot : ℕ) → IsSome (key_at tables space slot) → slot < 256
+
+-- ---- where a space's table stands
+
+-- what is seen of a table
+abbrev pub pair_of : Table → List (Option ℕ) × List Bool
+pair_of table = (keyed table.keys, table.marks)
+
+abbrev pub pair_in : Option (Box Table Global) → List (Option ℕ) × List Bool
+pair_in table = (keys_in table, marks_in table)
+
+-- the place of the table of the space with a birth number
+abbrev pub place_at : List ℕ → ℕ → ℕ
+place_at places space = slice_index_or places space nothing
+
+-- the tables of all spaces, by their places
+abbrev pub shown : List ℕ → Slab (Box Table Global) → List (List (Option ℕ) × List Bool)
+shown places tables = map (λ place. pair_in (get tables place)) places
+
+-- each table that is placed is there, and is that of one space
+pub record ArePlaced (places : List ℕ) (tables : Slab (Box Table Global)) : Type 0 where
+  pub none : get tables nothing ≡ None
+  pub there : (space : ℕ) → place_at places space ≢ nothing → IsSome (get tables (place_at places space))
+  pub own : (s t : ℕ) → place_at places s ≢ nothing → place_at places s ≡ place_at places t → s ≡ t
+
+pub record AreKept (places : List ℕ) (tables : Slab (Box Table Global)) : Type 0 where
+  pub are : AreTables (shown places tables)
+  pub placed : ArePlaced places tables
+
+-- ---- changes of one table
+
+-- a slot has another key, or none
+pub record IsPut (slot : ℕ) (key : Option ℕ) (old now : List (Option ℕ) × List Bool) : Type 0 where
+  pub keys : (k : ℕ) → cell_in now.0 k ≡ (if k == slot then key else cell_in old.0 k)
+  pub marks : now.1 ≡ old.1
+
+-- the key of a slot is that of another one, and the first has none
+pub record IsMoved (from to : ℕ) (old now : List (Option ℕ) × List Bool) : Type 0 where
+  pub keys : (k : ℕ) → cell_in now.0 k ≡ (if k == to then cell_in old.0 from else (if k == from then None else cell_in old.0 k))
+  pub marks : now.1 ≡ old.1
+
+-- a mark is set
+pub record IsMarked (mark : ℕ) (old now : List (Option ℕ) × List Bool) : Type 0 where
+  pub keys : now.0 ≡ old.0
+  pub marks : (m : ℕ) → marked_in now.1 m ≡ (if m == mark then true else marked_in old.1 m)
+
+-- the table at a place has changed so, and all others are as they were
+pub record Alters (s t : Slab (Box Table Global)) (place : ℕ) (P : List (Option ℕ) × List Bool → List (Option ℕ) × List Bool → Type 0) : Type 0 where
+  pub here : P (pair_in (get s place)) (pair_in (get t place))
+  pub there : is_some (get t place) ≡ is_some (get s place)
+  pub others : (p : ℕ) → p ≢ place → get t p ≡ get s p
+
+-- a table with one key comes, at a place where there was none
+pub record Adds (s t : Slab (Box Table Global)) (slot key place : ℕ) : Type 0 where
+  pub low : place < nothing
+  pub vacant : get s place ≡ None
+  pub there : IsSome (get t place)
+  pub keys : (k : ℕ) → cell_in (keys_in (get t place)) k ≡ (if k == slot then Some key else None)
+  pub marks : (m : ℕ) → marked_in (marks_in (get t place)) m ≡ false
+  pub others : (p : ℕ) → p ≢ place → get t p ≡ get s p

@@ -1,27 +1,35 @@
 //! The keys of all spaces.
-ghost use Rattle.std.specs.Prelude.{◌≡◌, ◌<◌, ◌≤◌, ℕ, ◌==◌, ◌&&◌, true, false, [], OnOk, OnErr, IsSome, IfSome, Some, None, if◌then◌else◌, length};
+ghost use Rattle.std.specs.Prelude.{◌≡◌, ◌<◌, ◌≤◌, ℕ, ◌==◌, ◌&&◌, true, false, [], OnOk, OnErr, IsSome, IfSome, Some, None, if◌then◌else◌, length, slice_index_or};
+ghost use Rattle.std.specs.Option.{option_copied};
+ghost use Rattle.slab.specs.Slab.{get};
 ghost use Rattle.fk_store_slots.specs.Cells.{cell, is_from};
-ghost use Rattle.fk_store_keys.specs.Tables.{mark_at, key_at, marked_at};
+ghost use Rattle.fk_store_keys.specs.Tables.{mark_at, place_at};
 
-use crate::slots::Slots;
+use crate::tables::{
+    NOTHING, Table, add, give_back, is_marked_in, key_in, mark_in, marks_of, next_taken_in, put_in,
+    remove_in, rename_in,
+};
+use slab::Slab;
 use std::alloc::{AllocError, Global};
 use std::marker::Model;
 
 /// The keys of the slots of all spaces, by birth number.
 #[derive(Drop)]
 pub struct Keys {
-    tables: Vec<Slots>,
+    /// Where each space's table stands.
+    places: Vec<u32>,
+    tables: Slab<Box<Table>>,
 }
 
 impl Model for Keys {
     ghost use Rattle.std.specs.Prelude.{ℕ, Bool, List, Option};
-    ghost use Rattle.fk_store_keys.specs.Tables.{all_keys, all_marks, AreTables};
+    ghost use Rattle.fk_store_keys.specs.Tables.{all_keys, all_marks, shown, AreKept};
 
     ghost Value = { List (List (Option ℕ)) × List (List Bool) };
 
-    ghost view = { λ s. (all_keys s.tables.items, all_marks s.tables.items) };
+    ghost view = { λ s. (all_keys (shown s.places.items s.tables), all_marks (shown s.places.items s.tables)) };
 
-    ghost invariant = { λ s. AreTables s.tables.items };
+    ghost invariant = { λ s. AreKept s.places.items s.tables };
 }
 
 impl Keys {
@@ -30,7 +38,8 @@ impl Keys {
         ensures { result ≡ ([], []) }
     {
         Keys {
-            tables: Vec::new(alloc),
+            places: Vec::new(alloc),
+            tables: Slab::new(alloc),
         }
     }
 
@@ -47,12 +56,8 @@ impl Keys {
     pub fn at(&self, space: u32, slot: u8) -> Option<u32>
         ensures { result ≡ cell self.now.0 space slot }
     {
-        let at = space as usize;
-        if at < self.tables.len() {
-            self.tables[at].at(slot)
-        } else {
-            None
-        }
+        let table = table_at(&self.places, &self.tables, space);
+        key_in(table, slot)
     }
 
     /// A space has a mark.
@@ -61,12 +66,17 @@ impl Keys {
         requires { mark < 32 }
         ensures { result ≡ mark_at self.now.1 space mark }
     {
-        let at = space as usize;
-        if at < self.tables.len() {
-            self.tables[at].is_marked(mark)
-        } else {
-            false
-        }
+        let table = table_at(&self.places, &self.tables, space);
+        is_marked_in(table, mark)
+    }
+
+    /// All marks of a space.
+    #[inline]
+    pub fn marks(&self, space: u32) -> [bool; 32]
+        ensures { (m : ℕ) → slice_index_or result m false ≡ mark_at self.now.1 space m }
+    {
+        let table = table_at(&self.places, &self.tables, space);
+        marks_of(table)
     }
 
     /// The first taken slot from a slot of a space on, in the order of spaces and slots.
@@ -77,8 +87,9 @@ impl Keys {
         ensures none { result ≡ None → (s k : ℕ) → IsSome (cell self.now.0 s k) → is_from space slot s k ≡ false }
     {
         let mut from = slot;
-        for at in (space as usize)..self.tables.len() {
-            if let Some(slot) = self.tables[at].next_taken(from) {
+        for at in (space as usize)..self.places.len() {
+            let table = table_at(&self.places, &self.tables, at as u32);
+            if let Some(slot) = next_taken_in(table, from) {
                 return Some((at as u32, slot));
             }
             from = 0;
@@ -92,12 +103,8 @@ impl Keys {
             × ((k : ℕ) → IsSome (cell self.now.0 space k) → slot ≤ k → next ≤ k)) }
         ensures none { result ≡ None → (k : ℕ) → IsSome (cell self.now.0 space k) → k < slot }
     {
-        let at = space as usize;
-        if at < self.tables.len() {
-            self.tables[at].next_taken(slot)
-        } else {
-            None
-        }
+        let table = table_at(&self.places, &self.tables, space);
+        next_taken_in(table, slot)
     }
 
     /// Puts the key of an object in a slot of a space. For want of memory what stands where stays as
@@ -108,10 +115,16 @@ impl Keys {
         ensures err { OnErr result ((s k : ℕ) → cell self.new.0 s k ≡ cell self.old.0 s k) }
         ensures marks { (s m : ℕ) → mark_at self.new.1 s m ≡ mark_at self.old.1 s m }
     {
-        let alloc = *self.tables.allocator();
-        grow(&mut self.tables, space)?;
-        let slots = &mut self.tables[space as usize];
-        slots.put(alloc, slot, key)
+        grow(&mut self.places, space)?;
+        let place = place_of(&self.places, space);
+        if self.tables.contains(place as usize) {
+            put_in(&mut self.tables, place, slot, key);
+            return Ok(());
+        }
+        let alloc = *self.places.allocator();
+        let place = add(&mut self.tables, alloc, slot, key)?;
+        self.places[space as usize] = place;
+        Ok(())
     }
 
     /// A slot of a space has no key from now on.
@@ -119,11 +132,8 @@ impl Keys {
         ensures left { (s k : ℕ) → cell self.new.0 s k ≡ (if s == space && k == slot then None else cell self.old.0 s k) }
         ensures marks { self.new.1 ≡ self.old.1 }
     {
-        let at = space as usize;
-        if at < self.tables.len() {
-            let slots = &mut self.tables[at];
-            slots.remove(slot);
-        }
+        let place = place_of(&self.places, space);
+        remove_in(&mut self.tables, place, slot);
     }
 
     /// The key of a slot is that of another slot of its space from now on, and the first has none.
@@ -132,11 +142,8 @@ impl Keys {
             else (if s == space && k == from then None else cell self.old.0 s k)) }
         ensures marks { self.new.1 ≡ self.old.1 }
     {
-        let at = space as usize;
-        if at < self.tables.len() {
-            let slots = &mut self.tables[at];
-            slots.rename(from, to);
-        }
+        let place = place_of(&self.places, space);
+        rename_in(&mut self.tables, place, from, to);
     }
 
     /// Sets a mark of a space in which an object stands.
@@ -146,11 +153,8 @@ impl Keys {
         ensures keys { self.new.0 ≡ self.old.0 }
         ensures marks { (s m : ℕ) → mark_at self.new.1 s m ≡ (if s == space && m == mark then true else mark_at self.old.1 s m) }
     {
-        let at = space as usize;
-        if at < self.tables.len() {
-            let slots = &mut self.tables[at];
-            slots.mark(slot, mark);
-        }
+        let place = place_of(&self.places, space);
+        mark_in(&mut self.tables, place, mark);
     }
 
     /// A space has no keys and no marks from now on, and its table is given back.
@@ -159,22 +163,46 @@ impl Keys {
         ensures marks { (s m : ℕ) → mark_at self.new.1 s m ≡ (if s == space then false else mark_at self.old.1 s m) }
     {
         let at = space as usize;
-        if at < self.tables.len() {
-            let slots = &mut self.tables[at];
-            slots.clear();
+        if at < self.places.len() {
+            let place = self.places[at];
+            self.places[at] = NOTHING;
+            give_back(&mut self.tables, place);
         }
     }
 }
 
-/// Makes room for all birth numbers up to this one.
-fn grow(tables: &mut Vec<Slots>, space: u32) -> Result<(), AllocError>
-    ensures keys { (s k : ℕ) → key_at tables.new.items s k ≡ key_at tables.old.items s k }
-    ensures marks { (s m : ℕ) → marked_at tables.new.items s m ≡ marked_at tables.old.items s m }
-    ensures long { OnOk result (space < length tables.new.items) }
-    ensures few { length tables.old.items ≤ 4294967296 → length tables.new.items ≤ 4294967296 }
+/// Where the table of a space stands.
+#[inline]
+fn place_of(places: &Vec<u32>, space: u32) -> u32
+    ensures { result ≡ place_at places.now.items space }
 {
-    while tables.len() <= space as usize {
-        tables.push(Slots::new())?;
+    if (space as usize) < places.len() {
+        places[space as usize]
+    } else {
+        NOTHING
+    }
+}
+
+/// The table of a space, if it has one.
+#[inline]
+fn table_at<'a>(
+    places: &Vec<u32>,
+    tables: &'a Slab<Box<Table>>,
+    space: u32,
+) -> Option<&'a Box<Table>>
+    ensures { option_copied result ≡ get tables.now (place_at places.now.items space) }
+{
+    tables.get(place_of(places, space) as usize)
+}
+
+/// Makes room for all birth numbers up to this one.
+fn grow(places: &mut Vec<u32>, space: u32) -> Result<(), AllocError>
+    ensures same { (s : ℕ) → place_at places.new.items s ≡ place_at places.old.items s }
+    ensures long { OnOk result (space < length places.new.items) }
+    ensures few { length places.old.items ≤ 4294967296 → length places.new.items ≤ 4294967296 }
+{
+    while places.len() <= space as usize {
+        places.push(NOTHING)?;
     }
     Ok(())
 }

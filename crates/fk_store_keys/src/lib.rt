@@ -1,12 +1,12 @@
 //! Which key the object in each slot of each space has.
 //!
-//! It stands on `fk_store_slots` for the words that say what stands in a slot. A space has a table of
-//! keys from when it first needs one until it is cleared, which gives the table back; a birth number
-//! without a table costs 8 bytes. Beside the keys stand marks of a space, which the caller gives a
-//! meaning, and which go with the table. Only `put` takes memory.
+//! It stands on `fk_store_slots` for the words that say what stands in a slot, and on the kit's `slab`,
+//! in which the tables lie. A space has a table of keys from when it first needs one until it is cleared,
+//! which gives the table back; a birth number without a table costs 4 bytes. Beside the keys stand marks
+//! of a space, which the caller gives a meaning, and which go with the table. Only `put` takes memory.
 #![tactic(auto)]
 
 mod keys;
-mod slots;
+mod tables;
 
 pub use keys::Keys;

@@ -1,5 +1,5 @@
 //! Ports in sets, where a set is destroyed or gets another name.
-ghost use Rattle.std.specs.Prelude.{◌≡◌, ◌<◌, ◌*◌, ◌+◌};
+ghost use Rattle.std.specs.Prelude.{◌≡◌, ◌<◌, ◌*◌, ◌+◌, false, slice_index_or};
 ghost use Rattle.fk_model.specs.Objects.{holds};
 ghost use Rattle.fk_store_linked.specs.Bodied.{body_under, AreMarked, Maps, member_after, members_in};
 ghost use Rattle.fk_store_leads.specs.Marks as marks_of;
@@ -17,11 +17,21 @@ pub fn sweep_members(objects: &mut Objects, sweep: Sweep)
 {
     objects.slots();
     objects.filed();
+    let marks = objects.marks(sweep.from.space);
     for group in 0..16u8 {
-        if objects.is_marked(sweep.from.space, 16 + group) {
+        if has_members(&marks, group) {
             sweep_group(objects, group, sweep);
         }
     }
+}
+
+/// A port of a group of slots may be in a set.
+#[inline]
+fn has_members(marks: &[bool; 32], group: u8) -> bool
+    requires { group < 16 }
+    ensures { result ≡ slice_index_or marks.now (16 + group) false }
+{
+    marks[16 + group as usize]
 }
 
 /// The ports of a group of slots of the object's space are swept.

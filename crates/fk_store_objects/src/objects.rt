@@ -1,5 +1,5 @@
 //! All objects, by key and by name.
-ghost use Rattle.std.specs.Prelude.{◌≡◌, ◌<◌, ◌≤◌, ◌==◌, ◌&&◌, ℕ, true, false, [], OnOk, OnErr, IfOk, IfSome, IsSome, Some, None, option_map, if◌then◌else◌};
+ghost use Rattle.std.specs.Prelude.{◌≡◌, ◌<◌, ◌≤◌, ◌==◌, ◌&&◌, ℕ, true, false, [], OnOk, OnErr, IfOk, IfSome, IsSome, Some, None, option_map, if◌then◌else◌, slice_index_or};
 ghost use Rattle.std.specs.Option.{option_copied};
 ghost use Rattle.fk_model.specs.declared.names.Who.{Who};
 ghost use Rattle.fk_model.specs.Objects.{and_then};
@@ -189,6 +189,14 @@ impl Objects {
         ensures { result ≡ mark_at self.now.marks space mark }
     {
         self.keys.is_marked(space, mark)
+    }
+
+    /// All marks of a space.
+    #[inline]
+    pub fn marks(&self, space: u32) -> [bool; 32]
+        ensures { (m : ℕ) → slice_index_or result m false ≡ mark_at self.now.marks space m }
+    {
+        self.keys.marks(space)
     }
 
     /// Gives the table and the marks of a space back in which nothing stands.

@@ -1,9 +1,8 @@
-use Rattle.std.proofs.Common.{◌≡◌, ◌+◌, ◌*◌, subst, sym, ap, ◌∙◌, arith}
-use Rattle.fk_store_keys.specs.Tables.{mark_at}
+use Rattle.std.proofs.Common.{◌≡◌, ◌+◌, ◌*◌, subst, sym, ◌∙◌, arith}
 use Rattle.fk_store_linked.specs.Bodied.{Maps, members_in}
 use Rattle.fk_store_linked.proofs.MemberLaws.{none_in, more_in, none_more, all_in, unmarked_group, short_under}
 use Rattle.fk_store_linked.proofs.members.sweep_members.Goals as goal
-use Rattle.fk_store_linked.proofs.members.sweep_members.Goals.{then-is_marked, else-is_marked}
+use Rattle.fk_store_linked.proofs.members.sweep_members.Goals.{then-has_members, else-has_members}
 
 pub loop-group-init : goal.loop-group-init
 loop-group-init c =
@@ -14,16 +13,16 @@ loop-group-init c =
 pub loop-group-preserved : goal.loop-group-preserved
 loop-group-preserved c =
     let more : c.loop-group.group * 16 + 16 ≡ (c.loop-group.group + 1) * 16 = omega arith in
-    elim c.if-is_marked.branch [
-      | then-is_marked w ↦ rw w.objects-is
+    elim c.if-has_members.branch [
+      | then-has_members w ↦ rw w.objects-is
           (subst (λ n. Maps c.args.objects.now w.sweep_group.new.objects (members_in c.args.sweep c.args.objects.now 0 n)) more
           (more_in c.args.sweep c.args.objects.now _ _ 0 (c.loop-group.group * 16) (c.loop-group.group * 16 + 16) (omega arith) (omega arith)
           c.loop-group.invariant w.sweep_group.ensures))
-      | else-is_marked w ↦ rw w.objects-is
+      | else-has_members w ↦ rw w.objects-is
           (subst (λ n. Maps c.args.objects.now c.loop-group.objects (members_in c.args.sweep c.args.objects.now 0 n)) more
           (none_more c.args.sweep c.args.objects.now _ 0 (c.loop-group.group * 16) (c.loop-group.group * 16 + 16) (omega arith) (omega arith)
           (unmarked_group c.args.sweep c.args.objects.now c.filed.ensures c.requires c.loop-group.group
-          (sym (ap (λ m. mark_at m c.args.sweep.from.space (16 + c.loop-group.group)) c.loop-group.invariant.alike.marks) ∙ sym c.is_marked.ensures ∙ w.if-is_marked.false))
+          (sym (c.marks-marks.ensures (16 + c.loop-group.group)) ∙ sym c.has_members.ensures ∙ w.if-has_members.false))
           c.loop-group.invariant))
     ]
 

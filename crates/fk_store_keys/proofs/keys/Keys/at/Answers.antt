@@ -1,9 +1,6 @@
-use Rattle.std.proofs.Common.{◌∙◌, arith}
-use Rattle.fk_store_keys.proofs.TableLaws.{key_found, key_past}
+use Rattle.std.proofs.Common.{◌∙◌}
+use Rattle.fk_store_keys.proofs.PlaceLaws.{key_read}
 use Rattle.fk_store_keys.proofs.keys.Keys.at.Goals as goal
 
-pub returns-then-at-len : goal.returns-then-at-len
-returns-then-at-len c = rw (← c.self.view_is) (c.at.ensures ∙ key_found _ c.args.space c.args.slot _ (omega arith) c.index.ensures)
-
-pub returns-else-at-len : goal.returns-else-at-len
-returns-else-at-len c = rw (← c.self.view_is) (key_past _ c.args.space c.args.slot (omega arith))
+pub returns : goal.returns
+returns c = rw (← c.self.view_is) (c.key_in.ensures ∙ key_read c.self.inside.places.items c.self.inside.tables c.self.invariant c.args.space _ c.table_at-table.ensures c.args.slot)
