@@ -2,6 +2,7 @@
 ghost use Rattle.std.specs.Prelude.{◌≡◌, ◌<◌, ◌≤◌, ◌++◌, ◌∷◌, [], true, Some, None, IfOk, IfSome, IsSome, OnOk, OnErr};
 ghost use Rattle.std.specs.Prelude.{length, map, take, vec_capacity, option_map, is_some};
 ghost use Rattle.std.specs.List.{slice_get};
+ghost use Rattle.fk_model.specs.declared.moves.Ask.TheVariants as asks;
 ghost use Rattle.laws_house.specs.Laws.{NameUsersSlots};
 ghost use Rattle.laws_jobs.specs.Machines.{no_words};
 ghost use Rattle.fk_jobs.specs.Jobs.{job_of, unmoved_of, current, first_of, state_of, call_with, asked_by, begun_from, hears, passed, with_idle};
@@ -202,6 +203,16 @@ impl<W: Worker + Drop> Jobs<W> {
         match &self.worker {
             Some(worker) => worker.next(words),
             None => first_call(self.plans.as_slice(), self.ends.as_slice()),
+        }
+    }
+
+    /// Its next call, where it surely goes with no words: then no room for words is needed.
+    pub fn bare(&self) -> Option<Stage>
+        ensures { IfSome result (λ stage. asked_by (state_of self.now) ≡ Some (asks.Call stage no_words)) }
+    {
+        match &self.worker {
+            Some(worker) => worker.bare(),
+            None => None,
         }
     }
 

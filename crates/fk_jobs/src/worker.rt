@@ -1,5 +1,6 @@
 //! What a job's code has to promise.
-ghost use Rattle.std.specs.Prelude.{◌≡◌, OnOk, is_some, option_map, take};
+ghost use Rattle.std.specs.Prelude.{◌≡◌, Some, IfSome, OnOk, is_some, option_map, take};
+ghost use Rattle.fk_model.specs.declared.moves.Ask.TheVariants as asks;
 ghost use Rattle.laws_checkpoint.specs.Checkpoint.State.{Holds};
 ghost use Rattle.laws_house.specs.Houses.{State, machine, image_of_end};
 ghost use Rattle.laws_house.specs.Houses.State.{Checking, Restoring};
@@ -33,6 +34,10 @@ pub trait Worker {
     fn next(&self, words: &mut [u64; 64]) -> Option<Stage>
         requires { words.old ≡ no_words }
         ensures { call_with result words.new ≡ call_at (machine.head (state self.now)) };
+
+    /// Its next call, where it surely goes with no words: then no room for words is needed.
+    fn bare(&self) -> Option<Stage>
+        ensures { IfSome result (λ stage. call_at (machine.head (state self.now)) ≡ Some (asks.Call stage no_words)) };
 
     /// Whether it has a call to make.
     fn is_at_call(&self) -> bool

@@ -56,6 +56,13 @@ impl Worker for Porter {
         }
     }
 
+    fn bare(&self) -> Option<Stage> {
+        match self {
+            Porter::Checkpoint(checkpoint) => checkpoint.next(),
+            Porter::Restore(_) => None,
+        }
+    }
+
     fn is_at_call(&self) -> bool {
         match self {
             Porter::Checkpoint(checkpoint) => checkpoint.end().is_none(),
