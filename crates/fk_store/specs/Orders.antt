@@ -1,2 +1,2 @@
 -- Orders: what comes after a key.
-pub use Rattle.fk_store_bodies.specs.Orders.{comes_after, IsFirstAfter}
+pub use Rattle.fk_store_freezing.specs.Orders.{comes_after, IsFirstAfter}

@@ -1,6 +1,6 @@
 //! The store: every object and every page, by the birth numbers of spaces.
 //!
-//! It stands on `fk_store_freezing` and `fk_store_bodies`, which keep objects and pages by name, and on `fk_model`. Contracts see
+//! It stands on `fk_store_freezing`, which keeps objects and pages by name, and on `fk_model`. Contracts see
 //! a store by two words: `world`, the abstract machine's world that the store stands for, and
 //! `path`, the path of the space with a birth number. Each call that changes the store is one change
 //! of the abstract machine, says by these words which, and takes memory only where its result has
@@ -18,6 +18,6 @@ mod store;
 mod talks;
 mod threads;
 
-pub use fk_store_bodies::Leaders;
+pub use fk_store_freezing::Leaders;
 pub use reach::Reach;
 pub use store::Store;

@@ -28,8 +28,7 @@ mod sizes;
 mod words;
 
 use fk_model::{Body, NoMemory, Ptr, Who};
-use fk_store_bodies::Pages;
-use fk_store_freezing::Tree;
+use fk_store_freezing::{Pages, Tree};
 use std::alloc::Global;
 use std::marker::Model;
 

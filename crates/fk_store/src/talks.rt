@@ -11,7 +11,7 @@ ghost use Rattle.fk_store.specs.World.{world, IsLive};
 
 use crate::store::Store;
 use fk_model::{Body, Peer, Talk, Thread, Turn, Who};
-use fk_store_bodies::Nudge;
+use fk_store_freezing::Nudge;
 
 impl Store {
     /// The talk of a client begins or ends. What is no thread stays as it is.

@@ -18,7 +18,7 @@ ghost use Rattle.fk_model.specs.Searches.{thread_at};
 
 use crate::store::Store;
 use fk_model::{Body, Mode, Thread, Who};
-use fk_store_bodies::Nudge;
+use fk_store_freezing::Nudge;
 
 impl Store {
     /// The thread in a slot, if one is there.

@@ -13,4 +13,5 @@ mod steps;
 mod thaw;
 mod tree;
 
+pub use fk_store_bodies::{Leaders, Nudge, Pages, Part};
 pub use tree::Tree;

@@ -8,7 +8,7 @@ use Rattle.fk_model.specs.declared.body.Body.TheVariants.{Mutex, Cond, Mapping, 
 use Rattle.fk_model.specs.Places.{Path}
 use Rattle.fk_model.specs.World.{edited}
 use Rattle.fk_model.specs.World.Edit.{Proceed}
-use Rattle.fk_store_bodies.specs.Threads.{proceeded}
+use Rattle.fk_store_freezing.specs.Threads.{proceeded}
 use Rattle.fk_store.specs.Names.{who_cmp}
 use Rattle.fk_store.specs.Contents.{Contents}
 use Rattle.fk_store.specs.Bodies.{mode_by, body_by}

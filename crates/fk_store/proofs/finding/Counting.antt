@@ -20,7 +20,7 @@ use Rattle.fk_store.specs.Paths.{path, place}
 use Rattle.fk_store.specs.World.{world, IsLive}
 use Rattle.fk_store.specs.WellFormed.{IsWellFormed}
 use Rattle.fk_store.proofs.finding.LookUps.{there-IsLive, IsLive-there}
-use Rattle.fk_store_bodies.proofs.Lists.{Differ, sum_same, sum_none, sum_without, in_mapped, of_mapped, sum_mapped}
+use Rattle.fk_store_freezing.proofs.Lists.{Differ, sum_same, sum_none, sum_without, in_mapped, of_mapped, sum_mapped}
 use Rattle.fk_store.proofs.finding.PointerLaws.{in_map, places-differ, sum-objects, there}
 
 -- ---- names, and those that are yet to come

@@ -6,7 +6,7 @@ use Rattle.fk_model.specs.Places.{Path, slot_of}
 use Rattle.fk_model.specs.World.{World}
 use Rattle.fk_model.specs.Searches.{slots, residents, depth, beneath_by, beneath, objects}
 use Rattle.fk_model.proofs.walks.Members.{IsIn, in_either, of_filter, of_flat_map}
-use Rattle.fk_store_bodies.proofs.Lists.{Differ, differ-append, differ-filter, differ-flat_map}
+use Rattle.fk_store_freezing.proofs.Lists.{Differ, differ-append, differ-filter, differ-flat_map}
 
 below_slots : (n k : ℕ) → IsIn k (slots n) → k < n
 unfolding slots

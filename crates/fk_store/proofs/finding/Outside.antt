@@ -27,7 +27,7 @@ use Rattle.fk_store.specs.Names.{at}
 use Rattle.fk_store.specs.Paths.{path, place, space_at, HasOwnPath}
 use Rattle.fk_store.specs.World.{world, IsSpace}
 use Rattle.fk_store.specs.WellFormed.{is_there, IsWellFormed}
-use Rattle.fk_store_bodies.proofs.Lists.{sum_same, sum_none, sum_filtered, sum_mapped}
+use Rattle.fk_store_freezing.proofs.Lists.{sum_same, sum_none, sum_filtered, sum_mapped}
 use Rattle.fk_store.proofs.finding.LookUps.{body-place}
 use Rattle.fk_store.proofs.finding.NamedLaws.{OnNamed-map}
 use Rattle.fk_store.proofs.finding.Enumerated.{named-object}

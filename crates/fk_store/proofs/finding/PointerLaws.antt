@@ -38,7 +38,7 @@ use Rattle.fk_store.proofs.finding.Walks.{place-apart, same_path_refl}
 use Rattle.fk_store.proofs.finding.LookUps.{body-place}
 use Rattle.fk_store.proofs.finding.Enumerated.{named-object}
 use Rattle.fk_store.proofs.finding.Players.{among}
-use Rattle.fk_store_bodies.proofs.Lists.{Differ, same_sum}
+use Rattle.fk_store_freezing.proofs.Lists.{Differ, same_sum}
 use Rattle.fk_store.proofs.finding.Listed.{objects-differ, objects-live, not_root}
 
 some_kind : (o : Option Body) → IsSome o → IsSome (option_map kind_of o)

@@ -12,7 +12,7 @@ ghost use Rattle.fk_store.specs.World.{world};
 
 use crate::Store;
 use fk_model::{Mode, Who};
-use fk_store_bodies::Nudge;
+use fk_store_freezing::Nudge;
 
 impl Store {
     /// A thread goes on with these registers, at this counter and in this mode. Where it calls, the

@@ -12,7 +12,7 @@ ghost use Rattle.fk_store.specs.World.{world, place_of, IsLive};
 
 use crate::Store;
 use fk_model::Who;
-use fk_store_bodies::Part;
+use fk_store_freezing::Part;
 
 impl Store {
     /// The client of the talk that a thread serves.
