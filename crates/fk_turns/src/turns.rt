@@ -1,0 +1,178 @@
+//! Turns.
+ghost use Rattle.std.specs.Prelude.{◌≡◌, ◌≤◌, ◌||◌, [], true, false, IfOk, OnOk, if◌then◌else◌};
+ghost use Rattle.fk_model.specs.declared.names.Who as names_of;
+ghost use Rattle.fk_waits_names.specs.Names.{is_same};
+ghost use Rattle.fk_waits.specs.Lists.{first_ready, is_cause, is_in, is_queued, left, parked, stands, woken};
+ghost use Rattle.fk_turns.specs.Turns.{free_cause, AreMet, IsLess, IsRoused, IsSound};
+
+use fk_model::{NoMemory, Who};
+use fk_waits::Waits;
+use std::alloc::Global;
+
+/// The one cause at which those stand among the marks whom not every change may free.
+const FREE: Who = Who { space: 0, slot: 0 };
+
+/// The threads that are ready and those that are queued, each behind its cause; and marks: the same threads, first those whom any change may free.
+#[derive(Drop)]
+pub struct Turns {
+    waits: Waits,
+    marks: Waits,
+}
+
+impl Turns {
+    /// Nobody stands, and there is no room yet.
+    ///
+    /// # Errors
+    ///
+    /// There is no memory for the heads of the lists.
+    pub fn new(alloc: Global) -> Result<Turns, NoMemory>
+        ensures waits { IfOk result (λ t. t.waits ≡ record { ready = []; queued = []; spare = 0 }) }
+        ensures sound { IfOk result (λ t. IsSound t.waits t.marks) }
+    {
+        let waits = Waits::new(alloc)?;
+        let marks = Waits::new(alloc)?;
+        Ok(Turns { waits, marks })
+    }
+
+    /// The lists.
+    pub fn waits(&self) -> &Waits
+        ensures { result.now ≡ self.now.waits }
+    {
+        &self.waits
+    }
+
+    /// Makes room for one more thread. The lists stay.
+    ///
+    /// # Errors
+    ///
+    /// There is no memory for it.
+    pub fn reserve(&mut self) -> Result<(), NoMemory>
+        requires sound { IsSound self.old.waits self.old.marks }
+        ensures sound { IsSound self.new.waits self.new.marks }
+        ensures waits { OnOk result (1 ≤ self.new.waits.spare) }
+        ensures marks { OnOk result (1 ≤ self.new.marks.spare) }
+        ensures ready { self.new.waits.ready ≡ self.old.waits.ready }
+        ensures queued { self.new.waits.queued ≡ self.old.waits.queued }
+    {
+        self.waits.reserve(1)?;
+        self.marks.reserve(1)
+    }
+
+    /// A thread is ready, last of all. It stands, or there is room for it.
+    pub fn wake(&mut self, who: Who)
+        requires sound { IsSound self.old.waits self.old.marks }
+        requires waits { stands who self.old.waits ≡ false → 1 ≤ self.old.waits.spare }
+        requires marks { stands who self.old.waits ≡ false → 1 ≤ self.old.marks.spare }
+        ensures sound { IsSound self.new.waits self.new.marks }
+        ensures waits { self.new.waits ≡ woken who self.old.waits }
+        ensures marks { self.new.marks ≡ parked who free_cause self.old.marks }
+        ensures met { AreMet self.old.marks self.new.marks self.new.waits }
+        ensures less { IsLess self.old.waits self.new.waits }
+        ensures away { is_queued who self.new.waits.queued ≡ false }
+    {
+        self.waits.wake(who);
+        self.marks.park(who, FREE);
+    }
+
+    /// A thread is queued at a cause, last of all. It stands. Whether any change may free it is marked.
+    pub fn park(&mut self, who: Who, cause: Who, any: bool)
+        requires sound { IsSound self.old.waits self.old.marks }
+        requires stands { stands who self.old.waits ≡ true }
+        ensures sound { IsSound self.new.waits self.new.marks }
+        ensures waits { self.new.waits ≡ parked who cause self.old.waits }
+        ensures marks { self.new.marks ≡ if any then woken who self.old.marks else parked who free_cause self.old.marks }
+    {
+        self.waits.park(who, cause);
+        if any {
+            self.marks.wake(who);
+        } else {
+            self.marks.park(who, FREE);
+        }
+    }
+
+    /// A thread stands no more.
+    pub fn forget(&mut self, who: Who)
+        requires sound { IsSound self.old.waits self.old.marks }
+        ensures sound { IsSound self.new.waits self.new.marks }
+        ensures waits { self.new.waits ≡ left who self.old.waits }
+        ensures marks { self.new.marks ≡ left who self.old.marks }
+        ensures met { AreMet self.old.marks self.new.marks self.new.waits }
+        ensures less { IsLess self.old.waits self.new.waits }
+        ensures away { is_queued who self.new.waits.queued ≡ false }
+    {
+        self.waits.leave(who);
+        self.marks.leave(who);
+    }
+
+    /// A thread that stands has another name, and is ready, last of all. Who stood by that name is this one.
+    pub fn rename(&mut self, from: Who, to: Who)
+        requires sound { IsSound self.old.waits self.old.marks }
+        requires stands { stands from self.old.waits ≡ true }
+        ensures sound { IsSound self.new.waits self.new.marks }
+        ensures waits { self.new.waits ≡ woken to (left from self.old.waits) }
+        ensures less { IsLess self.old.waits self.new.waits }
+    {
+        self.forget(from);
+        self.wake(to);
+    }
+
+    /// All that are queued at a cause are ready.
+    pub fn rouse_at(&mut self, cause: Who)
+        requires sound { IsSound self.old.waits self.old.marks }
+        ensures sound { IsSound self.new.waits self.new.marks }
+        ensures roused { IsRoused self.old.waits self.new.waits }
+        ensures met { AreMet self.old.marks self.new.marks self.new.waits }
+        ensures gone { is_cause cause self.new.waits.queued ≡ false }
+    {
+        while let Some(who) = self.waits.first(cause) {
+            self.waits.once();
+            self.wake(who);
+        }
+    }
+
+    /// All whom any change may free are ready.
+    pub fn rouse_marked(&mut self)
+        requires sound { IsSound self.old.waits self.old.marks }
+        ensures sound { IsSound self.new.waits self.new.marks }
+        ensures roused { IsRoused self.old.waits self.new.waits }
+        ensures marks { self.new.marks.ready ≡ [] }
+        ensures room { self.new.marks.spare ≡ self.old.marks.spare }
+        ensures gone { (who : names_of.Who) → is_in who self.old.marks.ready ≡ true → is_queued who self.new.waits.queued ≡ false }
+    {
+        while let Some(who) = self.marks.next() {
+            self.marks.once();
+            self.wake(who);
+        }
+    }
+
+    /// All that are queued are ready.
+    pub fn rouse_all(&mut self)
+        requires sound { IsSound self.old.waits self.old.marks }
+        ensures sound { IsSound self.new.waits self.new.marks }
+        ensures stays { (who : names_of.Who) → stands who self.new.waits ≡ stands who self.old.waits }
+        ensures queued { self.new.waits.queued ≡ [] }
+    {
+        self.mark_all();
+        self.rouse_marked();
+    }
+
+    /// All are marked.
+    fn mark_all(&mut self)
+        requires sound { IsSound self.old.waits self.old.marks }
+        ensures sound { IsSound self.new.waits self.new.marks }
+        ensures waits { self.new.waits ≡ self.old.waits }
+        ensures none { is_cause free_cause self.new.marks.queued ≡ false }
+    {
+        while let Some(who) = self.marks.first(FREE) {
+            self.marks.once();
+            self.marks.wake(who);
+        }
+    }
+
+    /// Who is ready first.
+    pub fn next(&self) -> Option<Who>
+        ensures { result ≡ first_ready self.now.waits.ready }
+    {
+        self.waits.next()
+    }
+}
