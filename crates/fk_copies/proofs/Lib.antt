@@ -1,0 +1,4 @@
+mod Acts
+mod Equal
+pub mod Places
+pub mod Used
