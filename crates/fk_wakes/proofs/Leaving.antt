@@ -1,4 +1,4 @@
--- Leaving: what the changes of deeds, plans and verdicts take from its place.
+-- Leaving: what the changes of deeds, plans and verdicts make, and take from its place.
 use Rattle.std.proofs.Common.{◌≡◌, ◌||◌, ◌&&◌, ◌==◌, ℕ, Bool, true, false, List, [], ◌∷◌, ◌++◌, map, Option, Some, None, is_none, if◌then◌else◌, refl, ap}
 use Rattle.std.proofs.Common.{◌∙◌, eq-eqb}
 use Rattle.std.specs.List.{flat_map}
@@ -38,11 +38,11 @@ use Rattle.fk_plans.specs.Verdicts.{news_by, outcome_by, tells}
 use Rattle.fk_records.specs.Settings.{record_there, sets_at, sets_of}
 use Rattle.fk_threads.specs.Answers.{all_four, listed as answers_of}
 use Rattle.fk_wakes.specs.declared.touching.Touched.{Touched}
-use Rattle.fk_wakes.specs.declared.touching.Touched.TheVariants.{Any, Dies, Few, Moves}
-use Rattle.fk_wakes.specs.Touches.{judged, leave, leaves, planned}
+use Rattle.fk_wakes.specs.declared.touching.Touched.TheVariants.{Any, Dies, Few, Makes, Moves}
+use Rattle.fk_wakes.specs.Touches.{judged, leave, leaves, makes, planned}
 use Rattle.fk_wakes.proofs.Naming.{told_listed}
 
-both : (a b : Bool) → a ≡ true → b ≡ true → (a && b) ≡ true
+pub both : (a b : Bool) → a ≡ true → b ≡ true → (a && b) ≡ true
 both true b first second = second
 both false b first second = first
 
@@ -69,34 +69,38 @@ deed_leaves p t (deeds.Stops thread stops) w = refl
 deed_leaves p t (deeds.Copies from to) w = refl
 deed_leaves p t (deeds.Drops space page) w = refl
 
+-- ---- what is made
+
+record IsTold (p : ℕ → Path) (t : Touched) (o : Option Change) : Type 0 where
+  told : leave p t (made o) ≡ true
+
+either : {p : ℕ → Path} {t : Touched} (b : Bool) {o r : Option Change} → IsTold p t o → IsTold p t r → IsTold p t (if b then o else r)
+either true one other = one
+either false one other = other
+
+made_leaves : (p : ℕ → Path) (t : Touched) (y : Path) (kind : ℕ) → makes p t y ≡ true → IsTold p t (new_object y kind)
+made_leaves p t y kind is =
+    let here = both (makes p t y) true is refl in
+    either (kind == 1) (record { told = here }) (either (kind == 2) (record { told = here })
+    (either (kind == 3) (record { told = here }) (either (kind == 4) (record { told = here })
+    (either (kind == 5) (record { told = here }) (either (kind == 6) (record { told = here })
+    (either (kind == 7) (record { told = here }) (either (kind == 8) (record { told = here })
+    (either (kind == 9) (record { told = here }) (record { told = refl })))))))))
+
+plan_leaves : (p : ℕ → Path) (given : List ℕ) (plan : Plan) (w : World) → leave p (planned plan) (changes_by p given plan w) ≡ true
+plan_leaves p given plans.Nothing w = refl
+plan_leaves p given (plans.One a) w =
+    let t = planned (plans.One a) in both (leaves p t (change_by p a w)) true (deed_leaves p t a w) refl
+plan_leaves p given (plans.Two a b) w =
+    let t = planned (plans.Two a b) in
+    both (leaves p t (change_by p a w)) (leaves p t (change_by p b (after p a w)) && true) (deed_leaves p t a w)
+    (both (leaves p t (change_by p b (after p a w))) true (deed_leaves p t b (after p a w)) refl)
+plan_leaves p given (plans.Moves block client receiver sender) w = refl
+plan_leaves p given (plans.Makes object kind) w = (made_leaves p (Makes object) (place p object) kind (same_path_refl (place p object))).told
+plan_leaves p given (plans.MakesHeld object holder) w = both (makes p (Makes object) (place p object)) true (same_path_refl (place p object)) refl
+plan_leaves p given (plans.Gives space page source) w = refl
+
 module _ (p : ℕ → Path) (t : Touched) where
-  -- what is made takes nothing away
-  record Makes (o : Option Change) : Type 0 where
-    makes : leave p t (made o) ≡ true
-
-  either : (b : Bool) {o r : Option Change} → Makes o → Makes r → Makes (if b then o else r)
-  either true one other = one
-  either false one other = other
-
-  made_leaves : (y : Path) (kind : ℕ) → Makes (new_object y kind)
-  made_leaves y kind =
-      either (kind == 1) (record { makes = refl }) (either (kind == 2) (record { makes = refl })
-      (either (kind == 3) (record { makes = refl }) (either (kind == 4) (record { makes = refl })
-      (either (kind == 5) (record { makes = refl }) (either (kind == 6) (record { makes = refl })
-      (either (kind == 7) (record { makes = refl }) (either (kind == 8) (record { makes = refl })
-      (either (kind == 9) (record { makes = refl }) (record { makes = refl })))))))))
-
-  plan_leaves : (given : List ℕ) (plan : Plan) (w : World) → leave p t (changes_by p given plan w) ≡ true
-  plan_leaves given plans.Nothing w = refl
-  plan_leaves given (plans.One a) w = both (leaves p t (change_by p a w)) true (deed_leaves p t a w) refl
-  plan_leaves given (plans.Two a b) w =
-      both (leaves p t (change_by p a w)) (leaves p t (change_by p b (after p a w)) && true) (deed_leaves p t a w)
-      (both (leaves p t (change_by p b (after p a w))) true (deed_leaves p t b (after p a w)) refl)
-  plan_leaves given (plans.Moves block client receiver sender) w = refl
-  plan_leaves given (plans.Makes object kind) w = (made_leaves (place p object) kind).makes
-  plan_leaves given (plans.MakesHeld object holder) w = refl
-  plan_leaves given (plans.Gives space page source) w = refl
-
   -- ---- with the caller's own part
 
   then_leaves : (cs ds : List Change) → leave p t cs ≡ true → leave p t ds ≡ true → leave p t (cs ++ ds) ≡ true
@@ -232,11 +236,11 @@ verdict_leaves w p c (verdicts.Runs e) = run_leaves p (Few None None None) w (pa
 verdict_leaves w p c (verdicts.Refused status) = refl
 verdict_leaves w p c verdicts.Waits = refl
 verdict_leaves w p c (verdicts.Done plan answers) =
-    done_leaves p (planned plan) (path_of c) c (changes_by p c.words plan w) (answers_of answers) (plan_leaves p (planned plan) c.words plan w)
+    done_leaves p (planned plan) (path_of c) c (changes_by p c.words plan w) (answers_of answers) (plan_leaves p c.words plan w)
 verdict_leaves w p c (verdicts.Ends plan answers) =
-    ended_leaves p (planned plan) c (changes_by p c.words plan w) (all_four answers) (plan_leaves p (planned plan) c.words plan w)
+    ended_leaves p (planned plan) c (changes_by p c.words plan w) (all_four answers) (plan_leaves p c.words plan w)
 verdict_leaves w p c (verdicts.Shows plan space page) =
-    done_leaves p (planned plan) (path_of c) c (changes_by p c.words plan w) (words_at w (p space) page) (plan_leaves p (planned plan) c.words plan w)
+    done_leaves p (planned plan) (path_of c) c (changes_by p c.words plan w) (words_at w (p space) page) (plan_leaves p c.words plan w)
 verdict_leaves w p c (verdicts.ShowsRecord object) =
     done_leaves p (Few None None None) (path_of c) c [] (record_there (w.body (place p object))) refl
 verdict_leaves w p c (verdicts.Sets object from) =
@@ -248,7 +252,7 @@ verdict_leaves w p c (verdicts.Renames object slot) = renamed_leaves p c object 
 verdict_leaves w p c (verdicts.Destroys object last) = destroyed_leaves w p c object last
 verdict_leaves w p c (verdicts.WakesAll cond) =
     done_leaves p Any (path_of c) c (sleepers w c.space cond) [] (sleepers_leave p Any w c.space cond)
-verdict_leaves w p c (verdicts.Goes plan) = plan_leaves p (planned plan) c.words plan w
+verdict_leaves w p c (verdicts.Goes plan) = plan_leaves p c.words plan w
 verdict_leaves w p c (verdicts.Tells plan news last) =
-    tells_leaves p (planned plan) c (changes_by p c.words plan w) (news_by w p news) last (plan_leaves p (planned plan) c.words plan w)
+    tells_leaves p (planned plan) c (changes_by p c.words plan w) (news_by w p news) last (plan_leaves p c.words plan w)
 verdict_leaves w p c (verdicts.Faults page write port) = refl

@@ -1,2 +1,4 @@
 pub mod Naming
 pub mod Leaving
+pub mod Acts
+pub mod Moving

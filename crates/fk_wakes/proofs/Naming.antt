@@ -33,7 +33,7 @@ use Rattle.fk_threads.specs.Answers.{all_four, listed as answers_of}
 use Rattle.fk_model.specs.Reach.{words_at}
 use Rattle.fk_model.specs.Searches.{thread_at}
 use Rattle.laws_machine.specs.Frame.{name_body, names_body}
-use Rattle.fk_wakes.specs.declared.touching.Touched.TheVariants.{Few, Moves}
+use Rattle.fk_wakes.specs.declared.touching.Touched.TheVariants.{Few, Makes}
 use Rattle.fk_wakes.specs.Touches.{changed_by, is_at, is_touched, judged, planned}
 
 pub none_names : {X : Type 0} → false ≡ true → X
@@ -104,8 +104,8 @@ makes_only w y x kind =
     (either w y x (kind == 9) (record { only_it = λ n. n }) (record { only_it = λ n. none_names n })))))))))
 
 pub made_names : (p : ℕ → Path) (object : Who) (kind : ℕ) (w : World) (x : Path) → name_body w (made (new_object (place p object) kind)) x ≡ true →
-    is_touched p (Few (Some object) None None) x ≡ true
-made_names p object kind w x names = (makes_only w (place p object) x kind).only_it names
+    is_touched p (Makes object) x ≡ true
+made_names p object kind w x names = sym (or_none (same_path x (place p object))) ∙ (makes_only w (place p object) x kind).only_it names
 
 -- ---- what comes before the caller's own part
 
@@ -259,7 +259,7 @@ plan_names p given (plans.Moves block client receiver sender) w x names =
     three_names p (deeds.Counts client block.count) (deeds.Shifts receiver block.count) (deeds.Shifts sender block.count) w sent counted
     (after p (deeds.Shifts receiver block.count) counted) (change_by p (deeds.Sends block) w) x refl names
 plan_names p given (plans.Makes object kind) w x names = made_names p object kind w x names
-plan_names p given (plans.MakesHeld object holder) w x names = names
+plan_names p given (plans.MakesHeld object holder) w x names = sym (or_none (same_path x (place p object))) ∙ names
 plan_names p given (plans.Gives space page source) w x names = none_names names
 
 pub verdict_names : (w : World) (p : ℕ → Path) (c : Caller) (v : Verdict) (x : Path) → name_body w (listed (outcome_by w p c v)) x ≡ true →

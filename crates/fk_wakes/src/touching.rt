@@ -12,12 +12,13 @@ ghost use Rattle.fk_store.specs.Paths.{path, place};
 ghost use Rattle.fk_store.specs.World.{world};
 ghost use Rattle.laws_machine.specs.Frame.{name_body};
 ghost use Rattle.fk_wakes.specs.Touches as touches;
-ghost use Rattle.fk_wakes.specs.Touches.{changed_by, is_touched, leave};
+ghost use Rattle.fk_wakes.specs.declared.touching.Touched as touched_of;
+ghost use Rattle.fk_wakes.specs.Touches.{changed_by, is_touched, leave, ActsTouch, MovesFirst};
 
 use fk_model::Who;
 use fk_plans::{Deed, Plan, Verdict};
 
-/// Which objects a move may change besides its caller, and what it takes from its place.
+/// Which objects a move may change besides its caller, what it makes, and what it takes from its place.
 #[derive(Clone, Copy)]
 pub enum Touched {
     /// These alone, and nothing goes from its place.
@@ -25,6 +26,10 @@ pub enum Touched {
         first: Option<Who>,
         second: Option<Who>,
         third: Option<Who>,
+    },
+    /// This one alone, and it is made.
+    Makes {
+        object: Who,
     },
     /// Any, and nothing goes from its place.
     Any,
@@ -90,11 +95,9 @@ fn planned(plan: &Plan) -> Touched
             sender,
             ..
         } => few(Some(*client), Some(*receiver), Some(*sender)),
-        Plan::Makes { object, .. } | Plan::MakesHeld { object, .. } => few(
-            Some(*object),
-            None,
-            None,
-        ),
+        Plan::Makes { object, .. } | Plan::MakesHeld { object, .. } => Touched::Makes {
+            object: *object,
+        },
     }
 }
 
@@ -132,11 +135,19 @@ pub fn touched_by_plan(plan: &Plan) -> Touched
 
 /// Which objects the move of a caller changes besides the caller, where it is judged so.
 pub fn touched_by_move(verdict: &Verdict) -> Touched
+    ensures by { result ≡ touches.judged verdict.now }
     ensures names { (m : Contents) (c : callers.Caller) (words : List ℕ) (chooses : Bool) (pick : Option names_of.Who) (x : Path)
         → name_body (world m) (outcomes.listed (move_by m c words chooses pick verdict.now)) x ≡ true
         → (same_path x (place (path m) c.who) || is_touched (path m) result x) ≡ true }
     ensures leaves { (m : Contents) (c : callers.Caller) (words : List ℕ) (chooses : Bool) (pick : Option names_of.Who)
         → leave (path m) result (outcomes.listed (move_by m c words chooses pick verdict.now)) ≡ true }
+    ensures moves { (m : Contents) (c : callers.Caller) (words : List ℕ) (chooses : Bool) (pick : Option names_of.Who)
+        → MovesFirst (path m) result (move_by m c words chooses pick verdict.now) }
 {
     judged(verdict)
 }
+
+/// An act of a native server changes no body but its client's, makes nothing, and takes nothing from its place, whatever is told of it.
+pub fn acts_touch()
+    ensures { (p : ℕ → Path) (touched : touched_of.Touched) (w : World) (port : Path) (pick : Option Path) → ActsTouch p touched w port pick }
+{}

@@ -7,8 +7,9 @@ use Rattle.fk_store.specs.Moves.{picked_by}
 use Rattle.fk_store.specs.Paths.{path, place}
 use Rattle.fk_store.specs.World.{world}
 use Rattle.fk_wakes.specs.declared.touching.Touched.{Touched}
-use Rattle.fk_wakes.specs.Touches.{is_touched, judged, leave}
+use Rattle.fk_wakes.specs.Touches.{is_touched, judged, leave, MovesFirst}
 use Rattle.fk_wakes.proofs.Leaving.{closed_leaves, verdict_leaves}
+use Rattle.fk_wakes.proofs.Moving.{verdict_first}
 use Rattle.fk_wakes.proofs.Naming.{closed_names, verdict_names}
 use Rattle.fk_wakes.proofs.touching.touched_by_move.Goals as goal
 
@@ -27,3 +28,9 @@ returns-clause-leaves c m caller words chooses pick =
     subst (λ (t : Touched). leave (path m) t (listed (move_by m caller words chooses pick v)) ≡ true) (sym c.judged.ensures)
     (closed_leaves (path m) (judged v) mover chooses (picked_by (path m) pick) (outcome_by (world m) (path m) mover v)
     (verdict_leaves (world m) (path m) mover v))
+
+pub returns-clause-moves : goal.returns-clause-moves
+returns-clause-moves c m caller words chooses pick =
+    let v = c.args.verdict.now in
+    subst (λ (t : Touched). MovesFirst (path m) t (move_by m caller words chooses pick v)) (sym c.judged.ensures)
+    (verdict_first (world m) (path m) (caller_by (path m) caller words) chooses (picked_by (path m) pick) v)
