@@ -6,3 +6,4 @@ pub mod Ends
 pub mod Cuts
 pub mod Leaves
 pub mod Rooms
+pub mod Given

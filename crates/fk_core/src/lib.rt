@@ -13,6 +13,7 @@
 #![tactic(auto)]
 
 mod advancing;
+mod given;
 mod looks;
 mod room;
 mod settling;

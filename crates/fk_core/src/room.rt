@@ -12,6 +12,7 @@ ghost use Rattle.fk_moment.specs.Kernels.{path_of, world_of};
 ghost use Rattle.fk_moment.specs.Events.{is_fit_event, is_who, IsReadyEvent, step_of};
 ghost use Rattle.fk_core.specs.Rooms.{is_made};
 
+use crate::given::Given;
 use fk_model::{Answer, Move, NoMemory, Said, Stage, Who};
 use fk_moment::{Kernel, Told};
 use std::marker::Model;
@@ -120,25 +121,25 @@ impl Room {
         kernel: &mut Kernel,
         m: &Move,
         stage: &Stage,
-        words: &[u64; 64],
+        given: &Given,
     ) -> Result<bool, NoMemory>
-        requires fit { is_fit_event (world_of kernel.old) (event_of (world_of kernel.old) (asks.Call stage.now words.now) m.now) ≡ true }
+        requires fit { is_fit_event (world_of kernel.old) (event_of (world_of kernel.old) (asks.Call stage.now given.now) m.now) ≡ true }
         ensures made { IfOk (tried_of result self.new) (λ tried. IfSome tried (λ told.
-            IsReadyEvent (world_of kernel.old) (event_of (world_of kernel.old) (asks.Call stage.now words.now) m.now)
-            × (step_of (world_of kernel.old) (event_of (world_of kernel.old) (asks.Call stage.now words.now) m.now)
+            IsReadyEvent (world_of kernel.old) (event_of (world_of kernel.old) (asks.Call stage.now given.now) m.now)
+            × (step_of (world_of kernel.old) (event_of (world_of kernel.old) (asks.Call stage.now given.now) m.now)
             ≡ record { world = world_of kernel.new; said = said_by (path_of kernel.new) told.said }))) }
         ensures ended { IfOk (tried_of result self.new) (λ tried. IfSome tried (λ told. (port : Who) →
             has_ended (world_of kernel.old) (world_of kernel.new) (named (world_of kernel.old) port) ≡ is_who told.ended port)) }
         ensures told { IfOk (tried_of result self.new) (λ tried. IfSome tried (λ told. (port : Who) →
-            says_to (step_of (world_of kernel.old) (event_of (world_of kernel.old) (asks.Call stage.now words.now) m.now)).said
+            says_to (step_of (world_of kernel.old) (event_of (world_of kernel.old) (asks.Call stage.now given.now) m.now)).said
             (named (world_of kernel.old) port) ≡ says_to_who told.said port)) }
         ensures unready { IfOk (tried_of result self.new) (λ tried. IfNone tried (
-            (IsReadyEvent (world_of kernel.old) (event_of (world_of kernel.old) (asks.Call stage.now words.now) m.now) → ⊥)
+            (IsReadyEvent (world_of kernel.old) (event_of (world_of kernel.old) (asks.Call stage.now given.now) m.now) → ⊥)
             × (kernel.new ≡ kernel.old))) }
         ensures lacking { OnErr (tried_of result self.new) (kernel.new ≡ kernel.old) }
     {
         clear(&mut self.told);
-        let called = kernel.call(m, stage, words, &mut self.told);
+        let called = kernel.call(m, stage, given.words(), &mut self.told);
         if is_made(&called) {
             return called;
         }

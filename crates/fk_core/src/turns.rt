@@ -10,6 +10,7 @@ ghost use Rattle.fk_core.specs.Leaves.{LeavesTheRest};
 ghost use Rattle.fk_store.specs.World.{world};
 ghost use Rattle.fk_jobs.specs.Jobs.{hears};
 
+use crate::given::Given;
 use crate::room::Room;
 use fk_jobs::{Jobs, Worker};
 use fk_model::{Answer, Ask, Move, NoMemory, Reply, Said, Who};
@@ -32,6 +33,8 @@ pub struct Core<S: Service + Drop, W: Worker + Drop> {
     pub(crate) rounds: Rounds,
     /// What a porter is told is laid here, so that no call on the way copies it.
     pub(crate) room: Room,
+    /// The words that a job gives with its call are laid here.
+    pub(crate) given: Given,
 }
 
 /// The thread that has moved last, once this one has or a server.
@@ -99,6 +102,7 @@ impl<S: Service + Drop, W: Worker + Drop> Core<S, W> {
             last: None,
             rounds: Rounds::new(),
             room: Room::new(),
+            given: Given::new(),
         }
     }
 
@@ -356,12 +360,11 @@ impl<S: Service + Drop, W: Worker + Drop> Core<S, W> {
     {
         self.services.reserve()?;
         self.jobs.reserve()?;
-        let mut words = [0; 64];
-        let next = self.jobs.next(&mut words);
+        let next = self.given.next(&self.jobs);
         let Some(stage) = next else {
             return Ok(false);
         };
-        let made = self.room.call(&mut self.kernel, m, &stage, &words)?;
+        let made = self.room.call(&mut self.kernel, m, &stage, &self.given)?;
         if !made {
             return Ok(false);
         }

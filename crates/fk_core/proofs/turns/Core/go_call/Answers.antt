@@ -12,10 +12,10 @@ use Rattle.fk_core.proofs.turns.Core.go_call.Goals as goal
 pub call-requires : goal.call-requires
 call-requires g c =
     let self = c.args.self.now in
-    let ask = asks.Call c.in-Some.stage c.next-next.new.words in
+    let ask = asks.Call c.in-Some.stage c.next-next.new.self in
     let kept = c.reserve-2.ensures in
     let next : asked_by (state_of c.reserve-2.new.self) ≡ Some ask =
-    sym c.next-next.ensures.next ∙ ap (λ o. call_with o c.next-next.new.words) c.in-Some.is in
+    sym c.next-next.ensures ∙ ap (λ o. call_with o c.next-next.new.self) c.in-Some.is in
     let asked : asked_by (state_of self.jobs) ≡ Some ask =
     (λ i. asked_by (state_from (sym kept.work i) (first_of (sym kept.ends i) (slice_get (sym kept.jobs i) (length (sym kept.ends i)))))) ∙ next in
     record {
@@ -29,13 +29,13 @@ returns-clause-tried g c =
     let m = self.kernel in
     let n = c.call.new.kernel in
     let list = self.services.list in
-    let ask = asks.Call c.in-Some.stage c.next-next.new.words in
+    let ask = asks.Call c.in-Some.stage c.next-next.new.self in
     let what = c.call.new.self in
     let yes : c.in_ok-made.made ≡ true = cc in
     let made = rw yes at c.in_ok-made.ensures.made in
     let kept = c.reserve-2.ensures in
     let next : asked_by (state_of c.reserve-2.new.self) ≡ Some ask =
-    sym c.next-next.ensures.next ∙ ap (λ o. call_with o c.next-next.new.words) c.in-Some.is in
+    sym c.next-next.ensures ∙ ap (λ o. call_with o c.next-next.new.self) c.in-Some.is in
     let both = hears-same m n list c.hear.new.self.list self.jobs c.reserve-2.new.self c.tell_jobs.new.jobs self.events c.args.m.now ask what.said what.ended _
     kept.jobs kept.ends kept.work c.requires.job next made.0 made.1
     (rw yes at c.in_ok-made.ensures.ended)
