@@ -6,3 +6,4 @@ pub mod Given
 pub mod Restored
 mod Families
 mod Quiet
+mod Untold

@@ -20,6 +20,7 @@ mod moves;
 mod picking;
 mod rows;
 mod sayings;
+mod silent;
 mod straight;
 
 pub use answering::call;

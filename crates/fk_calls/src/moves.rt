@@ -18,6 +18,7 @@ ghost use Rattle.fk_calls.specs.Rows.{are_given_for};
 
 use crate::judging::{given, judge, moving_of, running, running_user};
 use crate::rows::restores;
+use crate::silent::make_silently;
 use fk_endings::ended_by;
 use fk_model::{Ask, Move, NoMemory, Said, Stage, Who};
 use fk_plans::{
@@ -169,9 +170,9 @@ fn attempt_act(store: &mut Store, m: &Move, ask: &Ask) -> Option<Told>
     }
 }
 
-/// Makes the instruction of the user in a slot, where that is what it does next and where it is ready, and answers
-/// whether it did; else all stays as it is. It tells nothing, and no server loses its client by it. So nobody needs
-/// room here for what moves tell.
+/// Makes the next instruction of the user in a slot, or the next stage of its call where that tells nothing, where it is ready, and answers
+/// whether it did; else, and wherever it declines a stage, all stays as it is. No server loses its client by it. So nobody needs room here
+/// for what moves tell.
 pub fn proceed(store: &mut Store, who: Who) -> bool
     requires valid { IsValid (world store.old) }
     ensures made { OnTrue result (IsReadyMove store.old (record { who = who; pick = None }) asks.Run
@@ -180,7 +181,7 @@ pub fn proceed(store: &mut Store, who: Who) -> bool
     ensures same { OnFalse result (store.new ≡ store.old) }
 {
     let Some(thread) = running_user(store, who) else {
-        return false;
+        return make_silently(store, who);
     };
     let caller = Caller {
         who,

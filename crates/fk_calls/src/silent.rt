@@ -1,0 +1,167 @@
+//! Stages of users by which nobody is told anything and no native server loses its client, made without room for what moves tell. Most
+//! calls on objects, spaces and pages are so.
+ghost use Rattle.std.specs.Prelude.{◌≡◌, [], true, false, None};
+ghost use Rattle.std.specs.Bool.{OnTrue, OnFalse};
+ghost use Rattle.fk_model.specs.declared.moves.Ask.TheVariants as asks;
+ghost use Rattle.fk_model.specs.declared.moves.Said.TheVariants as says;
+ghost use Rattle.fk_model.specs.Moves.{closed, stepped};
+ghost use Rattle.fk_model.specs.ObjectRows.{told_with};
+ghost use Rattle.fk_model.specs.Outcomes.Said.{Nothing};
+ghost use Rattle.fk_model.specs.Places.{same_path};
+ghost use Rattle.fk_model.specs.Valid.{IsValid};
+ghost use Rattle.fk_store.specs.Paths.{path, place};
+ghost use Rattle.fk_store.specs.World.{world, IsLive};
+ghost use Rattle.fk_plans.specs.Destroys.{destroyed, IsDying};
+ghost use Rattle.fk_plans.specs.Plans.{caller_by};
+ghost use Rattle.fk_plans.specs.Renames.{renames, IsMoving};
+ghost use Rattle.fk_plans.specs.Verdicts.{outcome_by, IsVerdict};
+ghost use Rattle.fk_calls.specs.Judgements.{IsEnded, IsReadyMove, IsStepTo};
+
+use crate::codes::is_on_objects;
+use crate::judging::judge;
+use fk_deaths::told_port;
+use fk_endings::ended_by;
+use fk_model::{Ask, Move, Who};
+use fk_plans::{Caller, Plan, Verdict, carry_all, is_ready};
+use fk_store::Store;
+use fk_threads::{Answers, finish};
+
+/// Makes the next stage of the user in a slot, where that is such a one and ready, and answers whether it did. Else, and wherever it
+/// declines, all stays as it is: whether the move is ready then `attempt` tells.
+#[inline(never)]
+pub fn make_silently(store: &mut Store, who: Who) -> bool
+    requires valid { IsValid (world store.old) }
+    ensures made { OnTrue result (IsReadyMove store.old (record { who = who; pick = None }) asks.Run
+        × IsStepTo store.old (record { who = who; pick = None }) asks.Run store.new says.Nothing) }
+    ensures ended { OnTrue result (IsEnded store.old store.new None) }
+    ensures same { OnFalse result (store.new ≡ store.old) }
+{
+    if !may_be_silent(store, who) {
+        return false;
+    }
+    let m = Move { who, pick: None };
+    let Some(j) = judge(store, &m, &Ask::Run) else {
+        return false;
+    };
+    if j.caller.is_porter {
+        return false;
+    }
+    if !is_ready(store, j.caller, j.chooses, m.pick, &j.verdict) {
+        return false;
+    }
+    match ended_by(store, j.caller, &j.verdict) {
+        None => carry_silently(store, j.caller, &j.verdict),
+        Some(_) => false,
+    }
+}
+
+/// A user may be about to make such a stage. Nobody else needs to be judged for it.
+fn may_be_silent(store: &Store, who: Who) -> bool {
+    match store.thread(who) {
+        Some(thread) => is_on_objects(thread.regs[0]),
+        None => false,
+    }
+}
+
+/// Carries out a verdict on a user's stage, where it tells nothing, and answers whether it did. For want of memory it doesn't.
+fn carry_silently(store: &mut Store, caller: Caller, verdict: &Verdict) -> bool
+    requires user { caller.is_porter ≡ false }
+    requires live { IsLive store.old caller.who }
+    requires fits { IsVerdict store.old caller verdict.now }
+    ensures step { OnTrue result (let c = caller_by (path store.old) caller [] in
+        stepped (world store.old) (closed c (outcome_by (world store.old) (path store.old) c verdict.now))
+        ≡ record { world = world store.new; said = Nothing }) }
+    ensures same { OnFalse result (store.new ≡ store.old) }
+{
+    match verdict {
+        Verdict::Done(plan, answers) => finish_silently(store, caller, plan, *answers),
+        Verdict::Destroys { object, last } => destroy_silently(store, caller, *object, *last),
+        Verdict::Renames { object, slot } => {
+            rename_silently(store, caller, *object, *slot);
+            true
+        }
+        _ => false,
+    }
+}
+
+/// Does all of a plan, and then the caller's stage is done.
+fn finish_silently(store: &mut Store, caller: Caller, plan: &Plan, answers: Answers) -> bool
+    requires user { caller.is_porter ≡ false }
+    requires live { IsLive store.old caller.who }
+    requires fits { IsVerdict store.old caller (Verdict.Done plan.now answers) }
+    ensures step { OnTrue result (let c = caller_by (path store.old) caller [] in
+        stepped (world store.old) (closed c (outcome_by (world store.old) (path store.old) c (Verdict.Done plan.now answers)))
+        ≡ record { world = world store.new; said = Nothing }) }
+    ensures same { OnFalse result (store.new ≡ store.old) }
+{
+    match carry_all(store, caller, &[], plan) {
+        Ok(()) => {
+            finish(store, caller.who, answers);
+            true
+        }
+        Err(_) => false,
+    }
+}
+
+/// Destroys an object, where no native server is told of it.
+fn destroy_silently(store: &mut Store, caller: Caller, object: Who, last: bool) -> bool
+    requires user { caller.is_porter ≡ false }
+    requires live { IsLive store.old caller.who }
+    requires fits { IsDying store.old object }
+    ensures step { OnTrue result (let c = caller_by (path store.old) caller [] in
+        stepped (world store.old) (closed c (destroyed (world store.old) c (place (path store.old) object) last))
+        ≡ record { world = world store.new; said = Nothing }) }
+    ensures same { OnFalse result (store.new ≡ store.old) }
+{
+    match told_port(store, object) {
+        None => {
+            destroy_untold(store, caller, object, last);
+            true
+        }
+        Some(_) => false,
+    }
+}
+
+/// Destroys an object of which no native server is told, and then the caller's stage may be done.
+fn destroy_untold(store: &mut Store, caller: Caller, object: Who, last: bool)
+    requires user { caller.is_porter ≡ false }
+    requires live { IsLive store.old caller.who }
+    requires fits { IsDying store.old object }
+    requires untold { told_with (world store.old) (place (path store.old) object) ((world store.old).body (place (path store.old) object)) ≡ Nothing }
+    ensures step { let c = caller_by (path store.old) caller [] in
+        stepped (world store.old) (closed c (destroyed (world store.old) c (place (path store.old) object) last))
+        ≡ record { world = world store.new; said = Nothing } }
+{
+    fk_deaths::destroy(store, object);
+    if last {
+        finish(store, caller.who, Answers::Nothing);
+    }
+}
+
+/// Whether a name is that of an object that is there.
+fn is_named(store: &Store, who: Who, object: Who) -> bool
+    requires live { IsLive store.now object }
+    ensures { result ≡ same_path (place (path store.now) who) (place (path store.now) object) }
+{
+    store.at(object).is_some() && who == object
+}
+
+/// Gives an object another slot, and the caller's stage is done. A thread that renames itself is done in its new slot.
+fn rename_silently(store: &mut Store, caller: Caller, object: Who, slot: u8)
+    requires user { caller.is_porter ≡ false }
+    requires live { IsLive store.old caller.who }
+    requires fits { IsMoving store.old object slot }
+    ensures step { let c = caller_by (path store.old) caller [] in
+        stepped (world store.old) (closed c (renames c (place (path store.old) object) slot))
+        ≡ record { world = world store.new; said = Nothing } }
+{
+    let is_itself = is_named(store, caller.who, object);
+    store.move_to(object, slot);
+    let space = object.space;
+    let me = if is_itself {
+        Who { space, slot }
+    } else {
+        caller.who
+    };
+    finish(store, me, Answers::Nothing);
+}
