@@ -1,63 +1,79 @@
 //! The lines by which two images differ.
-use crate::lines::lines_in;
-use lens_text::Problem;
+use crate::lines::image_text;
+use lens_text::{Problem, Sheet};
 use std::alloc::{AllocError, Global};
 use std::collections::BTreeSet;
 
-/// The lines of an image in their order, and as a set.
-#[derive(Drop)]
-struct Lines {
-    list: Vec<String>,
-    set: BTreeSet<String>,
-}
-
-/// How many lines of each image are done.
+/// What is left of the texts of two images.
 #[derive(Clone, Copy)]
-struct Done {
-    first: usize,
-    second: usize,
+struct Rest<'a> {
+    first: &'a str,
+    second: &'a str,
 }
 
-/// The lines of the image that the bytes of a file spell.
-fn read_lines(alloc: Global, file: &str, bytes: &[u8]) -> Result<Lines, Problem> {
-    let list = lines_in(alloc, file, bytes)?;
-    let mut set = BTreeSet::new(alloc);
-    for line in &list {
-        set.insert(line.clone()?)?;
+/// The lines of a text.
+fn lines_of(alloc: Global, text: &str) -> Result<BTreeSet<String>, AllocError> {
+    let mut lines = BTreeSet::new(alloc);
+    for line in text.lines() {
+        lines.insert(String::from_str(alloc, line)?)?;
     }
-    Ok(Lines { list, set })
+    Ok(lines)
 }
 
-/// Adds a line behind a sign.
-fn push_line(text: &mut String, sign: &str, line: &str) -> Result<(), AllocError> {
-    text.push_str(sign)?;
-    text.push_str(line)?;
-    text.push_str("\n")
-}
-
-/// The line at a place, where the other image lacks it.
-fn lacking<'a>(lines: &'a Lines, at: usize, other: &Lines) -> Option<&'a str> {
-    let line = lines.list.get(at)?;
-    if other.set.contains(line.as_str()) {
-        return None;
+/// The first line of a text, and what is behind it.
+fn first_line(text: &str) -> (&str, &str) {
+    match text.split_once('\n') {
+        Some(parts) => parts,
+        None => (text, ""),
     }
-    Some(line.as_str())
 }
 
 /// Shows the next line where the other image lacks it, and passes it; a line that both have is passed in both.
-fn pass(text: &mut String, first: &Lines, second: &Lines, done: Done) -> Result<Done, AllocError> {
-    let mut next = done;
-    if let Some(line) = lacking(first, done.first, second) {
-        push_line(text, "- ", line)?;
-        next.first = done.first.saturating_add(1);
-    } else if let Some(line) = lacking(second, done.second, first) {
-        push_line(text, "+ ", line)?;
-        next.second = done.second.saturating_add(1);
-    } else {
-        next.first = done.first.saturating_add(1);
-        next.second = done.second.saturating_add(1);
+fn pass<'a>(
+    sheet: &mut Sheet,
+    rest: Rest<'a>,
+    in_first: &BTreeSet<String>,
+    in_second: &BTreeSet<String>,
+) -> Rest<'a> {
+    let (one, behind_one) = first_line(rest.first);
+    let (other, behind_other) = first_line(rest.second);
+    let mut next = Rest {
+        first: behind_one,
+        second: behind_other,
+    };
+    if !rest.first.is_empty() && !in_second.contains(one) {
+        sheet.puts(&["- ", one, "\n"]);
+        next.second = rest.second;
+    } else if !rest.second.is_empty() && !in_first.contains(other) {
+        sheet.puts(&["+ ", other, "\n"]);
+        next.first = rest.first;
     }
-    Ok(next)
+    next
+}
+
+/// Adds the lines that one of two texts has alone.
+fn push_differences(
+    sheet: &mut Sheet,
+    texts: Rest<'_>,
+    in_first: &BTreeSet<String>,
+    in_second: &BTreeSet<String>,
+) {
+    let mut rest = texts;
+    for _ in 0..u64::MAX {
+        if rest.first.is_empty() && rest.second.is_empty() {
+            break;
+        }
+        rest = pass(sheet, rest, in_first, in_second);
+    }
+}
+
+/// The lines that one of two texts has alone.
+fn differences(alloc: Global, texts: Rest<'_>) -> Result<String, AllocError> {
+    let in_first = lines_of(alloc, texts.first)?;
+    let in_second = lines_of(alloc, texts.second)?;
+    let mut sheet = Sheet::new(alloc);
+    push_differences(&mut sheet, texts, &in_first, &in_second);
+    sheet.done()
 }
 
 /// The lines by which the images in two files differ, in their order: those that the second lacks behind `-`, those that the
@@ -71,18 +87,11 @@ pub fn difference_text(
     first: (&str, &[u8]),
     second: (&str, &[u8]),
 ) -> Result<String, Problem> {
-    let first = read_lines(alloc, first.0, first.1)?;
-    let second = read_lines(alloc, second.0, second.1)?;
-    let mut text = String::new(alloc);
-    let mut done = Done {
-        first: 0,
-        second: 0,
+    let first = image_text(alloc, first.0, first.1)?;
+    let second = image_text(alloc, second.0, second.1)?;
+    let texts = Rest {
+        first: first.as_str(),
+        second: second.as_str(),
     };
-    for _ in 0..u64::MAX {
-        if done.first >= first.list.len() && done.second >= second.list.len() {
-            break;
-        }
-        done = pass(&mut text, &first, &second, done)?;
-    }
-    Ok(text)
+    Ok(differences(alloc, texts)?)
 }

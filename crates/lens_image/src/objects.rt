@@ -1,23 +1,40 @@
 //! The lines of an object.
-use crate::paths::link_text;
+use crate::paths::{Place, push_place, push_pointer_of};
 use crate::threads::push_thread;
 use fk_image::{Link, ObjectRec, Rec};
-use std::alloc::{AllocError, Global};
+use lens_text::Sheet;
 
-/// The pages from one on.
-fn pages_text(alloc: Global, first: u8, count: u16, write: u8) -> Result<String, AllocError> {
-    let last = u32::from(first) + u32::from(count.saturating_sub(1));
-    let right = if write == 1 { "writable" } else { "read only" };
-    format!(in alloc; "pages {first} to {last}, {right}")
+/// What an object is called.
+fn kind_of(body: &Rec) -> &'static str {
+    match body {
+        Rec::Mutex { .. } => "mutex ",
+        Rec::Cond => "cond ",
+        Rec::Portset => "portset ",
+        Rec::Mapping { .. } => "mapping ",
+        Rec::Region { .. } => "region ",
+        Rec::Port { .. } => "port ",
+        Rec::Thread(_) => "thread ",
+        Rec::Reference { .. } => "reference ",
+    }
 }
 
-/// What an object is, but for its pointer and but for threads.
-fn body_text(alloc: Global, path: &str, body: &Rec) -> Result<String, AllocError> {
+/// Adds the pages from one on.
+fn push_pages(sheet: &mut Sheet, first: u8, count: u16, write: u8) {
+    sheet.put(" pages ");
+    sheet.number(first as u64);
+    sheet.put(" to ");
+    sheet.number(first as u64 + count.saturating_sub(1) as u64);
+    sheet.put(if write == 1 {
+        ", writable"
+    } else {
+        ", read only"
+    });
+}
+
+/// Adds what there is to say of an object besides its kind.
+fn push_state(sheet: &mut Sheet, body: &Rec) {
     match body {
-        Rec::Mutex { locked: 1 } => format!(in alloc; "mutex {path} locked"),
-        Rec::Mutex { .. } => format!(in alloc; "mutex {path}"),
-        Rec::Cond => format!(in alloc; "cond {path}"),
-        Rec::Portset => format!(in alloc; "portset {path}"),
+        Rec::Mutex { locked: 1 } => sheet.put(" locked"),
         Rec::Mapping {
             first,
             count,
@@ -25,29 +42,22 @@ fn body_text(alloc: Global, path: &str, body: &Rec) -> Result<String, AllocError
             write,
             ..
         } => {
-            let pages = pages_text(alloc, *first, *count, *write)?;
-            format!(in alloc; "mapping {path} {pages}, from the region's page {offset} on")
+            push_pages(sheet, *first, *count, *write);
+            sheet.put(", from the region's page ");
+            sheet.number(*offset as u64);
+            sheet.put(" on");
         }
         Rec::Region {
             first,
             count,
             write,
             ..
-        } => {
-            let pages = pages_text(alloc, *first, *count, *write)?;
-            format!(in alloc; "region {path} {pages}")
+        } => push_pages(sheet, *first, *count, *write),
+        Rec::Port { set } if *set > 0 => {
+            sheet.put(" in the set of slot ");
+            sheet.number((*set as u64).saturating_sub(1));
         }
-        Rec::Port { set } => port_text(alloc, path, *set),
-        Rec::Thread(_) => format!(in alloc; "thread {path}"),
-        Rec::Reference { .. } => format!(in alloc; "reference {path}"),
-    }
-}
-
-/// A port, and the port set in which it is.
-fn port_text(alloc: Global, path: &str, set: u16) -> Result<String, AllocError> {
-    match set.checked_sub(1) {
-        None => format!(in alloc; "port {path}"),
-        Some(slot) => format!(in alloc; "port {path} in the set of slot {slot}"),
+        _ => {}
     }
 }
 
@@ -61,34 +71,25 @@ fn pointer_of(body: &Rec) -> Option<(&'static str, Link)> {
     }
 }
 
-/// The lines of an object that isn't a thread.
-fn push_body(
-    alloc: Global,
-    lines: &mut Vec<String>,
-    path: &str,
-    paths: &[String],
-    body: &Rec,
-) -> Result<(), AllocError> {
-    lines.push(body_text(alloc, path, body)?)?;
+/// Adds the lines of an object that isn't a thread.
+fn push_body(sheet: &mut Sheet, place: Place<'_>, paths: &[String], body: &Rec) {
+    sheet.put(kind_of(body));
+    push_place(sheet, place);
+    push_state(sheet, body);
+    sheet.put("\n");
     if let Some((name, link)) = pointer_of(body) {
-        let to = link_text(alloc, paths, link)?;
-        lines.push(format!(in alloc; "pointer {path} {name} {to}")?)?;
+        push_pointer_of(sheet, place, name, paths, link);
     }
-    Ok(())
 }
 
-/// The lines of an object in a space with this path.
-pub fn push_object(
-    alloc: Global,
-    lines: &mut Vec<String>,
-    space: &str,
-    paths: &[String],
-    object: &ObjectRec,
-) -> Result<(), AllocError> {
-    let slot = object.slot;
-    let path = format!(in alloc; "{space}/{slot}")?;
+/// Adds the lines of an object in a space with this path.
+pub fn push_object(sheet: &mut Sheet, space: &str, paths: &[String], object: &ObjectRec) {
+    let place = Place {
+        space,
+        slot: object.slot,
+    };
     match &object.body {
-        Rec::Thread(thread) => push_thread(alloc, lines, path.as_str(), paths, thread.get()),
-        other => push_body(alloc, lines, path.as_str(), paths, other),
+        Rec::Thread(thread) => push_thread(sheet, place, paths, thread.get()),
+        body => push_body(sheet, place, paths, body),
     }
 }

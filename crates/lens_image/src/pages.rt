@@ -1,8 +1,6 @@
 //! The lines of a page.
-use crate::paths::shown;
 use fk_image::PageRec;
-use lens_text::{instruction_text, is_instruction};
-use std::alloc::{AllocError, Global};
+use lens_text::{Sheet, is_instruction, push_instruction};
 
 /// Whether a page has an instruction: a word that isn't 0 and that the assembler makes of an instruction's line. In such a
 /// page the words are shown as instructions.
@@ -18,47 +16,41 @@ fn has_instructions(words: &[u64; 64]) -> bool {
 /// How many words of a page there are up to its last one that isn't 0.
 fn filled(words: &[u64; 64]) -> usize {
     let mut count = 0;
-    for (at, word) in words.iter().enumerate() {
-        if *word != 0 {
-            count = at.saturating_add(1);
+    for at in 0..64usize {
+        if words[at] != 0 {
+            count = at + 1;
         }
     }
     count
 }
 
-/// The line of a word.
-fn word_line(
-    alloc: Global,
-    path: &str,
-    address: u64,
-    word: u64,
-    is_program: bool,
-) -> Result<String, AllocError> {
-    if !is_program {
-        return format!(in alloc; "word {path} {address} {word}");
+/// Adds the line of a word.
+fn push_word(sheet: &mut Sheet, path: &str, address: u64, word: u64, is_program: bool) {
+    sheet.puts(&["word ", path, " "]);
+    sheet.number(address);
+    sheet.put(" ");
+    if is_program {
+        push_instruction(sheet, word);
+    } else {
+        sheet.number(word);
     }
-    let text = instruction_text(alloc, word)?;
-    format!(in alloc; "word {path} {address} {text}")
+    sheet.put("\n");
 }
 
-/// The lines of a page of the space with this path: how many of its words there are up to the last one that isn't 0, and
-/// then each of these.
-pub fn push_page(
-    alloc: Global,
-    lines: &mut Vec<String>,
-    space: &str,
-    page: &PageRec,
-) -> Result<(), AllocError> {
-    let path = shown(space);
-    let (number, count) = (page.page, filled(&page.words));
+/// Adds the lines of a page of the space that is shown by this path: how many of its words there are up to the last one that
+/// isn't 0, and then each of these.
+pub fn push_page(sheet: &mut Sheet, path: &str, page: &PageRec) {
+    let count = filled(&page.words);
     let is_program = has_instructions(&page.words);
-    lines.push(format!(in alloc; "page {path} {number}, words {count} and then 0")?)?;
-    let first = u64::from(number) * 64;
-    for (at, word) in page.words.iter().enumerate() {
+    sheet.puts(&["page ", path, " "]);
+    sheet.number(page.page as u64);
+    sheet.put(", words ");
+    sheet.number(count as u64);
+    sheet.put(" and then 0\n");
+    for at in 0..64usize {
         if at < count {
-            let address = first.saturating_add(at as u64);
-            lines.push(word_line(alloc, path, address, *word, is_program)?)?;
+            let address = page.page as u64 * 64 + at as u64;
+            push_word(sheet, path, address, page.words[at], is_program);
         }
     }
-    Ok(())
 }

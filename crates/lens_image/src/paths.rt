@@ -1,6 +1,14 @@
 //! Paths from the image's root, and where pointers lead.
 use fk_image::{Link, SpaceRec};
+use lens_text::Sheet;
 use std::alloc::{AllocError, Global};
+
+/// The place of an object: the path of its space, and its slot there.
+#[derive(Clone, Copy)]
+pub struct Place<'a> {
+    pub space: &'a str,
+    pub slot: u8,
+}
 
 /// The path of a space behind others, whose paths are known. The root's is empty.
 fn path_of(alloc: Global, paths: &[String], space: &SpaceRec) -> Result<String, AllocError> {
@@ -26,17 +34,61 @@ pub fn shown(path: &str) -> &str {
     if path.is_empty() { "/" } else { path }
 }
 
-/// Where a pointer leads.
-pub fn link_text(alloc: Global, paths: &[String], link: Link) -> Result<String, AllocError> {
+/// Adds the path of an object.
+pub fn push_place(sheet: &mut Sheet, place: Place<'_>) {
+    sheet.puts(&[place.space, "/"]);
+    sheet.number(place.slot as u64);
+}
+
+/// What is said of a pointer that leads to no object of the image.
+fn word_of(link: Link) -> &'static str {
     match link {
-        Link::Null => String::from_str(alloc, "null"),
-        Link::Dead => String::from_str(alloc, "dead"),
-        Link::In { slot, space } => match paths.get(space as usize) {
-            Some(path) => format!(in alloc; "{path}/{slot}"),
-            None => String::from_str(alloc, "nothing"),
-        },
-        Link::Out(slot) => format!(in alloc; "out {slot}"),
-        Link::Root => String::from_str(alloc, "/"),
-        Link::Outside => String::from_str(alloc, "outside"),
+        Link::Null => "null",
+        Link::Dead => "dead",
+        Link::In { .. } => "nothing",
+        Link::Out(_) => "out ",
+        Link::Root => "/",
+        Link::Outside => "outside",
     }
+}
+
+/// Adds where a pointer leads.
+fn push_link(sheet: &mut Sheet, paths: &[String], link: Link) {
+    if let Link::In { slot, space } = link {
+        if let Some(path) = paths.get(space as usize) {
+            return push_place(
+                sheet,
+                Place {
+                    space: path.as_str(),
+                    slot,
+                },
+            );
+        }
+    }
+    sheet.put(word_of(link));
+    if let Link::Out(slot) = link {
+        sheet.number(slot as u64);
+    }
+}
+
+/// Adds the line of a pointer of a space, by what it is called.
+pub fn push_pointer(sheet: &mut Sheet, path: &str, name: &str, paths: &[String], link: Link) {
+    sheet.puts(&["pointer ", path, " ", name, " "]);
+    push_link(sheet, paths, link);
+    sheet.put("\n");
+}
+
+/// Adds the line of a pointer of an object, by what it is called.
+pub fn push_pointer_of(
+    sheet: &mut Sheet,
+    place: Place<'_>,
+    name: &str,
+    paths: &[String],
+    link: Link,
+) {
+    sheet.put("pointer ");
+    push_place(sheet, place);
+    sheet.puts(&[" ", name, " "]);
+    push_link(sheet, paths, link);
+    sheet.put("\n");
 }

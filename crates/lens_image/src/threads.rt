@@ -1,111 +1,94 @@
 //! The lines of a thread.
-use crate::paths::link_text;
-use fk_image::{FaultRec, Link, TalkRec, ThreadRec};
-use lens_text::{call_text, halt_text};
-use std::alloc::{AllocError, Global};
+use crate::paths::{Place, push_place, push_pointer_of};
+use fk_image::{FaultRec, TalkRec, ThreadRec};
+use lens_text::{Sheet, halt_text, push_call};
 
-/// What a thread is at.
-fn mode_text(alloc: Global, thread: &ThreadRec) -> Result<String, AllocError> {
-    let code = thread.code;
+/// Adds the line of a thread, and that of its stops.
+fn push_head(sheet: &mut Sheet, place: Place<'_>, thread: &ThreadRec) {
+    sheet.put("thread ");
+    push_place(sheet, place);
+    sheet.put(" at ");
+    sheet.number(thread.pc);
     match thread.mode {
-        0 => String::from_str(alloc, "running"),
+        0 => sheet.put(", running"),
         1 => {
-            let call = call_text(alloc, &thread.regs)?;
-            format!(in alloc; "calling {call}")
+            sheet.put(", calling ");
+            push_call(sheet, &thread.regs);
         }
         _ => {
-            let why = halt_text(code);
-            format!(in alloc; "halted {code}, {why}")
+            sheet.put(", halted ");
+            sheet.number(thread.code as u64);
+            sheet.puts(&[", ", halt_text(thread.code)]);
+        }
+    }
+    sheet.put("\n");
+    if thread.stops > 0 {
+        sheet.put("stops ");
+        push_place(sheet, place);
+        sheet.put(" ");
+        sheet.number(thread.stops as u64);
+        sheet.put("\n");
+    }
+}
+
+/// Adds the line of a register.
+fn push_register(sheet: &mut Sheet, place: Place<'_>, number: u64, word: u64) {
+    sheet.put("register ");
+    push_place(sheet, place);
+    sheet.put(" r");
+    sheet.number(number);
+    sheet.put(" ");
+    sheet.number(word);
+    sheet.put("\n");
+}
+
+/// Adds the lines of the registers that aren't 0.
+fn push_registers(sheet: &mut Sheet, place: Place<'_>, registers: &[u64; 16]) {
+    for number in 0..16usize {
+        if registers[number] != 0 {
+            push_register(sheet, place, number as u64, registers[number]);
         }
     }
 }
 
-/// The lines of the registers that aren't 0.
-fn push_registers(
-    alloc: Global,
-    lines: &mut Vec<String>,
-    path: &str,
-    registers: &[u64; 16],
-) -> Result<(), AllocError> {
-    for (number, word) in registers.iter().enumerate() {
-        if *word != 0 {
-            lines.push(format!(in alloc; "register {path} r{number} {word}")?)?;
-        }
-    }
-    Ok(())
-}
-
-/// The line of a pointer of a thread.
-fn push_pointer(
-    alloc: Global,
-    lines: &mut Vec<String>,
-    path: &str,
-    paths: &[String],
-    name: &str,
-    link: Link,
-) -> Result<(), AllocError> {
-    let to = link_text(alloc, paths, link)?;
-    lines.push(format!(in alloc; "pointer {path} {name} {to}")?)?;
-    Ok(())
-}
-
-/// The lines of a talk.
-fn push_talk(
-    alloc: Global,
-    lines: &mut Vec<String>,
-    path: &str,
-    paths: &[String],
-    talk: TalkRec,
-) -> Result<(), AllocError> {
-    let turn = if talk.turn == 1 {
-        "client's"
+/// Adds the lines of a talk.
+fn push_talk(sheet: &mut Sheet, place: Place<'_>, paths: &[String], talk: TalkRec) {
+    sheet.put("talk ");
+    push_place(sheet, place);
+    sheet.put(if talk.turn == 1 {
+        " client's"
     } else {
-        "server's"
-    };
-    let moved = talk.moved;
-    lines.push(format!(in alloc; "talk {path} {turn} turn, words moved {moved}")?)?;
-    push_pointer(alloc, lines, path, paths, "talk at", talk.port)?;
-    push_pointer(alloc, lines, path, paths, "talk with", talk.server)
+        " server's"
+    });
+    sheet.put(" turn, words moved ");
+    sheet.number(talk.moved as u64);
+    sheet.put("\n");
+    push_pointer_of(sheet, place, "talk at", paths, talk.port);
+    push_pointer_of(sheet, place, "talk with", paths, talk.server);
 }
 
-/// The lines of a fault.
-fn push_fault(
-    alloc: Global,
-    lines: &mut Vec<String>,
-    path: &str,
-    paths: &[String],
-    fault: FaultRec,
-) -> Result<(), AllocError> {
-    let page = fault.page;
-    let access = if fault.write == 1 { "write" } else { "read" };
-    lines.push(format!(in alloc; "fault {path} {access} of page {page}")?)?;
-    push_pointer(alloc, lines, path, paths, "fault at", fault.port)?;
-    match fault.taker {
-        Some(taker) => push_pointer(alloc, lines, path, paths, "fault taken by", taker),
-        None => Ok(()),
+/// Adds the lines of a fault.
+fn push_fault(sheet: &mut Sheet, place: Place<'_>, paths: &[String], fault: FaultRec) {
+    sheet.put("fault ");
+    push_place(sheet, place);
+    sheet.put(if fault.write == 1 { " write" } else { " read" });
+    sheet.put(" of page ");
+    sheet.number(fault.page as u64);
+    sheet.put("\n");
+    push_pointer_of(sheet, place, "fault at", paths, fault.port);
+    if let Some(taker) = fault.taker {
+        push_pointer_of(sheet, place, "fault taken by", paths, taker);
     }
 }
 
-/// The lines of a thread.
-pub fn push_thread(
-    alloc: Global,
-    lines: &mut Vec<String>,
-    path: &str,
-    paths: &[String],
-    thread: &ThreadRec,
-) -> Result<(), AllocError> {
-    let mode = mode_text(alloc, thread)?;
-    let (counter, stops) = (thread.pc, thread.stops);
-    lines.push(format!(in alloc; "thread {path} at {counter}, {mode}")?)?;
-    if stops > 0 {
-        lines.push(format!(in alloc; "stops {path} {stops}")?)?;
-    }
-    push_registers(alloc, lines, path, &thread.regs)?;
+/// Adds the lines of a thread.
+pub fn push_thread(sheet: &mut Sheet, place: Place<'_>, paths: &[String], thread: &ThreadRec) {
+    push_head(sheet, place, thread);
+    push_registers(sheet, place, &thread.regs);
     if let Some(talk) = thread.talk {
-        push_talk(alloc, lines, path, paths, talk)?;
+        push_talk(sheet, place, paths, talk);
     }
-    match thread.fault {
-        Some(fault) => push_fault(alloc, lines, path, paths, fault),
-        None => Ok(()),
+    if let Some(fault) = thread.fault {
+        push_fault(sheet, place, paths, fault);
     }
 }

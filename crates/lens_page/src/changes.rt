@@ -1,7 +1,8 @@
 //! What stands in a store as the page has it, and what has changed of it.
 use fk_model::Who;
 use fk_store::Store;
-use lens_world::{home_text, names_of, object_text, path_text};
+use lens_text::Sheet;
+use lens_world::{names_of, object_text, path_text, root_text};
 use std::alloc::{AllocError, Global};
 use std::collections::BTreeMap;
 
@@ -9,101 +10,100 @@ use std::collections::BTreeMap;
 pub type Objects = BTreeMap<String, String>;
 
 /// Adds an object and its words, or that it is gone.
-fn push_change(
-    alloc: Global,
-    changes: &mut String,
-    path: &str,
-    words: Option<&str>,
-) -> Result<(), AllocError> {
-    let gap = if changes.is_empty() { "" } else { "," };
-    let change = match words {
-        Some(words) => format!(in alloc; "{gap}[\"{path}\",\"{words}\"]")?,
-        None => format!(in alloc; "{gap}[\"{path}\",null]")?,
-    };
-    changes.push_str(change.as_str())
+fn push_change(changes: &mut Sheet, path: &str, words: Option<&str>) {
+    if !changes.is_empty() {
+        changes.put(",");
+    }
+    match words {
+        Some(words) => changes.puts(&["[\"", path, "\",\"", words, "\"]"]),
+        None => changes.puts(&["[\"", path, "\",null]"]),
+    }
+}
+
+/// Whether these are the words that are known of an object.
+fn is_known(known: &Objects, path: &str, words: &str) -> bool {
+    match known.get(path) {
+        Some(before) => before.as_str() == words,
+        None => false,
+    }
 }
 
 /// Notes the words of an object, and adds them where they aren't those that are known.
 fn note(
-    alloc: Global,
+    changes: &mut Sheet,
     known: &mut Objects,
-    changes: &mut String,
     path: String,
     words: String,
 ) -> Result<(), AllocError> {
-    let is_known = match known.get(path.as_str()) {
-        Some(before) => before.as_str() == words.as_str(),
-        None => false,
-    };
-    if is_known {
-        return Ok(());
+    if !is_known(known, path.as_str(), words.as_str()) {
+        push_change(changes, path.as_str(), Some(words.as_str()));
+        known.insert(path, words)?;
     }
-    push_change(alloc, changes, path.as_str(), Some(words.as_str()))?;
-    known.insert(path, words)?;
     Ok(())
 }
 
 /// Notes that an object is gone.
-fn forget(
-    alloc: Global,
-    known: &mut Objects,
-    changes: &mut String,
-    path: &str,
-) -> Result<(), AllocError> {
-    match known.remove(path) {
-        Some(_) => push_change(alloc, changes, path, None),
-        None => Ok(()),
+fn forget(changes: &mut Sheet, known: &mut Objects, path: &str) {
+    if known.remove(path).is_some() {
+        push_change(changes, path, None);
+    }
+}
+
+/// What stands in a slot in words, where something does.
+fn words_of(alloc: Global, store: &Store, who: Who) -> Result<Option<String>, AllocError> {
+    match store.at(who) {
+        Some(body) => Ok(Some(object_text(alloc, store, who, body)?)),
+        None => Ok(None),
     }
 }
 
 /// Notes what stands in a slot.
 fn note_slot(
-    alloc: Global,
-    store: &Store,
+    changes: &mut Sheet,
     known: &mut Objects,
-    changes: &mut String,
+    store: &Store,
     who: Who,
 ) -> Result<(), AllocError> {
-    let path = path_text(alloc, store, who)?;
-    match store.at(who) {
-        Some(body) => {
-            let words = object_text(alloc, store, who, body)?;
-            note(alloc, known, changes, path, words)
-        }
-        None => forget(alloc, known, changes, path.as_str()),
+    let path = path_text(changes.alloc(), store, who)?;
+    match words_of(changes.alloc(), store, who)? {
+        Some(words) => note(changes, known, path, words)?,
+        None => forget(changes, known, path.as_str()),
     }
+    Ok(())
 }
 
-/// Notes what stands in these slots, and gives what has changed of it.
+/// Notes what stands in these slots, and adds what has changed of it.
+///
+/// # Errors
+///
+/// For want of memory.
 pub fn note_few(
-    alloc: Global,
-    store: &Store,
+    changes: &mut Sheet,
     known: &mut Objects,
-    names: &[Who],
-) -> Result<String, AllocError> {
-    let mut changes = String::new(alloc);
-    for who in names {
-        note_slot(alloc, store, known, &mut changes, *who)?;
+    store: &Store,
+    names: &[Option<Who>],
+) -> Result<(), AllocError> {
+    for name in names {
+        if let Some(who) = name {
+            note_slot(changes, known, store, *who)?;
+        }
     }
-    Ok(changes)
+    Ok(())
 }
 
 /// Adds the root.
 fn add_root(alloc: Global, all: &mut Objects, store: &Store) -> Result<(), AllocError> {
     let path = String::from_str(alloc, "/")?;
-    let words = home_text(alloc, store, 0, None)?;
+    let words = root_text(alloc, store)?;
     all.insert(path, words)?;
     Ok(())
 }
 
 /// Adds what stands in a slot.
 fn add_object(alloc: Global, all: &mut Objects, store: &Store, who: Who) -> Result<(), AllocError> {
-    let Some(body) = store.at(who) else {
-        return Ok(());
-    };
-    let path = path_text(alloc, store, who)?;
-    let words = object_text(alloc, store, who, body)?;
-    all.insert(path, words)?;
+    if let Some(words) = words_of(alloc, store, who)? {
+        all.insert(path_text(alloc, store, who)?, words)?;
+    }
     Ok(())
 }
 
@@ -118,34 +118,32 @@ fn all_of(alloc: Global, store: &Store) -> Result<Objects, AllocError> {
 }
 
 /// Adds what stands and isn't known so.
-fn push_new(
-    alloc: Global,
-    changes: &mut String,
-    known: &Objects,
-    all: &Objects,
-) -> Result<(), AllocError> {
+fn push_new(changes: &mut Sheet, known: &Objects, all: &Objects) {
     for (path, words) in all {
-        let is_known = match known.get(path.as_str()) {
-            Some(before) => before.as_str() == words.as_str(),
-            None => false,
-        };
-        if !is_known {
-            push_change(alloc, changes, path.as_str(), Some(words.as_str()))?;
+        if !is_known(known, path.as_str(), words.as_str()) {
+            push_change(changes, path.as_str(), Some(words.as_str()));
         }
     }
-    Ok(())
 }
 
-/// Notes all that stands in a store, and gives what has changed of it.
-pub fn note_all(alloc: Global, store: &Store, known: &mut Objects) -> Result<String, AllocError> {
-    let all = all_of(alloc, store)?;
-    let mut changes = String::new(alloc);
-    push_new(alloc, &mut changes, known, &all)?;
-    for (path, _) in &*known {
+/// Adds what is known and doesn't stand.
+fn push_gone(changes: &mut Sheet, known: &Objects, all: &Objects) {
+    for (path, _) in known {
         if !all.contains_key(path.as_str()) {
-            push_change(alloc, &mut changes, path.as_str(), None)?;
+            push_change(changes, path.as_str(), None);
         }
     }
+}
+
+/// Notes all that stands in a store, and adds what has changed of it.
+///
+/// # Errors
+///
+/// For want of memory.
+pub fn note_all(changes: &mut Sheet, known: &mut Objects, store: &Store) -> Result<(), AllocError> {
+    let all = all_of(changes.alloc(), store)?;
+    push_new(changes, known, &all);
+    push_gone(changes, known, &all);
     *known = all;
-    Ok(changes)
+    Ok(())
 }

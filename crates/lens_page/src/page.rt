@@ -1,11 +1,12 @@
 //! The page's data, move by move.
 use crate::changes::{Objects, note_all, note_few};
-use crate::reach::few_changed;
+use crate::reach::{Few, few_changed};
 use crate::template::{BODY, BOXES, KEYS, LANES, STATES, STYLE};
 use fk_model::{Mode, Move, NoMemory, Who};
 use fk_store::Store;
-use lens_steps::{Begun, Step, begin, finish, peer_of};
-use lens_world::{Ready, Seen, Stop, Watcher, path_text};
+use lens_steps::{Begun, begin, peer_of, push_step};
+use lens_text::Sheet;
+use lens_world::{Ready, Seen, Stop, Watcher, push_path};
 use std::alloc::{AllocError, Global};
 use std::collections::BTreeMap;
 
@@ -13,11 +14,11 @@ use std::collections::BTreeMap;
 #[derive(Drop)]
 struct Pending {
     begun: Begun,
-    pick: String,
-    peer: String,
+    /// Its pick and the other side of its talk, with a gap between them.
+    others: Sheet,
     is_fault: bool,
     /// Whom the move may change; none where these may be many.
-    few: Option<Vec<Who>>,
+    few: Option<Few>,
 }
 
 /// Watches a run and writes its page.
@@ -25,17 +26,19 @@ struct Pending {
 pub struct Page {
     alloc: Global,
     known: Objects,
-    first: String,
-    moves: String,
+    first: Sheet,
+    moves: Sheet,
     pending: Option<Pending>,
     end: &'static str,
 }
 
-/// The path of somebody, if there is one.
-fn path_or_none(alloc: Global, store: &Store, who: Option<Who>) -> Result<String, AllocError> {
-    match who {
-        Some(who) => path_text(alloc, store, who),
-        None => Ok(String::new(alloc)),
+/// Between two texts of a move.
+const GAP: &str = "\",\"";
+
+/// Adds the path of somebody, if there is one.
+fn push_some(sheet: &mut Sheet, store: &Store, who: Option<Who>) {
+    if let Some(who) = who {
+        push_path(sheet, store, who);
     }
 }
 
@@ -61,38 +64,42 @@ fn has_fault(store: &Store, who: Option<Who>) -> bool {
     }
 }
 
+/// The pick of a move and the other side of its talk.
+fn others_of(alloc: Global, store: &Store, pick: Option<Who>, peer: Option<Who>) -> Sheet {
+    let mut others = Sheet::new(alloc);
+    push_some(&mut others, store, pick);
+    others.put(GAP);
+    push_some(&mut others, store, peer);
+    others
+}
+
 /// What is known before a move.
 fn pending_of(alloc: Global, seen: Seen<'_>, one: &Move) -> Result<Pending, AllocError> {
     let store = seen.store;
+    let begun = begin(alloc, seen, one)?;
     let peer = other_side(store, one);
     Ok(Pending {
-        begun: begin(alloc, seen, one)?,
-        pick: path_or_none(alloc, store, one.pick)?,
-        peer: path_or_none(alloc, store, peer)?,
+        begun,
+        others: others_of(alloc, store, one.pick, peer),
         is_fault: has_fault(store, one.pick) || has_fault(store, peer),
-        few: few_changed(alloc, store, one)?,
+        few: few_changed(store, one),
     })
 }
 
-/// The line of a move that was made.
-fn move_line(
-    alloc: Global,
-    seen: Seen<'_>,
-    one: &Move,
-    pending: &Pending,
-    changes: &str,
-) -> Result<String, AllocError> {
-    let Step {
-        path,
-        act,
-        changed,
-        told,
-    } = finish(alloc, seen, one, &pending.begun)?;
-    let (pick, peer) = (pending.pick.as_str(), pending.peer.as_str());
-    let kind = if pending.is_fault { "fault" } else { "" };
-    format!(in alloc;
-        "[\"{path}\",\"{act}\",\"{changed}\",\"{told}\",\"{pick}\",\"{peer}\",[{changes}],\"{kind}\"]"
-    )
+/// Adds the line of a move that was made, with what it has changed.
+fn push_move(sheet: &mut Sheet, seen: Seen<'_>, one: &Move, pending: &Pending, changes: &Sheet) {
+    let head = if sheet.is_empty() { "[\"" } else { ",\n[\"" };
+    sheet.put(head);
+    push_step(sheet, seen, one, &pending.begun, GAP);
+    sheet.put(GAP);
+    sheet.add(&pending.others);
+    sheet.put("\",[");
+    sheet.add(changes);
+    sheet.put(if pending.is_fault {
+        "],\"fault\"]"
+    } else {
+        "],\"\"]"
+    });
 }
 
 /// Where a run stops, in words.
@@ -106,12 +113,17 @@ fn end_of(stop: Stop) -> &'static str {
     }
 }
 
-/// Adds the script.
-fn push_script(text: &mut String) -> Result<(), AllocError> {
-    text.push_str(STATES)?;
-    text.push_str(LANES)?;
-    text.push_str(BOXES)?;
-    text.push_str(KEYS)
+/// Notes what the move that was made may have changed, and adds what it has changed.
+fn note_move(
+    changes: &mut Sheet,
+    known: &mut Objects,
+    store: &Store,
+    few: Option<Few>,
+) -> Result<(), AllocError> {
+    match few {
+        Some(names) => note_few(changes, known, store, &names),
+        None => note_all(changes, known, store),
+    }
 }
 
 impl Page {
@@ -120,8 +132,8 @@ impl Page {
         Page {
             alloc,
             known: BTreeMap::new(alloc),
-            first: String::new(alloc),
-            moves: String::new(alloc),
+            first: Sheet::new(alloc),
+            moves: Sheet::new(alloc),
             pending: None,
             end: "",
         }
@@ -130,31 +142,22 @@ impl Page {
     /// Notes what stands at the beginning, where that isn't done yet.
     fn note_first(&mut self, seen: Seen<'_>) -> Result<(), AllocError> {
         if self.known.is_empty() {
-            self.first = note_all(self.alloc, seen.store, &mut self.known)?;
+            note_all(&mut self.first, &mut self.known, seen.store)?;
         }
         Ok(())
     }
 
-    /// What the move that was made has changed.
-    fn changes(&mut self, seen: Seen<'_>, few: &Option<Vec<Who>>) -> Result<String, AllocError> {
-        let store = seen.store;
-        match few {
-            Some(names) => note_few(self.alloc, store, &mut self.known, names.as_slice()),
-            None => note_all(self.alloc, store, &mut self.known),
-        }
-    }
-
-    /// Adds the data of the run that was watched, under a name.
-    fn push_data(&self, text: &mut String, name: &str) -> Result<(), AllocError> {
-        text.push_str("{\"name\":\"")?;
-        text.push_str(name)?;
-        text.push_str("\",\"end\":\"")?;
-        text.push_str(self.end)?;
-        text.push_str("\",\"first\":[")?;
-        text.push_str(self.first.as_str())?;
-        text.push_str("],\"moves\":[\n")?;
-        text.push_str(self.moves.as_str())?;
-        text.push_str("\n]}\n")
+    /// Adds the line of a move that was made.
+    fn note_made(
+        &mut self,
+        seen: Seen<'_>,
+        one: &Move,
+        pending: &Pending,
+    ) -> Result<(), AllocError> {
+        let mut changes = Sheet::new(self.alloc);
+        note_move(&mut changes, &mut self.known, seen.store, pending.few)?;
+        push_move(&mut self.moves, seen, one, pending, &changes);
+        self.moves.checked()
     }
 
     /// The page of the run that was watched, under a name.
@@ -163,12 +166,16 @@ impl Page {
     ///
     /// For want of memory.
     pub fn text(&self, name: &str) -> Result<String, AllocError> {
-        let mut text = String::new(self.alloc);
-        text.push_str(STYLE)?;
-        text.push_str(BODY)?;
-        self.push_data(&mut text, name)?;
-        push_script(&mut text)?;
-        Ok(text)
+        let mut page = Sheet::new(self.alloc);
+        page.puts(&[STYLE, BODY, "{\"name\":\"", name, "\",\"end\":\""]);
+        page.put(self.end);
+        page.put("\",\"first\":[");
+        page.add(&self.first);
+        page.put("],\"moves\":[\n");
+        page.add(&self.moves);
+        page.put("\n]}\n");
+        page.puts(&[STATES, LANES, BOXES, KEYS]);
+        page.done()
     }
 }
 
@@ -183,13 +190,7 @@ impl Watcher for Page {
         let Some(pending) = self.pending.take() else {
             return Ok(());
         };
-        let changes = self.changes(seen, &pending.few)?;
-        let line = move_line(self.alloc, seen, one, &pending, changes.as_str())?;
-        if !self.moves.is_empty() {
-            self.moves.push_str(",\n")?;
-        }
-        self.moves.push_str(line.as_str())?;
-        Ok(())
+        Ok(self.note_made(seen, one, &pending)?)
     }
 
     fn stops(&mut self, seen: Seen<'_>, _ready: &Ready, stop: Stop) -> Result<(), NoMemory> {

@@ -1,95 +1,50 @@
 //! Whom a move may change.
-use fk_model::{Body, Mode, Move, Peer, Thread, Who};
+use fk_model::{Body, Mode, Move, Thread, Who};
 use fk_store::Store;
 use lens_steps::peer_of;
 use lens_text::first_stage;
 use lens_world::handled;
-use std::alloc::{AllocError, Global};
 
-/// Adds whom a talk joins: the peer and the port.
-fn push_talk(
-    names: &mut Vec<Who>,
-    store: &Store,
-    who: Who,
-    thread: &Thread,
-) -> Result<(), AllocError> {
-    if let Some(peer) = peer_of(store, who, thread) {
-        names.push(peer)?;
+/// Whom a move may change, where these are few: others, the mover, its pick.
+pub type Few = [Option<Who>; 4];
+
+/// The port of a thread's talk as a client.
+fn port_of(thread: &Thread) -> Option<Who> {
+    match thread.talk {
+        Some(talk) => Some(talk.port),
+        None => None,
     }
-    if let Some(talk) = thread.talk {
-        names.push(talk.port)?;
-        if let Peer::Thread(server) = talk.peer {
-            names.push(server)?;
-        }
-    }
-    Ok(())
 }
 
 /// Whom a stage of a call may change besides the caller, where these are few: its talk, or the mutex that it names. None
 /// where the stage may change more.
-fn few_of_call(
-    alloc: Global,
-    store: &Store,
-    who: Who,
-    thread: &Thread,
-) -> Result<Option<Vec<Who>>, AllocError> {
-    let mut names = Vec::new(alloc);
+fn few_of_call(store: &Store, who: Who, thread: &Thread) -> Option<(Option<Who>, Option<Who>)> {
     match first_stage(thread.regs[0]) {
         // Words go and the turn passes, or a server waits.
-        36 | 37 | 38 | 48 | 50 | 51 | 52 => push_talk(&mut names, store, who, thread)?,
+        36 | 37 | 38 | 48 | 50 | 51 | 52 => Some((peer_of(store, who, thread), port_of(thread))),
         // Mutexes.
-        21 | 22 | 23 => {
-            if let Some(mutex) = handled(store, who.space, thread.regs[1]) {
-                names.push(mutex)?;
-            }
-        }
+        21 | 22 | 23 => Some((handled(store, who.space, thread.regs[1]), None)),
         // What is looked up or read changes the caller alone.
-        4 | 7 | 9 | 19 | 20 => {}
-        _ => return Ok(None),
-    }
-    Ok(Some(names))
-}
-
-/// Whom a thread's move may change besides itself and its pick, where these are few.
-fn few_of_thread(
-    alloc: Global,
-    store: &Store,
-    who: Who,
-    thread: &Thread,
-) -> Result<Option<Vec<Who>>, AllocError> {
-    match thread.mode {
-        Mode::Running => Ok(Some(Vec::new(alloc))),
-        Mode::Calling => few_of_call(alloc, store, who, thread),
-        Mode::Halted(_) | Mode::Native => Ok(None),
+        4 | 7 | 9 | 19 | 20 => Some((None, None)),
+        _ => None,
     }
 }
 
-/// Whom a native server's act may change besides its port and its pick.
-fn few_of_server(alloc: Global, store: &Store, port: Who) -> Result<Vec<Who>, AllocError> {
-    let mut names = Vec::new(alloc);
-    if let Some(client) = store.client_at(port) {
-        names.push(client)?;
+/// Whom a move may change besides the mover and its pick, where these are few.
+fn few_others(store: &Store, one: &Move) -> Option<(Option<Who>, Option<Who>)> {
+    match store.at(one.who) {
+        Some(Body::Thread(thread)) => match thread.mode {
+            Mode::Running => Some((None, None)),
+            Mode::Calling => few_of_call(store, one.who, thread),
+            Mode::Halted(_) | Mode::Native => None,
+        },
+        Some(Body::Port { .. }) => Some((store.client_at(one.who), None)),
+        _ => None,
     }
-    Ok(names)
 }
 
 /// Whom a move may change, where these are few: the mover, its pick, and the other side. None where it may change more.
-pub fn few_changed(
-    alloc: Global,
-    store: &Store,
-    one: &Move,
-) -> Result<Option<Vec<Who>>, AllocError> {
-    let few = match store.at(one.who) {
-        Some(Body::Thread(thread)) => few_of_thread(alloc, store, one.who, thread)?,
-        Some(Body::Port { .. }) => Some(few_of_server(alloc, store, one.who)?),
-        _ => None,
-    };
-    let Some(mut names) = few else {
-        return Ok(None);
-    };
-    names.push(one.who)?;
-    if let Some(pick) = one.pick {
-        names.push(pick)?;
-    }
-    Ok(Some(names))
+pub fn few_changed(store: &Store, one: &Move) -> Option<Few> {
+    let (first, second) = few_others(store, one)?;
+    Some([first, second, Some(one.who), one.pick])
 }

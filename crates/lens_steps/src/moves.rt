@@ -1,73 +1,88 @@
 //! What a move does, from what is known before it and what stands after it.
-use crate::acts::{Sending, act_text, peer_of, sending_of};
-use crate::changes::{ending_text, registers_text};
-use crate::servers::{ServerState, state_of, told_text};
+use crate::acts::{peer_of, push_act, push_named, sending_of};
+use crate::changes::{push_changed, push_ending};
+use crate::servers::{ServerState, push_told, states_of};
 use fk_model::{Move, Thread, Who};
-use fk_natives::Native;
 use fk_store::Store;
-use lens_world::{Seen, path_text};
+use lens_text::Sheet;
+use lens_world::{Seen, push_path};
 use std::alloc::{AllocError, Global};
 
 /// What is known before a move.
 #[derive(Drop)]
 pub struct Begun {
-    path: String,
-    act: String,
-    sending: Option<Sending>,
+    path: Sheet,
+    act: Sheet,
+    /// How many words it is to send, and to whom.
+    sending: Option<u64>,
+    whom: Sheet,
     /// The mover and whom it deals with, where these are threads.
     threads: Vec<(Who, Thread)>,
     servers: Vec<ServerState>,
 }
 
-/// What a move did.
-#[derive(Drop)]
-pub struct Step {
-    /// Who moved.
-    pub path: String,
-    /// What that did.
-    pub act: String,
-    /// The registers that changed.
-    pub changed: String,
-    /// What native servers were told.
-    pub told: String,
-}
-
-/// Keeps a thread.
+/// Keeps somebody, where that is a thread.
 fn keep_thread(
     threads: &mut Vec<(Who, Thread)>,
     store: &Store,
-    who: Who,
+    who: Option<Who>,
 ) -> Result<(), AllocError> {
+    let Some(who) = who else {
+        return Ok(());
+    };
     if let Some(thread) = store.thread(who) {
         threads.push((who, *thread))?;
     }
     Ok(())
 }
 
+/// Whom the mover deals with.
+fn other_of(store: &Store, one: &Move) -> Option<Who> {
+    match store.thread(one.who) {
+        Some(thread) => peer_of(store, one.who, thread),
+        None => store.client_at(one.who),
+    }
+}
+
 /// The mover and whom it deals with, where these are threads.
 fn threads_of(alloc: Global, store: &Store, one: &Move) -> Result<Vec<(Who, Thread)>, AllocError> {
     let mut threads = Vec::new(alloc);
-    keep_thread(&mut threads, store, one.who)?;
-    let peer = match store.thread(one.who) {
-        Some(thread) => peer_of(store, one.who, thread),
-        None => store.client_at(one.who),
-    };
-    if let Some(peer) = peer {
-        keep_thread(&mut threads, store, peer)?;
-    }
-    if let Some(pick) = one.pick {
-        keep_thread(&mut threads, store, pick)?;
-    }
+    keep_thread(&mut threads, store, Some(one.who))?;
+    keep_thread(&mut threads, store, other_of(store, one))?;
+    keep_thread(&mut threads, store, one.pick)?;
     Ok(threads)
 }
 
-/// What native servers are at.
-fn states_of(alloc: Global, services: &[(Who, Native)]) -> Result<Vec<ServerState>, AllocError> {
-    let mut states = Vec::new(alloc);
-    for (_, native) in services {
-        states.push(state_of(native))?;
-    }
-    Ok(states)
+/// How many words the mover is about to send.
+fn sending_by(store: &Store, who: Who) -> Option<u64> {
+    sending_of(store.thread(who)?)
+}
+
+/// What is known before a move, where threads and servers are known.
+fn begun_of(
+    alloc: Global,
+    seen: Seen<'_>,
+    one: &Move,
+    threads: Vec<(Who, Thread)>,
+    servers: Vec<ServerState>,
+) -> Begun {
+    let mut begun = Begun {
+        path: Sheet::new(alloc),
+        act: Sheet::new(alloc),
+        sending: sending_by(seen.store, one.who),
+        whom: Sheet::new(alloc),
+        threads,
+        servers,
+    };
+    push_path(&mut begun.path, seen.store, one.who);
+    push_act(&mut begun.act, seen, one);
+    push_named(
+        &mut begun.whom,
+        seen.store,
+        " to ",
+        other_of(seen.store, one),
+    );
+    begun
 }
 
 /// What is known before a move.
@@ -76,85 +91,52 @@ fn states_of(alloc: Global, services: &[(Who, Native)]) -> Result<Vec<ServerStat
 ///
 /// For want of memory.
 pub fn begin(alloc: Global, seen: Seen<'_>, one: &Move) -> Result<Begun, AllocError> {
-    let store = seen.store;
-    Ok(Begun {
-        path: path_text(alloc, store, one.who)?,
-        act: act_text(alloc, seen, one)?,
-        sending: sending_of(alloc, store, one.who)?,
-        threads: threads_of(alloc, store, one)?,
-        servers: states_of(alloc, seen.services)?,
-    })
+    let threads = threads_of(alloc, seen.store, one)?;
+    let servers = states_of(alloc, seen.services)?;
+    Ok(begun_of(alloc, seen, one, threads, servers))
 }
 
-/// The registers of the threads that have changed: the mover's first, each other's behind its path.
-fn changed_text(
-    alloc: Global,
-    store: &Store,
-    one: &Move,
-    threads: &[(Who, Thread)],
-) -> Result<String, AllocError> {
-    let mut text = String::new(alloc);
-    for (who, before) in threads {
-        let Some(after) = store.thread(*who) else {
-            continue;
-        };
-        let changed = registers_text(alloc, before, after)?;
-        if changed.is_empty() {
-            continue;
+/// Adds what the mover did: of a sender, how many of its words went.
+fn push_did(sheet: &mut Sheet, store: &Store, one: &Move, begun: &Begun) {
+    match (begun.sending, store.thread(one.who)) {
+        (Some(count), Some(after)) => {
+            sheet.put("send ");
+            sheet.number(count.saturating_sub(after.regs[3]));
+            sheet.put(" of ");
+            sheet.number(count);
+            sheet.put(" words");
+            sheet.add(&begun.whom);
         }
-        let gap = if text.is_empty() { "" } else { "; " };
-        text.push_str(gap)?;
-        if *who != one.who {
-            text.push_str(path_text(alloc, store, *who)?.as_str())?;
-            text.push_str(" ")?;
-        }
-        text.push_str(changed.as_str())?;
+        _ => sheet.add(&begun.act),
     }
-    Ok(text)
 }
 
-/// What has come of the mover's move besides its registers. Of a native server there is nothing more to say.
-fn ending_of(
-    alloc: Global,
-    store: &Store,
-    one: &Move,
-    threads: &[(Who, Thread)],
-) -> Result<String, AllocError> {
+/// Adds what has come of the mover's move besides its registers. Of a native server there is nothing more to say.
+fn push_end(sheet: &mut Sheet, store: &Store, one: &Move, threads: &[(Who, Thread)]) {
     match threads.first() {
-        Some((who, before)) if *who == one.who => ending_text(alloc, store, *who, before),
-        _ => Ok(String::new(alloc)),
+        Some((who, before)) if *who == one.who => push_ending(sheet, store, *who, before),
+        _ => {}
     }
 }
 
-/// What the mover did: of a sender, how many of its words went.
-fn act_of(alloc: Global, store: &Store, one: &Move, begun: &Begun) -> Result<String, AllocError> {
-    match (&begun.sending, store.thread(one.who)) {
-        (Some(Sending { count, whom }), Some(after)) => {
-            let moved = count.saturating_sub(after.regs[3]);
-            format!(in alloc; "send {moved} of {count} words{whom}")
-        }
-        _ => begun.act.clone(),
+/// Adds the registers of the threads that have changed: the mover's first, each other's behind its path.
+fn push_changes(sheet: &mut Sheet, store: &Store, one: &Move, threads: &[(Who, Thread)]) {
+    let mut changes = Sheet::new(sheet.alloc());
+    for (who, before) in threads {
+        push_changed(&mut changes, store, one.who, *who, before);
     }
+    sheet.add(&changes);
 }
 
-/// What a move did that was made since.
-///
-/// # Errors
-///
-/// For want of memory.
-pub fn finish(
-    alloc: Global,
-    seen: Seen<'_>,
-    one: &Move,
-    begun: &Begun,
-) -> Result<Step, AllocError> {
-    let store = seen.store;
-    let act = act_of(alloc, store, one, begun)?;
-    let ending = ending_of(alloc, store, one, &begun.threads)?;
-    Ok(Step {
-        path: begun.path.clone()?,
-        act: format!(in alloc; "{act}{ending}")?,
-        changed: changed_text(alloc, store, one, &begun.threads)?,
-        told: told_text(alloc, store, seen.services, &begun.servers)?,
-    })
+/// Adds what a move did that was made since, with a gap between who moved, what that did, the registers that changed, and what
+/// native servers were told.
+pub fn push_step(sheet: &mut Sheet, seen: Seen<'_>, one: &Move, begun: &Begun, gap: &str) {
+    sheet.add(&begun.path);
+    sheet.put(gap);
+    push_did(sheet, seen.store, one, begun);
+    push_end(sheet, seen.store, one, &begun.threads);
+    sheet.put(gap);
+    push_changes(sheet, seen.store, one, &begun.threads);
+    sheet.put(gap);
+    push_told(sheet, seen.store, seen.services, &begun.servers);
 }

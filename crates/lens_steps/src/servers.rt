@@ -2,7 +2,8 @@
 use fk_model::{Rule, Who};
 use fk_natives::{Native, Service, Side};
 use fk_store::Store;
-use lens_world::path_text;
+use lens_text::Sheet;
+use lens_world::push_path;
 use std::alloc::{AllocError, Global};
 
 /// What a native server is at: whose turn it is, how many words it was sent, and how many it has still to give.
@@ -44,35 +45,40 @@ fn name_of(native: &Native) -> &str {
     }
 }
 
-/// Words behind a text, each after a blank.
-fn push_words(alloc: Global, text: &mut String, words: &[u64]) -> Result<(), AllocError> {
-    for word in words {
-        text.push_str(format!(in alloc; " {word}")?.as_str())?;
+/// What native servers are at.
+///
+/// # Errors
+///
+/// For want of memory.
+pub fn states_of(
+    alloc: Global,
+    services: &[(Who, Native)],
+) -> Result<Vec<ServerState>, AllocError> {
+    let mut states = Vec::new(alloc);
+    for (_, native) in services {
+        states.push(state_of(native))?;
     }
-    Ok(())
+    Ok(states)
 }
 
-/// The words that a native server was sent behind the first so many.
-fn words_after(native: &Native, count: usize) -> &[u64] {
+/// The words that came to a native server since, as many as it says.
+fn words_since(native: &Native, was: ServerState, is: ServerState) -> &[u64] {
     let words = match native {
         Native::Console(console) => console.printed(),
         Native::Server(server) => server.request.words.as_slice(),
     };
-    words.get(count..).unwrap_or(&[])
+    let words = words.get(was.sent..).unwrap_or(&[]);
+    words
+        .get(..is.sent.saturating_sub(was.sent))
+        .unwrap_or(words)
 }
 
-/// The words that came to a native server, as many as it says.
-fn came_text(
-    alloc: Global,
-    native: &Native,
-    was: ServerState,
-    is: ServerState,
-) -> Result<String, AllocError> {
-    let mut text = String::from_str(alloc, " words")?;
-    let words = words_after(native, was.sent);
-    let count = is.sent.saturating_sub(was.sent).min(words.len());
-    push_words(alloc, &mut text, &words[..count])?;
-    Ok(text)
+/// Adds words, each after a blank.
+fn push_words(sheet: &mut Sheet, words: &[u64]) {
+    for word in words {
+        sheet.put(" ");
+        sheet.number(*word);
+    }
 }
 
 /// Whose turn it is, where that has changed.
@@ -87,37 +93,50 @@ fn turn_text(was: Side, is: Side) -> &'static str {
     }
 }
 
-/// What a native server was told, where it was told something.
-fn one_text(alloc: Global, native: &Native, was: ServerState) -> Result<String, AllocError> {
+/// Adds what a native server was told, where it was told something.
+fn push_news(sheet: &mut Sheet, native: &Native, was: ServerState) {
     let is = state_of(native);
-    let turn = turn_text(was.side, is.side);
     if is.sent > was.sent {
-        let came = came_text(alloc, native, was, is)?;
-        return format!(in alloc; "{came}{turn}");
+        sheet.put(" words");
+        push_words(sheet, words_since(native, was, is));
+    } else if is.left < was.left && is.position == was.position {
+        sheet.put(" gave ");
+        sheet.number(was.left.saturating_sub(is.left) as u64);
+        sheet.put(" words");
     }
-    if is.left < was.left && is.position == was.position {
-        let given = was.left - is.left;
-        return format!(in alloc; " gave {given} words{turn}");
-    }
-    String::from_str(alloc, turn)
+    sheet.put(turn_text(was.side, is.side));
 }
 
-/// What native servers were told since these states were taken, each behind its port and its name.
-pub fn told_text(
-    alloc: Global,
+/// Adds what a native server was told, where it was told something, behind its port and its name.
+fn push_one(sheet: &mut Sheet, store: &Store, port: Who, native: &Native, was: ServerState) {
+    let mut news = Sheet::new(sheet.alloc());
+    push_news(&mut news, native, was);
+    if news.is_empty() {
+        return;
+    }
+    if !sheet.is_empty() {
+        sheet.put("; ");
+    }
+    push_path(sheet, store, port);
+    sheet.puts(&[" ", name_of(native)]);
+    sheet.add(&news);
+}
+
+/// Adds what native servers were told since these states were taken, each behind its port and its name.
+pub fn push_told(
+    sheet: &mut Sheet,
     store: &Store,
     services: &[(Who, Native)],
     before: &[ServerState],
-) -> Result<String, AllocError> {
-    let mut text = String::new(alloc);
-    for ((port, native), was) in services.iter().zip(before.iter()) {
-        let told = one_text(alloc, native, *was)?;
-        if !told.is_empty() {
-            let path = path_text(alloc, store, *port)?;
-            let gap = if text.is_empty() { "" } else { "; " };
-            let name = name_of(native);
-            text.push_str(format!(in alloc; "{gap}{path} {name}{told}")?.as_str())?;
-        }
+) {
+    let mut told = Sheet::new(sheet.alloc());
+    let mut states = before;
+    for (port, native) in services {
+        let Some((was, later)) = states.split_first() else {
+            break;
+        };
+        push_one(&mut told, store, *port, native, *was);
+        states = later;
     }
-    Ok(text)
+    sheet.add(&told);
 }

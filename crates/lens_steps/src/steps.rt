@@ -1,6 +1,7 @@
 //! A line a move.
-use crate::moves::{Begun, Step, begin, finish};
+use crate::moves::{Begun, begin, push_step};
 use fk_model::{Move, NoMemory, Who};
+use lens_text::Sheet;
 use lens_world::{Ready, Seen, Stop, Watcher};
 use std::alloc::{AllocError, Global};
 
@@ -10,38 +11,29 @@ pub struct Steps {
     alloc: Global,
     first: u64,
     end: u64,
-    text: String,
+    sheet: Sheet,
     begun: Option<Begun>,
 }
 
-/// The line of a move in a trace, without its line feed.
-fn trace_line(alloc: Global, one: &Move) -> Result<String, AllocError> {
-    let Who { space, slot } = one.who;
-    match one.pick {
-        None => format!(in alloc; "{space}.{slot}"),
-        Some(pick) => {
-            let (pick_space, pick_slot) = (pick.space, pick.slot);
-            format!(in alloc; "{space}.{slot} {pick_space}.{pick_slot}")
-        }
-    }
+/// Adds a place as a trace has it.
+fn push_who(sheet: &mut Sheet, who: Who) {
+    sheet.number(who.space as u64);
+    sheet.put(".");
+    sheet.number(who.slot as u64);
 }
 
-/// The line of a move that was made.
-fn step_line(
-    alloc: Global,
-    seen: Seen<'_>,
-    one: &Move,
-    begun: &Begun,
-) -> Result<String, AllocError> {
-    let line = trace_line(alloc, one)?;
-    let number = seen.events.saturating_sub(1);
-    let Step {
-        path,
-        act,
-        changed,
-        told,
-    } = finish(alloc, seen, one, begun)?;
-    format!(in alloc; "{line}\t{number}\t{path}\t{act}\t{changed}\t{told}\n")
+/// Adds the line of a move that was made, the trace's own first.
+fn push_line(sheet: &mut Sheet, seen: Seen<'_>, one: &Move, begun: &Begun) {
+    push_who(sheet, one.who);
+    if let Some(pick) = one.pick {
+        sheet.put(" ");
+        push_who(sheet, pick);
+    }
+    sheet.put("\t");
+    sheet.number(seen.events.saturating_sub(1));
+    sheet.put("\t");
+    push_step(sheet, seen, one, begun, "\t");
+    sheet.put("\n");
 }
 
 impl Steps {
@@ -51,18 +43,21 @@ impl Steps {
     ///
     /// For want of memory.
     pub fn new(alloc: Global, first: u64, end: u64) -> Result<Steps, AllocError> {
+        let mut sheet = Sheet::new(alloc);
+        sheet.put("fluke-trace 1\n");
+        sheet.checked()?;
         Ok(Steps {
             alloc,
             first,
             end,
-            text: String::from_str(alloc, "fluke-trace 1\n")?,
+            sheet,
             begun: None,
         })
     }
 
     /// What was written.
     pub fn into_text(self) -> String {
-        self.text
+        self.sheet.into_text()
     }
 
     /// Whether the move with this number is one to write.
@@ -82,13 +77,12 @@ impl Watcher for Steps {
 
     fn after(&mut self, seen: Seen<'_>, one: &Move) -> Result<(), NoMemory> {
         if let Some(begun) = &self.begun {
-            let line = step_line(self.alloc, seen, one, begun)?;
-            self.text.push_str(line.as_str())?;
+            push_line(&mut self.sheet, seen, one, begun);
         }
-        Ok(())
+        Ok(self.sheet.checked()?)
     }
 
     fn stops(&mut self, _seen: Seen<'_>, _ready: &Ready, _stop: Stop) -> Result<(), NoMemory> {
-        Ok(())
+        Ok(self.sheet.checked()?)
     }
 }

@@ -1,91 +1,94 @@
 //! Calls as text, by the registers that hold them: each stage that is left by its name, with its arguments as docs/CALLS.md names them.
+use crate::sheet::Sheet;
 use fk_model::{Stage, Todo};
 use fk_stages::words;
-use std::alloc::{AllocError, Global};
 
-/// Calls that make, destroy, name and find objects, and that read and set them.
-fn object_call(alloc: Global, code: u64, registers: &[u64; 16]) -> Result<String, AllocError> {
-    let (a, b, c, d) = (registers[1], registers[2], registers[3], registers[4]);
+/// The words of a stage that is asked for by this code: its name, and then the names of its arguments.
+fn form_of(code: u64) -> &'static str {
     match code {
-        1 => format!(in alloc; "create s={a} x={b} kind={c}"),
-        2 => format!(in alloc; "destroy s={a} x={b}"),
-        3 => format!(in alloc; "rename s={a} x={b} y={c}"),
-        4 => format!(in alloc; "search s={a} from={b}"),
-        5 => format!(in alloc; "point s={a} x={b} s2={c} x2={d}"),
-        6 => format!(in alloc; "clear s={a} x={b}"),
-        7 => format!(in alloc; "locate reference={a} s={b}"),
-        8 => format!(in alloc; "count_in base={a} s={b} x={c}"),
-        9 => format!(in alloc; "get_state s={a} x={b} addr={c}"),
-        10 => format!(in alloc; "set_state s={a} x={b} addr={c}"),
-        11 => format!(in alloc; "get_ptr s={a} x={b} field={c} reference={d}"),
-        _ => format!(in alloc; "set_ptr s={a} x={b} field={c} reference={d}"),
+        1 => "create s x kind",
+        2 => "destroy s x",
+        3 => "rename s x y",
+        4 => "search s from",
+        5 => "point s x s2 x2",
+        6 => "clear s x",
+        7 => "locate reference s",
+        8 => "count_in base s x",
+        9 => "get_state s x addr",
+        10 => "set_state s x addr",
+        11 => "get_ptr s x field reference",
+        12 => "set_ptr s x field reference",
+        13 => "space_hold s x",
+        14 => "space_release s x",
+        15 => "thread_stop h",
+        16 => "thread_go h",
+        17 => "page_give s page addr",
+        18 => "page_take s page addr",
+        19 => "page_read s page addr",
+        20 => "page_next s from",
+        _ => later_form_of(code),
     }
 }
 
-/// Calls of holds, stops and pages, and of mutexes and conditions.
-fn space_call(alloc: Global, code: u64, registers: &[u64; 16]) -> Result<String, AllocError> {
-    let (a, b, c) = (registers[1], registers[2], registers[3]);
+/// The same of waits, talks, faults, and of what porters alone ask for.
+fn later_form_of(code: u64) -> &'static str {
     match code {
-        13 => format!(in alloc; "space_hold s={a} x={b}"),
-        14 => format!(in alloc; "space_release s={a} x={b}"),
-        15 => format!(in alloc; "thread_stop h={a}"),
-        16 => format!(in alloc; "thread_go h={a}"),
-        17 => format!(in alloc; "page_give s={a} page={b} addr={c}"),
-        18 => format!(in alloc; "page_take s={a} page={b} addr={c}"),
-        19 => format!(in alloc; "page_read s={a} page={b} addr={c}"),
-        20 => format!(in alloc; "page_next s={a} from={b}"),
-        21 => format!(in alloc; "mutex_lock m={a}"),
-        22 => format!(in alloc; "mutex_trylock m={a}"),
-        23 => format!(in alloc; "mutex_unlock m={a}"),
-        24 => format!(in alloc; "cond_wait c={a} m={b}"),
-        25 => format!(in alloc; "cond_asleep c={a} m={b}"),
-        26 => format!(in alloc; "cond_signal c={a}"),
-        _ => format!(in alloc; "cond_broadcast c={a}"),
+        21 => "mutex_lock m",
+        22 => "mutex_trylock m",
+        23 => "mutex_unlock m",
+        24 => "cond_wait c m",
+        25 => "cond_asleep c m",
+        26 => "cond_signal c",
+        27 => "cond_broadcast c",
+        32 => "connect h",
+        36 | 50 => "receive addr room",
+        37 | 51 => "send addr count",
+        38 | 52 => "over",
+        39 => "disconnect",
+        48 => "wait set",
+        55 => "end",
+        56 => "fault_done",
+        60 => "link_set s x port server",
+        61 => "link_park s x port",
+        62 => "fault_set s x port taker",
+        63 => "fault_park s x port taken",
+        64 => "hold_set s x thread",
+        65 => "space_make_held x",
+        _ => "",
     }
 }
 
-/// Stages of talks and of faults.
-fn talk_call(alloc: Global, code: u64, registers: &[u64; 16]) -> Result<String, AllocError> {
-    let (a, b, c, d, e) = (
-        registers[1],
-        registers[2],
-        registers[3],
-        registers[4],
-        registers[5],
-    );
-    match code {
-        32 => format!(in alloc; "connect h={a}"),
-        36 | 50 => format!(in alloc; "receive addr={d} room={e}"),
-        37 | 51 => format!(in alloc; "send addr={b} count={c}"),
-        38 | 52 => String::from_str(alloc, "over"),
-        39 => String::from_str(alloc, "disconnect"),
-        48 => format!(in alloc; "wait set={a}"),
-        55 => String::from_str(alloc, "end"),
-        56 => String::from_str(alloc, "fault_done"),
-        _ => format!(in alloc; "no call, {code}"),
+/// The registers from a stage's first argument on.
+fn arguments(stage: u64, registers: &[u64; 16]) -> &[u64] {
+    match stage {
+        36 | 50 => &registers[4..],
+        37 | 51 => &registers[2..],
+        _ => &registers[1..],
     }
 }
 
-/// Calls that porters alone make.
-fn porter_call(alloc: Global, code: u64, registers: &[u64; 16]) -> Result<String, AllocError> {
-    let (a, b, c, d) = (registers[1], registers[2], registers[3], registers[4]);
-    match code {
-        60 => format!(in alloc; "link_set s={a} x={b} port={c} server={d}"),
-        61 => format!(in alloc; "link_park s={a} x={b} port={c}"),
-        62 => format!(in alloc; "fault_set s={a} x={b} port={c} taker={d}"),
-        63 => format!(in alloc; "fault_park s={a} x={b} port={c} taken={d}"),
-        64 => format!(in alloc; "hold_set s={a} x={b} thread={c}"),
-        65 => format!(in alloc; "space_make_held x={a}"),
-        _ => talk_call(alloc, code, registers),
+/// Adds the first stage of the call with this code.
+fn push_first(sheet: &mut Sheet, code: u64, registers: &[u64; 16]) {
+    let stage = first_stage(code);
+    let form = form_of(stage);
+    if form.is_empty() {
+        sheet.put("no call, ");
+        sheet.number(stage);
+        return;
     }
+    push_form(sheet, form, arguments(stage, registers));
 }
 
-/// The call of one stage that this code is.
-fn one_call(alloc: Global, code: u64, registers: &[u64; 16]) -> Result<String, AllocError> {
-    match code {
-        1..=12 => object_call(alloc, code, registers),
-        13..=27 => space_call(alloc, code, registers),
-        _ => porter_call(alloc, code, registers),
+/// Adds a stage: its name, and each argument with its register.
+fn push_form(sheet: &mut Sheet, form: &str, registers: &[u64]) {
+    let (name, arguments) = match form.split_once(' ') {
+        Some(parts) => parts,
+        None => return sheet.put(form),
+    };
+    sheet.put(name);
+    for (argument, register) in arguments.split(' ').zip(registers.iter()) {
+        sheet.puts(&[" ", argument, "="]);
+        sheet.number(*register);
     }
 }
 
@@ -115,29 +118,27 @@ fn later_stages(code: u64) -> Option<u64> {
     }
 }
 
-/// The stage that is next of the call that registers hold.
-pub fn stage_text(alloc: Global, registers: &[u64; 16]) -> Result<String, AllocError> {
-    one_call(alloc, first_stage(registers[0]), registers)
+/// Adds the stage that is next of the call that registers hold.
+pub fn push_stage(sheet: &mut Sheet, registers: &[u64; 16]) {
+    push_first(sheet, registers[0], registers);
 }
 
-/// All stages that are left of the call that registers hold.
-pub fn call_text(alloc: Global, registers: &[u64; 16]) -> Result<String, AllocError> {
-    let mut text = stage_text(alloc, registers)?;
+/// Adds all stages that are left of the call that registers hold.
+pub fn push_call(sheet: &mut Sheet, registers: &[u64; 16]) {
+    push_stage(sheet, registers);
     let mut code = registers[0];
     // A call has four stages at most.
     for _ in 0..3 {
         let Some(later) = later_stages(code) else {
             break;
         };
-        let stage = one_call(alloc, first_stage(later), registers)?;
-        text.push_str(", ")?;
-        text.push_str(stage.as_str())?;
+        sheet.put(", ");
+        push_first(sheet, later, registers);
         code = later;
     }
-    Ok(text)
 }
 
-/// A porter's stage.
-pub fn asked_text(alloc: Global, stage: &Stage) -> Result<String, AllocError> {
-    call_text(alloc, &words(&Todo::One(*stage), &[0; 16]))
+/// Adds a porter's stage.
+pub fn push_asked(sheet: &mut Sheet, stage: &Stage) {
+    push_call(sheet, &words(&Todo::One(*stage), &[0; 16]));
 }

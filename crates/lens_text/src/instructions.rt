@@ -1,4 +1,5 @@
 //! The instruction that a word holds, as text.
+use crate::sheet::Sheet;
 use fk_isa::decode;
 use fk_model::Instr;
 use fk_model::operation::{ADD, ADDI, CALL, HALT, JMP, JNZ, JZ, MOV, REM, SET};
@@ -56,36 +57,65 @@ pub fn is_instruction(word: u64) -> bool {
     plain_instruction(word).is_some()
 }
 
-/// The last operand: `addi` takes it with a sign.
-fn number_text(alloc: Global, op: u8, n: u32) -> Result<String, AllocError> {
-    if op == ADDI && n >= 0x8000_0000 {
-        let below = 0u32.wrapping_sub(n);
-        return format!(in alloc; "-{below}");
+/// Adds registers behind a name.
+fn push_registers(sheet: &mut Sheet, registers: &[u8]) {
+    let mut gap = " r";
+    for register in registers {
+        sheet.put(gap);
+        sheet.number(*register as u64);
+        gap = ", r";
     }
-    format!(in alloc; "{n}")
 }
 
-/// An instruction as a line of a program's text has it.
-fn text_of(alloc: Global, instr: Instr) -> Result<String, AllocError> {
+/// Adds the last operand: `addi` takes it with a sign.
+fn push_number(sheet: &mut Sheet, gap: &str, op: u8, number: u32) {
+    sheet.put(gap);
+    if op == ADDI && number >= 0x8000_0000 {
+        sheet.put("-");
+        sheet.number(0u32.wrapping_sub(number) as u64);
+    } else {
+        sheet.number(number as u64);
+    }
+}
+
+/// Adds an instruction as a line of a program's text has it.
+fn push_plain(sheet: &mut Sheet, instr: Instr) {
     let Instr { op, a, b, c, n } = instr;
-    let name = NAMES.get(op as usize).copied().unwrap_or("call");
+    sheet.put(NAMES.get(op as usize).copied().unwrap_or("call"));
     match shape_of(op) {
-        Shape::Bare => String::from_str(alloc, name),
-        Shape::Number => format!(in alloc; "{name} {n}"),
-        Shape::RegisterNumber => format!(in alloc; "{name} r{a}, {n}"),
-        Shape::TwoRegisters => format!(in alloc; "{name} r{a}, r{b}"),
-        Shape::ThreeRegisters => format!(in alloc; "{name} r{a}, r{b}, r{c}"),
+        Shape::Bare => {}
+        Shape::Number => push_number(sheet, " ", op, n),
+        Shape::RegisterNumber => {
+            push_registers(sheet, &[a]);
+            push_number(sheet, ", ", op, n);
+        }
+        Shape::TwoRegisters => push_registers(sheet, &[a, b]),
+        Shape::ThreeRegisters => push_registers(sheet, &[a, b, c]),
         Shape::TwoRegistersNumber => {
-            let n = number_text(alloc, op, n)?;
-            format!(in alloc; "{name} r{a}, r{b}, {n}")
+            push_registers(sheet, &[a, b]);
+            push_number(sheet, ", ", op, n);
+        }
+    }
+}
+
+/// Adds the instruction that a word holds, as a line of a program's text has it; of any other word `word` and its number.
+pub fn push_instruction(sheet: &mut Sheet, word: u64) {
+    match plain_instruction(word) {
+        Some(instr) => push_plain(sheet, instr),
+        None => {
+            sheet.put("word ");
+            sheet.number(word);
         }
     }
 }
 
 /// The instruction that a word holds, as a line of a program's text has it; of any other word `word` and its number.
+///
+/// # Errors
+///
+/// For want of memory.
 pub fn instruction_text(alloc: Global, word: u64) -> Result<String, AllocError> {
-    match plain_instruction(word) {
-        Some(instr) => text_of(alloc, instr),
-        None => format!(in alloc; "word {word}"),
-    }
+    let mut sheet = Sheet::new(alloc);
+    push_instruction(&mut sheet, word);
+    sheet.done()
 }

@@ -1,5 +1,5 @@
-//! What the verbs of `lens` have in common: why something isn't shown, the files of the shelf, and instructions, calls and
-//! statuses as text.
+//! What the verbs of `lens` have in common: why something isn't shown, the files of the shelf, a text that is written piece by
+//! piece (`Sheet`), and instructions, calls and statuses as text.
 //!
 //! It stands on `fk_causes` for the shelf, on `fk_isa` for the instruction in a word, on `fk_stages` for porters' calls,
 //! and on `fk_model` for want of memory. It promises no more than that each function ends.
@@ -9,10 +9,12 @@ mod calls;
 mod files;
 mod instructions;
 mod problem;
+mod sheet;
 mod statuses;
 
-pub use calls::{asked_text, call_text, first_stage, stage_text};
+pub use calls::{first_stage, push_asked, push_call, push_stage};
 pub use files::file_of;
-pub use instructions::{instruction_text, is_instruction};
+pub use instructions::{instruction_text, is_instruction, push_instruction};
 pub use problem::{Problem, given};
+pub use sheet::Sheet;
 pub use statuses::{halt_text, status_text};

@@ -1,8 +1,9 @@
 //! Holds, and what they keep as it is.
-use crate::places::{push_path, push_place};
+use crate::places::push_place;
 use fk_model::{Body, Who};
 use fk_store::Store;
-use std::alloc::{AllocError, Global};
+use lens_text::Sheet;
+use lens_world::push_path;
 
 /// A hold: the space and its holder.
 #[derive(Clone, Copy)]
@@ -42,57 +43,54 @@ pub fn hold_over(store: &Store, who: Who) -> Option<Hold> {
 }
 
 /// Adds a hold, with what its holder is at.
-pub fn push_hold(
-    alloc: Global,
-    text: &mut String,
-    store: &Store,
-    hold: Hold,
-) -> Result<(), AllocError> {
-    text.push_str("the hold of ")?;
-    push_place(alloc, text, store, hold.holder)?;
-    text.push_str(" on ")?;
-    push_path(alloc, text, store, hold.space)
+pub fn push_hold(sheet: &mut Sheet, store: &Store, hold: Hold) {
+    sheet.put("the hold of ");
+    push_place(sheet, store, hold.holder);
+    sheet.put(" on ");
+    push_path(sheet, store, hold.space);
+}
+
+/// The hold of another that bars one from being changed.
+fn bar_of(store: &Store, who: Who, one: Who) -> Option<Hold> {
+    match hold_over(store, one) {
+        Some(hold) if hold.holder != who => Some(hold),
+        _ => None,
+    }
 }
 
 /// The first of these that the hold of another bars from being changed, with that hold.
-pub fn barred(store: &Store, who: Who, touched: &[Who]) -> Option<(Who, Hold)> {
+pub fn barred(store: &Store, who: Who, touched: &[Option<Who>]) -> Option<(Who, Hold)> {
     for one in touched {
-        match hold_over(store, *one) {
-            Some(hold) if hold.holder != who => return Some((*one, hold)),
-            _ => {}
+        if let Some(one) = one {
+            if let Some(hold) = bar_of(store, who, *one) {
+                return Some((*one, hold));
+            }
         }
     }
     None
 }
 
 /// Adds what a move would change, and the hold that bars it.
-pub fn push_barred(
-    alloc: Global,
-    text: &mut String,
-    store: &Store,
-    touched: Who,
-    hold: Hold,
-) -> Result<(), AllocError> {
-    text.push_str("would change ")?;
-    push_path(alloc, text, store, touched)?;
-    text.push_str(" or lead there, which ")?;
-    push_hold(alloc, text, store, hold)?;
-    text.push_str(" bars")
+pub fn push_barred(sheet: &mut Sheet, store: &Store, touched: Who, hold: Hold) {
+    sheet.put("would change ");
+    push_path(sheet, store, touched);
+    sheet.put(" or lead there, which ");
+    push_hold(sheet, store, hold);
+    sheet.put(" bars");
 }
 
 /// Adds all holds, since some one bars what a move would change.
-pub fn push_holds(alloc: Global, text: &mut String, store: &Store) -> Result<(), AllocError> {
-    text.push_str("waits until no hold of another bars what it would change")?;
+pub fn push_holds(sheet: &mut Sheet, store: &Store) {
+    sheet.put("waits until no hold of another bars what it would change");
     let mut last = None;
     for _ in 0..u64::MAX {
         let Some(who) = store.after(last) else {
             break;
         };
         if let Some(hold) = hold_of(store, who) {
-            text.push_str("; there is ")?;
-            push_hold(alloc, text, store, hold)?;
+            sheet.put("; there is ");
+            push_hold(sheet, store, hold);
         }
         last = Some(who);
     }
-    Ok(())
 }

@@ -1,63 +1,40 @@
-//! Threads by their paths, with what they are at and which hold keeps them still. All is added to a text.
-use crate::holds::{hold_over, push_hold};
+//! Threads by their paths, with what they are at and which hold keeps them still.
+use crate::holds::{Hold, hold_over, push_hold};
 use fk_model::Who;
 use fk_store::Store;
-use lens_world::{path_text, thread_text};
-use std::alloc::{AllocError, Global};
+use lens_text::Sheet;
+use lens_world::{push_path, push_thread};
 
-/// Adds a path.
-pub fn push_path(
-    alloc: Global,
-    text: &mut String,
-    store: &Store,
-    who: Who,
-) -> Result<(), AllocError> {
-    text.push_str(path_text(alloc, store, who)?.as_str())
-}
-
-/// Adds what stands at a place where a thread is expected.
-fn push_thread(
-    alloc: Global,
-    text: &mut String,
-    store: &Store,
-    who: Who,
-) -> Result<(), AllocError> {
-    match store.thread(who) {
-        Some(thread) => text.push_str(thread_text(alloc, store, who, thread)?.as_str()),
-        None => text.push_str("no thread"),
-    }
+/// Adds a path between two texts.
+pub fn push_about(sheet: &mut Sheet, store: &Store, before: &str, who: Who, behind: &str) {
+    sheet.put(before);
+    push_path(sheet, store, who);
+    sheet.put(behind);
 }
 
 /// Adds a thread by its path, and what it is at.
-pub fn push_place(
-    alloc: Global,
-    text: &mut String,
-    store: &Store,
-    who: Who,
-) -> Result<(), AllocError> {
-    push_path(alloc, text, store, who)?;
-    text.push_str(" (")?;
-    push_thread(alloc, text, store, who)?;
-    text.push_str(")")
+pub fn push_place(sheet: &mut Sheet, store: &Store, who: Who) {
+    push_path(sheet, store, who);
+    sheet.put(" (");
+    match store.thread(who) {
+        Some(thread) => push_thread(sheet, store, who, thread),
+        None => sheet.put("no thread"),
+    }
+    sheet.put(")");
 }
 
-/// Adds the same, and the hold that keeps it still, if one does.
-pub fn push_whereabouts(
-    alloc: Global,
-    text: &mut String,
-    store: &Store,
-    who: Who,
-) -> Result<(), AllocError> {
-    push_place(alloc, text, store, who)?;
-    let Some(home) = store.home(who.space) else {
-        return Ok(());
-    };
-    match hold_over(store, home) {
-        Some(hold) => {
-            text.push_str(", kept still by ")?;
-            push_hold(alloc, text, store, hold)?;
-            text.push_str(",")
-        }
-        None => Ok(()),
+/// Adds the same behind a text, and the hold that keeps the thread still, if one does.
+pub fn push_whereabouts(sheet: &mut Sheet, store: &Store, before: &str, who: Who) {
+    sheet.put(before);
+    push_place(sheet, store, who);
+    if let Some(hold) = hold_on(store, who) {
+        sheet.put(", kept still by ");
+        push_hold(sheet, store, hold);
+        sheet.put(",");
     }
+}
+
+/// The hold that keeps a thread still, if one does.
+pub fn hold_on(store: &Store, who: Who) -> Option<Hold> {
+    hold_over(store, store.home(who.space)?)
 }

@@ -1,10 +1,10 @@
 //! Who could end a wait for somebody else.
 use crate::handles::stage_of;
-use crate::places::{push_path, push_whereabouts};
+use crate::places::{push_about, push_whereabouts};
 use fk_model::{Body, Fault, Peer, Talk, Thread, Who};
 use fk_store::Store;
+use lens_text::Sheet;
 use lens_world::handled;
-use std::alloc::{AllocError, Global};
 
 /// Whether a thread stands at its wait on a set.
 fn waits_at(store: &Store, who: Who, thread: &Thread, set: Who) -> bool {
@@ -38,61 +38,28 @@ fn server_of(store: &Store, set: Who) -> Option<(Who, bool)> {
 }
 
 /// Adds who could take what stands at a port of a set.
-fn push_server(
-    alloc: Global,
-    text: &mut String,
-    store: &Store,
-    set: Who,
-) -> Result<(), AllocError> {
-    match server_of(store, set) {
-        Some((who, true)) => {
-            text.push_str("; ")?;
-            push_whereabouts(alloc, text, store, who)?;
-            text.push_str(" waits at its set ")?;
-            push_path(alloc, text, store, set)
-        }
-        Some((who, false)) => {
-            text.push_str("; nobody waits at its set ")?;
-            push_path(alloc, text, store, set)?;
-            text.push_str(", and in its space is ")?;
-            push_whereabouts(alloc, text, store, who)
-        }
-        None => {
-            text.push_str("; nobody waits at its set ")?;
-            push_path(alloc, text, store, set)?;
-            text.push_str(", and no thread is in its space")
-        }
+fn push_server(sheet: &mut Sheet, store: &Store, set: Who) {
+    let server = server_of(store, set);
+    if let Some((who, true)) = server {
+        push_whereabouts(sheet, store, "; ", who);
+        return push_about(sheet, store, " waits at its set ", set, "");
+    }
+    push_about(sheet, store, "; nobody waits at its set ", set, ", and ");
+    match server {
+        Some((who, _)) => push_whereabouts(sheet, store, "in its space is ", who),
+        None => sheet.put("no thread is in its space"),
     }
 }
 
-/// Adds whom a port's native server serves.
-fn push_native(
-    alloc: Global,
-    text: &mut String,
-    store: &Store,
-    port: Who,
-) -> Result<(), AllocError> {
-    match store.client_at(port) {
-        Some(client) => {
-            text.push_str("; its native server serves ")?;
-            push_whereabouts(alloc, text, store, client)
-        }
-        None => text.push_str("; its native server has no client"),
-    }
-}
-
-/// Adds a port, and who could take what stands there.
-pub fn push_port(
-    alloc: Global,
-    text: &mut String,
-    store: &Store,
-    port: Who,
-    what: &str,
-) -> Result<(), AllocError> {
-    push_path(alloc, text, store, port)?;
-    text.push_str(what)?;
+/// Adds who could take what stands at a port.
+fn push_takers(sheet: &mut Sheet, store: &Store, port: Who) {
     match store.at(port) {
-        Some(Body::Port { served: true, .. }) => push_native(alloc, text, store, port),
+        Some(Body::Port { served: true, .. }) => match store.client_at(port) {
+            Some(client) => {
+                push_whereabouts(sheet, store, "; its native server serves ", client);
+            }
+            None => sheet.put("; its native server has no client"),
+        },
         Some(
             Body::Port {
                 set: Some(slot),
@@ -103,89 +70,81 @@ pub fn push_port(
                 space: port.space,
                 slot: *slot,
             };
-            push_server(alloc, text, store, set)
+            push_server(sheet, store, set);
         }
-        Some(Body::Port { .. }) => text.push_str("; the port is in no set, so nobody can take it"),
-        _ => text.push_str("; there is no port"),
+        Some(Body::Port { .. }) => sheet.put("; the port is in no set, so nobody can take it"),
+        _ => sheet.put("; there is no port"),
     }
 }
 
+/// Adds a port between two texts, and who could take what stands there.
+pub fn push_port(sheet: &mut Sheet, store: &Store, before: &str, port: Who, behind: &str) {
+    push_about(sheet, store, before, port, behind);
+    push_takers(sheet, store, port);
+}
+
 /// Adds a fault, and who could end it.
-pub fn push_fault(
-    alloc: Global,
-    text: &mut String,
-    store: &Store,
-    fault: &Fault,
-) -> Result<(), AllocError> {
+pub fn push_fault(sheet: &mut Sheet, store: &Store, fault: &Fault) {
     match fault.taker {
-        None => {
-            text.push_str("waits until its fault at ")?;
-            push_port(alloc, text, store, fault.port, " is taken")
-        }
+        None => push_port(
+            sheet,
+            store,
+            "waits until its fault at ",
+            fault.port,
+            " is taken",
+        ),
         Some(Peer::Thread(taker)) => {
-            text.push_str("waits until its fault is done by ")?;
-            push_whereabouts(alloc, text, store, taker)
+            push_whereabouts(sheet, store, "waits until its fault is done by ", taker);
         }
         Some(_) => {
-            text.push_str("waits until its parked fault at ")?;
-            push_port(alloc, text, store, fault.port, " is taken up")
+            let before = "waits until its parked fault at ";
+            push_port(sheet, store, before, fault.port, " is taken up");
         }
     }
 }
 
 /// Adds the other side of a client's talk.
-fn push_talk(
-    alloc: Global,
-    text: &mut String,
-    store: &Store,
-    talk: &Talk,
-) -> Result<(), AllocError> {
+fn push_talk(sheet: &mut Sheet, store: &Store, talk: &Talk) {
     match talk.peer {
-        Peer::Thread(server) => {
-            text.push_str("waits for its server ")?;
-            push_whereabouts(alloc, text, store, server)
-        }
+        Peer::Thread(server) => push_whereabouts(sheet, store, "waits for its server ", server),
         Peer::Service => {
-            text.push_str("waits for the native server of ")?;
-            push_path(alloc, text, store, talk.port)
+            push_about(
+                sheet,
+                store,
+                "waits for the native server of ",
+                talk.port,
+                "",
+            );
         }
         Peer::Parked => {
-            text.push_str("waits until its talk at ")?;
-            push_port(alloc, text, store, talk.port, " is taken up")
+            push_port(
+                sheet,
+                store,
+                "waits until its talk at ",
+                talk.port,
+                " is taken up",
+            );
         }
     }
 }
 
 /// Adds the other side of a client, by its name.
-pub fn push_client(
-    alloc: Global,
-    text: &mut String,
-    store: &Store,
-    who: Who,
-) -> Result<(), AllocError> {
+pub fn push_client(sheet: &mut Sheet, store: &Store, who: Who) {
     match store.thread(who) {
         Some(
             Thread {
                 talk: Some(talk),
                 ..
             },
-        ) => push_talk(alloc, text, store, talk),
-        _ => text.push_str("has no talk"),
+        ) => push_talk(sheet, store, talk),
+        _ => sheet.put("has no talk"),
     }
 }
 
 /// Adds the client of a thread.
-pub fn push_of_server(
-    alloc: Global,
-    text: &mut String,
-    store: &Store,
-    who: Who,
-) -> Result<(), AllocError> {
+pub fn push_of_server(sheet: &mut Sheet, store: &Store, who: Who) {
     match store.client_of(who) {
-        Some(client) => {
-            text.push_str("waits for its client ")?;
-            push_whereabouts(alloc, text, store, client)
-        }
-        None => text.push_str("has no client"),
+        Some(client) => push_whereabouts(sheet, store, "waits for its client ", client),
+        None => sheet.put("has no client"),
     }
 }

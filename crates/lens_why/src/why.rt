@@ -2,85 +2,71 @@
 use crate::handles::mutex_of;
 use crate::jobs::push_porter_line;
 use crate::moves::push_move;
-use crate::places::push_path;
 use crate::reasons::{Lockers, push_reason};
 use fk_model::{Mode, Move, NoMemory, Thread, Who};
-use lens_world::{Ready, Seen, Stop, Watcher, at_text, names_of};
+use lens_text::Sheet;
+use lens_world::{Ready, Seen, Stop, Watcher, names_of, push_at, push_path};
 use std::alloc::{AllocError, Global};
 use std::collections::BTreeMap;
 
 /// Watches a run up to where it stops, and says there why threads aren't ready.
 #[derive(Drop)]
 pub struct Why {
-    alloc: Global,
-    text: String,
+    sheet: Sheet,
     lockers: Lockers,
     /// The mutex that the mover is about to lock.
     locking: Option<Who>,
 }
 
 /// Adds the line of a user thread that isn't ready.
-fn push_user(
-    alloc: Global,
-    text: &mut String,
-    seen: Seen<'_>,
-    lockers: &Lockers,
-    who: Who,
-    thread: &Thread,
-) -> Result<(), AllocError> {
-    push_path(alloc, text, seen.store, who)?;
-    text.push_str(" ")?;
-    text.push_str(at_text(alloc, seen.store, who, thread)?.as_str())?;
-    if let Mode::Halted(_) = thread.mode {
-        return text.push_str("\n");
+fn push_user(sheet: &mut Sheet, seen: Seen<'_>, lockers: &Lockers, who: Who, thread: &Thread) {
+    push_path(sheet, seen.store, who);
+    sheet.put(" ");
+    push_at(sheet, seen.store, who, thread);
+    match thread.mode {
+        Mode::Halted(_) => {}
+        _ => {
+            sheet.put(": ");
+            push_reason(sheet, seen.store, lockers, who, thread);
+        }
     }
-    text.push_str(": ")?;
-    push_reason(alloc, text, seen.store, lockers, who, thread)?;
-    text.push_str("\n")
+    sheet.put("\n");
 }
 
 /// Adds the line of a thread that isn't ready.
-fn push_thread(
-    alloc: Global,
-    text: &mut String,
-    seen: Seen<'_>,
-    lockers: &Lockers,
-    who: Who,
-) -> Result<(), AllocError> {
+fn push_thread(sheet: &mut Sheet, seen: Seen<'_>, lockers: &Lockers, who: Who) {
     match seen.store.thread(who) {
         Some(
             Thread {
                 mode: Mode::Native,
                 ..
             },
-        ) => push_porter_line(alloc, text, seen, lockers, who),
-        Some(thread) => push_user(alloc, text, seen, lockers, who, thread),
-        None => Ok(()),
+        ) => push_porter_line(sheet, seen, lockers, who),
+        Some(thread) => push_user(sheet, seen, lockers, who, thread),
+        None => {}
     }
 }
 
 /// Adds the lines of all threads that aren't ready, in the order of their paths.
 fn push_threads(
-    alloc: Global,
-    text: &mut String,
+    sheet: &mut Sheet,
     seen: Seen<'_>,
     ready: &Ready,
     lockers: &Lockers,
 ) -> Result<(), AllocError> {
-    for (_, who) in &names_of(alloc, seen.store)? {
+    for (_, who) in &names_of(sheet.alloc(), seen.store)? {
         if !ready.contains_key(who) {
-            push_thread(alloc, text, seen, lockers, *who)?;
+            push_thread(sheet, seen, lockers, *who);
         }
     }
-    Ok(())
+    sheet.checked()
 }
 
 impl Why {
     /// Nothing is said yet.
     pub fn new(alloc: Global) -> Why {
         Why {
-            alloc,
-            text: String::new(alloc),
+            sheet: Sheet::new(alloc),
             lockers: BTreeMap::new(alloc),
             locking: None,
         }
@@ -88,7 +74,7 @@ impl Why {
 
     /// What was said.
     pub fn into_text(self) -> String {
-        self.text
+        self.sheet.into_text()
     }
 }
 
@@ -109,9 +95,8 @@ impl Watcher for Why {
 
     fn stops(&mut self, seen: Seen<'_>, ready: &Ready, stop: Stop) -> Result<(), NoMemory> {
         if let Stop::Unready { one, .. } = stop {
-            push_move(self.alloc, &mut self.text, seen, ready, &self.lockers, &one)?;
+            push_move(&mut self.sheet, seen, ready, &self.lockers, &one);
         }
-        push_threads(self.alloc, &mut self.text, seen, ready, &self.lockers)?;
-        Ok(())
+        Ok(push_threads(&mut self.sheet, seen, ready, &self.lockers)?)
     }
 }

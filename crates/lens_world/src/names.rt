@@ -2,6 +2,7 @@
 use fk_model::limits::OWN_SPACE;
 use fk_model::{Body, Ptr, Who};
 use fk_store::Store;
+use lens_text::Sheet;
 use std::alloc::{AllocError, Global};
 use std::collections::BTreeMap;
 
@@ -21,29 +22,39 @@ fn slots_of(alloc: Global, store: &Store, who: Who) -> Result<Vec<u8>, AllocErro
     Ok(slots)
 }
 
+/// Adds the path that slots are.
+pub fn push_slots(sheet: &mut Sheet, slots: &[u8]) {
+    for slot in slots {
+        sheet.put("/");
+        sheet.number(*slot as u64);
+    }
+}
+
+/// Adds the path of an object from the root.
+pub fn push_path(sheet: &mut Sheet, store: &Store, who: Who) {
+    match slots_of(sheet.alloc(), store, who) {
+        Ok(slots) => push_slots(sheet, &slots),
+        Err(_) => sheet.lack(),
+    }
+}
+
 /// The path of an object from the root.
+///
+/// # Errors
+///
+/// For want of memory.
 pub fn path_text(alloc: Global, store: &Store, who: Who) -> Result<String, AllocError> {
-    let mut text = String::new(alloc);
-    for slot in &slots_of(alloc, store, who)? {
-        text.push_str(format!(in alloc; "/{slot}")?.as_str())?;
-    }
-    Ok(text)
+    let mut sheet = Sheet::new(alloc);
+    push_path(&mut sheet, store, who);
+    sheet.done()
 }
 
-/// The path of the space with this birth number.
-pub fn space_text(alloc: Global, store: &Store, space: u32) -> Result<String, AllocError> {
-    match store.home(space) {
-        Some(home) => path_text(alloc, store, home),
-        None => String::from_str(alloc, "/"),
-    }
-}
-
-/// Where a pointer leads.
-pub fn pointer_text(alloc: Global, store: &Store, pointer: Ptr) -> Result<String, AllocError> {
+/// Adds where a pointer leads.
+pub fn push_pointer(sheet: &mut Sheet, store: &Store, pointer: Ptr) {
     match pointer {
-        Ptr::Null => String::from_str(alloc, "nothing"),
-        Ptr::Dead => String::from_str(alloc, "what was destroyed"),
-        Ptr::At(who) => path_text(alloc, store, who),
+        Ptr::Null => sheet.put("nothing"),
+        Ptr::Dead => sheet.put("what was destroyed"),
+        Ptr::At(who) => push_path(sheet, store, who),
     }
 }
 

@@ -1,95 +1,81 @@
 //! Objects in words.
-use crate::names::{path_text, pointer_text, space_text};
-use crate::threads::thread_text;
-use fk_model::{Body, Ptr, Who};
+use crate::names::{push_path, push_pointer};
+use crate::threads::push_thread;
+use fk_model::{Body, Who};
 use fk_store::Store;
+use lens_text::Sheet;
 use std::alloc::{AllocError, Global};
 
-/// The pages from one on.
-fn pages_text(alloc: Global, first: u8, count: u16, write: bool) -> Result<String, AllocError> {
-    let last = u32::from(first) + u32::from(count.saturating_sub(1));
-    let right = if write { "writable" } else { "read only" };
-    format!(in alloc; "pages {first} to {last}, {right}")
+/// Adds the pages from one on.
+fn push_extent(sheet: &mut Sheet, first: u8, count: u16, write: bool) {
+    sheet.put("pages ");
+    sheet.number(first as u64);
+    sheet.put(" to ");
+    sheet.number(first as u64 + count.saturating_sub(1) as u64);
+    sheet.put(if write { ", writable" } else { ", read only" });
 }
 
-/// A port, and who serves it.
-fn port_text(
-    alloc: Global,
-    store: &Store,
-    who: Who,
-    set: Option<u8>,
-    served: bool,
-) -> Result<String, AllocError> {
-    if !served {
-        return match set {
-            Some(slot) => format!(in alloc; "port in the set of slot {slot}"),
-            None => String::from_str(alloc, "port"),
-        };
-    }
-    match store.client_at(who) {
-        Some(client) => {
-            let client = path_text(alloc, store, client)?;
-            format!(in alloc; "port with a native server, whose client is {client}")
+/// Adds a port, and who serves it.
+fn push_port(sheet: &mut Sheet, store: &Store, who: Who, set: Option<u8>, served: bool) {
+    sheet.put("port");
+    match (served, set) {
+        (true, _) => {
+            sheet.put(" with a native server");
+            if let Some(client) = store.client_at(who) {
+                sheet.put(", whose client is ");
+                push_path(sheet, store, client);
+            }
         }
-        None => String::from_str(alloc, "port with a native server"),
+        (false, Some(slot)) => {
+            sheet.put(" in the set of slot ");
+            sheet.number(slot as u64);
+        }
+        (false, None) => {}
     }
 }
 
-/// The pages that a space has.
-fn page_numbers(alloc: Global, store: &Store, space: u32) -> Result<String, AllocError> {
-    let mut text = String::new(alloc);
+/// Adds the pages that a space has.
+fn push_pages(sheet: &mut Sheet, store: &Store, space: u32) {
+    let mut gap = ", pages ";
     for page in 0..=255u8 {
         if store.page(space, page).is_some() {
-            text.push_str(format!(in alloc; " {page}")?.as_str())?;
+            sheet.put(gap);
+            sheet.number(page as u64);
+            gap = " ";
         }
-    }
-    if text.is_empty() {
-        return Ok(text);
-    }
-    format!(in alloc; ", pages{text}")
-}
-
-/// A space: its birth number, its holder, its pages.
-pub fn home_text(
-    alloc: Global,
-    store: &Store,
-    birth: u32,
-    holder: Option<Who>,
-) -> Result<String, AllocError> {
-    let pages = page_numbers(alloc, store, birth)?;
-    match holder {
-        Some(holder) => {
-            let holder = path_text(alloc, store, holder)?;
-            format!(in alloc; "space {birth}, held by {holder}{pages}")
-        }
-        None => format!(in alloc; "space {birth}{pages}"),
     }
 }
 
-/// What an object is at.
-pub fn object_text(
-    alloc: Global,
-    store: &Store,
-    who: Who,
-    body: &Body,
-) -> Result<String, AllocError> {
+/// Adds a space: its birth number, its holder, its pages.
+pub fn push_home(sheet: &mut Sheet, store: &Store, birth: u32, holder: Option<Who>) {
+    sheet.put("space ");
+    sheet.number(birth as u64);
+    if let Some(holder) = holder {
+        sheet.put(", held by ");
+        push_path(sheet, store, holder);
+    }
+    push_pages(sheet, store, birth);
+}
+
+/// Adds what an object is at.
+pub fn push_object(sheet: &mut Sheet, store: &Store, who: Who, body: &Body) {
     match body {
-        Body::Mutex { locked: true } => String::from_str(alloc, "mutex, locked"),
-        Body::Mutex { locked: false } => String::from_str(alloc, "mutex"),
-        Body::Cond => String::from_str(alloc, "cond"),
-        Body::Portset => String::from_str(alloc, "portset"),
-        Body::Port { set, served } => port_text(alloc, store, who, *set, *served),
-        Body::Space { birth, holder } => home_text(alloc, store, *birth, *holder),
+        Body::Mutex { locked: true } => sheet.put("mutex, locked"),
+        Body::Mutex { locked: false } => sheet.put("mutex"),
+        Body::Cond => sheet.put("cond"),
+        Body::Portset => sheet.put("portset"),
+        Body::Port { set, served } => push_port(sheet, store, who, *set, *served),
+        Body::Space { birth, holder } => push_home(sheet, store, *birth, *holder),
         Body::Thread(thread) => {
-            let thread = thread_text(alloc, store, who, thread)?;
-            format!(in alloc; "thread {thread}")
+            sheet.put("thread ");
+            push_thread(sheet, store, who, thread);
         }
-        other => pages_or_reference(alloc, store, other),
+        body => push_pointing(sheet, store, body),
     }
 }
 
-/// The same of mappings, regions and references.
-fn pages_or_reference(alloc: Global, store: &Store, body: &Body) -> Result<String, AllocError> {
+/// Adds the same of mappings, regions and references.
+fn push_pointing(sheet: &mut Sheet, store: &Store, body: &Body) {
     match body {
         Body::Mapping {
             first,
@@ -98,9 +84,12 @@ fn pages_or_reference(alloc: Global, store: &Store, body: &Body) -> Result<Strin
             write,
             region,
         } => {
-            let pages = pages_text(alloc, *first, *count, *write)?;
-            let region = pointer_text(alloc, store, *region)?;
-            format!(in alloc; "mapping of {pages}, from page {offset} on of region {region}")
+            sheet.put("mapping of ");
+            push_extent(sheet, *first, *count, *write);
+            sheet.put(", from page ");
+            sheet.number(*offset as u64);
+            sheet.put(" on of region ");
+            push_pointer(sheet, store, *region);
         }
         Body::Region {
             first,
@@ -108,24 +97,42 @@ fn pages_or_reference(alloc: Global, store: &Store, body: &Body) -> Result<Strin
             write,
             keeper,
         } => {
-            let pages = pages_text(alloc, *first, *count, *write)?;
-            let keeper = pointer_text(alloc, store, *keeper)?;
-            format!(in alloc; "region of {pages}, kept by {keeper}")
+            sheet.put("region of ");
+            push_extent(sheet, *first, *count, *write);
+            sheet.put(", kept by ");
+            push_pointer(sheet, store, *keeper);
         }
-        Body::Reference { to } => reference_text(alloc, store, *to),
-        _ => String::from_str(alloc, "another object"),
+        Body::Reference { to } => {
+            sheet.put("reference to ");
+            push_pointer(sheet, store, *to);
+        }
+        _ => sheet.put("another object"),
     }
 }
 
-/// A reference. A thread or a port is named by its path, and so is a space.
-fn reference_text(alloc: Global, store: &Store, to: Ptr) -> Result<String, AllocError> {
-    let to = pointer_text(alloc, store, to)?;
-    format!(in alloc; "reference to {to}")
+/// The root in words, which stands in no slot.
+///
+/// # Errors
+///
+/// For want of memory.
+pub fn root_text(alloc: Global, store: &Store) -> Result<String, AllocError> {
+    let mut sheet = Sheet::new(alloc);
+    push_home(&mut sheet, store, 0, None);
+    sheet.done()
 }
 
-/// The root, which stands in no slot.
-pub fn root_text(alloc: Global, store: &Store) -> Result<String, AllocError> {
-    let path = space_text(alloc, store, 0)?;
-    let home = home_text(alloc, store, 0, None)?;
-    format!(in alloc; "{path} {home}\n")
+/// What an object is at.
+///
+/// # Errors
+///
+/// For want of memory.
+pub fn object_text(
+    alloc: Global,
+    store: &Store,
+    who: Who,
+    body: &Body,
+) -> Result<String, AllocError> {
+    let mut sheet = Sheet::new(alloc);
+    push_object(&mut sheet, store, who, body);
+    sheet.done()
 }

@@ -38,25 +38,23 @@ fn unready(alloc: Global, file: &str, index: u64) -> Problem {
     ))
 }
 
+/// What was expected in a trace's line.
+const MOVE: &str =
+    "a move, as 3.0 or 3.0 5.1: the birth number of a space, a dot, a slot, and so a pick where it has one";
+
 impl Stop {
     /// What is wrong with the trace, where a run stops at one of its lines.
     pub fn problem(self, alloc: Global, file: &str) -> Option<Problem> {
-        match self {
-            Stop::Enough | Stop::Ended => None,
-            Stop::NoTrace => Some(expected(alloc, file, 1, "fluke-trace 1")),
-            Stop::Misspelled { index } => Some(expected(
-                alloc,
-                file,
-                line_of(index),
-                "a move, as 3.0 or 3.0 5.1: the birth number of a space, a dot, a slot, and so a pick where it has one",
-            )),
-            Stop::Unready { index, .. } => Some(unready(alloc, file, index)),
-            Stop::Budget { index } => Some(expected(
-                alloc,
-                file,
+        let (line, what) = match self {
+            Stop::Enough | Stop::Ended => return None,
+            Stop::NoTrace => (1, "fluke-trace 1"),
+            Stop::Misspelled { index } => (line_of(index), MOVE),
+            Stop::Unready { index, .. } => return Some(unready(alloc, file, index)),
+            Stop::Budget { index } => (
                 line_of(index),
                 "the end, since the scenario's budget is used",
-            )),
-        }
+            ),
+        };
+        Some(expected(alloc, file, line, what))
     }
 }

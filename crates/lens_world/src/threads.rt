@@ -1,9 +1,8 @@
 //! Threads in words.
-use crate::names::path_text;
+use crate::names::push_path;
 use fk_model::{Fault, Mode, Peer, Talk, Thread, Turn, Who};
 use fk_store::{Reach, Store};
-use lens_text::{call_text, halt_text, instruction_text};
-use std::alloc::{AllocError, Global};
+use lens_text::{Sheet, halt_text, push_call, push_instruction};
 
 /// The word at an address of a space, if its page is there.
 pub fn word_at(store: &Store, space: u32, address: u64) -> Option<u64> {
@@ -14,102 +13,95 @@ pub fn word_at(store: &Store, space: u32, address: u64) -> Option<u64> {
     Some(words[(address % 64) as usize])
 }
 
-/// The instruction at which a running thread is.
-fn instruction_at(
-    alloc: Global,
-    store: &Store,
-    who: Who,
-    thread: &Thread,
-) -> Result<String, AllocError> {
-    match word_at(store, who.space, thread.pc) {
-        Some(word) => instruction_text(alloc, word),
-        None => String::from_str(alloc, "no page is there"),
-    }
-}
-
-/// What a thread does next: the instruction, or what is left of its call.
-pub fn at_text(
-    alloc: Global,
-    store: &Store,
-    who: Who,
-    thread: &Thread,
-) -> Result<String, AllocError> {
-    let counter = thread.pc;
+/// Adds what a thread does next: the instruction, or what is left of its call.
+pub fn push_at(sheet: &mut Sheet, store: &Store, who: Who, thread: &Thread) {
     match thread.mode {
         Mode::Running => {
-            let instruction = instruction_at(alloc, store, who, thread)?;
-            format!(in alloc; "running at {counter}: {instruction}")
+            sheet.put("running at ");
+            sheet.number(thread.pc);
+            sheet.put(": ");
+            match word_at(store, who.space, thread.pc) {
+                Some(word) => push_instruction(sheet, word),
+                None => sheet.put("no page is there"),
+            }
         }
         Mode::Calling => {
-            let call = call_text(alloc, &thread.regs)?;
-            format!(in alloc; "calling at {counter}: {call}")
+            sheet.put("calling at ");
+            sheet.number(thread.pc);
+            sheet.put(": ");
+            push_call(sheet, &thread.regs);
         }
         Mode::Halted(code) => {
-            let why = halt_text(code);
-            format!(in alloc; "halted {code} at {counter}: {why}")
+            sheet.put("halted ");
+            sheet.number(code as u64);
+            sheet.put(" at ");
+            sheet.number(thread.pc);
+            sheet.puts(&[": ", halt_text(code)]);
         }
-        Mode::Native => String::from_str(alloc, "a porter"),
+        Mode::Native => sheet.put("a porter"),
     }
 }
 
-/// Who serves a talk, or has taken a fault.
-fn peer_text(alloc: Global, store: &Store, peer: Peer) -> Result<String, AllocError> {
+/// Adds who serves a talk, or has taken a fault.
+fn push_peer(sheet: &mut Sheet, store: &Store, peer: Peer) {
     match peer {
-        Peer::Thread(who) => path_text(alloc, store, who),
-        Peer::Service => String::from_str(alloc, "the port's native server"),
-        Peer::Parked => String::from_str(alloc, "nobody yet (parked)"),
+        Peer::Thread(who) => push_path(sheet, store, who),
+        Peer::Service => sheet.put("the port's native server"),
+        Peer::Parked => sheet.put("nobody yet (parked)"),
     }
 }
 
-/// A talk.
-fn talk_text(alloc: Global, store: &Store, talk: &Talk) -> Result<String, AllocError> {
-    let port = path_text(alloc, store, talk.port)?;
-    let peer = peer_text(alloc, store, talk.peer)?;
-    let moved = talk.moved;
-    let turn = match talk.turn {
-        Turn::Client => "client's",
-        Turn::Server => "server's",
-    };
-    format!(in alloc; "; talk at {port} with {peer}, {turn} turn, words moved {moved}")
+/// Adds a talk.
+fn push_talk(sheet: &mut Sheet, store: &Store, talk: &Talk) {
+    sheet.put("; talk at ");
+    push_path(sheet, store, talk.port);
+    sheet.put(" with ");
+    push_peer(sheet, store, talk.peer);
+    sheet.put(match talk.turn {
+        Turn::Client => ", client's turn, words moved ",
+        Turn::Server => ", server's turn, words moved ",
+    });
+    sheet.number(talk.moved as u64);
 }
 
-/// A fault.
-fn fault_text(alloc: Global, store: &Store, fault: &Fault) -> Result<String, AllocError> {
-    let page = fault.page;
-    let access = if fault.write { "write" } else { "read" };
-    let port = path_text(alloc, store, fault.port)?;
+/// Adds a fault.
+fn push_fault(sheet: &mut Sheet, store: &Store, fault: &Fault) {
+    sheet.put(if fault.write {
+        "; fault, write of page "
+    } else {
+        "; fault, read of page "
+    });
+    sheet.number(fault.page as u64);
     match fault.taker {
-        None => format!(in alloc; "; fault, {access} of page {page}, raised at {port}"),
+        None => {
+            sheet.put(", raised at ");
+            push_path(sheet, store, fault.port);
+        }
         Some(taker) => {
-            let taker = peer_text(alloc, store, taker)?;
-            format!(in alloc; "; fault, {access} of page {page}, at {port}, taken by {taker}")
+            sheet.put(", at ");
+            push_path(sheet, store, fault.port);
+            sheet.put(", taken by ");
+            push_peer(sheet, store, taker);
         }
     }
 }
 
-/// How often a thread is stopped, where it is.
-fn stops_text(alloc: Global, stops: u16) -> Result<String, AllocError> {
-    match stops {
-        0 => Ok(String::new(alloc)),
-        1 => String::from_str(alloc, "; stopped once"),
-        stops => format!(in alloc; "; stopped {stops} times"),
+/// Adds a thread: what it does next, how often it is stopped, its talk as a client, its fault.
+pub fn push_thread(sheet: &mut Sheet, store: &Store, who: Who, thread: &Thread) {
+    push_at(sheet, store, who, thread);
+    match thread.stops {
+        0 => {}
+        1 => sheet.put("; stopped once"),
+        stops => {
+            sheet.put("; stopped ");
+            sheet.number(stops as u64);
+            sheet.put(" times");
+        }
     }
-}
-
-/// A thread: what it does next, how often it is stopped, its talk as a client, its fault.
-pub fn thread_text(
-    alloc: Global,
-    store: &Store,
-    who: Who,
-    thread: &Thread,
-) -> Result<String, AllocError> {
-    let mut text = at_text(alloc, store, who, thread)?;
-    text.push_str(stops_text(alloc, thread.stops)?.as_str())?;
     if let Some(talk) = &thread.talk {
-        text.push_str(talk_text(alloc, store, talk)?.as_str())?;
+        push_talk(sheet, store, talk);
     }
     if let Some(fault) = &thread.fault {
-        text.push_str(fault_text(alloc, store, fault)?.as_str())?;
+        push_fault(sheet, store, fault);
     }
-    Ok(text)
 }

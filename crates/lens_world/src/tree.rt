@@ -1,36 +1,43 @@
 //! The tree of spaces.
-use crate::names::names_of;
-use crate::objects::{object_text, root_text};
+use crate::names::{names_of, push_slots};
+use crate::objects::{push_home, push_object};
 use fk_model::Who;
 use fk_store::Store;
+use lens_text::Sheet;
 use std::alloc::{AllocError, Global};
 
-/// Adds the line of an object, by two blanks further in than that of its space.
-fn push_object(
-    alloc: Global,
-    text: &mut String,
-    store: &Store,
-    slots: &[u8],
-    who: Who,
-) -> Result<(), AllocError> {
+/// Adds two blanks for each slot of a path.
+fn push_blanks(sheet: &mut Sheet, slots: &[u8]) {
     for _ in slots {
-        text.push_str("  ")?;
+        sheet.put("  ");
     }
-    for slot in slots {
-        text.push_str(format!(in alloc; "/{slot}")?.as_str())?;
-    }
+}
+
+/// Adds the line of an object, by two blanks further in than that of its space.
+fn push_line(sheet: &mut Sheet, store: &Store, slots: &[u8], who: Who) {
+    push_blanks(sheet, slots);
+    push_slots(sheet, slots);
     if let Some(body) = store.at(who) {
-        text.push_str(" ")?;
-        text.push_str(object_text(alloc, store, who, body)?.as_str())?;
+        sheet.put(" ");
+        push_object(sheet, store, who, body);
     }
-    text.push_str("\n")
+    sheet.put("\n");
 }
 
 /// All of a store, an object a line: each space before what lies in it, and what lies in one by rising slot.
+///
+/// # Errors
+///
+/// For want of memory.
 pub fn tree_text(alloc: Global, store: &Store) -> Result<String, AllocError> {
-    let mut text = root_text(alloc, store)?;
-    for (slots, who) in &names_of(alloc, store)? {
-        push_object(alloc, &mut text, store, slots.as_slice(), *who)?;
+    let names = names_of(alloc, store)?;
+    let mut sheet = Sheet::new(alloc);
+    // The root stands in no slot.
+    sheet.put("/ ");
+    push_home(&mut sheet, store, 0, None);
+    sheet.put("\n");
+    for (slots, who) in &names {
+        push_line(&mut sheet, store, slots.as_slice(), *who);
     }
-    Ok(text)
+    sheet.done()
 }
