@@ -10,7 +10,7 @@ ghost use Rattle.laws_house.specs.Houses.{machine};
 
 use fk_checkpoint::Checkpoint;
 use fk_finish::Finish;
-use fk_jobs::Ended;
+use fk_jobs::{Ended, Worker};
 use fk_model::{JobSpec, List as Items, NoMemory, Text};
 use fk_porters::{Porter, Sound};
 use fk_report::JobEnd;
@@ -76,34 +76,43 @@ fn told_restorer(restore: Sound, make: u64, release: u64) -> JobEnd
     }
 }
 
-/// How a job has ended by its own moves, of which these are the first and the last.
-fn told_work(worker: Porter, begun: u64, last: u64) -> JobEnd
-    ensures { result ≡ definitions.told_work (end_at (machine.head (state_of worker))) begun last }
-{
-    match worker {
-        Porter::Checkpoint(checkpoint) => told_checkpoint(checkpoint, begun, last),
-        Porter::Restore(restore) => told_restorer(restore, begun, last),
+/// Code of a job that tells how it has ended.
+pub trait Tells: Worker {
+    /// How it has ended by its own moves, of which these are the first and the last.
+    fn told(self, begun: u64, last: u64) -> JobEnd
+        ensures { result ≡ definitions.told_work (end_at (machine.head (Self.state self))) begun last };
+}
+
+impl Tells for Porter {
+    fn told(self, begun: u64, last: u64) -> JobEnd {
+        match self {
+            Porter::Checkpoint(checkpoint) => told_checkpoint(checkpoint, begun, last),
+            Porter::Restore(restore) => told_restorer(restore, begun, last),
+        }
     }
 }
 
 /// How a job has ended.
-fn told_of(end: Ended<Porter>) -> JobEnd
-    ensures { result ≡ definitions.told_of (shown_end state_of end) }
+fn told_of<W: Tells + Drop>(end: Ended<W>) -> JobEnd
+    ensures { result ≡ definitions.told_of (shown_end W.state end) }
 {
     match end {
         Ended::Worked {
             worker,
             begun,
             last,
-        } => told_work(worker, begun, last),
+        } => worker.told(begun, last),
         Ended::NoImage => JobEnd::NoImage,
         Ended::Dead => JobEnd::Dead,
     }
 }
 
 /// How those have ended that have.
-fn told_ended(alloc: Global, ends: Vec<Ended<Porter>>) -> Result<Items<Option<JobEnd>>, NoMemory>
-    ensures { IfOk result (λ told. told ≡ map (λ e. Some (definitions.told_of e)) (shown_ends state_of ends.items)) }
+fn told_ended<W: Tells + Drop>(
+    alloc: Global,
+    ends: Vec<Ended<W>>,
+) -> Result<Items<Option<JobEnd>>, NoMemory>
+    ensures { IfOk result (λ told. told ≡ map (λ e. Some (definitions.told_of e)) (shown_ends W.state ends.items)) }
 {
     let mut told = Items::new(alloc);
     for end in ends {
@@ -124,12 +133,12 @@ fn fill(told: &mut Items<Option<JobEnd>>, count: usize) -> Result<(), NoMemory>
 }
 
 /// How so many jobs have ended, where they have.
-pub fn told_in(
+pub fn told_in<W: Tells + Drop>(
     alloc: Global,
     count: usize,
-    ends: Vec<Ended<Porter>>,
+    ends: Vec<Ended<W>>,
 ) -> Result<Items<Option<JobEnd>>, NoMemory>
-    ensures { IfOk result (λ told. told ≡ definitions.told_in count (shown_ends state_of ends.items)) }
+    ensures { IfOk result (λ told. told ≡ definitions.told_in count (shown_ends W.state ends.items)) }
 {
     let mut told = told_ended(alloc, ends)?;
     fill(&mut told, count)?;

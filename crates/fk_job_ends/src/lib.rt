@@ -6,4 +6,4 @@
 
 mod ends;
 
-pub use ends::{images_of, told_in};
+pub use ends::{Tells, images_of, told_in};

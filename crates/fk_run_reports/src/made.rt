@@ -10,11 +10,10 @@ ghost use Rattle.laws_house.specs.Houses.{jobs_of};
 use fk_commands::{Prepared, Report, Status};
 use fk_core::Core;
 use fk_finish::ValidImage;
-use fk_job_ends::{images_of, told_in};
+use fk_job_ends::{Tells, images_of, told_in};
 use fk_jobs::Worker;
 use fk_model::{JobSpec, List as Items, Move, NoMemory};
 use fk_natives::Service;
-use fk_porters::Porter;
 use fk_report::{End, JobEnd, first_refused, outs_text, run_text, threads_of};
 use fk_soak::soak_line;
 use std::alloc::Global;
@@ -83,9 +82,9 @@ fn concluded(
 }
 
 /// The report and the text of a run of jobs that has come to a core.
-pub fn prepared<S: Service + Drop>(
+pub fn prepared<S: Service + Drop, W: Tells + Drop>(
     alloc: Global,
-    core: Core<S, Porter>,
+    core: Core<S, W>,
     specs: &[JobSpec],
     images: &[Option<ValidImage>],
     history: Items<Move>,
@@ -106,10 +105,10 @@ pub fn prepared<S: Service + Drop>(
 }
 
 /// The report of a run of jobs without images, and the line of `soak` in place of its text: so many servers are counted.
-pub fn soaked<S: Service + Drop>(
+pub fn soaked<S: Service + Drop, W: Tells + Drop>(
     alloc: Global,
     count: u32,
-    core: Core<S, Porter>,
+    core: Core<S, W>,
     specs: &[JobSpec],
     history: Items<Move>,
 ) -> Result<Prepared, NoMemory>

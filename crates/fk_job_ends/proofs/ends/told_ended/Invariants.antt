@@ -1,9 +1,8 @@
 use Rattle.std.proofs.Common.{◌≡◌, ◌++◌, Some, map}
 use Rattle.fk_jobs.specs.Jobs.{shown_ends}
-use Rattle.fk_porters.specs.Porters.{state_of}
 use Rattle.fk_job_ends.specs.Ends as definitions
 use Rattle.fk_job_ends.proofs.ends.told_ended.Given as goal
 
 abbrev pub invariant-loop-end : goal.invariant-loop-end
-invariant-loop-end l = l.told ++ map (λ e. Some (definitions.told_of e)) (shown_ends state_of l.end-iterator.rest.items)
-    ≡ map (λ e. Some (definitions.told_of e)) (shown_ends state_of l.fn.ends.items)
+invariant-loop-end g l = l.told ++ map (λ e. Some (definitions.told_of e)) (shown_ends g.W.Worker.state l.end-iterator.rest.items)
+    ≡ map (λ e. Some (definitions.told_of e)) (shown_ends g.W.Worker.state l.fn.ends.items)
