@@ -7,8 +7,8 @@ ghost use Rattle.fk_plays.specs.Images.{needed, Finds, FindsImages, NeedImage, U
 use fk_causes::Shelf;
 use fk_commands::{Status, file_of, image_of};
 use fk_finish::ValidImage;
-use fk_runs::maker_of;
 use fk_model::{JobSpec, List as Items};
+use fk_runs::maker_of;
 use std::alloc::Global;
 
 /// The name of the image that a job behind others needs of the shelf: that of a restore which none of them makes.
