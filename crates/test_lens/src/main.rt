@@ -2,64 +2,30 @@
 //!
 //! Each file `NAME.cases` of the current folder is read by `test_case_files` as a list of cases. `lens_top` of `lens_verbs` is called
 //! with each, over the source and the shelf that `fk_causes` has in memory: its status, the line on standard error, and what is
-//! shown are compared. A new case is a new file, or some more lines of one.
+//! shown are compared (`calls`); of a page its data alone, since the rest is the same in all. A new case is a new file, or some more
+//! lines of one. Each case is called again over odd bytes (`odd`).
 //!
 //! The program says of each case what differs, and ends with a line of counts; it fails where a case differs, and where it
 //! finds none. It promises no more than that it always ends.
 #![tactic(auto)]
 
+mod calls;
+mod odd;
+mod shelf;
+
+use crate::calls::call;
+use crate::odd::{Odd, try_odd};
 use anyhow::{Context, ensure};
-use fk_causes::{MemShelf, MemSource, NoMemory, Shelf};
-use lens_verbs::lens_top;
-use std::alloc::Global;
 use std::fs;
 use std::rt::Files;
-use test_case_files::{Case, Ending, Fails, cases_of, sections_of};
+use test_case_files::{Case, Fails, cases_of, sections_of};
 
-/// How many calls were made, and how many of them differ from what their case says.
+/// How many calls were made, how many of them differ from what their case says, and how many were made over odd bytes.
 #[derive(Drop)]
 struct Tally {
     calls: u32,
     differ: u32,
-}
-
-/// A shelf with these files on it. What fails is counted from the next call on.
-fn shelf_of(alloc: Global, case: &Case, fails: &[u64]) -> Result<MemShelf, NoMemory> {
-    let puts = case.files.len() as u64;
-    let mut numbers = Vec::new(alloc);
-    for call in fails {
-        numbers.push(call.saturating_add(puts))?;
-    }
-    let mut shelf = MemShelf::new(numbers);
-    for (name, bytes) in &case.files {
-        if shelf.put(name.as_str(), bytes).is_err() {
-            return Err(NoMemory);
-        }
-    }
-    Ok(shelf)
-}
-
-/// What comes of the call of a case in which these calls of its source and its shelf fail.
-fn call(alloc: Global, case: &Case, fails: &Fails) -> Result<Ending, NoMemory> {
-    let mut source = MemSource::new(case.source.clone()?, fails.source.clone()?);
-    let mut shelf = shelf_of(alloc, case, &fails.shelf)?;
-    let files = case.files.clone()?;
-    match lens_top(alloc, &case.words, &mut source, &mut shelf) {
-        Ok(shown) => Ok(Ending {
-            status: 0,
-            error: String::new(alloc),
-            output: shown.into_bytes(),
-            files,
-            report: None,
-        }),
-        Err(problem) => Ok(Ending {
-            status: problem.status(),
-            error: String::from_str(alloc, problem.line())?,
-            output: Vec::new(alloc),
-            files,
-            report: None,
-        }),
-    }
+    odd: u32,
 }
 
 /// Makes the call of a case, and says where it differs.
@@ -79,10 +45,23 @@ fn try_call<R: Print + AllocGlobal>(
     Ok(())
 }
 
+/// Makes the calls of a case over odd bytes, and says how many of them aren't answered.
+fn count_odd<R: Print + AllocGlobal>(rt: &R, tally: &mut Tally, case: &Case) -> anyhow::Result<()> {
+    let Odd { calls, silent } = try_odd(rt.alloc(), case).ok().context("no memory")?;
+    tally.odd = tally.odd.saturating_add(calls);
+    tally.differ = tally.differ.saturating_add(silent);
+    if silent > 0 {
+        let name = case.name.as_str();
+        println!(rt; "case {name}: {silent} calls over odd bytes end without an answer")?;
+    }
+    Ok(())
+}
+
 /// Makes the call of a case, or those in which one call fails in its turn.
 fn try_case<R: Print + AllocGlobal>(rt: &R, tally: &mut Tally, case: &Case) -> anyhow::Result<()> {
     let Some(turns) = case.fails.turns else {
-        return try_call(rt, tally, case, &case.fails);
+        try_call(rt, tally, case, &case.fails)?;
+        return count_odd(rt, tally, case);
     };
     for call in turns.first..turns.end {
         let fails = case.fails.with(turns, call)?;
@@ -125,12 +104,13 @@ fn main(rt: HostRuntime) -> anyhow::Result<()> {
     let mut tally = Tally {
         calls: 0,
         differ: 0,
+        odd: 0,
     };
     for path in &files_of_cases(&rt)? {
         try_file(&rt, &mut tally, path.as_str()).context(format_args!("{path}"))?;
     }
-    let Tally { calls, differ } = tally;
-    println!(rt; "{calls} calls, {differ} differ")?;
+    let Tally { calls, differ, odd } = tally;
+    println!(rt; "{calls} calls and {odd} over odd bytes, {differ} differ")?;
     ensure!(calls > 0, "no case was found");
     ensure!(differ == 0, "{differ} calls differ");
     Ok(())
