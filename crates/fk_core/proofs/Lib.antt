@@ -7,3 +7,4 @@ mod Trying
 mod Settles
 mod Leaving
 mod Rooms
+mod Timely

@@ -1,7 +1,7 @@
 //! Moves that a core makes by itself, one after the other.
 ghost use Rattle.std.specs.Prelude.{◌≡◌, ◌<◌, true, None, IfOk, OnErr, IfSome, IfNone, map};
 ghost use Rattle.fk_served.specs.Served.{AllFit};
-ghost use Rattle.fk_core.specs.Cores.{run_core, is_porter, has_come, IsReadyMove, IsOver, IsAdvanced, IsAdvancedBy, IsAdvancedOrOver, IsFirstDue};
+ghost use Rattle.fk_core.specs.Cores.{run_core, is_porter, has_come, IsReadyMove, IsOver, IsAdvanced, IsAdvancedBy, IsAdvancedOrOver, IsFirstDue, is_timely};
 ghost use Rattle.fk_core.specs.Goings.{IsGoing};
 ghost use Rattle.fk_jobs.specs.Jobs.{current};
 
@@ -12,7 +12,7 @@ use fk_natives::Service;
 use fk_responders::Table;
 
 impl<S: Service + Drop, W: Worker + Drop> Core<S, W> {
-    /// Makes the next instruction of the thread that moved last, where it is at one that is ready and no job is left. What others' moves tell
+    /// Makes the next move of the thread that moved last, where that is an instruction or a stage that tells nobody of anything, is ready, and no job is left. What others' moves tell
     /// takes much room; this needs none.
     fn proceed(&mut self) -> Option<Move>
         requires none { current self.old.jobs ≡ None }
@@ -84,10 +84,11 @@ impl<S: Service + Drop, W: Worker + Drop> Core<S, W> {
         }
     }
 
-    /// Makes the move of the job whose turn it is, where it is due and ready.
+    /// Makes the move of the job whose turn it is and whose time has come, where it is ready.
     #[inline(never)]
     fn go_due(&mut self, table: &Table) -> Result<Option<Move>, NoMemory>
         requires few { self.old.events < self.old.budget }
+        requires timely { is_timely self.old.jobs self.old.events ≡ true }
         requires fits { AllFit (map (λ r. r.rule) table.now.list.items) self.old.services.list }
         requires come { IsGoing self.old }
         ensures made { IsAdvancedBy self.old.jobs.jobs self.old.budget (run_core self.old) (run_core self.new) result }
@@ -102,7 +103,7 @@ impl<S: Service + Drop, W: Worker + Drop> Core<S, W> {
             return Ok(None);
         };
         let m = Move { who, pick: None };
-        if self.go_job(table, &m)? {
+        if self.go_timely_job(table, &m)? {
             Ok(Some(m))
         } else {
             Ok(None)
@@ -182,6 +183,9 @@ impl<S: Service + Drop, W: Worker + Drop> Core<S, W> {
         ensures budget { self.new.budget ≡ self.old.budget }
         ensures jobs { self.new.jobs.jobs ≡ self.old.jobs.jobs }
     {
+        if self.same_thread().is_none() {
+            return self.go_few(table);
+        }
         match self.go_on(table)? {
             Some(m) => Ok(Some(m)),
             None => self.go_few(table),

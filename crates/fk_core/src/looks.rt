@@ -151,6 +151,11 @@ impl<S: Service + Drop, W: Worker + Drop> Core<S, W> {
         self.rounds.choose_next(&moment)
     }
 
+    /// Whether nobody is left to be looked at before the job's next move: all names were, and there is no server.
+    fn is_quiet(&self) -> bool {
+        self.rounds.is_closed() && self.services.len() == 0
+    }
+
     /// While the time has come of the job whose turn it is, a ready move of one of some few who go before it.
     pub(crate) fn choose_few(&mut self) -> Option<Move>
         ensures ready { IfSome result (λ m. (self.old.events < self.old.budget) × IsReadyMove self.old.jobs.jobs (run_core self.old) m) }
@@ -158,6 +163,9 @@ impl<S: Service + Drop, W: Worker + Drop> Core<S, W> {
         ensures budget { self.new.budget ≡ self.old.budget }
         ensures jobs { self.new.jobs.jobs ≡ self.old.jobs.jobs }
     {
+        if self.is_quiet() {
+            return None;
+        }
         let moment = Moment::of(
             &self.kernel,
             &self.services,

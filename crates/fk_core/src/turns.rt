@@ -3,7 +3,7 @@ ghost use Rattle.fk_model.specs.declared.moves.Rule.{Rule};
 ghost use Rattle.std.specs.Prelude.{◌≡◌, ◌↔◌, List, [], ◌+◌, ◌<◌, Some, true, false, IsTrue, OnOk, OnErr, map};
 ghost use Rattle.std.specs.Bool.{OnTrue, OnFalse};
 ghost use Rattle.fk_served.specs.Served.{AllFit, shown};
-ghost use Rattle.fk_core.specs.Cores.{run_core, is_porter, reply_to, IsReadyMove, IsAskedMove, IsCalledMove, IsTurned, IsTried, IsAdvanced};
+ghost use Rattle.fk_core.specs.Cores.{run_core, is_porter, reply_to, IsReadyMove, IsAskedMove, IsCalledMove, IsTurned, IsTried, IsAdvanced, is_timely};
 ghost use Rattle.fk_core.specs.Cuts.{KeepsCuts, LeavesStrangers};
 ghost use Rattle.fk_core.specs.Goings.{IsGoing};
 ghost use Rattle.fk_core.specs.Leaves.{LeavesTheRest};
@@ -196,7 +196,7 @@ impl<S: Service + Drop, W: Worker + Drop> Core<S, W> {
         self.go_told(table, m)
     }
 
-    /// Makes an instruction, where that is what a move is and where it is ready, and answers whether it did; else all is as
+    /// Makes an instruction, or a stage that tells nobody of anything, where that is what a move is and where it is ready, and answers whether it did; else all is as
     /// before. What other moves tell takes much room; this needs none.
     fn go_plain(&mut self, m: &Move) -> bool
         requires few { self.old.events < self.old.budget }
@@ -343,6 +343,22 @@ impl<S: Service + Drop, W: Worker + Drop> Core<S, W> {
         } else {
             Ok(false)
         }
+    }
+
+    /// The same of a job's move whose time has come.
+    pub(crate) fn go_timely_job(&mut self, table: &Table, m: &Move) -> Result<bool, NoMemory>
+        requires job { is_porter self.old.jobs m.now.who ≡ true }
+        requires few { self.old.events < self.old.budget }
+        requires timely { is_timely self.old.jobs self.old.events ≡ true }
+        requires come { IsGoing self.old }
+        requires fits { AllFit (map (λ r. r.rule) table.now.list.items) self.old.services.list }
+        ensures tried { IsTried (IsReadyMove self.old.jobs.jobs (run_core self.old) m.now) self.old.jobs.jobs
+            (run_core self.old) m.now (run_core self.new) result }
+        ensures fits { AllFit (map (λ r. r.rule) table.now.list.items) self.new.services.list }
+        ensures budget { self.new.budget ≡ self.old.budget }
+        ensures jobs { self.new.jobs.jobs ≡ self.old.jobs.jobs }
+    {
+        self.go_call(table, m)
     }
 
     /// Makes the call that the job asks for whose turn it is, where it is ready.

@@ -65,6 +65,11 @@ impl Rounds {
         }
     }
 
+    /// Whether all names were looked at, and nobody was found, since anybody moved but a job that looks.
+    pub fn is_closed(&self) -> bool {
+        matches!(self.circle, Circle::Closed)
+    }
+
     /// A ready move of one of some few: of a thread, or else of a server.
     fn find_few<S: Service + Drop, W: Worker + Drop>(
         &mut self,

@@ -9,5 +9,5 @@ pub returns-else-branch-clause-none : goal.returns-else-branch-clause-none
 returns-else-branch-clause-none g c m porter ready =
     let self = c.args.self.now in
     none_ready self.jobs (world self.kernel) self.services.list self.events c.in-Some.who (sym c.porter.ensures ∙ c.in-Some.is)
-    (of-unready c.in_ok-go_job.field-0 _ _ (run_core self) (record { who = c.in-Some.who; pick = None })
-    (run_core c.go_job.new.self) c.if-branch.false c.in_ok-go_job.ensures.tried) m porter ready
+    (of-unready c.in_ok-go_timely_job.field-0 _ _ (run_core self) (record { who = c.in-Some.who; pick = None })
+    (run_core c.go_timely_job.new.self) c.if-branch.false c.in_ok-go_timely_job.ensures.tried) m porter ready
