@@ -12,8 +12,8 @@ use fk_natives::Service;
 use fk_responders::Table;
 
 impl<S: Service + Drop, W: Worker + Drop> Core<S, W> {
-    /// Makes the next move of the thread that moved last, where that is an instruction or a stage that tells nobody of anything, is ready, and no job is left. What others' moves tell
-    /// takes much room; this needs none.
+    /// Makes the next move of the thread that moved last, where that is an instruction or a stage that tells nobody of anything, is
+    /// ready, and no job is left. What others' moves tell takes much room; this needs none.
     fn proceed(&mut self) -> Option<Move>
         requires none { current self.old.jobs ≡ None }
         ensures advanced { IsAdvanced self.old.jobs.jobs self.old.budget (run_core self.old) result (run_core self.new) }
