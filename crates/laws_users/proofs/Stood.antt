@@ -21,7 +21,7 @@ use Rattle.fk_model.proofs.walks.PlaceLaws.{same_path_eq}
 use Rattle.laws_frozen.specs.Users.{AreUsers, IsUsers, IsUsersEdit}
 use Rattle.laws_frozen.proofs.Edited.{same-native, same_kind}
 use Rattle.laws_frozen.proofs.Users.{users_name_low}
-use Rattle.laws_users.specs.Stood.{put, puts, UsersStood}
+use Rattle.laws_users.specs.Stood.{put, puts, taken, takes, UsersStay, UsersStood}
 use Rattle.laws_users.proofs.Rows.{ArePlain, IsPlain, IsPlainEdit, PlainOutcome, porter_move-plain}
 
 -- ---- one body
@@ -38,11 +38,11 @@ users-by (Mutex locked) = refl
 users-by b = refl
 
 -- an edit that sets no mode leaves it
-same-users : (edit : Edit) (b : Body) → is_native (edited edit b) ≡ is_native b → is_users (edited edit b) ≡ is_users b
+pub same-users : (edit : Edit) (b : Body) → is_native (edited edit b) ≡ is_native b → is_users (edited edit b) ≡ is_users b
 same-users edit b native =
     users-by (edited edit b) ∙ (λ i. (number_of_kind (same_kind edit b i) == 8) && not (native i)) ∙ sym (users-by b)
 
-users-through : (f : Sweep) (q : Path) (b : Body) → is_users (through f q b) ≡ is_users b
+pub users-through : (f : Sweep) (q : Path) (b : Body) → is_users (through f q b) ≡ is_users b
 users-through f q (Thread_of t) = refl
 users-through f q (Mutex locked) = refl
 users-through f q b = refl
@@ -54,7 +54,7 @@ native-through f q b = refl
 
 -- ---- what stands at a path
 
-abbrev users_in : Option Body → Bool
+abbrev pub users_in : Option Body → Bool
 users_in o = holds (λ (t : Thread). not (is_porter t.mode)) (and_then thread_of o)
 
 abbrev native_in : Option Body → Bool
@@ -129,6 +129,55 @@ module _ (w : World) (q : Path) where
   held-all (c ∷ cs) v plain off held =
       let both = or_parts (puts c q) (put cs q) off in held-all cs (apply c v) plain.1 both.1 (held-apply c v plain.0 both.0 held)
 
+-- ---- who was one is one
+
+-- what holds of a world holds there still
+record Stays (w : World) (q : Path) (now : Option Body) : Type 0 where
+  users : users_in (w.body q) ≡ true → users_in now ≡ true
+
+stays-mapped : (w : World) (q : Path) (f : Body → Body) (o : Option Body) → ((b : Body) → is_users (f b) ≡ is_users b) → Stays w q o →
+    Stays w q (option_map f o)
+stays-mapped w q f None users stays = stays
+stays-mapped w q f (Some b) users stays = record { users = λ is. users b ∙ stays.users is }
+
+stays-proceeds : (w : World) (q : Path) (mode : Mode) (counter : ℕ) (b : Body) → is_porter mode ≡ false → Stays w q (Some b) →
+    Stays w q (Some (edited (Proceed mode counter) b))
+unfolding edited
+stays-proceeds w q mode counter (Thread_of t) user stays = record { users = λ is. ap not user }
+stays-proceeds w q mode counter (Mutex locked) user stays = stays
+stays-proceeds w q mode counter b user stays = stays
+
+stays-edited : (w v : World) (q : Path) (edit : Edit) (o : Option Body) → IsPlainEdit v q edit → Stays w q o → Stays w q (option_map (edited edit) o)
+stays-edited w v q edit None plain stays = stays
+stays-edited w v q (Proceed mode counter) (Some b) plain stays = stays-proceeds w q mode counter b plain.1 stays
+stays-edited w v q edit (Some b) plain stays = stays-mapped w q (edited edit) (Some b) (λ c. same-users edit c (same-native edit c refl)) stays
+
+module _ (w : World) (q : Path) where
+  stays-apply : (c : Change) (v : World) → IsPlain w c → puts c q ≡ false → takes c q ≡ false → Stays w q (v.body q) → Stays w q ((apply c v).body q)
+  unfolding apply
+  stays-apply (Alter x edit) v plain off gone stays = by (same_path q x) refl
+    where
+      by : (t : Bool) → same_path q x ≡ t → Stays w q (if t then option_map (edited edit) (v.body q) else v.body q)
+      by true e = stays-edited w w q edit (v.body q) (subst (λ (y : Path). IsPlainEdit w y edit) (sym (same_path_eq q x e)) plain) stays
+      by false e = stays
+  stays-apply (Make x body) v plain off gone stays = rw off stays
+  stays-apply (MakeSpace x holder) v plain off gone stays = rw off stays
+  stays-apply (Kill x) v plain off gone stays =
+      rw gone (stays-mapped w q (through (death_sweep x) q) (v.body q) (users-through (death_sweep x) q) stays)
+  stays-apply (Move x slot) v plain off gone stays =
+      rw (off, gone) (stays-mapped w q (through (following x (slot ∷ parent x)) q) (v.body q) (users-through (following x (slot ∷ parent x)) q) stays)
+  stays-apply (PutPage space page words) v plain off gone stays = stays
+  stays-apply (DropPage space page) v plain off gone stays = stays
+
+  stays-all : (cs : List Change) (v : World) → ArePlain w cs → put cs q ≡ false → taken cs q ≡ false → Stays w q (v.body q) →
+      Stays w q ((apply_all cs v).body q)
+  unfolding apply_all
+  stays-all [] v plain off gone stays = stays
+  stays-all (c ∷ cs) v plain off gone stays =
+      let both = or_parts (puts c q) (put cs q) off in
+      let neither = or_parts (takes c q) (taken cs q) gone in
+      stays-all cs (apply c v) plain.1 both.1 neither.1 (stays-apply c v plain.0 both.0 neither.0 stays)
+
 -- ---- a move
 
 users-edit : (w : World) (x : Path) (edit : Edit) → IsUsersEdit w x edit → IsPlainEdit w x edit
@@ -162,7 +211,7 @@ moves-plain w x pick asks.Accept rooted = users-plain w _ (users_name_low w x pi
 moves-plain w x pick (asks.Give words len) rooted = users-plain w _ (users_name_low w x pick (asks.Give words len) rooted refl)
 moves-plain w x pick asks.Over rooted = users-plain w _ (users_name_low w x pick asks.Over rooted refl)
 
-step-listed : (w : World) (o : Outcome) → (stepped w o).world ≡ apply_all (listed o) w
+pub step-listed : (w : World) (o : Outcome) → (stepped w o).world ≡ apply_all (listed o) w
 unfolding apply_all
 step-listed w (Goes changes said) = refl
 step-listed w (Refused status) = refl
@@ -174,3 +223,10 @@ users_stood w x pick ask q rooted off is =
     let cs = listed (outcome w x pick ask) in
     (held-all w q cs w (moves-plain w x pick ask rooted) off (record { users = λ h. h; native = λ h. h })).users
     (ap (λ (v : World). users_in (v.body q)) (sym (step-listed w (outcome w x pick ask))) ∙ is)
+
+pub users_stay : UsersStay
+unfolding step
+users_stay w x pick ask q rooted off gone is =
+    let cs = listed (outcome w x pick ask) in
+    ap (λ (v : World). users_in (v.body q)) (step-listed w (outcome w x pick ask))
+    ∙ (stays-all w q cs w (moves-plain w x pick ask rooted) off gone (record { users = λ h. h })).users is

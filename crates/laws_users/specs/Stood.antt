@@ -1,4 +1,4 @@
--- Stood: who was a user's thread before a move.
+-- Stood: who was a user's thread before a move, and who is one after it.
 use Rattle.std.specs.Prelude.{◌≡◌, Bool, true, false, not, ◌||◌, List, [], ◌∷◌, Option}
 use Rattle.fk_model.specs.declared.moves.Ask.{Ask}
 use Rattle.fk_model.specs.Holds.{is_porter}
@@ -9,7 +9,7 @@ use Rattle.fk_model.specs.Places.{Path, same_path, parent}
 use Rattle.fk_model.specs.Searches.{thread_at}
 use Rattle.fk_model.specs.Valid.{IsRooted}
 use Rattle.fk_model.specs.World.{World, Change}
-use Rattle.fk_model.specs.World.Change.{Make, MakeSpace, Move}
+use Rattle.fk_model.specs.World.Change.{Kill, Make, MakeSpace, Move}
 
 -- a user's thread stands at a path
 abbrev pub is_users_at : World → Path → Bool
@@ -26,6 +26,20 @@ abbrev pub put : List Change → Path → Bool
 put [] q = false
 put (c ∷ cs) q = puts c q || put cs q
 
+-- or takes something from there
+abbrev pub takes : Change → Path → Bool
+takes (Kill x) q = same_path q x
+takes (Move x slot) q = same_path q x
+takes other q = false
+
+abbrev pub taken : List Change → Path → Bool
+taken [] q = false
+taken (c ∷ cs) q = takes c q || taken cs q
+
 abbrev pub UsersStood : Type 0
 UsersStood = (w : World) (x : Path) (pick : Option Path) (ask : Ask) (q : Path) → IsRooted w → put (listed (outcome w x pick ask)) q ≡ false →
     is_users_at (step w x pick ask).world q ≡ true → is_users_at w q ≡ true
+
+abbrev pub UsersStay : Type 0
+UsersStay = (w : World) (x : Path) (pick : Option Path) (ask : Ask) (q : Path) → IsRooted w → put (listed (outcome w x pick ask)) q ≡ false →
+    taken (listed (outcome w x pick ask)) q ≡ false → is_users_at w q ≡ true → is_users_at (step w x pick ask).world q ≡ true

@@ -1,0 +1,4 @@
+pub mod Touched
+pub mod After
+pub mod Settled
+pub mod Filled

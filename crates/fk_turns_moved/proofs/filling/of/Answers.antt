@@ -1,0 +1,21 @@
+use Rattle.std.proofs.Common.{subst}
+use Rattle.fk_turns_moved.proofs.Filled.{filled_first, filled_more, kept_filled, AreFilled}
+use Rattle.fk_turns_moved.proofs.filling.of.Goals as goal
+
+pub loop-at-init : goal.loop-at-init
+loop-at-init c =
+    filled_first c.args.store.now c.in_ok-turns.turns.waits c.in_ok-turns.turns.marks c.after-at.result c.in_ok-turns.ensures.waits c.in_ok-turns.ensures.sound
+    c.after-at.ensures.first
+
+pub loop-at-preserved : goal.loop-at-preserved
+loop-at-preserved c =
+    let m = c.args.store.now in
+    let before = subst (AreFilled m c.loop-at.turns.waits c.loop-at.turns.marks) c.in-Some.is c.loop-at.invariant in
+    filled_more m c.loop-at.turns.waits c.loop-at.turns.marks c.add.new.turns.waits c.add.new.turns.marks c.in-Some.who c.after-at-in-Some.result before
+    c.in_ok-add.ensures.sound c.in_ok-add.ensures.none c.in_ok-add.ensures.stands c.after-at-in-Some.ensures.first
+
+pub returns : goal.returns
+returns c =
+    let m = c.args.store.now in
+    kept_filled m c.loop-at.turns.waits c.loop-at.turns.marks
+    (subst (AreFilled m c.loop-at.turns.waits c.loop-at.turns.marks) c.in_default.is c.loop-at.invariant)

@@ -1,0 +1,24 @@
+use Rattle.std.proofs.Common.{Option, sym, ap, subst, ◌∙◌}
+use Rattle.fk_model.specs.declared.names.Who.{Who}
+use Rattle.fk_waits_causes.proofs.Placed.{same_self}
+use Rattle.fk_turns_moved.specs.Moved.{is_it, IsTouched}
+use Rattle.fk_turns_moved.proofs.Touched.{place_known, touched_none}
+use Rattle.fk_turns_moved.proofs.moving.touch_one.Goals as goal
+
+pub touch-requires : goal.touch-requires
+touch-requires c =
+    let who = c.in-Some.who in
+    record {
+      sound = c.requires.sound;
+      room = place_known c.args.store.now c.args.turns.now.waits c.args.turns.now.marks who
+          (c.requires.known who (ap (λ (o : Option Who). is_it o who) c.in-Some.is ∙ same_self who));
+    }
+
+pub returns-in-Some-clause-touched : goal.returns-in-Some-clause-touched
+returns-in-Some-clause-touched c =
+    subst (λ (o : Option Who). IsTouched c.args.store.now (is_it o) c.args.turns.now.waits c.touch.new.turns.waits) (sym c.in-Some.is) c.touch.ensures.touched
+
+pub returns-in-None-clause-touched : goal.returns-in-None-clause-touched
+returns-in-None-clause-touched c =
+    subst (λ (o : Option Who). IsTouched c.args.store.now (is_it o) c.args.turns.now.waits c.args.turns.now.waits) (sym c.in-None.is)
+    (touched_none c.args.store.now c.args.turns.now.waits)

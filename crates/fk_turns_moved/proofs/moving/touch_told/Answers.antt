@@ -1,0 +1,55 @@
+use Rattle.std.proofs.Common.{refl, sym, ap, subst}
+use Rattle.fk_waits_causes.proofs.Placed.{same_self}
+use Rattle.fk_wakes.specs.declared.touching.Touched.{Touched}
+use Rattle.fk_turns_moved.specs.Moved.{is_named, is_wide, HasRoomFor, IsTouched}
+use Rattle.fk_turns_moved.proofs.Touched.{place_known, touched_none}
+use Rattle.fk_turns_moved.proofs.moving.touch_told.Goals as goal
+
+pub touch_few-requires : goal.touch_few-requires
+touch_few-requires c =
+    let room = subst (λ (t : Touched). HasRoomFor c.args.store.now t c.args.turns.now.waits c.args.turns.now.marks) c.in-Few.is c.requires.room in
+    record { sound = c.requires.sound; known = λ x named user. room.known x named refl user }
+
+pub touch-requires : goal.touch-requires
+touch-requires c =
+    let room = subst (λ (t : Touched). HasRoomFor c.args.store.now t c.args.turns.now.waits c.args.turns.now.marks) c.in-Makes.is c.requires.room in
+    record { sound = c.requires.sound; room = room.put }
+
+pub touch-requires-in-Dies : goal.touch-requires-in-Dies
+touch-requires-in-Dies c =
+    let room = subst (λ (t : Touched). HasRoomFor c.args.store.now t c.args.turns.now.waits c.args.turns.now.marks) c.in-Dies.is c.requires.room in
+    record {
+      sound = c.requires.sound;
+      room = place_known c.args.store.now c.args.turns.now.waits c.args.turns.now.marks c.in-Dies.object
+          (λ user. room.known c.in-Dies.object (same_self c.in-Dies.object) refl user);
+    }
+
+pub shift-requires : goal.shift-requires
+shift-requires c =
+    let room = subst (λ (t : Touched). HasRoomFor c.args.store.now t c.args.turns.now.waits c.args.turns.now.marks) c.in-Moves.is c.requires.room in
+    record { sound = c.requires.sound; none = c.requires.none (ap is_wide c.in-Moves.is); stands = room.put.0; left = room.put.1 }
+
+pub returns-in-Few-clause-touched : goal.returns-in-Few-clause-touched
+returns-in-Few-clause-touched c =
+    subst (λ (t : Touched). IsTouched c.args.store.now (is_named t) c.args.turns.now.waits c.touch_few.new.turns.waits) (sym c.in-Few.is)
+    c.touch_few.ensures.touched
+
+pub returns-in-Makes-clause-touched : goal.returns-in-Makes-clause-touched
+returns-in-Makes-clause-touched c =
+    subst (λ (t : Touched). IsTouched c.args.store.now (is_named t) c.args.turns.now.waits c.touch.new.turns.waits) (sym c.in-Makes.is)
+    c.touch.ensures.touched
+
+pub returns-in-Dies-clause-touched : goal.returns-in-Dies-clause-touched
+returns-in-Dies-clause-touched c =
+    subst (λ (t : Touched). IsTouched c.args.store.now (is_named t) c.args.turns.now.waits c.touch-in-Dies.new.turns.waits) (sym c.in-Dies.is)
+    c.touch-in-Dies.ensures.touched
+
+pub returns-in-Any-clause-touched : goal.returns-in-Any-clause-touched
+returns-in-Any-clause-touched c =
+    subst (λ (t : Touched). IsTouched c.args.store.now (is_named t) c.args.turns.now.waits c.args.turns.now.waits) (sym c.in-Any.is)
+    (touched_none c.args.store.now c.args.turns.now.waits)
+
+pub returns-in-Moves-clause-touched : goal.returns-in-Moves-clause-touched
+returns-in-Moves-clause-touched c =
+    subst (λ (t : Touched). IsTouched c.args.store.now (is_named t) c.args.turns.now.waits c.shift.new.turns.waits) (sym c.in-Moves.is)
+    c.shift.ensures.touched
