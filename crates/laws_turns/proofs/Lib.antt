@@ -1,3 +1,4 @@
 mod Settling
 mod Stays
 mod Quiets
+pub mod Running

@@ -24,12 +24,12 @@ use Rattle.laws_runs.specs.Cores.{House, JobEnd, Work, IsGone, others_ask, asks_
 use Rattle.laws_runs.specs.Cores.Asker.{Others}
 use Rattle.laws_turns.specs.Quiet.{HearNothing, ThreadsRun, IsNoPorter, BurstsAreQuiet}
 use Rattle.laws_turns.specs.Turns.{core_in, IsQuiet, AreQuiet}
-use Rattle.laws_turns.proofs.Stays.{birth-same, born-same, client-same}
+use Rattle.laws_turns.proofs.Stays.{committed_alike, born-same, client-same}
 
 -- ---- the last of several events
 
 module _ (e : Event) where
-  last-ready : (n : ℕ) (w : World) → IsLegal w (replicate (suc n) e) → IsReady (run w (replicate n e)) e.mover e.pick e.ask
+  pub last-ready : (n : ℕ) (w : World) → IsLegal w (replicate (suc n) e) → IsReady (run w (replicate n e)) e.mover e.pick e.ask
   unfolding run
   last-ready zero w legal = legal.0
   last-ready (suc n) w legal = last-ready n (after w e) legal.1
@@ -39,17 +39,18 @@ module _ (e : Event) where
   last-quiet zero w quiet = quiet.0
   last-quiet (suc n) w quiet = last-quiet n (after w e) quiet.1
 
-  last-goes : (n : ℕ) (w : World) → after (run w (replicate n e)) e ≡ run w (replicate (suc n) e)
+  pub last-goes : (n : ℕ) (w : World) → after (run w (replicate n e)) e ≡ run w (replicate (suc n) e)
   unfolding run
   last-goes zero w = refl
   last-goes (suc n) w = last-goes n (after w e)
 
 -- ---- a thread that stands there
 
-has-thread : (w : World) (x : Path) (c : Burst) (t : Thread) → thread_at w x ≡ Some t → (u : Thread) × (thread_at (committed w x c) x ≡ Some u)
+pub has-thread : (w : World) (x : Path) (c : Burst) (t : Thread) → thread_at w x ≡ Some t →
+    (u : Thread) × (thread_at (committed w x c) x ≡ Some u) × (u.mode ≡ Running c.registers)
 unfolding edited
 has-thread w x c t there =
-    (record t { mode = Running c.registers; counter = c.counter }, at-x ∙ by (w.body x) there)
+    (record t { mode = Running c.registers; counter = c.counter }, at-x ∙ by (w.body x) there, refl)
   where
     at-x : thread_at (committed w x c) x ≡ and_then thread_of (option_map (edited (Proceed (Running c.registers) c.counter)) (w.body x))
     at-x = ap (λ m. and_then thread_of (cond m (option_map (edited (Proceed (Running c.registers) c.counter)) (w.body x)) (w.body x))) (same_path_refl x)
@@ -61,9 +62,20 @@ has-thread w x c t there =
     by (Some (Thread_of own)) h = ap (λ (u : Thread). Some (record u { mode = Running c.registers; counter = c.counter })) (same_Some own t h)
     by (Some other) h = cc
 
-no-end : {X : Type 0} (a b : Option X) → a ≡ b → (is_some a && is_none b) ≡ false
+pub no-end : {X : Type 0} (a b : Option X) → a ≡ b → (is_some a && is_none b) ≡ false
 no-end None b same = refl
 no-end (Some x) b same = ap is_none (sym same)
+
+-- who runs, as far as servers go, and isn't a job's porter runs
+pub asks_run : {J S A V : Type 0} (h : House J S A V) (servers : V) (m : Move) (v : World) (ends : List (JobEnd A)) (work : Option (Work S)) (events : ℕ) →
+    IsNoPorter h m → h.servers.asks servers v m.who ≡ Some asks.Run → asker h (core_in h servers m v ends work events) m.who ≡ Others asks.Run
+asks_run {J} h servers m v ends work events no_porter runs = by (current h (core_in h servers m v ends work events))
+  where
+    by : (o : Option J) → asks_of_job h (core_in h servers m v ends work events) m.who o ≡ Others asks.Run
+    by None = ap others_ask runs
+    by (Some j) =
+        ap (λ t. cond t (work_asks h.machine (work_of events work (h.begins j ends))) (others_ask (h.servers.asks servers v m.who))) (no_porter j)
+        ∙ ap others_ask runs
 
 module _ {J S A V : Type 0} (h : House J S A V) (servers : V) (m : Move) (w : World) (b : Burst)
     (hear : HearNothing h servers) (threads : ThreadsRun h servers) (no_porter : IsNoPorter h m) (unpicked : m.pick ≡ None)
@@ -76,7 +88,7 @@ module _ {J S A V : Type 0} (h : House J S A V) (servers : V) (m : Move) (w : Wo
 
   -- the move is that of the thread in each world of the burst
   named-same : (c : Burst) → named (after_burst c) m.who ≡ x
-  named-same c = ap (λ (s : Path). m.who.slot ∷ s) (born-same w x c m.who.space)
+  named-same c = ap (λ (s : Path). m.who.slot ∷ s) (born-same w (after_burst c) (committed_alike w x c) m.who.space)
 
   event-same : (c : Burst) → event_of (after_burst c) asks.Run m ≡ move_of x
   event-same c = λ i. record { mover = named-same c i; pick = picks i; ask = asks.Run }
@@ -87,23 +99,16 @@ module _ {J S A V : Type 0} (h : House J S A V) (servers : V) (m : Move) (w : Wo
   -- who asks
   asks-so : (c : Burst) (ends : List (JobEnd A)) (work : Option (Work S)) (events : ℕ) →
       asker h (core_in h servers m (after_burst c) ends work events) m.who ≡ Others asks.Run
-  asks-so c ends work events = by (current h (core_in h servers m (after_burst c) ends work events))
+  asks-so c ends work events = asks_run h servers m (after_burst c) ends work events no_porter runs
     where
-      here : (u : Thread) × (thread_at (after_burst c) x ≡ Some u)
+      here : (u : Thread) × (thread_at (after_burst c) x ≡ Some u) × (u.mode ≡ Running c.registers)
       here = has-thread w x c began.thread began.there
 
       runs : h.servers.asks servers (after_burst c) m.who ≡ Some asks.Run
       runs = threads (after_burst c) m here.0 (subst (λ (y : Path). thread_at (after_burst c) y ≡ Some here.0) (sym (named-same c)) here.1)
 
-      by : (o : Option J) → asks_of_job h (core_in h servers m (after_burst c) ends work events) m.who o ≡ Others asks.Run
-      by None = ap others_ask runs
-      by (Some j) =
-          ap (λ t. cond t (work_asks h.machine (work_of events work (h.begins j ends)))
-          (others_ask (h.servers.asks servers (after_burst c) m.who))) (no_porter j)
-          ∙ ap others_ask runs
-
   gone-same : (c d : Burst) (birth : ℕ) → IsGone (after_burst c) birth → IsGone (after_burst d) birth
-  gone-same c d birth gone y there = gone y (birth-same w x c y ∙ sym (birth-same w x d y) ∙ there)
+  gone-same c d birth gone y there = gone y ((committed_alike w x c).births y ∙ sym ((committed_alike w x d).births y) ∙ there)
 
   quiets : (n : ℕ) (c : Burst) → made n b ≡ Some c → HasPages w x c b → AreQuiet h servers m n w (after_burst c)
   unfolding made run
@@ -136,7 +141,8 @@ module _ {J S A V : Type 0} (h : House J S A V) (servers : V) (m : Move) (w : Wo
             unheard = hear (after_burst d) (event_of (after_burst d) asks.Run m)
                 (ap (λ (e : Event). (step (after_burst d) e.mover e.pick e.ask).said) (event-same d)
                 ∙ ap (λ v. (step v x None asks.Run).said) (sym before.world) ∙ last-quiet (move_of x) n w behind.quiet)
-                (λ port. no-end _ _ (client-same w x d port ∙ sym (client-same w x c port)
+                (λ port. no-end _ _ (client-same w (after_burst d) (committed_alike w x d) port
+                ∙ sym (client-same w (after_burst c) (committed_alike w x c) port)
                 ∙ ap (λ v. client_at v port) (sym (ap (after (after_burst d)) (event-same d) ∙ goes))));
             gone = gone-same d c;
             comes = gone-same c d;
