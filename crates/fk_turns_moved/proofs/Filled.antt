@@ -49,8 +49,8 @@ filled_first m waits marks next is sound first = record {
   passed = passed_first (IsLive m) (IsIn m waits) next first;
 }
 
-pub filled_more : (m : Contents) (waits marks now then_marks : Lists) (who : Who) (next : Option Who) → AreFilled m waits marks (Some who) → IsSound now then_marks →
-    now.queued ≡ [] → ((x : Who) → stands x now ≡ ((is_same who x && is_user_at m who) || stands x waits)) →
+pub filled_more : (m : Contents) (waits marks now then_marks : Lists) (who : Who) (next : Option Who) → AreFilled m waits marks (Some who) →
+    IsSound now then_marks → now.queued ≡ [] → ((x : Who) → stands x now ≡ ((is_same who x && is_user_at m who) || stands x waits)) →
     IsFirstAfter who_cmp (IsLive m) (Some who) next → AreFilled m now then_marks next
 filled_more m waits marks now then_marks who next filled sound none more first = record {
   sound = sound;

@@ -15,8 +15,8 @@ use fk_store::Store;
 use fk_turns::Turns;
 use fk_wakes::Touched;
 
-/// The lists after a move, where they were kept before it: all whom any change may free are ready, and so are all where more than a few objects are touched; then
-/// what the move touched, and last of all who moved, by the name before the move.
+/// The lists after a move, where they were kept before it: all whom any change may free are ready, and so are all where more than a few
+/// objects are touched; then what the move touched, and last of all who moved, by the name before the move.
 pub fn moved(turns: &mut Turns, store: &Store, mover: Who, touched: &Touched)
     requires sound { IsSound turns.old.waits turns.old.marks }
     requires room { HasRoom store.now mover touched.now turns.old.waits turns.old.marks }

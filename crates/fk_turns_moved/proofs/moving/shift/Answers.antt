@@ -10,4 +10,5 @@ returns-then-is_user-clause-touched c =
 pub returns-else-is_user-clause-touched : goal.returns-else-is_user-clause-touched
 returns-else-is_user-clause-touched c =
     shifted_other c.args.store.now c.args.from c.args.to c.args.turns.now.waits c.forget.new.self.waits c.forget-else-is_user.new.self.waits c.requires.none
-    (sym c.is_user.ensures ∙ c.if-is_user.false) c.requires.left c.forget.ensures.waits c.forget-else-is_user.ensures.waits c.forget.ensures.less c.forget-else-is_user.ensures.less
+    (sym c.is_user.ensures ∙ c.if-is_user.false) c.requires.left c.forget.ensures.waits c.forget-else-is_user.ensures.waits
+    c.forget.ensures.less c.forget-else-is_user.ensures.less

@@ -35,7 +35,7 @@ returns-clause-touched c =
     let a = is_it c.args.first in
     let b = is_it c.args.second in
     let d = is_it c.args.third in
-    touched_then n a (λ (x : Who). b x || d x) (λ (x : Who). a x || (b x || d x)) c.args.turns.now.waits c.touch_one.new.turns.waits c.touch_one-3.new.turns.waits
-    (λ x. refl) c.touch_one.ensures.touched
+    touched_then n a (λ (x : Who). b x || d x) (λ (x : Who). a x || (b x || d x)) c.args.turns.now.waits c.touch_one.new.turns.waits
+    c.touch_one-3.new.turns.waits (λ x. refl) c.touch_one.ensures.touched
     (touched_then n b d (λ (x : Who). b x || d x) c.touch_one.new.turns.waits c.touch_one-2.new.turns.waits c.touch_one-3.new.turns.waits (λ x. refl)
     c.touch_one-2.ensures.touched c.touch_one-3.ensures.touched)
