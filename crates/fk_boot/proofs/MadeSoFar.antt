@@ -1,5 +1,6 @@
 -- What stands in a world after each entry of a scenario.
-use Rattle.std.proofs.Common.{◌≡◌, ℕ, ◌+◌, ◌*◌, ◌<◌, ◌≤◌, Bool, true, false, not, ◌&&◌, ◌||◌, ◌==◌, nat_lt, cond, List, [], ◌∷◌, ◌++◌, length, get_or, take, drop, reverse, Option, Some, None, is_some, IsSome, refl, sym, ap, subst, ◌∙◌, arith, add-one}
+use Rattle.std.proofs.Common.{◌≡◌, ℕ, ◌+◌, ◌*◌, ◌<◌, ◌≤◌, Bool, true, false, not, ◌&&◌, ◌||◌, ◌==◌, nat_lt, cond, List, [], ◌∷◌, ◌++◌, length, get_or}
+use Rattle.std.proofs.Common.{take, drop, reverse, Option, Some, None, is_some, IsSome, refl, sym, ap, subst, ◌∙◌, arith, add-one}
 use Rattle.std.proofs.Math.Seq.{drop-cons, take-suc}
 use Rattle.std.proofs.lemmas.List.{reverse-reverse}
 use Rattle.std.proofs.lemmas.List.Folds.{list_any-append}
@@ -26,7 +27,8 @@ use Rattle.fk_scenario_fields.specs.Paths.{enclosing}
 use Rattle.fk_scenario_sections.specs.Spaces.{has_space, has_space_or_root, may_stand, count_beneath}
 use Rattle.fk_scenario_sections.specs.Objects.{has_object}
 use Rattle.fk_scenario.specs.Servers.{has_key}
-use Rattle.fk_boot.specs.FirstWorld.{page_words, program_page, program_pages, zero_pages, space_itself, space_changes, words_of_program, first_body, object_changes}
+use Rattle.fk_boot.specs.FirstWorld.{page_words, program_page, program_pages, zero_pages, space_itself, space_changes, words_of_program, first_body}
+use Rattle.fk_boot.specs.FirstWorld.{object_changes}
 use Rattle.fk_boot.specs.MadeSoFar.{HasPlace, CanStand, HasSpaces, HasObjects}
 use Rattle.fk_boot.proofs.Changes.{apply_all-append}
 use Rattle.fk_boot.proofs.Walks.{last}
@@ -316,7 +318,8 @@ no-birth served (specs.Reference to) = refl
 pub object-stands : (ports : List (List ℕ)) (spaces : List SpaceEntry) (done : List ObjectEntry) (o : ObjectEntry) (w : World) →
     HasObjects w spaces done → KeepsObject spaces done o → HasObjects (apply_all (object_changes ports o) w) spaces (done ++ o ∷ [])
 unfolding apply_all
-object-stands ports spaces done o w h keeps = made-object w spaces done o (first_body (has_key ports o.path) o.spec) (no-birth (has_key ports o.path) o.spec) keeps h
+object-stands ports spaces done o w h keeps = made-object w spaces done o (first_body (has_key ports o.path) o.spec)
+    (no-birth (has_key ports o.path) o.spec) keeps h
 
 pub object-place : (spaces : List SpaceEntry) (done : List ObjectEntry) (o : ObjectEntry) (w : World) →
     HasObjects w spaces done → KeepsObject spaces done o → HasPlace w o.path

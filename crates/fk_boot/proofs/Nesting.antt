@@ -1,5 +1,7 @@
 -- Porters may be made: the spaces are there, and no entry names their last slots.
-use Rattle.std.proofs.Common.{◌≡◌, ℕ, suc, ◌+◌, ◌<◌, ◌≤◌, Bool, not, true, false, ◌&&◌, ◌||◌, ◌==◌, if◌then◌else◌, List, [], ◌∷◌, ◌++◌, append_assoc, length, get_or, drop, reverse, Option, Some, None, option_map, is_some, IsSome, Ok, refl, sym, ap, subst, ◌∙◌, arith, add-one}
+use Rattle.std.proofs.Common.{◌≡◌, ℕ, suc, ◌+◌, ◌<◌, ◌≤◌, Bool, not, true, false, ◌&&◌, ◌||◌, ◌==◌, if◌then◌else◌, List, [], ◌∷◌, ◌++◌, append_assoc}
+use Rattle.std.proofs.Common.{length, get_or, drop, reverse, Option, Some, None, option_map, is_some, IsSome, Ok, refl, sym, ap, subst, ◌∙◌, arith}
+use Rattle.std.proofs.Common.{add-one}
 use Rattle.std.proofs.Math.Seq.{drop-cons}
 use Rattle.std.proofs.lemmas.List.{length-append, reverse-append, reverse-reverse}
 use Rattle.std.proofs.lemmas.List.Elements.{All-nil, All-cons, All-head, All-tail}
@@ -78,7 +80,8 @@ last-empty programs w spaces objects path keeps_spaces keeps_objects h =
     let no_space = none-has (λ (s : SpaceEntry). s.path) spaces slots (high-last path) (spaces-low programs [] spaces keeps_spaces) in
     let no_object = none-has (λ (o : ObjectEntry). o.path) objects slots (high-last path) (objects-low spaces [] objects keeps_objects) in
     let long = not_empty path in
-    nothing (w.body (LAST_PORTER_SLOT ∷ reverse path)) (ap (λ (x : Path). is_some (w.body x)) (sym turned) ∙ (h.alone slots ∙ rw (long, no_space, no_object) refl))
+    nothing (w.body (LAST_PORTER_SLOT ∷ reverse path)) (ap (λ (x : Path). is_some (w.body x)) (sym turned)
+    ∙ (h.alone slots ∙ rw (long, no_space, no_object) refl))
   where
     not_empty : (path : List ℕ) → (length (path ++ LAST_PORTER_SLOT ∷ []) == 0) ≡ false
     not_empty path = let both = length-append path (LAST_PORTER_SLOT ∷ []) in not_root (length (path ++ LAST_PORTER_SLOT ∷ [])) (omega (arith, both))
@@ -125,7 +128,8 @@ others-nest w s t differ can other = by s.nester
     by false = other
 
 -- later spaces have other paths
-later-differ : (programs : List Program) (path : List ℕ) (before ts : List SpaceEntry) → has_space before path ≡ true → EachAfter (KeepsSpace programs) before ts
+later-differ : (programs : List Program) (path : List ℕ) (before ts : List SpaceEntry) → has_space before path ≡ true →
+    EachAfter (KeepsSpace programs) before ts
     → All (λ (t : SpaceEntry). bytes_eq path t.path ≡ false) ts
 later-differ programs path before [] has each = All-nil (λ (t : SpaceEntry). bytes_eq path t.path ≡ false)
 later-differ programs path before (t ∷ ts) has each =
@@ -164,7 +168,8 @@ itself-there done s =
     or_last true = refl
     or_last false = refl
 
-nestable-from : (programs : List Program) (done ss : List SpaceEntry) (w : World) → EachAfter (KeepsSpace programs) done ss → All (CanNest w) ss → AreNestable w ss
+nestable-from : (programs : List Program) (done ss : List SpaceEntry) (w : World) → EachAfter (KeepsSpace programs) done ss → All (CanNest w) ss →
+    AreNestable w ss
 nestable-from programs done [] w each all = tt
 nestable-from programs done (s ∷ ss) w each all =
     let can = All-head (CanNest w) s ss all in
@@ -237,7 +242,8 @@ kind-birth w x h = by (w.body x) h
     by (Some b) h = absurd (cc)
 
 -- what stands stands once porters are made
-porter-keeps : (w : World) (s : SpaceEntry) (q : Path) (k : Kind) → CanNest w s → kind_there w q ≡ Some k → kind_there (apply_all (porter_changes s) w) q ≡ Some k
+porter-keeps : (w : World) (s : SpaceEntry) (q : Path) (k : Kind) → CanNest w s → kind_there w q ≡ Some k →
+    kind_there (apply_all (porter_changes s) w) q ≡ Some k
 unfolding apply_all
 porter-keeps w s q k can is = by s.nester
   where
@@ -250,9 +256,11 @@ porters-keep : (ss : List SpaceEntry) (w : World) (q : Path) (k : Kind) → AreN
 unfolding apply_all
 porters-keep [] w q k nests is = is
 porters-keep (s ∷ ss) w q k nests is =
-    rw (apply_all-append (porter_changes s) (flat_map porter_changes ss)) (porters-keep ss (apply_all (porter_changes s) w) q k nests.1 (porter-keeps w s q k nests.0 is))
+    rw (apply_all-append (porter_changes s) (flat_map porter_changes ss))
+    (porters-keep ss (apply_all (porter_changes s) w) q k nests.1 (porter-keeps w s q k nests.0 is))
 
-still-there : (ss : List SpaceEntry) (w : World) (q : Path) → AreNestable w ss → IsSome (kind_there w q) → IsSome (kind_there (apply_all (flat_map porter_changes ss) w) q)
+still-there : (ss : List SpaceEntry) (w : World) (q : Path) → AreNestable w ss → IsSome (kind_there w q) →
+    IsSome (kind_there (apply_all (flat_map porter_changes ss) w) q)
 still-there ss w q nests there = by (kind_there w q) refl there
   where
     by : (o : Option Kind) → kind_there w q ≡ o → IsSome o → IsSome (kind_there (apply_all (flat_map porter_changes ss) w) q)

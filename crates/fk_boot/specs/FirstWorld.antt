@@ -1,5 +1,6 @@
 -- The first world of a scenario: what its entries make, in the order of the file.
-use Rattle.std.specs.Prelude.{ℕ, ◌*◌, ◌-◌, Bool, not, ◌&&◌, ◌==◌, nat_lt, is_none, List, [], ◌∷◌, ◌++◌, map, length, take, drop, reverse, replicate, Option, Some, None, if◌then◌else◌}
+use Rattle.std.specs.Prelude.{ℕ, ◌*◌, ◌-◌, Bool, not, ◌&&◌, ◌==◌, nat_lt, is_none, List, [], ◌∷◌, ◌++◌, map, length, take, drop, reverse, replicate}
+use Rattle.std.specs.Prelude.{Option, Some, None, if◌then◌else◌}
 use Rattle.std.specs.List.{flat_map, list_all, slice_get}
 use Rattle.fk_model.specs.declared.limits.TheConstants.{PAGES, PAGE_WORDS, LAST_PORTER_SLOT}
 use Rattle.fk_model.specs.Places.{Path}

@@ -1,5 +1,6 @@
 -- Openings: the first object of a subtree that says that it isn't closed.
-use Rattle.std.proofs.Common.{◌≡◌, ℕ, ◌+◌, ◌<◌, ◌≤◌, Bool, false, List, [], ◌∷◌, ◌++◌, true, drop, get_or, length, map, reverse, is_some, Option, Some, None, Result, Ok, Err, IfOk, option_map, unwrap_or, refl, sym, ap, subst, ◌∙◌}
+use Rattle.std.proofs.Common.{◌≡◌, ℕ, ◌+◌, ◌<◌, ◌≤◌, Bool, false, List, [], ◌∷◌, ◌++◌, true, drop, get_or, length, map, reverse, is_some, Option}
+use Rattle.std.proofs.Common.{Some, None, Result, Ok, Err, IfOk, option_map, unwrap_or, refl, sym, ap, subst, ◌∙◌}
 use Rattle.std.specs.List.{AllByRecursion}
 use Rattle.std.proofs.lemmas.List.{reverse-reverse, drop_more, at_drop_more, at_drop_all}
 use Rattle.fk_model.specs.declared.body.Body.{Body as StoredBody}
@@ -82,7 +83,8 @@ pub a_place : (w : World) (nester : Path) (slot : ℕ) (x q told : Path) (number
     Some number ≡ open_field w nester slot q → told ≡ reverse (q ++ slot ∷ []) →
     Some (record { path = reverse told; field = number }) ≡ place_at w nester slot x
 a_place w nester slot x q told number is some here =
-    ap (λ p. Some (record { path = p; field = number })) (ap reverse here ∙ reverse-reverse (q ++ slot ∷ [])) ∙ place_when w nester slot x q is (Some number) some
+    ap (λ p. Some (record { path = p; field = number })) (ap reverse here ∙ reverse-reverse (q ++ slot ∷ []))
+    ∙ place_when w nester slot x q is (Some number) some
 
 -- ---- all of them
 

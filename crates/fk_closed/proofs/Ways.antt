@@ -1,5 +1,6 @@
 -- Ways: up from an object to the space in which it stands, and to a subtree's root.
-use Rattle.std.proofs.Common.{◌≡◌, ◌↔◌, ◌<◌, ℕ, zero, suc, ◌++◌, Bool, true, false, not, [], ◌∷◌, Option, Some, None, is_some, option_map, IsSome, IfSome, IfNone, refl, sym, ap, subst, ◌∙◌, arith}
+use Rattle.std.proofs.Common.{◌≡◌, ◌↔◌, ◌<◌, ℕ, zero, suc, ◌++◌, Bool, true, false, not, [], ◌∷◌, Option, Some, None, is_some, option_map, IsSome}
+use Rattle.std.proofs.Common.{IfSome, IfNone, refl, sym, ap, subst, ◌∙◌, arith}
 use Rattle.std.proofs.lemmas.List.{append_assoc, append_cancel_right}
 use Rattle.fk_model.specs.declared.names.Who.{Who}
 use Rattle.fk_model.specs.Places.{Path, same_path, strip, is_within}

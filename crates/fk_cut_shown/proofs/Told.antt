@@ -1,5 +1,6 @@
 -- What a record and four fields say of a body: all of it, where it is seen in a cut.
-use Rattle.std.proofs.Common.{◌≡◌, ℕ, ◌+◌, ◌-◌, Bool, true, false, if◌then◌else◌, ◌==◌, is_none, List, [], ◌∷◌, ◌++◌, length, reverse, get_or, Option, Some, None, refl, sym, ap, subst, ◌∙◌, arith}
+use Rattle.std.proofs.Common.{◌≡◌, ℕ, ◌+◌, ◌-◌, Bool, true, false, if◌then◌else◌, ◌==◌, is_none, List, [], ◌∷◌, ◌++◌, length, reverse, get_or, Option}
+use Rattle.std.proofs.Common.{Some, None, refl, sym, ap, subst, ◌∙◌, arith}
 use Rattle.std.proofs.lemmas.Bool.{ne_eqb}
 use Rattle.std.proofs.lemmas.List.{reverse-reverse}
 use Rattle.fk_model.specs.declared.limits.TheConstants.{RECORD_WORDS}
@@ -13,7 +14,8 @@ use Rattle.fk_model.specs.Objects.Peer.{Server, Service, Parked}
 use Rattle.fk_model.specs.Objects.Body.{Mutex, Cond, Mapping, Region, Port, Portset, Space, Thread_of, Reference}
 use Rattle.fk_model.specs.Calls.{words, todo_of}
 use Rattle.fk_model.specs.LinkRows.{turn_number}
-use Rattle.fk_model.specs.Records.{record_of, padded, mode_number, halt_code, talk_words, fault_words, member_by, member_word, calling_by, record_registers, word}
+use Rattle.fk_model.specs.Records.{record_of, padded, mode_number, halt_code, talk_words, fault_words, member_by, member_word, calling_by}
+use Rattle.fk_model.specs.Records.{record_registers, word}
 use Rattle.fk_model.specs.Shapes.{IsShapedMode, IsShaped}
 use Rattle.fk_model.proofs.calls.CallLaws.{registers, sixteen, words_read_back_lem, words_keep_length_lem}
 use Rattle.fk_cut.specs.declared.shown.CutPtr.{CutPtr}

@@ -1,5 +1,6 @@
 -- Clients: the calls that end with a port, of its clients one after another.
-use Rattle.std.proofs.Common.{◌≡◌, ◌≤◌, ℕ, Bool, true, false, cond, ◌||◌, List, [], ◌∷◌, ◌++◌, Option, Some, None, IsSome, is_some, option_map, refl, sym, ap, subst, ◌∙◌}
+use Rattle.std.proofs.Common.{◌≡◌, ◌≤◌, ℕ, Bool, true, false, cond, ◌||◌, List, [], ◌∷◌, ◌++◌, Option, Some, None, IsSome, is_some, option_map, refl}
+use Rattle.std.proofs.Common.{sym, ap, subst, ◌∙◌}
 use Rattle.std.specs.List.{flat_map}
 use Rattle.fk_model.specs.declared.thread.Turn.TheVariants as turns
 use Rattle.fk_model.specs.Objects.Mode.{Running, Calling, Halted, Native}

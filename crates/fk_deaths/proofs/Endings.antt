@@ -1,5 +1,6 @@
 -- Endings: calls that end one after another, in whatever order, and before or after a death.
-use Rattle.std.proofs.Common.{◌≡◌, ℕ, zero, suc, is_some, Bool, true, false, cond, ◌||◌, List, [], ◌∷◌, ◌++◌, Option, Some, None, option_map, refl, sym, ap, subst, ◌∙◌}
+use Rattle.std.proofs.Common.{◌≡◌, ℕ, zero, suc, is_some, Bool, true, false, cond, ◌||◌, List, [], ◌∷◌, ◌++◌, Option, Some, None, option_map, refl}
+use Rattle.std.proofs.Common.{sym, ap, subst, ◌∙◌}
 use Rattle.std.proofs.lemmas.List.Folds.{list_any-append}
 use Rattle.fk_model.specs.declared.statuses.status.TheConstants.{ENDED}
 use Rattle.fk_model.specs.declared.thread.Turn.{Turn}

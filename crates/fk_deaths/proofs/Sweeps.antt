@@ -1,5 +1,6 @@
 -- Sweeps: whether a death may change all others, by those that have names.
-use Rattle.std.proofs.Common.{◌≡◌, ◌≢◌, ◌<◌, ◌+◌, ◌↔◌, ◌⊎◌, inl, inr, IsTrue, ltb, ℕ, Bool, true, false, cond, not, ◌||◌, List, [], ◌∷◌, count_by, Option, Some, None, IsSome, refl, sym, ap, subst, ◌∙◌, arith}
+use Rattle.std.proofs.Common.{◌≡◌, ◌≢◌, ◌<◌, ◌+◌, ◌↔◌, ◌⊎◌, inl, inr, IsTrue, ltb, ℕ, Bool, true, false, cond, not, ◌||◌, List, [], ◌∷◌, count_by}
+use Rattle.std.proofs.Common.{Option, Some, None, IsSome, refl, sym, ap, subst, ◌∙◌, arith}
 use Rattle.std.specs.List.{list_any}
 use Rattle.std.proofs.lemmas.Bool.Decides.{nat_tests}
 use Rattle.std.proofs.lemmas.List.Sums.{sum_by-cons}

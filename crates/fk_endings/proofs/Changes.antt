@@ -1,5 +1,6 @@
 -- Changes: what a change leaves of the clients of native servers.
-use Rattle.std.proofs.Common.{◌≡◌, ℕ, ◌≤◌, Bool, true, false, cond, if◌then◌else◌, ◌&&◌, ◌||◌, ◌∷◌, List, [], ◌++◌, find, Option, Some, None, option_map, is_some, IsSome, refl, sym, ap, subst, ◌∙◌}
+use Rattle.std.proofs.Common.{◌≡◌, ℕ, ◌≤◌, Bool, true, false, cond, if◌then◌else◌, ◌&&◌, ◌||◌, ◌∷◌, List, [], ◌++◌, find, Option, Some, None}
+use Rattle.std.proofs.Common.{option_map, is_some, IsSome, refl, sym, ap, subst, ◌∙◌}
 use Rattle.std.proofs.lemmas.Bool.{and_parts}
 use Rattle.fk_model.specs.Objects.{Peer, Talk, Thread, Body, thread_of, and_then, holds}
 use Rattle.fk_model.specs.Objects.Body.{Port, Thread_of}
@@ -9,7 +10,8 @@ use Rattle.fk_model.specs.Places.Ptr.{Null, Dead, At, Out, Outside, Far}
 use Rattle.fk_model.specs.Searches.{client_at, depth, is_service, objects, talk_at}
 use Rattle.fk_model.specs.Talks.{path_to}
 use Rattle.fk_model.specs.Valid.{IsConsistent, IsRooted, HasService, is_served_port}
-use Rattle.fk_model.specs.World.{World, Change, Edit, apply, apply_all, at_path, death_sweep, edited, follow, following, killed_at, moved_to, talk_without, through}
+use Rattle.fk_model.specs.World.{World, Change, Edit, apply, apply_all, at_path, death_sweep, edited, follow, following, killed_at, moved_to}
+use Rattle.fk_model.specs.World.{talk_without, through}
 use Rattle.fk_model.specs.World.Change.{Alter, Make, MakeSpace, Kill, Move, PutPage, DropPage}
 use Rattle.fk_model.proofs.walks.Members.{find_some}
 use Rattle.fk_model.proofs.walks.PlaceLaws.{leads_to_at, same_path_apart, same_path_eq, same_path_ne, same_path_refl}
@@ -169,7 +171,8 @@ seat-ending w v x alone same = by (native_at w x) refl (native_at v x) refl
     still p None h = absurd (cc)
     still p (Some other) h = ap Some (same_path_eq other p h)
 
-    gone : (p0 : Path) (next : Option Path) → native_at w x ≡ Some p0 → native_at v x ≡ next → holds (λ other. same_path other p0) next ≡ false → LosesClient w v p0
+    gone : (p0 : Path) (next : Option Path) → native_at w x ≡ Some p0 → native_at v x ≡ next → holds (λ other. same_path other p0) next ≡ false →
+        LosesClient w v p0
     gone p0 next was is off = record {
       had = record { client = x; native = was };
       none = λ has. split has (same_path has.client x) refl;

@@ -1,5 +1,6 @@
 -- Deaths: what the making, the death and the renaming of an object leave of the clients of native servers.
-use Rattle.std.proofs.Common.{◌≡◌, ℕ, ◌≤◌, Bool, true, false, cond, if◌then◌else◌, ◌&&◌, ◌||◌, ◌∷◌, List, [], Option, Some, None, option_map, is_some, IsSome, refl, sym, ap, subst, ◌∙◌}
+use Rattle.std.proofs.Common.{◌≡◌, ℕ, ◌≤◌, Bool, true, false, cond, if◌then◌else◌, ◌&&◌, ◌||◌, ◌∷◌, List, [], Option, Some, None, option_map, is_some}
+use Rattle.std.proofs.Common.{IsSome, refl, sym, ap, subst, ◌∙◌}
 use Rattle.fk_model.specs.declared.names.Kind.TheVariants as kinds
 use Rattle.fk_model.specs.Objects.{Peer, Talk, Thread, Body, thread_of, port_of, and_then, holds}
 use Rattle.fk_model.specs.Objects.Body.{Mutex, Cond, Mapping, Region, Port, Portset, Space, Thread_of, Reference}
@@ -139,7 +140,8 @@ module _ (w : World) (x : Path) where
   module _ (valid : IsConsistent w) where
     -- what is no client isn't one of these
     other_client : is_thread (w.body x) ≡ false → (p : Path) (has : HasClient w p) → same_path has.client x ≡ false
-    other_client none p has = same_path_ne has.client x (λ at. let yes = native-thread (w.body has.client) p has.native in absurd (let here = rw at at yes in cc))
+    other_client none p has = same_path_ne has.client x (λ at. let yes = native-thread (w.body has.client) p has.native in
+        absurd (let here = rw at at yes in cc))
 
     other_port : is_port (w.body x) ≡ false → (p : Path) → HasClient w p → same_path p x ≡ false
     other_port none p has = same_path_ne p x (λ at. let yes = has-port w valid has.client p has.native in absurd (let here = rw at at yes in cc))
@@ -326,7 +328,8 @@ module _ (w : World) (x : Path) (slot : ℕ) (there : IsSome (w.body x)) (empty 
   move-none has = by (same_path has.client new) refl (same_path has.client x) refl
     where
       by : (t : Bool) → same_path has.client new ≡ t → (r : Bool) → same_path has.client x ≡ r → ⊥
-      by true f r e = let here = same_path_eq has.client new f in none_led (native_at w x) (sym at_new ∙ subst (λ q. native_at renamed q ≡ Some x) here has.native)
+      by true f r e = let here = same_path_eq has.client new f in
+          none_led (native_at w x) (sym at_new ∙ subst (λ q. native_at renamed q ≡ Some x) here has.native)
       by false f true e = let here = same_path_eq has.client x e in none_here (subst (λ q. native_at renamed q ≡ Some x) here has.native)
       by false f false e = none_led (native_at w has.client) (sym (at_other has.client f e) ∙ has.native)
 

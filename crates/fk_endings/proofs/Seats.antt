@@ -5,7 +5,8 @@ use Rattle.fk_model.specs.Objects.Mode.{Calling}
 use Rattle.fk_model.specs.Objects.Body.{Mutex, Mapping, Region, Port, Space, Thread_of, Reference}
 use Rattle.fk_model.specs.Places.{Ptr}
 use Rattle.fk_model.specs.World.{Edit, edited, ended_in, finished_in, on_thread, with_extent, with_holder, with_locked, with_member, with_pointer, with_window}
-use Rattle.fk_model.specs.World.Edit.{SetLocked, SetWindow, SetExtent, SetMember, SetPointer, SetHolder, Proceed, Shift, Finish, End, Replace, SetStops, SetTalk, CountMoved, PassTurn, SetPeer, SetFault, SetTaker}
+use Rattle.fk_model.specs.World.Edit.{SetLocked, SetWindow, SetExtent, SetMember, SetPointer, SetHolder, Proceed, Shift, Finish, End, Replace}
+use Rattle.fk_model.specs.World.Edit.{SetStops, SetTalk, CountMoved, PassTurn, SetPeer, SetFault, SetTaker}
 use Rattle.fk_endings.specs.Clients.{native_in, native_port}
 
 -- it leaves a talk's port and peer

@@ -1,5 +1,6 @@
 -- Verdicts: whose native server loses its client by a verdict.
-use Rattle.std.proofs.Common.{◌≡◌, ℕ, ◌≤◌, Bool, true, false, cond, if◌then◌else◌, ◌&&◌, ◌==◌, ◌∷◌, List, [], ◌++◌, map, flat_map, Option, Some, None, option_map, is_some, IsSome, refl, sym, ap, subst, ◌∙◌}
+use Rattle.std.proofs.Common.{◌≡◌, ℕ, ◌≤◌, Bool, true, false, cond, if◌then◌else◌, ◌&&◌, ◌==◌, ◌∷◌, List, [], ◌++◌, map, flat_map, Option, Some, None}
+use Rattle.std.proofs.Common.{option_map, is_some, IsSome, refl, sym, ap, subst, ◌∙◌}
 use Rattle.fk_model.specs.declared.thread.Peer as peers_of
 use Rattle.fk_model.specs.declared.thread.Peer.TheVariants as peers
 use Rattle.fk_model.specs.LinkRows.{end_all}
@@ -50,7 +51,8 @@ use Rattle.fk_plans.specs.Recordings.{record_words}
 use Rattle.fk_plans.specs.Verdicts.{outcome_by, tells, IsVerdict}
 use Rattle.fk_endings.specs.Clients.{lost, HasClient, IsEnding, native_at, native_in, native_port}
 use Rattle.fk_endings.specs.Endings.{left_by, left_by_plan, lost_to, IsLeft}
-use Rattle.fk_endings.proofs.Changes.{AreAlone, AreQuiet, AreSame, all-same, apply-append, is_quiet, one-client, quiet-same, same-ending, same-then, seat-ending, then-same}
+use Rattle.fk_endings.proofs.Changes.{AreAlone, AreQuiet, AreSame, all-same, apply-append, is_quiet, one-client, quiet-same, same-ending, same-then}
+use Rattle.fk_endings.proofs.Changes.{seat-ending, then-same}
 use Rattle.fk_endings.proofs.Deaths.{death-ending, make-ending, make_space-ending, move-ending}
 
 -- ---- deeds
@@ -115,7 +117,8 @@ served p (Some b) peer = by b peer
     talks peer None = nothing None peer
     talks peer (Some talk) = old peer talk.peer talk.port
 
-    by : (b : Body) (peer : peers_of.Peer) → lost (native_in (Some b)) (native_in (Some (edited (SetPeer (peer_by p peer)) b))) ≡ lost_to (native_in (Some b)) peer
+    by : (b : Body) (peer : peers_of.Peer) → lost (native_in (Some b)) (native_in (Some (edited (SetPeer (peer_by p peer)) b)))
+        ≡ lost_to (native_in (Some b)) peer
     by (Thread_of t) peer = talks peer t.talk
     by b peer = nothing None peer
 

@@ -196,8 +196,8 @@ impl Kernel {
         made
     }
 
-    /// Makes the instruction of the user in a slot, where that is what it does next and where it is ready, and answers
-    /// whether it did; else all stays as it is. It tells nothing, and no native server loses its client by it.
+    /// Makes the next instruction of the user in a slot, or the next stage of its call where that tells nothing, where it is
+    /// ready, and answers whether it did; else all stays as it is. No native server loses its client by it.
     pub fn proceed(&mut self, who: Who) -> bool
         ensures made { OnTrue result (
             IsReadyEvent (world_of self.old) (event_of (world_of self.old) Ask.Run (record { who = who; pick = None }))

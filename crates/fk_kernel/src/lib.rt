@@ -8,10 +8,12 @@
 //! It promises that `ready` answers exactly whether the abstract machine is ready to make a move, of a user,
 //! a porter or a native server, that `step` makes of the world what the machine makes of it and tells what
 //! the machine tells, that `attempt` does both at once, and tells the port whose native server lost its
-//! client by it, that `call` does so of a porter's call, that `proceed` makes an instruction alone, where that is a user's next move, and `say`
-//! a send to a native server, that `replace` gives a thread and pages other words at once, that `is_fit` tells which moves may be made at
-//! all, that `next` and `next_after` find a move of a user that is ready wherever there is one, `next_besides` one of any user but one,
-//! `look_besides` how far there is none, and `ready_accept` whom a native server may accept. Words that are told have only zeros behind them.
+//! client by it, that `call` does so of a porter's call, that `proceed` makes an instruction, or a stage
+//! that tells nothing, where that is a user's next move, and `say` a send to a native server, that `replace`
+//! gives a thread and pages other words at once, that `is_fit` tells which moves may be made at all, that
+//! `next` and `next_after` find a move of a user that is ready wherever there is one, `next_besides` one of
+//! any user but one, `look_besides` how far there is none, and `ready_accept` whom a native server may
+//! accept. Words that are told have only zeros behind them.
 #![tactic(auto)]
 
 mod kernel;

@@ -1,5 +1,6 @@
 -- Alone: an instruction over the store is an instruction of the machine.
-use Rattle.std.proofs.Common.{◌≡◌, ℕ, ◌<◌, ◌/◌, ◌%◌, Bool, true, false, cond, nat_lt, ◌==◌, List, [], length, Option, Some, None, option_map, is_some, unwrap_or, slice_index, slice_set, refl, sym, ap, ◌∙◌, arith}
+use Rattle.std.proofs.Common.{◌≡◌, ℕ, ◌<◌, ◌/◌, ◌%◌, Bool, true, false, cond, nat_lt, ◌==◌, List, [], length, Option, Some, None, option_map, is_some}
+use Rattle.std.proofs.Common.{unwrap_or, slice_index, slice_set, refl, sym, ap, ◌∙◌, arith}
 use Rattle.std.proofs.lemmas.Bool.{ltb-true}
 use Rattle.std.proofs.lemmas.List.{length-set}
 use Rattle.fk_model.specs.declared.instruction.Act.{Act}

@@ -1,5 +1,6 @@
 -- Lones: a thread that runs beside the store that has its memory.
-use Rattle.std.proofs.Common.{◌≡◌, ℕ, ◌<◌, ◌/◌, ◌%◌, Bool, true, false, cond, ◌==◌, List, [], length, Option, Some, None, IsSome, is_some, unwrap_or, slice_index, slice_set, refl, sym, ap, subst, ◌∙◌}
+use Rattle.std.proofs.Common.{◌≡◌, ℕ, ◌<◌, ◌/◌, ◌%◌, Bool, true, false, cond, ◌==◌, List, [], length, Option, Some, None, IsSome, is_some, unwrap_or}
+use Rattle.std.proofs.Common.{slice_index, slice_set, refl, sym, ap, subst, ◌∙◌}
 use Rattle.std.proofs.lemmas.List.{length-set}
 use Rattle.fk_model.specs.declared.thread.Thread as threads_of
 use Rattle.fk_model.specs.Objects.{Thread, holds}

@@ -1,5 +1,6 @@
 -- A thread alone with its memory: 256 pages of 64 words, and no kernel that its calls could enter.
-use Rattle.std.specs.Prelude.{ℕ, zero, suc, ◌+◌, ◌-◌, Bool, List, ◌++◌, Option, Some, None, is_none, if◌then◌else◌, nat_lt, slice_index, slice_set, replicate, length}
+use Rattle.std.specs.Prelude.{ℕ, zero, suc, ◌+◌, ◌-◌, Bool, List, ◌++◌, Option, Some, None, is_none, if◌then◌else◌, nat_lt, slice_index, slice_set}
+use Rattle.std.specs.Prelude.{replicate, length}
 use Rattle.fk_model.specs.declared.instruction.Act.{Act}
 use Rattle.fk_model.specs.declared.instruction.Act.TheVariants.{Put, Jump, Load, Store, Halt, Call}
 use Rattle.fk_model.specs.Instructions.{act, next}

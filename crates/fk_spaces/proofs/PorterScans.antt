@@ -1,5 +1,6 @@
 -- PorterScans: which objects are yet to come in a search for a space that a porter holds.
-use Rattle.std.proofs.Common.{◌≡◌, ℕ, suc, ◌+◌, ◌<◌, ◌≤◌, ◌==◌, arith, Bool, true, false, inl, inr, IsSome, List, [], ◌∷◌, length, get_or, Option, Some, None, refl, sym, subst}
+use Rattle.std.proofs.Common.{◌≡◌, ℕ, suc, ◌+◌, ◌<◌, ◌≤◌, ◌==◌, arith, Bool, true, false, inl, inr, IsSome, List, [], ◌∷◌, length, get_or, Option}
+use Rattle.std.proofs.Common.{Some, None, refl, sym, subst}
 use Rattle.std.specs.List.{list_any}
 use Rattle.std.proofs.lemmas.Bool.{and_parts}
 use Rattle.std.proofs.lemmas.Bool.Decides.{nat_tests}
@@ -64,7 +65,8 @@ NoneAmong m s births most = (j : ℕ) → j < most → j < length births → 0 <
     is_sought_at m s (path m (get_or births j 0)) ≡ false
 
 pub none_among : (m : Contents) (s : Path) (births : List ℕ) (index : ℕ) → NoneAmong m s births index →
-    (0 < get_or births index 0 → IsSpace m (get_or births index 0) → is_sought_at m s (path m (get_or births index 0)) ≡ false) → NoneAmong m s births (index + 1)
+    (0 < get_or births index 0 → IsSpace m (get_or births index 0) → is_sought_at m s (path m (get_or births index 0)) ≡ false) →
+    NoneAmong m s births (index + 1)
 none_among m s births index so_far here j low there = by (j == index) refl
   where
     by : (b : Bool) → (j == index) ≡ b → 0 < get_or births j 0 → IsSpace m (get_or births j 0) → is_sought_at m s (path m (get_or births j 0)) ≡ false

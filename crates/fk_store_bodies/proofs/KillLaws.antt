@@ -1,5 +1,6 @@
 -- KillLaws: an object is destroyed, with its table if it is a space.
-use Rattle.std.proofs.Common.{◌≡◌, ◌≢◌, inl, inr, ℕ, ◌+◌, ◌*◌, ◌/◌, ◌%◌, ◌≤◌, Bool, true, false, cond, ◌==◌, length, List, Option, Some, None, IsSome, is_some, option_map, refl, sym, ap, subst, ◌∙◌, arith}
+use Rattle.std.proofs.Common.{◌≡◌, ◌≢◌, inl, inr, ℕ, ◌+◌, ◌*◌, ◌/◌, ◌%◌, ◌≤◌, Bool, true, false, cond, ◌==◌, length, List, Option, Some, None, IsSome}
+use Rattle.std.proofs.Common.{is_some, option_map, refl, sym, ap, subst, ◌∙◌, arith}
 use Rattle.std.proofs.lemmas.Bool.Decides.{nat_tests}
 use Rattle.std.specs.FinMap as finmap
 use Rattle.std.specs.FinMap.{get}
@@ -19,7 +20,8 @@ use Rattle.fk_store_objects.specs.declared.entry.Entry.{Entry}
 use Rattle.fk_store_objects.specs.Filed.{Filed, IsFiled, entry_under, key_of, name_under}
 use Rattle.fk_store_objects.specs.Edits.{Removes}
 use Rattle.fk_store_leads.specs.Births.{stored_birth, is_number, birth_in}
-use Rattle.fk_store_linked.specs.Bodied.{body_under, bodies, head_by, head_led, owner, unled_with, Tells, told_by, AreAlike, AreBodies, Maps, space_of, space_under, swept_under}
+use Rattle.fk_store_linked.specs.Bodied.{body_under, bodies, head_by, head_led, owner, unled_with, Tells, told_by, AreAlike, AreBodies, Maps}
+use Rattle.fk_store_linked.specs.Bodied.{space_of, space_under, swept_under}
 use Rattle.fk_store_leads.specs.Leading.{target}
 use Rattle.fk_store_leads.specs.Held.{is_held, one_if, held_in, IsCount}
 use Rattle.fk_store_linked.specs.Homes.{home_at, home_word, nowhere}
@@ -183,7 +185,8 @@ module _ (o m p q : Filed) (links : List Link) (homes : List ℕ) (held : ℕ) (
       by (Some b) = swept-birth sweep (space_under o k) b
 
   homed_now : (homes2 : List ℕ) → ((n : ℕ) → home_at homes2 n ≡ cond (is_number n birth) None (home_at homes n)) →
-      (n k : ℕ) → (home_at homes2 n ≡ Some k → and_then stored_birth (body_under q k) ≡ Some n) × (and_then stored_birth (body_under q k) ≡ Some n → home_at homes2 n ≡ Some k)
+      (n k : ℕ) → (home_at homes2 n ≡ Some k → and_then stored_birth (body_under q k) ≡ Some n)
+      × (and_then stored_birth (body_under q k) ≡ Some n → home_at homes2 n ≡ Some k)
   homed_now homes2 leaves n k = (
     λ h. to (is_number n birth) refl (sym (leaves n) ∙ h),
     λ h. leaves n ∙ back (k == key) refl h (is_number n birth) refl,

@@ -1,5 +1,6 @@
 -- LeaderSums: how many pointers lead to an object, counted along its ring.
-use Rattle.std.proofs.Common.{◌≡◌, ◌≢◌, ◌⊎◌, inl, inr, ℕ, ◌+◌, ◌*◌, ◌/◌, ◌%◌, ◌<◌, ◌≤◌, Bool, true, false, cond, ◌==◌, List, [], ◌∷◌, ◌++◌, filter, filter_map, length, Option, Some, None, IsSome, is_some, option_map, refl, sym, ap, subst, ◌∙◌, arith, T}
+use Rattle.std.proofs.Common.{◌≡◌, ◌≢◌, ◌⊎◌, inl, inr, ℕ, ◌+◌, ◌*◌, ◌/◌, ◌%◌, ◌<◌, ◌≤◌, Bool, true, false, cond, ◌==◌, List, [], ◌∷◌, ◌++◌, filter}
+use Rattle.std.proofs.Common.{filter_map, length, Option, Some, None, IsSome, is_some, option_map, refl, sym, ap, subst, ◌∙◌, arith, T}
 use Rattle.std.proofs.lemmas.Bool.Decides.{nat_tests}
 use Rattle.std.proofs.lemmas.Cmp.{tied_itself}
 use Rattle.std.proofs.lemmas.List.Sums.{sum_by-cons, sum_by-append}
@@ -389,7 +390,8 @@ module _ (o : Filed) (filed : IsFiled o) (leads_all : AreThere o) (who : Who) wh
       absurd (let gone = ap is_some none in cc))
 
   none-sum : key_of o who ≡ None → (test : Who → Bool) → 0 ≡ sum_by (λ e. cond (test e.0) (body_hits who e.1) 0) (entries m)
-  none-sum none test = sym (sum_same (λ (e : entry). cond (test e.0) (body_hits who e.1) 0) (λ e. 0) (entries m) each ∙ sum_none (λ (e : entry). 0) (entries m) (λ e. refl))
+  none-sum none test = sym (sum_same (λ (e : entry). cond (test e.0) (body_hits who e.1) 0) (λ e. 0) (entries m) each
+      ∙ sum_none (λ (e : entry). 0) (entries m) (λ e. refl))
     where
       each : (e : entry) → IsIn e (entries m) → cond (test e.0) (body_hits who e.1) 0 ≡ 0
       each e h = by (test e.0)

@@ -1,5 +1,6 @@
 -- LeaderWalks: the names of the nodes of a walk.
-use Rattle.std.proofs.Common.{◌≡◌, inl, inr, ℕ, ◌/◌, ◌%◌, ◌≤◌, suc, List, [], ◌∷◌, length, filter_map, Option, Some, None, IsSome, is_some, option_map, refl, sym, ap, subst, ◌∙◌, arith}
+use Rattle.std.proofs.Common.{◌≡◌, inl, inr, ℕ, ◌/◌, ◌%◌, ◌≤◌, suc, List, [], ◌∷◌, length, filter_map, Option, Some, None, IsSome, is_some}
+use Rattle.std.proofs.Common.{option_map, refl, sym, ap, subst, ◌∙◌, arith}
 use Rattle.fk_model.specs.declared.names.Who.{Who}
 use Rattle.fk_model.specs.declared.body.Body.{Body}
 use Rattle.fk_model.specs.Objects.{and_then}
@@ -30,7 +31,8 @@ few_names o (n ∷ nodes) = by (name_under o (n / 5)) refl (few_names o nodes)
     by None e few = rw e (omega (arith, few))
     by (Some w) e few = rw e (omega (arith, few))
 
-pub name_comes : (o : Filed) (node : ℕ) (e : Entry) (walk rest : List ℕ) → walk ≡ node ∷ rest → Some e ≡ entry_under o (node / 5) → names_of o walk ≡ e.who ∷ names_of o rest
+pub name_comes : (o : Filed) (node : ℕ) (e : Entry) (walk rest : List ℕ) → walk ≡ node ∷ rest → Some e ≡ entry_under o (node / 5) →
+    names_of o walk ≡ e.who ∷ names_of o rest
 name_comes o node e walk rest is there = ap (names_of o) is ∙ (let name = name-of o (node / 5) e (sym there) in rw name refl)
 
 pub name_gone : (o : Filed) (node : ℕ) (walk rest : List ℕ) → walk ≡ node ∷ rest → AreNodes o (Some walk) → None ≡ entry_under o (node / 5) → ⊥

@@ -1,5 +1,6 @@
 -- MakeLaws: an object comes.
-use Rattle.std.proofs.Common.{◌≡◌, ◌≢◌, ℕ, ◌+◌, ◌*◌, ◌/◌, ◌%◌, ◌<◌, ◌≤◌, Bool, true, false, cond, ◌==◌, length, List, Option, Some, None, IsSome, is_some, option_map, refl, sym, ap, subst, ◌∙◌, arith, eqb-true}
+use Rattle.std.proofs.Common.{◌≡◌, ◌≢◌, ℕ, ◌+◌, ◌*◌, ◌/◌, ◌%◌, ◌<◌, ◌≤◌, Bool, true, false, cond, ◌==◌, length, List, Option, Some, None, IsSome}
+use Rattle.std.proofs.Common.{is_some, option_map, refl, sym, ap, subst, ◌∙◌, arith, eqb-true}
 use Rattle.std.proofs.lemmas.Bool.Decides.{nat_tests}
 use Rattle.std.specs.FinMap as finmap
 use Rattle.std.specs.FinMap.{get}
@@ -17,7 +18,8 @@ use Rattle.fk_store_objects.specs.declared.entry.Entry.{Entry}
 use Rattle.fk_store_objects.specs.Filed.{Filed, IsFiled, entry_under, key_of, name_under, fresh}
 use Rattle.fk_store_objects.specs.Edits.{Makes, Keeps}
 use Rattle.fk_store_leads.specs.Births.{stored_birth, is_number, home_in}
-use Rattle.fk_store_linked.specs.Bodied.{body_under, bodies, head_by, head_led, owner, owner_with, Tells, told_by, HaveNodes, HaveHeads, AreThere, IsTold, AreTold, AreHomed, AreBodies, Retells, IsMarked, StillMarked}
+use Rattle.fk_store_linked.specs.Bodied.{body_under, bodies, head_by, head_led, owner, owner_with, Tells, told_by, HaveNodes, HaveHeads, AreThere}
+use Rattle.fk_store_linked.specs.Bodied.{IsTold, AreTold, AreHomed, AreBodies, Retells, IsMarked, StillMarked}
 use Rattle.fk_store_leads.specs.Held.{is_held, one_if, held_in, IsCount}
 use Rattle.fk_store_linked.specs.Homes.{home_at, home_word, nowhere}
 use Rattle.fk_store_leads.specs.Leading.{LeadsAmong, target}
@@ -227,7 +229,8 @@ module _ (o p : Filed) (links : List Link) (homes : List ℕ) (held : ℕ) (file
 
   -- ---- all
 
-  pub made_held : (count result : ℕ) (is : Bool) → is ≡ is_held b → IsCount (held_in (bodies o)) count → Counts count result false is → IsCount (held_in (bodies p)) result
+  pub made_held : (count result : ℕ) (is : Bool) → is ≡ is_held b → IsCount (held_in (bodies o)) count → Counts count result false is →
+      IsCount (held_in (bodies p)) result
   made_held count result is same enough counts = subst (λ m. IsCount (held_in m) result) (sym made_map)
       (enough-put (bodies o) who count result enough b is (get-bodies o who ∙ ap (and_then (body_under o)) empty) same counts)
 
@@ -273,14 +276,16 @@ made_filed o p filed who key b empty makes = record {
     names : (j : ℕ) → option_map (λ (e : Entry). e.who) (entry_under p j) ≡ cond (j == key) (Some who) (option_map (λ (e : Entry). e.who) (entry_under o j))
     names j = ap (option_map (λ (e : Entry). e.who)) (makes.entries j) ∙ by (j == key)
       where
-        by : (t : Bool) → option_map (λ (e : Entry). e.who) (cond t (Some (fresh who b)) (entry_under o j)) ≡ cond t (Some who) (option_map (λ (e : Entry). e.who) (entry_under o j))
+        by : (t : Bool) → option_map (λ (e : Entry). e.who) (cond t (Some (fresh who b)) (entry_under o j))
+            ≡ cond t (Some who) (option_map (λ (e : Entry). e.who) (entry_under o j))
         by true = refl
         by false = refl
 
     none_here : option_map (λ (e : Entry). e.who) (entry_under o key) ≡ None
     none_here = ap (option_map (λ (e : Entry). e.who)) makes.vacant
 
-    by_key : (q : Who) (j : ℕ) (t : Bool) → same_who q who ≡ t → cond t (Some key) (key_of o q) ≡ Some j → option_map (λ (e : Entry). e.who) (entry_under p j) ≡ Some q
+    by_key : (q : Who) (j : ℕ) (t : Bool) → same_who q who ≡ t → cond t (Some key) (key_of o q) ≡ Some j →
+        option_map (λ (e : Entry). e.who) (entry_under p j) ≡ Some q
     by_key q j true e h =
         let is : key ≡ j = cc in
         let here : (j == key) ≡ true = grind (arith, nat_tests) in
@@ -294,7 +299,8 @@ made_filed o p filed who key b empty makes = record {
             absurd (none_some (option_map (λ (e : Entry). e.who) (entry_under o key)) q none_here
             (ap (λ j. option_map (λ (e : Entry). e.who) (entry_under o j)) (sym is) ∙ filed.filed q j h))
 
-    by_name : (j : ℕ) (q : Who) (t : Bool) → (j == key) ≡ t → cond t (Some who) (option_map (λ (e : Entry). e.who) (entry_under o j)) ≡ Some q → key_of p q ≡ Some j
+    by_name : (j : ℕ) (q : Who) (t : Bool) → (j == key) ≡ t → cond t (Some who) (option_map (λ (e : Entry). e.who) (entry_under o j)) ≡ Some q →
+        key_of p q ≡ Some j
     by_name j q true e h =
         let is : who ≡ q = cc in
         let here : j ≡ key = grind (arith, nat_tests) in

@@ -15,7 +15,12 @@ use Rattle.fk_store_leads.specs.declared.nudges.Nudge.TheVariants.{Counts, Passe
 use Rattle.fk_store_bodies.proofs.QuietLaws.{IsQuiet, quiet_along, quiet_counting, quiet_passing, quiet_stopping}
 
 pub edits-along : (o p : Filed) (key : ℕ) (f g : Body → Body) → ((b : Body) → f b ≡ g b) → Edits o p key (on_body f) → Edits o p key (on_body g)
-edits-along o p key f g same edits = record { keys = edits.keys; marks = edits.marks; entries = λ j. edits.entries j ∙ ap (λ x. cond (j == key) x (entry_under o j)) (by (entry_under o key)) }
+edits-along o p key f g same edits = record {
+  keys = edits.keys;
+  marks = edits.marks;
+  entries = λ j. edits.entries j
+      ∙ ap (λ x. cond (j == key) x (entry_under o j)) (by (entry_under o key));
+}
   where
     by : (x : Option Entry) → option_map (on_body f) x ≡ option_map (on_body g) x
     by None = refl

@@ -1,5 +1,6 @@
 -- PlayLaws: who plays a part is told of it, or leads there.
-use Rattle.std.proofs.Common.{◌≡◌, ◌≢◌, inl, inr, ℕ, ◌+◌, ◌<◌, ◌/◌, ltb, Bool, true, false, List, [], ◌∷◌, Option, Some, None, IsSome, IfSome, is_some, refl, sym, ap, subst, ◌∙◌, arith}
+use Rattle.std.proofs.Common.{◌≡◌, ◌≢◌, inl, inr, ℕ, ◌+◌, ◌<◌, ◌/◌, ltb, Bool, true, false, List, [], ◌∷◌, Option, Some, None, IsSome, IfSome}
+use Rattle.std.proofs.Common.{is_some, refl, sym, ap, subst, ◌∙◌, arith}
 use Rattle.std.proofs.lemmas.Bool.Decides.{nat_tests}
 use Rattle.std.specs.FinMap.{get}
 use Rattle.fk_model.specs.declared.names.Who.{Who}
@@ -142,7 +143,8 @@ module _ (o : Filed) (filed : IsFiled o) (part : Part) where
 
 -- those who wait at a port lead there
 pub players_lead : (o : Filed) → IsFiled o → (port : Who) (key : ℕ) → Some key ≡ key_of o port → (walk : List ℕ) →
-    AreLeaders (owner o) (node_of key 2) walk → (j : ℕ) (b : Body) → body_under o j ≡ Some b → plays (Parked port) b ≡ true → (n : ℕ) × IsIn n walk × (n / 5 ≡ j)
+    AreLeaders (owner o) (node_of key 2) walk → (j : ℕ) (b : Body) → body_under o j ≡ Some b → plays (Parked port) b ≡ true → (n : ℕ) × IsIn n walk
+    × (n / 5 ≡ j)
 players_lead o filed port key here walk are j b there on =
     let led = plays-led (Parked port) b on in
     let found = leads_by o filed port key (sym here) j b led.0 there led.1 in

@@ -1,5 +1,6 @@
 -- QuietLaws: a body changes where it stands, and leads where it led.
-use Rattle.std.proofs.Common.{◌≡◌, ◌≢◌, ℕ, ◌+◌, ◌*◌, ◌/◌, ◌%◌, ◌≤◌, Bool, true, false, cond, ◌==◌, length, nat_lt, List, Option, Some, None, IsSome, option_map, ◌⊎◌, inl, inr, refl, sym, ap, subst, ◌∙◌, arith}
+use Rattle.std.proofs.Common.{◌≡◌, ◌≢◌, ℕ, ◌+◌, ◌*◌, ◌/◌, ◌%◌, ◌≤◌, Bool, true, false, cond, ◌==◌, length, nat_lt, List, Option, Some, None, IsSome}
+use Rattle.std.proofs.Common.{option_map, ◌⊎◌, inl, inr, refl, sym, ap, subst, ◌∙◌, arith}
 use Rattle.std.proofs.lemmas.Bool.Decides.{nat_tests}
 use Rattle.std.specs.FinMap as finmap
 use Rattle.std.specs.FinMap.{get}
@@ -40,7 +41,8 @@ pub record IsQuiet (f : Body → Body) : Type 0 where
   pub pages : (b : Body) → is_of_pages (f b) ≡ is_of_pages b
   pub members : (b : Body) → is_member (f b) ≡ is_member b
 
-bodied : (f : Body → Body) (o : Option Entry) → option_map (λ (e : Entry). e.body) (option_map (on_body f) o) ≡ option_map f (option_map (λ (e : Entry). e.body) o)
+bodied : (f : Body → Body) (o : Option Entry) → option_map (λ (e : Entry). e.body) (option_map (on_body f) o)
+    ≡ option_map f (option_map (λ (e : Entry). e.body) o)
 bodied f None = refl
 bodied f (Some e) = refl
 
@@ -101,13 +103,21 @@ module _ (o p : Filed) (key : ℕ) (f : Body → Body) (edits : Edits o p key (o
 
   leads_was : (j : ℕ) (b : Body) (i : ℕ) (l : Lead) → body_under p j ≡ Some b → led b i ≡ Some l → (a : Body) × (body_under o j ≡ Some a) × (led a i ≡ Some l)
   leads_was j b i l there is =
-      let found = was o p key f edits j b there in
-      (found.0, found.1, elim found.2 [ inl same ↦ ap (λ b. led b i) (sym same) ∙ is | inr same ↦ sym (quiet.leads found.0 i) ∙ ap (λ b. led b i) (sym same) ∙ is ])
+      let found = was o p key f edits j b there in (
+        found.0,
+        found.1,
+        elim found.2 [
+          | inl same ↦ ap (λ b. led b i) (sym same) ∙ is
+          | inr same ↦ sym (quiet.leads found.0 i)
+              ∙ ap (λ b. led b i) (sym same) ∙ is
+        ],
+      )
 
   hints_was : (k : ℕ) (e : Entry) → entry_under p k ≡ Some e → (d : Entry) × (entry_under o k ≡ Some d) × (e.hints ≡ d.hints)
   hints_was k e there = by (k == key) refl (sym (edits.entries k) ∙ there)
     where
-      mapped : (x : Option Entry) → entry_under o key ≡ x → k ≡ key → option_map (on_body f) x ≡ Some e → (d : Entry) × (entry_under o k ≡ Some d) × (e.hints ≡ d.hints)
+      mapped : (x : Option Entry) → entry_under o key ≡ x → k ≡ key → option_map (on_body f) x ≡ Some e → (d : Entry) × (entry_under o k ≡ Some d)
+          × (e.hints ≡ d.hints)
       mapped None is same h = absurd (cc)
       mapped (Some d) is same h = (d, ap (entry_under o) same ∙ is, (let it : on_body f d ≡ e = cc in sym (ap (λ (e : Entry). e.hints) it)))
 

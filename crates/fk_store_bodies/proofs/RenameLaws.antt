@@ -1,5 +1,6 @@
 -- RenameLaws: an object gets another name, and what leads there follows.
-use Rattle.std.proofs.Common.{◌≡◌, ◌≢◌, inl, inr, ℕ, ◌+◌, ◌*◌, ◌/◌, ◌%◌, ◌≤◌, Bool, true, false, cond, ◌==◌, length, List, Option, Some, None, IsSome, is_some, option_map, refl, sym, ap, subst, ◌∙◌, arith}
+use Rattle.std.proofs.Common.{◌≡◌, ◌≢◌, inl, inr, ℕ, ◌+◌, ◌*◌, ◌/◌, ◌%◌, ◌≤◌, Bool, true, false, cond, ◌==◌, length, List, Option, Some, None, IsSome}
+use Rattle.std.proofs.Common.{is_some, option_map, refl, sym, ap, subst, ◌∙◌, arith}
 use Rattle.std.proofs.lemmas.Bool.Decides.{nat_tests}
 use Rattle.std.specs.FinMap.{get}
 use Rattle.fk_model.specs.Objects.{and_then}
@@ -16,7 +17,8 @@ use Rattle.fk_store_objects.specs.declared.entry.Entry.{Entry}
 use Rattle.fk_store_objects.specs.Filed.{Filed, IsFiled, entry_under, key_of, name_under}
 use Rattle.fk_store_objects.specs.Edits.{Renames, named}
 use Rattle.fk_store_leads.specs.Births.{stored_birth}
-use Rattle.fk_store_linked.specs.Bodied.{body_under, bodies, head_by, owner, Tells, told_by, AreAlike, AreBodies, Maps, space_of, space_under, swept_under, IsMarked, StillMarked}
+use Rattle.fk_store_linked.specs.Bodied.{body_under, bodies, head_by, owner, Tells, told_by, AreAlike, AreBodies, Maps, space_of, space_under}
+use Rattle.fk_store_linked.specs.Bodied.{swept_under, IsMarked, StillMarked}
 use Rattle.fk_store_leads.specs.Leading.{target}
 use Rattle.fk_store_leads.specs.Held.{is_held, held_in, IsCount}
 use Rattle.fk_store_leads.specs.Marks.{is_of_pages, is_member, page_mark, member_mark}
@@ -64,9 +66,11 @@ module _ (o m p q : Filed) (links : List Link) (homes : List ℕ) (held : ℕ) (
   unfolding body_under
   bodies_m j = ap (option_map (λ (e : Entry). e.body)) (entries_now j) ∙ by (j == key) refl
     where
-      by : (s : Bool) → (j == key) ≡ s → option_map (λ (e : Entry). e.body) (cond s (Some (named t e)) (entry_under m j)) ≡ option_map (λ (e : Entry). e.body) (entry_under m j)
+      by : (s : Bool) → (j == key) ≡ s → option_map (λ (e : Entry). e.body) (cond s (Some (named t e)) (entry_under m j))
+          ≡ option_map (λ (e : Entry). e.body) (entry_under m j)
       by false f = refl
-      by true f = let is : j ≡ key = grind (arith, nat_tests) in sym (ap (λ j. option_map (λ (e : Entry). e.body) (entry_under m j)) is ∙ ap (option_map (λ (e : Entry). e.body)) there)
+      by true f = let is : j ≡ key = grind (arith, nat_tests) in
+          sym (ap (λ j. option_map (λ (e : Entry). e.body) (entry_under m j)) is ∙ ap (option_map (λ (e : Entry). e.body)) there)
 
   bodies_now : (j : ℕ) → body_under q j ≡ option_map (body_after sweep (space_under o j)) (body_under o j)
   bodies_now j = bodies_m j ∙ maps.bodies j
@@ -119,7 +123,8 @@ module _ (o m p q : Filed) (links : List Link) (homes : List ℕ) (held : ℕ) (
           head_now w (subst (λ (x : Who). IsSome (key_of o x)) lead.2 (are.leads (n / 5) b (n % 5) lead.0 f lead.1))
 
       by : (x : Option Body) → body_under o (n / 5) ≡ x →
-          and_then (head_by q) (and_then (target (n % 5)) (option_map (body_after sweep (space_under o (n / 5))) x)) ≡ and_then (head_by o) (and_then (target (n % 5)) x)
+          and_then (head_by q) (and_then (target (n % 5)) (option_map (body_after sweep (space_under o (n / 5))) x))
+          ≡ and_then (head_by o) (and_then (target (n % 5)) x)
       by None f = refl
       by (Some b) f = ap (and_then (head_by q)) (target-renamed sweep t to (space_under o (n / 5)) b (n % 5)) ∙ go b f (target (n % 5) b) refl
 
@@ -188,7 +193,8 @@ module _ (o m p q : Filed) (links : List Link) (homes : List ℕ) (held : ℕ) (
 
       moved : (w : Who) → get (bodies q) w ≡ cond (same_who w t) (get (bodies m) from) (cond (same_who w from) None (get (bodies m) w))
       moved w = get-bodies q w
-          ∙ renamed-found m q filed_m from key t key_m (λ v. keys_now v ∙ (λ i. cond (same_who v t) (Some key) (cond (same_who v from) None (sym (maps.alike.keys v) i)))) bodies_m w
+          ∙ renamed-found m q filed_m from key t key_m (λ v. keys_now v
+          ∙ (λ i. cond (same_who v t) (Some key) (cond (same_who v from) None (sym (maps.alike.keys v) i)))) bodies_m w
           ∙ (λ i. cond (same_who w t) (sym (get-bodies m from) i) (cond (same_who w from) None (sym (get-bodies m w) i)))
 
   pub renamed_all : AreBodies q links homes held
@@ -241,8 +247,10 @@ module _ (o m p q : Filed) (links : List Link) (homes : List ℕ) (held : ℕ) (
       ∙ (let same : (key == key) ≡ true = grind (arith, nat_tests) in ap (λ t. cond t (Some (named to found.0)) (entry_under m key)) same))
 
   pub renamed_by : AreBodies q links homes held
-  renamed_by = renamed_all o m p q links homes held filed filed_m are key this to refl here free maps found.0 found.1 (renames found.0 found.1) keys entries still own
+  renamed_by = renamed_all o m p q links homes held filed filed_m are key this to refl here free maps found.0 found.1
+      (renames found.0 found.1) keys entries still own
 
   pub renamed_map_by : (w : Who) → get (bodies q) w ≡ cond (same_who w to) (option_map (body_after this from.space) (get (bodies o) from))
       (cond (same_who w from) None (option_map (body_after this w.space) (get (bodies o) w)))
-  renamed_map_by = renamed_found o m p q links homes held filed filed_m are key this to refl here free maps found.0 found.1 (renames found.0 found.1) keys entries still own
+  renamed_map_by = renamed_found o m p q links homes held filed filed_m are key this to refl here free maps found.0 found.1
+      (renames found.0 found.1) keys entries still own

@@ -1,5 +1,6 @@
 -- SetLaws: an object gets another body.
-use Rattle.std.proofs.Common.{◌≡◌, ◌≢◌, ℕ, ◌+◌, ◌*◌, ◌≤◌, Bool, true, false, cond, ◌==◌, length, List, Option, Some, None, IsSome, is_some, option_map, refl, sym, ap, subst, ◌∙◌, arith}
+use Rattle.std.proofs.Common.{◌≡◌, ◌≢◌, ℕ, ◌+◌, ◌*◌, ◌≤◌, Bool, true, false, cond, ◌==◌, length, List, Option, Some, None, IsSome, is_some}
+use Rattle.std.proofs.Common.{option_map, refl, sym, ap, subst, ◌∙◌, arith}
 use Rattle.std.proofs.lemmas.Bool.Decides.{nat_tests}
 use Rattle.std.specs.FinMap as finmap
 use Rattle.std.specs.FinMap.{get}
@@ -15,7 +16,8 @@ use Rattle.fk_store_links.specs.Links.{AreRings}
 use Rattle.fk_store_objects.specs.declared.entry.Entry.{Entry}
 use Rattle.fk_store_objects.specs.Filed.{Filed, IsFiled, entry_under, key_of}
 use Rattle.fk_store_leads.specs.Births.{stored_birth, birth_in}
-use Rattle.fk_store_linked.specs.Bodied.{body_under, bodies, owner, Tells, told_by, HaveNodes, AreThere, IsTold, AreTold, AreHomed, AreAlike, AreBodies, Retells, IsMarked, StillMarked}
+use Rattle.fk_store_linked.specs.Bodied.{body_under, bodies, owner, Tells, told_by, HaveNodes, AreThere, IsTold, AreTold, AreHomed, AreAlike}
+use Rattle.fk_store_linked.specs.Bodied.{AreBodies, Retells, IsMarked, StillMarked}
 use Rattle.fk_store_leads.specs.Held.{held_in, IsCount}
 use Rattle.fk_store_leads.specs.Leading.{LeadsAmong, is_reference}
 use Rattle.fk_store_leads.specs.Marks.{is_of_pages, is_member, page_mark, member_mark}

@@ -1,5 +1,6 @@
 -- SettleLaws: what stands beside the objects, once one of them has its body and is told of.
-use Rattle.std.proofs.Common.{◌≡◌, ◌≢◌, ℕ, ◌+◌, ◌*◌, ◌/◌, ◌%◌, ◌≤◌, Bool, true, false, cond, ◌==◌, length, List, Option, Some, None, IsSome, option_map, refl, sym, ap, subst, ◌∙◌}
+use Rattle.std.proofs.Common.{◌≡◌, ◌≢◌, ℕ, ◌+◌, ◌*◌, ◌/◌, ◌%◌, ◌≤◌, Bool, true, false, cond, ◌==◌, length, List, Option, Some, None, IsSome}
+use Rattle.std.proofs.Common.{option_map, refl, sym, ap, subst, ◌∙◌}
 use Rattle.std.specs.FinMap.{get}
 use Rattle.fk_model.specs.Objects.{and_then}
 use Rattle.fk_model.specs.declared.names.Who.{Who}
@@ -15,7 +16,8 @@ use Rattle.fk_store_links.proofs.NodeLaws.{rings_along}
 use Rattle.fk_store_objects.specs.declared.entry.Entry.{Entry}
 use Rattle.fk_store_objects.specs.Filed.{Filed, IsFiled, entry_under, key_of, name_under}
 use Rattle.fk_store_leads.specs.Births.{stored_birth}
-use Rattle.fk_store_linked.specs.Bodied.{body_under, bodies, head_by, owner, HaveNodes, AreThere, IsTold, AreTold, AreHomed, AreMarked, AreBodies, Retells, IsMarked, StillMarked}
+use Rattle.fk_store_linked.specs.Bodied.{body_under, bodies, head_by, owner, HaveNodes, AreThere, IsTold, AreTold, AreHomed, AreMarked, AreBodies}
+use Rattle.fk_store_linked.specs.Bodied.{Retells, IsMarked, StillMarked}
 use Rattle.fk_store_leads.specs.Leading.{target}
 use Rattle.fk_store_leads.specs.Held.{held_in, IsCount}
 use Rattle.fk_store_leads.specs.Marks.{is_of_pages, is_member, page_mark, member_mark}
@@ -68,7 +70,8 @@ module _ (p r q : Filed) (retells : Retells p r) (keys : q.keys ≡ r.keys) (ent
 
   settled_owner : (n : ℕ) → owner q n ≡ owner p n
   unfolding owner
-  settled_owner n = by (and_then (target (n % 5)) (body_under q (n / 5))) ∙ ap (λ x. and_then (head_by p) (and_then (target (n % 5)) x)) (settled_bodies (n / 5))
+  settled_owner n = by (and_then (target (n % 5)) (body_under q (n / 5)))
+      ∙ ap (λ x. and_then (head_by p) (and_then (target (n % 5)) x)) (settled_bodies (n / 5))
     where
       by : (x : Option Who) → and_then (head_by q) x ≡ and_then (head_by p) x
       by None = refl

@@ -1,5 +1,6 @@
 -- FreezeLaws: the steps of a walk that marks, and of one that takes marks away.
-use Rattle.std.proofs.Common.{◌≡◌, ◌≢◌, ◌⊎◌, inl, inr, ℕ, suc, ◌+◌, ◌-◌, ◌*◌, ◌<◌, ◌≤◌, ltb, Bool, true, false, cond, ◌==◌, List, Option, Some, None, IsSome, is_some, refl, sym, ap, subst, ◌∙◌, arith}
+use Rattle.std.proofs.Common.{◌≡◌, ◌≢◌, ◌⊎◌, inl, inr, ℕ, suc, ◌+◌, ◌-◌, ◌*◌, ◌<◌, ◌≤◌, ltb, Bool, true, false, cond, ◌==◌, List, Option, Some, None}
+use Rattle.std.proofs.Common.{IsSome, is_some, refl, sym, ap, subst, ◌∙◌, arith}
 use Rattle.std.proofs.lemmas.Bool.Decides.{nat_tests}
 use Rattle.std.specs.FinMap.{FinMap, get}
 use Rattle.fk_model.specs.declared.names.Who.{Who}
@@ -10,7 +11,8 @@ use Rattle.fk_store_leads.specs.Births.{stored_birth, home_in, birth_in}
 use Rattle.fk_store_leads.specs.Names.{at, who_cmp, same_who}
 use Rattle.fk_store_leads.proofs.BirthLaws.{births-found}
 use Rattle.fk_store_leads.proofs.NameLaws.{same_who_eq, same_who_refl}
-use Rattle.fk_store_freezing.specs.Freezing.{is_held_at, IsUnder, AreFrozen, AreFrozenBut, AreKnown, IsAbove, Pending, IsPending, AreFrozenUpTo, behind, upward, place, weight}
+use Rattle.fk_store_freezing.specs.Freezing.{is_held_at, IsUnder, AreFrozen, AreFrozenBut, AreKnown, IsAbove, Pending, IsPending, AreFrozenUpTo}
+use Rattle.fk_store_freezing.specs.Freezing.{behind, upward, place, weight}
 use Rattle.fk_store_freezing.specs.Freezing.IsAbove.{Home, Further}
 use Rattle.fk_store_freezing.specs.Freezing.Pending.{Here, Above}
 
@@ -147,7 +149,8 @@ module _ (bodies : FinMap who_cmp Body) (known : AreKnown bodies) (top : ℕ) wh
         marked_other marks now top n marks_now off
         ∙ closed who n (other_number bodies known at_top who top n here born (grind (arith, nat_tests))) born under
 
-    begun : (who : Who) (n : ℕ) → birth_in bodies who ≡ Some n → (n == top) ≡ false → IsUnder bodies now who → (mark_at now n ≡ true) ⊎ Pending bodies top top 0 who
+    begun : (who : Who) (n : ℕ) → birth_in bodies who ≡ Some n → (n == top) ≡ false → IsUnder bodies now who →
+        (mark_at now n ≡ true) ⊎ Pending bodies top top 0 who
     begun who n born off (inl held) = inl (beside who n born off (inl held))
     begun who n born off (inr above) = by (who.space == top) refl
       where
@@ -184,7 +187,8 @@ falls_on marks space slot found low few = omega (arith, low, few)
 pub falls_down : (marks now space slot birth : ℕ) → now < marks → birth < 4294967296 → weight now (Some (birth, 0)) < weight marks (Some (space, slot))
 falls_down marks now space slot birth less low = omega (arith, less, low)
 
-pub falls_up : (bodies : FinMap who_cmp Body) → AreKnown bodies → (marks top space slot : ℕ) → weight marks (upward bodies top space) < weight marks (Some (space, slot))
+pub falls_up : (bodies : FinMap who_cmp Body) → AreKnown bodies → (marks top space slot : ℕ) →
+    weight marks (upward bodies top space) < weight marks (Some (space, slot))
 falls_up bodies known marks top space slot = by (space == top) (home_in bodies space) refl
   where
     by : (t : Bool) (x : Option Who) → home_in bodies space ≡ x → weight marks (cond t None (behind x)) < weight marks (Some (space, slot))
@@ -200,7 +204,8 @@ top_marked marks now top marks_now = marked_one marks now top top marks_now (gri
 pub not_top : (marks : List Bool) (top birth : ℕ) → mark_at marks top ≡ true → mark_at marks birth ≡ false → birth ≢ top
 not_top marks top birth on off is = let both = sym on ∙ ap (mark_at marks) (sym is) ∙ off in absurd (cc)
 
-pub still_marked : (marks now : List Bool) (top birth : ℕ) → mark_at marks top ≡ true → ((n : ℕ) → mark_at now n ≡ cond (n == birth) true (mark_at marks n)) → mark_at now top ≡ true
+pub still_marked : (marks now : List Bool) (top birth : ℕ) → mark_at marks top ≡ true →
+    ((n : ℕ) → mark_at now n ≡ cond (n == birth) true (mark_at marks n)) → mark_at now top ≡ true
 still_marked marks now top birth on marks_now = marks_now top ∙ by (top == birth)
   where
     by : (b : Bool) → cond b true (mark_at marks top) ≡ true
@@ -208,7 +213,8 @@ still_marked marks now top birth on marks_now = marks_now top ∙ by (top == bir
     by false = on
 
 -- what has no birth number is no space
-pub no_space : (bodies : FinMap who_cmp Body) (marks : List Bool) (who : Who) → None ≡ birth_in bodies who → (n : ℕ) → birth_in bodies who ≡ Some n → mark_at marks n ≡ true
+pub no_space : (bodies : FinMap who_cmp Body) (marks : List Bool) (who : Who) → None ≡ birth_in bodies who → (n : ℕ) → birth_in bodies who ≡ Some n →
+    mark_at marks n ≡ true
 no_space bodies marks who none n born = let both = none ∙ born in absurd (cc)
 
 -- the space that stands there has the number that it has
@@ -222,14 +228,16 @@ known_marked bodies marks now who birth here marks_now same n born =
 -- ---- a mark is taken away that nothing asks for
 
 -- what asks for no mark needs none
-pub need_not : (bodies : FinMap who_cmp Body) (marks : List Bool) (top : Who) → (IsUnder bodies marks top → ⊥) → AreFrozenBut bodies marks top → AreFrozen bodies marks
+pub need_not : (bodies : FinMap who_cmp Body) (marks : List Bool) (top : Who) → (IsUnder bodies marks top → ⊥) → AreFrozenBut bodies marks top →
+    AreFrozen bodies marks
 need_not bodies marks top free closed who n born under = by (same_who who top) refl
   where
     by : (b : Bool) → same_who who top ≡ b → mark_at marks n ≡ true
     by false e = closed who n e born under
     by true e = absurd (free (subst (IsUnder bodies marks) (same_who_eq who top e) under))
 
-pub not_under : (bodies : FinMap who_cmp Body) (marks : List Bool) (who : Who) → is_held_at bodies who ≡ false → mark_at marks who.space ≡ false → IsUnder bodies marks who → ⊥
+pub not_under : (bodies : FinMap who_cmp Body) (marks : List Bool) (who : Who) → is_held_at bodies who ≡ false → mark_at marks who.space ≡ false →
+    IsUnder bodies marks who → ⊥
 not_under bodies marks who off none (inl on) = let both = sym on ∙ off in absurd (cc)
 not_under bodies marks who off none (inr on) = let both = sym on ∙ none in absurd (cc)
 

@@ -1,5 +1,6 @@
 -- TreeLaws: what stands beside the objects, as they come, go, change and get other names.
-use Rattle.std.proofs.Common.{◌≡◌, ◌≢◌, ◌⊎◌, inl, inr, ℕ, ◌<◌, Bool, true, false, cond, is_some, List, [], Option, Some, None, option_map, refl, sym, ap, subst, ◌∙◌}
+use Rattle.std.proofs.Common.{◌≡◌, ◌≢◌, ◌⊎◌, inl, inr, ℕ, ◌<◌, Bool, true, false, cond, is_some, List, [], Option, Some, None, option_map, refl, sym}
+use Rattle.std.proofs.Common.{ap, subst, ◌∙◌}
 use Rattle.std.specs.FinMap as finmap
 use Rattle.std.specs.FinMap.{FinMap, get, insert, get-insert, get-empty}
 use Rattle.fk_model.specs.declared.names.Who.{Who}
@@ -181,7 +182,8 @@ abbrev pub Follows : FinMap who_cmp Body → FinMap who_cmp Body → Type 0
 Follows old new = (who : Who) (n : ℕ) → birth_in new who ≡ Some n →
     (p : Who) × (p.space ≡ who.space) × (birth_in old p ≡ Some n) × (is_held_at new who ≡ true → is_held_at old p ≡ true)
 
-pub tree_follows : (old new : FinMap who_cmp Body) → Follows old new → (marks : List Bool) (held : List ℕ × Bool) → IsTree old marks held → IsTree new marks held
+pub tree_follows : (old new : FinMap who_cmp Body) → Follows old new → (marks : List Bool) (held : List ℕ × Bool) → IsTree old marks held →
+    IsTree new marks held
 tree_follows old new follows marks held tree = record {
   frozen = λ who n born under.
       let was = follows who n born in
@@ -308,8 +310,13 @@ module _ (old new : FinMap who_cmp Body) (who : Who)
 
   follows_killed : Follows old new
   follows_killed q n born =
-      let is = value_left q (left q n born) in
-      (q, refl, sym (ap (and_then stored_birth) is ∙ swept_born gone q.space (get old q)) ∙ born, λ on. swept_on gone q.space (get old q) (sym (ap (holds is_held) is) ∙ on))
+      let is = value_left q (left q n born) in (
+        q,
+        refl,
+        sym (ap (and_then stored_birth) is ∙ swept_born gone q.space (get old q))
+            ∙ born,
+        λ on. swept_on gone q.space (get old q) (sym (ap (holds is_held) is) ∙ on),
+      )
 
   -- its number is told of no more
   pub tree_killed : AreKnown old → (marks : List Bool) (held now : List ℕ × Bool) → IsTree old marks held →
@@ -337,12 +344,18 @@ module _ (old new : FinMap who_cmp Body) (from to : Who) (space : to.space ≡ f
     where
       value : (s t : Bool) → same_who q to ≡ s → same_who q from ≡ t → get new q
           ≡ cond s (option_map (body_after named from.space) (get old from)) (cond t None (option_map (body_after named q.space) (get old q)))
-      value s t e f = renamed q ∙ (λ i. cond (e i) (option_map (body_after named from.space) (get old from)) (cond (f i) None (option_map (body_after named q.space) (get old q))))
+      value s t e f = renamed q ∙ (λ i. cond (e i) (option_map (body_after named from.space) (get old from))
+          (cond (f i) None (option_map (body_after named q.space) (get old q))))
 
       follow : (p : Who) → p.space ≡ q.space → (s : ℕ) → get new q ≡ option_map (body_after named s) (get old p) →
           (p : Who) × (p.space ≡ q.space) × (birth_in old p ≡ Some n) × (is_held_at new q ≡ true → is_held_at old p ≡ true)
-      follow p same s is =
-          (p, same, sym (ap (and_then stored_birth) is ∙ swept_born named s (get old p)) ∙ born, λ on. swept_on named s (get old p) (sym (ap (holds is_held) is) ∙ on))
+      follow p same s is = (
+        p,
+        same,
+        sym (ap (and_then stored_birth) is ∙ swept_born named s (get old p))
+            ∙ born,
+        λ on. swept_on named s (get old p) (sym (ap (holds is_held) is) ∙ on),
+      )
 
       by : (s : Bool) → same_who q to ≡ s → (t : Bool) → same_who q from ≡ t →
           (p : Who) × (p.space ≡ q.space) × (birth_in old p ≡ Some n) × (is_held_at new q ≡ true → is_held_at old p ≡ true)

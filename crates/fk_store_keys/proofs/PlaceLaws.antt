@@ -1,5 +1,6 @@
 -- PlaceLaws: where the tables of all spaces stand.
-use Rattle.std.proofs.Common.{◌≡◌, ◌≢◌, ℕ, zero, suc, ◌<◌, ◌≤◌, Bool, true, false, cond, ◌==◌, List, [], ◌∷◌, length, get_or, set, Option, Some, None, IsSome, IsTrue, ◌↔◌, is_some, Box, refl, sym, ap, subst, ◌∙◌, arith, length-set}
+use Rattle.std.proofs.Common.{◌≡◌, ◌≢◌, ℕ, zero, suc, ◌<◌, ◌≤◌, Bool, true, false, cond, ◌==◌, List, [], ◌∷◌, length, get_or, set, Option, Some, None}
+use Rattle.std.proofs.Common.{IsSome, IsTrue, ◌↔◌, is_some, Box, refl, sym, ap, subst, ◌∙◌, arith, length-set}
 use Rattle.std.specs.declared.alloc.Global.{Global}
 use Rattle.std.proofs.lemmas.Bool.Decides.{nat_tests}
 use Rattle.std.proofs.lemmas.List.{length-map}
@@ -7,7 +8,8 @@ use Rattle.slab.specs.Slab.{Slab, get, Updates}
 use Rattle.fk_store_slots.specs.Cells.{cell_in, cell}
 use Rattle.fk_store_slots.proofs.CellLaws.{get_or_set}
 use Rattle.fk_store_keys.specs.declared.tables.Table.{Table}
-use Rattle.fk_store_keys.specs.Tables.{nothing, all_keys, all_marks, keys_in, marks_in, table_of, key_at, marked_in, mark_at, AreTables, pair_in, place_at, shown, ArePlaced, AreKept, IsPut, IsMoved, IsMarked, Alters, Adds}
+use Rattle.fk_store_keys.specs.Tables.{nothing, all_keys, all_marks, keys_in, marks_in, table_of, key_at, marked_in, mark_at, AreTables, pair_in}
+use Rattle.fk_store_keys.specs.Tables.{place_at, shown, ArePlaced, AreKept, IsPut, IsMoved, IsMarked, Alters, Adds}
 use Rattle.fk_store_keys.proofs.TableLaws.{key_seen, mark_seen, row_is, tables_same, tables_set, short_put, short_moved, cell-keys}
 
 abbrev Pair : Type 0
@@ -112,7 +114,8 @@ vacant_of (Some a) b iff off = absurd (not_both b (iff.1 refl) off)
 
 -- ---- one table changes
 
-module _ (places : List ℕ) (s t : Tables) (placed : ArePlaced places s) (space : ℕ) (P : Pair → Pair → Type 0) (alters : Alters s t (place_at places space) P) where
+module _ (places : List ℕ) (s t : Tables) (placed : ArePlaced places s) (space : ℕ) (P : Pair → Pair → Type 0)
+    (alters : Alters s t (place_at places space) P) where
   none_after : get t nothing ≡ None
   none_after = by (nothing == place_at places space) refl
     where
@@ -179,7 +182,8 @@ module _ (places : List ℕ) (s t : Tables) (kept : AreKept places s) (space fro
   moved_kept =
       let here = altered_here places s t kept.placed space (IsMoved from to) alters in
       altered_kept places s t kept.placed space (IsMoved from to) alters kept.are
-      (short_moved from to (λ k. key_at (shown places s) space k) (λ k. cell_in (keys_in (get t (place_at places space))) k) low (kept.are.short space) here.keys)
+      (short_moved from to (λ k. key_at (shown places s) space k) (λ k. cell_in (keys_in (get t (place_at places space))) k) low
+      (kept.are.short space) here.keys)
 
 module _ (places : List ℕ) (s t : Tables) (kept : AreKept places s) (space mark : ℕ)
     (alters : Alters s t (place_at places space) (IsMarked mark)) where
@@ -253,8 +257,10 @@ module _ (places : List ℕ) (s t : Tables) (kept : AreKept places s) (space pla
 
   pub cleared_kept : AreKept (set places space nothing) t
   cleared_kept = record {
-    are = (let long = shown_long (set places space nothing) t in let same = length-set places space nothing in let was = shown_long places s in let few = kept.are.few in
-        tables_set (shown places s) (shown (set places space nothing) t) space ([], []) cleared_seen (omega (arith, long, same, was, few)) (λ k h. absurd (cc)) kept.are);
+    are = (let long = shown_long (set places space nothing) t in let same = length-set places space nothing in let was = shown_long places s in
+        let few = kept.are.few in
+        tables_set (shown places s) (shown (set places space nothing) t) space ([], []) cleared_seen (omega (arith, long, same, was, few))
+        (λ k h. absurd (cc)) kept.are);
     placed = record { none = none_left; there = there; own = own };
   }
     where
@@ -312,9 +318,11 @@ module _ (places : List ℕ) (s t : Tables) (kept : AreKept places s) (space slo
 
   pub added_kept : slot < 256 → AreKept (set places space place) t
   added_kept within = record {
-    are = (let long = shown_long (set places space place) t in let same = length-set places space place in let was = shown_long places s in let few = kept.are.few in
+    are = (let long = shown_long (set places space place) t in let same = length-set places space place in let was = shown_long places s in
+        let few = kept.are.few in
         tables_set (shown places s) (shown (set places space place) t) space (pair_in (get t place)) added_seen (omega (arith, long, same, was, few))
-        (short_put slot (Some key) (λ k. key_at (shown places s) space k) (λ k. cell_in (keys_in (get t place)) k) within (kept.are.short space) added_keys) kept.are);
+        (short_put slot (Some key) (λ k. key_at (shown places s) space k) (λ k. cell_in (keys_in (get t place)) k) within
+        (kept.are.short space) added_keys) kept.are);
     placed = record { none = none_still; there = there; own = own };
   }
     where

@@ -1,5 +1,6 @@
 -- Tables: the keys and the marks of a space.
-use Rattle.std.specs.Prelude.{◌≡◌, ◌≢◌, ℕ, ◌==◌, ◌<◌, ◌≤◌, Bool, true, false, List, [], map, length, Option, Some, None, IsSome, is_some, Box, if◌then◌else◌, slice_index_or}
+use Rattle.std.specs.Prelude.{◌≡◌, ◌≢◌, ℕ, ◌==◌, ◌<◌, ◌≤◌, Bool, true, false, List, [], map, length, Option, Some, None, IsSome, is_some, Box}
+use Rattle.std.specs.Prelude.{if◌then◌else◌, slice_index_or}
 use Rattle.std.specs.declared.alloc.Global.{Global}
 use Rattle.slab.specs.Slab.{Slab, get}
 use Rattle.fk_store_slots.specs.Cells.{cell_in}

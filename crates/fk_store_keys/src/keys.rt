@@ -1,13 +1,14 @@
 //! The keys of all spaces.
-ghost use Rattle.std.specs.Prelude.{◌≡◌, ◌<◌, ◌≤◌, ℕ, ◌==◌, ◌&&◌, true, false, [], OnOk, OnErr, IsSome, IfSome, Some, None, if◌then◌else◌, length, slice_index_or};
+ghost use Rattle.std.specs.Prelude.{◌≡◌, ◌<◌, ◌≤◌, ℕ, ◌==◌, ◌&&◌, true, false, [], OnOk, OnErr, IsSome, IfSome, Some, None, if◌then◌else◌, length};
+ghost use Rattle.std.specs.Prelude.{slice_index_or};
 ghost use Rattle.std.specs.Option.{option_copied};
 ghost use Rattle.slab.specs.Slab.{get};
 ghost use Rattle.fk_store_slots.specs.Cells.{cell, is_from};
-ghost use Rattle.fk_store_keys.specs.Tables.{mark_at, place_at};
+ghost use Rattle.fk_store_keys.specs.Tables.{mark_at, number_of, place_at};
 
 use crate::tables::{
     NOTHING, Table, add, give_back, is_marked_in, key_in, mark_in, marks_of, next_taken_in, put_in,
-    remove_in, rename_in,
+    remove_in, rename_in, word_in,
 };
 use slab::Slab;
 use std::alloc::{AllocError, Global};
@@ -58,6 +59,15 @@ impl Keys {
     {
         let table = table_at(&self.places, &self.tables, space);
         key_in(table, slot)
+    }
+
+    /// The key of the object in a slot of a space as it is written: what stands for no key is no key of an object.
+    #[inline]
+    pub fn word(&self, space: u32, slot: u8) -> u32
+        ensures { number_of result ≡ cell self.now.0 space slot }
+    {
+        let table = table_at(&self.places, &self.tables, space);
+        word_in(table, slot)
     }
 
     /// A space has a mark.
@@ -190,9 +200,14 @@ fn table_at<'a>(
     tables: &'a Slab<Box<Table>>,
     space: u32,
 ) -> Option<&'a Box<Table>>
+    requires { get tables.now 4294967295 ≡ None }
     ensures { option_copied result ≡ get tables.now (place_at places.now.items space) }
 {
-    tables.get(place_of(places, space) as usize)
+    if (space as usize) < places.len() {
+        tables.get(places[space as usize] as usize)
+    } else {
+        None
+    }
 }
 
 /// Makes room for all birth numbers up to this one.

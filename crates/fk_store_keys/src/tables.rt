@@ -29,6 +29,17 @@ pub fn key_in(table: Option<&Box<Table>>, slot: u8) -> Option<u32>
     }
 }
 
+/// The same as it is written.
+#[inline]
+pub fn word_in(table: Option<&Box<Table>>, slot: u8) -> u32
+    ensures { number_of result ≡ cell_in (keys_in (option_copied table.entry)) slot }
+{
+    match table {
+        None => NOTHING,
+        Some(table) => table.keys[slot as usize],
+    }
+}
+
 /// The marks of a space.
 pub fn marks_of(table: Option<&Box<Table>>) -> [bool; 32]
     ensures { (m : ℕ) → slice_index_or result m false ≡ marked_in (marks_in (option_copied table.entry)) m }

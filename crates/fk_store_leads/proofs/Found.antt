@@ -1,5 +1,6 @@
 -- Found: what a search among the entries of a map tells.
-use Rattle.std.proofs.Common.{cond, inl, inr, ◌≡◌, Bool, true, false, ◌&&◌, List, [], ◌∷◌, Option, Some, None, option_map, find, IfSome, refl, sym, ap, subst, ◌∙◌, T}
+use Rattle.std.proofs.Common.{cond, inl, inr, ◌≡◌, Bool, true, false, ◌&&◌, List, [], ◌∷◌, Option, Some, None, option_map, find, IfSome, refl, sym}
+use Rattle.std.proofs.Common.{ap, subst, ◌∙◌, T}
 use Rattle.std.specs.declared.cmp.Ordering.{Ordering}
 use Rattle.std.specs.declared.cmp.Ordering.TheVariants.{Less, Equal, Greater}
 use Rattle.std.specs.Ordering.{is_lt, eq_by_cmp, ordering_reverse}

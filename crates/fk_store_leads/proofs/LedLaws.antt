@@ -1,5 +1,6 @@
 -- LedLaws: what a sweep of pointers makes of a body.
-use Rattle.std.proofs.Common.{◌≡◌, ◌≢◌, inl, inr, ℕ, suc, Bool, true, false, cond, ◌==◌, ◌&&◌, Option, Some, None, option_map, is_some, refl, sym, ap, ◌∙◌, arith}
+use Rattle.std.proofs.Common.{◌≡◌, ◌≢◌, inl, inr, ℕ, suc, Bool, true, false, cond, ◌==◌, ◌&&◌, Option, Some, None, option_map, is_some, refl, sym, ap}
+use Rattle.std.proofs.Common.{◌∙◌, arith}
 use Rattle.std.proofs.lemmas.Bool.Decides.{nat_tests}
 use Rattle.fk_model.specs.declared.names.Who.{Who}
 use Rattle.fk_model.specs.declared.body.Body.{Body}

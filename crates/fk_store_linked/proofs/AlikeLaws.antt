@@ -1,5 +1,6 @@
 -- AlikeLaws: objects of which the bodies alone change.
-use Rattle.std.proofs.Common.{◌≡◌, ◌≢◌, ℕ, ◌+◌, ◌*◌, ◌/◌, ◌%◌, ◌<◌, ◌≤◌, Bool, true, false, cond, ◌==◌, length, List, Option, Some, None, IsSome, is_some, option_map, refl, sym, ap, subst, ◌∙◌, arith}
+use Rattle.std.proofs.Common.{◌≡◌, ◌≢◌, ℕ, ◌+◌, ◌*◌, ◌/◌, ◌%◌, ◌<◌, ◌≤◌, Bool, true, false, cond, ◌==◌, length, List, Option, Some, None, IsSome}
+use Rattle.std.proofs.Common.{is_some, option_map, refl, sym, ap, subst, ◌∙◌, arith}
 use Rattle.std.proofs.lemmas.Bool.Decides.{nat_tests}
 use Rattle.std.specs.FinMap as finmap
 use Rattle.std.specs.FinMap.{get}
@@ -66,7 +67,8 @@ module _ (o p : Filed) (alike : AreAlike o p) where
   unfolding owner owner_with
   owner_put key b now n = head_led_same (body_under p (n / 5)) (n % 5) ∙ ap (λ x. head_led o x (n % 5)) (now (n / 5)) ∙ by (n / 5 == key)
     where
-      by : (t : Bool) → head_led o (cond t (Some b) (body_under o (n / 5))) (n % 5) ≡ cond t (head_led o (Some b) (n % 5)) (head_led o (body_under o (n / 5)) (n % 5))
+      by : (t : Bool) → head_led o (cond t (Some b) (body_under o (n / 5))) (n % 5)
+          ≡ cond t (head_led o (Some b) (n % 5)) (head_led o (body_under o (n / 5)) (n % 5))
       by true = refl
       by false = refl
 
@@ -122,7 +124,8 @@ module _ (o p : Filed) (key : ℕ) (b : Body) (edits : Edits o p key (with_body 
       mapped None = refl
       mapped (Some e) = ap Some (stays e)
 
-      by : (t : Bool) → (j == key) ≡ t → option_map read (cond t (option_map (with_body b) (entry_under o key)) (entry_under o j)) ≡ option_map read (entry_under o j)
+      by : (t : Bool) → (j == key) ≡ t → option_map read (cond t (option_map (with_body b) (entry_under o key)) (entry_under o j))
+          ≡ option_map read (entry_under o j)
       by false e = refl
       by true e =
           let is : j ≡ key = grind (arith, nat_tests) in
@@ -162,7 +165,8 @@ pub small_body : (o : Filed) (key : ℕ) (b : Body) → IsFiled o → body_under
 small_body o key b filed there = let name = name_there o key b filed there in filed.small key name.0 name.1
 
 -- bodies of which neither is held
-pub same_count : (count : ℕ) (old b : Body) → is_held old ≡ is_held b → (n m : ℕ) → IsCount n count → m + one_if (is_held old) ≡ n + one_if (is_held b) → IsCount m count
+pub same_count : (count : ℕ) (old b : Body) → is_held old ≡ is_held b → (n m : ℕ) → IsCount n count →
+    m + one_if (is_held old) ≡ n + one_if (is_held b) → IsCount m count
 same_count count old b same n m enough sums =
     let alike : m ≡ n = (let ones = ap one_if same in omega (arith, sums, ones)) in subst (λ k. IsCount k count) (sym alike) enough
 
@@ -223,7 +227,8 @@ module _ (o : Filed) (sweep : Sweep) (key : ℕ) where
         by j false f = as_is (body_under o j)
         by j true f =
             let is : j ≡ key = grind (arith, nat_tests) in
-            (λ k. Some (body_after sweep (sym (space j is) k) e.body)) ∙ sym (ap (option_map (body_after sweep (space_under o j))) (ap (body_under o) is ∙ here))
+            (λ k. Some (body_after sweep (sym (space j is) k) e.body))
+            ∙ sym (ap (option_map (body_after sweep (space_under o j))) (ap (body_under o) is ∙ here))
 
 -- ---- what is under a key
 

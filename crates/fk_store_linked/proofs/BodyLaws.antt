@@ -1,5 +1,6 @@
 -- BodyLaws: the map of all bodies, as objects come, go, change and get other names.
-use Rattle.std.proofs.Common.{◌≡◌, ◌≢◌, ℕ, zero, suc, Bool, true, false, cond, ◌==◌, List, [], ◌∷◌, map, Option, Some, None, option_map, refl, sym, ap, subst, ◌∙◌, arith}
+use Rattle.std.proofs.Common.{◌≡◌, ◌≢◌, ℕ, zero, suc, Bool, true, false, cond, ◌==◌, List, [], ◌∷◌, map, Option, Some, None, option_map, refl, sym}
+use Rattle.std.proofs.Common.{ap, subst, ◌∙◌, arith}
 use Rattle.std.proofs.lemmas.Bool.Decides.{nat_tests}
 use Rattle.std.specs.FinMap as finmap
 use Rattle.std.specs.FinMap.{FinMap, get, get-insert, get-remove, get-empty, same_map}
@@ -95,7 +96,8 @@ module _ (o p : Filed) (filed : IsFiled o) (who : Who) (key : ℕ) where
     pub removed-found : (q : Who) → and_then (body_under p) (key_of p q) ≡ cond (same_who q who) None (and_then (body_under o) (key_of o q))
     removed-found q = ap (and_then (body_under p)) (keys q) ∙ by (same_who q who) refl (key_of o q) refl
       where
-        by : (c : Bool) → same_who q who ≡ c → (x : Option ℕ) → key_of o q ≡ x → and_then (body_under p) (cond c None x) ≡ cond c None (and_then (body_under o) x)
+        by : (c : Bool) → same_who q who ≡ c → (x : Option ℕ) → key_of o q ≡ x →
+            and_then (body_under p) (cond c None x) ≡ cond c None (and_then (body_under o) x)
         by true e x f = refl
         by false e None f = refl
         by false e (Some j) f = bodies_now j ∙ apart (j == key) refl
@@ -153,7 +155,8 @@ under_name o who key filed h = by (entry_under o key) refl (filed.filed who key 
     by (Some d) e h = (d.body, ap (option_map (λ (e : Entry). e.body)) e)
 
 -- what has a body has a name
-pub name_there : (o : Filed) (key : ℕ) (b : Body) → IsFiled o → body_under o key ≡ Some b → (who : Who) × (name_under o key ≡ Some who) × (key_of o who ≡ Some key)
+pub name_there : (o : Filed) (key : ℕ) (b : Body) → IsFiled o → body_under o key ≡ Some b → (who : Who) × (name_under o key ≡ Some who)
+    × (key_of o who ≡ Some key)
 unfolding name_under body_under
 name_there o key b filed h = by (entry_under o key) refl h
   where

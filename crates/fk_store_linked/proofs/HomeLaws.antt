@@ -1,5 +1,6 @@
 -- HomeLaws: under which key each space stands.
-use Rattle.std.proofs.Common.{◌≡◌, ◌≢◌, ℕ, ◌<◌, ◌≤◌, Bool, true, false, cond, ◌==◌, ltb, List, [], ◌∷◌, ◌++◌, length, get_or, set, Option, Some, None, option_map, refl, sym, ap, ◌∙◌, arith, length-append, eq-eqb, eqb-true}
+use Rattle.std.proofs.Common.{◌≡◌, ◌≢◌, ℕ, ◌<◌, ◌≤◌, Bool, true, false, cond, ◌==◌, ltb, List, [], ◌∷◌, ◌++◌, length, get_or, set, Option, Some, None}
+use Rattle.std.proofs.Common.{option_map, refl, sym, ap, ◌∙◌, arith, length-append, eq-eqb, eqb-true}
 use Rattle.std.proofs.lemmas.Bool.Decides.{nat_tests}
 use Rattle.std.proofs.lemmas.List.{get_or_past, get_or_default, get_or_append_left, get_or-set_same, get_or-set_other}
 use Rattle.std.proofs.Math.Seq.{get_or-append_seam}
@@ -116,7 +117,8 @@ left_homes birth b homes now is settles n = settles n ∙ ap (λ x. cond (is_num
 pub left_marks : (o q : Filed) (birth : Option ℕ) (b : ℕ) → birth ≡ Some b →
     ((s m : ℕ) → mark_at q.marks s m ≡ cond (s == b) false (mark_at o.marks s m)) →
     (s m : ℕ) → mark_at q.marks s m ≡ cond (is_number s birth) false (mark_at o.marks s m)
-left_marks o q birth b is clears s m = clears s m ∙ ap (λ t. cond t false (mark_at o.marks s m)) turned ∙ ap (λ x. cond (is_number s x) false (mark_at o.marks s m)) (sym is)
+left_marks o q birth b is clears s m = clears s m ∙ ap (λ t. cond t false (mark_at o.marks s m)) turned
+    ∙ ap (λ x. cond (is_number s x) false (mark_at o.marks s m)) (sym is)
   where
     turned : (s == b) ≡ (b == s)
     turned = grind (arith, nat_tests)

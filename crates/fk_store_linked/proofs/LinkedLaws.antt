@@ -1,5 +1,6 @@
 -- LinkedLaws: the pointers of an object go to the rings of what they lead to, field by field.
-use Rattle.std.proofs.Common.{◌≡◌, ◌≢◌, ℕ, zero, suc, ◌+◌, ◌*◌, ◌/◌, ◌%◌, ◌<◌, ◌≤◌, ltb, Bool, true, false, cond, ◌==◌, ◌&&◌, List, Option, Some, None, option_map, refl, sym, ap, ◌∙◌, arith}
+use Rattle.std.proofs.Common.{◌≡◌, ◌≢◌, ℕ, zero, suc, ◌+◌, ◌*◌, ◌/◌, ◌%◌, ◌<◌, ◌≤◌, ltb, Bool, true, false, cond, ◌==◌, ◌&&◌, List, Option, Some}
+use Rattle.std.proofs.Common.{None, option_map, refl, sym, ap, ◌∙◌, arith}
 use Rattle.std.proofs.lemmas.Bool.Decides.{nat_tests}
 use Rattle.fk_model.specs.Objects.{and_then}
 use Rattle.fk_model.specs.declared.names.Who.{Who}
@@ -133,7 +134,8 @@ single_rings o links owner key old b one none was = rings_along links (put_at ow
   where
     go : (n : ℕ) (a : Bool) → (n / 5 == key) ≡ a → (c : Bool) → (n == node_of key 0) ≡ c →
         cond a (head_led o (Some b) (n % 5)) (owner n) ≡ cond c None (owner n)
-    go n false e true f = let same : n ≡ node_of key 0 = grind (arith, nat_tests) in let here : n / 5 ≡ key = omega (arith, same) in absurd (grind (arith, nat_tests))
+    go n false e true f = let same : n ≡ node_of key 0 = grind (arith, nat_tests) in let here : n / 5 ≡ key = omega (arith, same) in
+        absurd (grind (arith, nat_tests))
     go n false e false f = refl
     go n true e true f = no_lead o b (n % 5) (none (n % 5))
     go n true e false f =
@@ -169,7 +171,8 @@ single_led o links owner key old b one other was =
 
     go : (n : ℕ) (a : Bool) → (n / 5 == key) ≡ a → (c : Bool) → (n == node_of key 0) ≡ c →
         cond a (head_led o (Some b) (n % 5)) (owner n) ≡ cond c (head_led o (Some b) 0) (owner n)
-    go n false e true f = let same : n ≡ node_of key 0 = grind (arith, nat_tests) in let here : n / 5 ≡ key = omega (arith, same) in absurd (grind (arith, nat_tests))
+    go n false e true f = let same : n ≡ node_of key 0 = grind (arith, nat_tests) in let here : n / 5 ≡ key = omega (arith, same) in
+        absurd (grind (arith, nat_tests))
     go n false e false f = refl
     go n true e true f =
         let same : n ≡ node_of key 0 = grind (arith, nat_tests) in
@@ -202,7 +205,8 @@ module _ (others : ℕ → Option ℕ) (key : ℕ) where
   one_unled f few links = rings_along links _ (unled_so_far (f + 1)) (λ n field.
       go n (n / 5 == key) refl (n == node_of key f) refl (ltb (n % 5) (f + 1)) refl (ltb (n % 5) f) refl)
     where
-      go : (n : ℕ) (a : Bool) → (n / 5 == key) ≡ a → (c : Bool) → (n == node_of key f) ≡ c → (p : Bool) → ltb (n % 5) (f + 1) ≡ p → (q : Bool) → ltb (n % 5) f ≡ q →
+      go : (n : ℕ) (a : Bool) → (n / 5 == key) ≡ a → (c : Bool) → (n == node_of key f) ≡ c → (p : Bool) → ltb (n % 5) (f + 1) ≡ p → (q : Bool) →
+          ltb (n % 5) f ≡ q →
           cond (a && p) None (others n) ≡ cond c None (cond (a && q) None (others n))
       go n false e true g p h q k =
           let same : n ≡ node_of key f = grind (arith, nat_tests) in let here : n / 5 ≡ key = omega (arith, same, few) in absurd (grind (arith, nat_tests))

@@ -22,7 +22,8 @@ module _ (sweep : Sweep) where
   members-led o key (Port (Some set) served) = by (space_under o key == sweep.from.space) refl
     where
       by : (t : Bool) → (space_under o key == sweep.from.space) ≡ t →
-          cond t (body_after sweep sweep.from.space (Port (Some set) served)) (Port (Some set) served) ≡ body_after sweep (space_under o key) (Port (Some set) served)
+          cond t (body_after sweep sweep.from.space (Port (Some set) served)) (Port (Some set) served)
+          ≡ body_after sweep (space_under o key) (Port (Some set) served)
       by true e = let is : space_under o key ≡ sweep.from.space = grind (arith, nat_tests) in ap (λ s. body_after sweep s (Port (Some set) served)) (sym is)
       by false e = ap (λ x. Port x served) (sym (set-off sweep (space_under o key) (Some set) e))
   members-led o key Portset = refl

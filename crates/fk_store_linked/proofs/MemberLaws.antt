@@ -1,5 +1,6 @@
 -- MemberLaws: ports in sets, slot by slot.
-use Rattle.std.proofs.Common.{◌≡◌, ◌≢◌, ℕ, ◌+◌, ◌*◌, ◌/◌, ◌%◌, ◌<◌, ◌≤◌, ltb, not, ◌&&◌, Bool, true, false, cond, ◌==◌, List, Option, Some, None, IsSome, is_some, option_map, refl, sym, ap, subst, ◌∙◌, arith}
+use Rattle.std.proofs.Common.{◌≡◌, ◌≢◌, ℕ, ◌+◌, ◌*◌, ◌/◌, ◌%◌, ◌<◌, ◌≤◌, ltb, not, ◌&&◌, Bool, true, false, cond, ◌==◌, List, Option, Some, None}
+use Rattle.std.proofs.Common.{IsSome, is_some, option_map, refl, sym, ap, subst, ◌∙◌, arith}
 use Rattle.std.proofs.lemmas.Bool.Decides.{nat_tests}
 use Rattle.fk_model.specs.Objects.{and_then, holds}
 use Rattle.fk_model.specs.declared.names.Who.{Who}
@@ -10,7 +11,8 @@ use Rattle.fk_store_links.specs.declared.links.Link.{Link}
 use Rattle.fk_store_links.specs.Links.{AreRings}
 use Rattle.fk_store_links.proofs.NodeLaws.{rings_along}
 use Rattle.fk_store_objects.specs.Filed.{Filed, IsFiled, key_of, name_under}
-use Rattle.fk_store_linked.specs.Bodied.{body_under, owner, AreAlike, AreMarked, Maps, swept_at, space_of, slot_of, space_under, slot_under, member_after, members_in}
+use Rattle.fk_store_linked.specs.Bodied.{body_under, owner, AreAlike, AreMarked, Maps, swept_at, space_of, slot_of, space_under, slot_under}
+use Rattle.fk_store_linked.specs.Bodied.{member_after, members_in}
 use Rattle.fk_store_leads.specs.Leading.{target, pointed}
 use Rattle.fk_store_leads.specs.Marks.{is_member, member_mark}
 use Rattle.fk_store_leads.specs.Names.{at}
@@ -80,7 +82,8 @@ module _ (sweep : Sweep) (o : Filed) where
           go false e false f true g = refl
           go false e false f false g = refl
 
-      both : (j : ℕ) (x : Option Body) → option_map (members_in sweep m mid high j) (option_map (members_in sweep o low mid j) x) ≡ option_map (members_in sweep o low high j) x
+      both : (j : ℕ) (x : Option Body) → option_map (members_in sweep m mid high j) (option_map (members_in sweep o low mid j) x)
+          ≡ option_map (members_in sweep o low high j) x
       both j None = refl
       both j (Some b) = ap Some (same j (members_in sweep o low mid j b) ∙ once j b)
 
@@ -132,7 +135,8 @@ module _ (sweep : Sweep) (o : Filed) (filed : IsFiled o) (slot : ℕ) where
           let space_name : name.0.space ≡ sweep.from.space = ap space_of (sym name.1) ∙ space_is in
           off (ap (key_of o) (λ i. record { space = sym space_name i; slot = sym slot_name i }) ∙ name.2)
 
-      go : (x : Bool) → ltb (slot_under o j) slot ≡ x → (y : Bool) → ltb (slot_under o j) (slot + 1) ≡ y → (m s : Bool) → (space_under o j == sweep.from.space) ≡ s →
+      go : (x : Bool) → ltb (slot_under o j) slot ≡ x → (y : Bool) → ltb (slot_under o j) (slot + 1) ≡ y → (m s : Bool) →
+          (space_under o j == sweep.from.space) ≡ s →
           cond (not x && y) (cond (m && s) (body_after sweep sweep.from.space b) b) b ≡ b
       go true e y f m s g = refl
       go false e false f m s g = refl
@@ -150,7 +154,8 @@ module _ (sweep : Sweep) (o : Filed) (filed : IsFiled o) (slot : ℕ) where
       space_is : space_under o j ≡ sweep.from.space
       space_is = ap space_of (filed.filed who j at_j)
 
-      go : (x : Bool) → ltb (slot_under o j) slot ≡ x → (y : Bool) → ltb (slot_under o j) (slot + 1) ≡ y → (m s : Bool) → (space_under o j == sweep.from.space) ≡ s →
+      go : (x : Bool) → ltb (slot_under o j) slot ≡ x → (y : Bool) → ltb (slot_under o j) (slot + 1) ≡ y → (m s : Bool) →
+          (space_under o j == sweep.from.space) ≡ s →
           cond (not x && y) (cond (m && s) (body_after sweep sweep.from.space b) b) b ≡ cond m (body_after sweep (space_under o j) b) b
       go true e y f m s g = absurd (let is = slot_is in grind (arith, nat_tests))
       go false e false f m s g = absurd (let is = slot_is in grind (arith, nat_tests))
@@ -187,7 +192,8 @@ module _ (sweep : Sweep) (o : Filed) (filed : IsFiled o) (slot : ℕ) where
 
 -- ---- a group that isn't marked has none
 
-pub unmarked_group : (sweep : Sweep) (o : Filed) → IsFiled o → AreMarked o is_member member_mark → (group : ℕ) → mark_at o.marks sweep.from.space (16 + group) ≡ false →
+pub unmarked_group : (sweep : Sweep) (o : Filed) → IsFiled o → AreMarked o is_member member_mark → (group : ℕ) →
+    mark_at o.marks sweep.from.space (16 + group) ≡ false →
     (j : ℕ) (b : Body) → body_under o j ≡ Some b → group * 16 ≤ slot_under o j → slot_under o j < group * 16 + 16 → member_after sweep o j b ≡ b
 unmarked_group sweep o filed marked group off j b there low high = go (is_member b) refl (space_under o j == sweep.from.space) refl
   where
@@ -212,7 +218,8 @@ unmarked_group sweep o filed marked group off j b there low high = go (is_member
         let both = sym on ∙ same ∙ off in absurd (cc)
 
 -- slots are few
-pub short_under : (o : Filed) → IsFiled o → ((q : Who) → IsSome (key_of o q) → q.slot < 256) → (j : ℕ) (b : Body) → body_under o j ≡ Some b → slot_under o j < 256
+pub short_under : (o : Filed) → IsFiled o → ((q : Who) → IsSome (key_of o q) → q.slot < 256) → (j : ℕ) (b : Body) → body_under o j ≡ Some b →
+    slot_under o j < 256
 short_under o filed short j b there =
     let name = name_there o j b filed there in
     let low = short name.0 (ap is_some name.2) in
@@ -237,7 +244,8 @@ pub members_owner : (o p : Filed) (sweep : Sweep) → Maps o p (member_after swe
 unfolding target
 members_owner o p sweep maps = owner_kept o p maps.alike (λ j i. ap (and_then (λ b. and_then pointed (led b i))) (maps.bodies j) ∙ by j i (body_under o j))
   where
-    by : (j i : ℕ) (x : Option Body) → and_then (λ b. and_then pointed (led b i)) (option_map (member_after sweep o j) x) ≡ and_then (λ b. and_then pointed (led b i)) x
+    by : (j i : ℕ) (x : Option Body) → and_then (λ b. and_then pointed (led b i)) (option_map (member_after sweep o j) x)
+        ≡ and_then (λ b. and_then pointed (led b i)) x
     by j i None = refl
     by j i (Some b) = ap (and_then pointed) (members-leads sweep o j b i)
 

@@ -1,5 +1,6 @@
 -- SweepLaws: those whose pointers lead to an object are swept, one after another.
-use Rattle.std.proofs.Common.{◌≡◌, ◌≢◌, ◌⊎◌, inl, inr, ℕ, ◌+◌, ◌*◌, ◌/◌, ◌%◌, ◌<◌, ◌≤◌, Bool, true, false, cond, ◌==◌, length, List, [], ◌∷◌, Option, Some, None, IsSome, option_map, refl, sym, ap, subst, ◌∙◌, arith}
+use Rattle.std.proofs.Common.{◌≡◌, ◌≢◌, ◌⊎◌, inl, inr, ℕ, ◌+◌, ◌*◌, ◌/◌, ◌%◌, ◌<◌, ◌≤◌, Bool, true, false, cond, ◌==◌, length, List, [], ◌∷◌, Option}
+use Rattle.std.proofs.Common.{Some, None, IsSome, option_map, refl, sym, ap, subst, ◌∙◌, arith}
 use Rattle.std.proofs.lemmas.Bool.Decides.{nat_tests}
 use Rattle.std.specs.FinMap as finmap
 use Rattle.std.specs.FinMap.{FinMap, get, entries, entries_sorted, entries-insert, get-entries}
@@ -17,7 +18,8 @@ use Rattle.fk_store_slots.specs.Tabled.{of_cell}
 use Rattle.fk_store_links.specs.Nodes.{is_head, node_of}
 use Rattle.fk_store_objects.specs.declared.entry.Entry.{Entry}
 use Rattle.fk_store_objects.specs.Filed.{Filed, IsFiled, entry_under, key_of}
-use Rattle.fk_store_linked.specs.Bodied.{body_under, bodies, head_by, head_led, owner, HaveNodes, AreAlike, Maps, swept_at, space_of, space_under, member_after, swept_under}
+use Rattle.fk_store_linked.specs.Bodied.{body_under, bodies, head_by, head_led, owner, HaveNodes, AreAlike, Maps, swept_at, space_of, space_under}
+use Rattle.fk_store_linked.specs.Bodied.{member_after, swept_under}
 use Rattle.fk_store_leads.specs.Leading.{leading, all_leading, is_reference, target}
 use Rattle.fk_store_leads.specs.Names.{who_cmp}
 use Rattle.fk_store_leads.specs.Sweeps.{body_after, led_after}
@@ -94,7 +96,8 @@ module _ (o p : Filed) (filed : IsFiled o) (key : ℕ) (sweep : Sweep) (other : 
   pub freed_swept : (j : ℕ) → option_map (led_after sweep) (body_under p j) ≡ option_map (led_after sweep) (body_under o j)
   freed_swept j = ap (option_map (led_after sweep)) (now j) ∙ by (j == n / 5) refl
     where
-      by : (t : Bool) → (j == n / 5) ≡ t → option_map (led_after sweep) (cond t (Some (body_after sweep space b)) (body_under o j)) ≡ option_map (led_after sweep) (body_under o j)
+      by : (t : Bool) → (j == n / 5) ≡ t → option_map (led_after sweep) (cond t (Some (body_after sweep space b)) (body_under o j))
+          ≡ option_map (led_after sweep) (body_under o j)
       by false e = refl
       by true e =
           let is : j ≡ n / 5 = grind (arith, nat_tests) in
@@ -109,9 +112,11 @@ module _ (o p : Filed) (filed : IsFiled o) (key : ℕ) (sweep : Sweep) (other : 
       let sums = total_put who_total (leading sweep.from) name.0 (body_after sweep space b) (entries m) (entries_sorted m) in
       let found : of_cell (leading sweep.from) (finmap.find who_cmp name.0 (entries m)) ≡ leading sweep.from b =
       ap (of_cell (leading sweep.from)) (sym (get-entries m name.0) ∙ get_at o name.0 (n / 5) name.2 ∙ there) in
-      let sum : sum_by (λ e. leading sweep.from e.1) (entries (bodies p)) ≡ sum_by (λ e. leading sweep.from e.1) (finmap.put who_cmp name.0 (body_after sweep space b) (entries m)) =
+      let sum : sum_by (λ e. leading sweep.from e.1) (entries (bodies p))
+      ≡ sum_by (λ e. leading sweep.from e.1) (finmap.put who_cmp name.0 (body_after sweep space b) (entries m)) =
       ap (λ es. sum_by (λ (e : Who × Body). leading sweep.from e.1) es) (ap entries is ∙ entries-insert who_total m name.0 (body_after sweep space b)) in
-      let none : leading sweep.from (body_after sweep space b) ≡ 0 = ap (leading sweep.from) is_led ∙ leading-none sweep.from (led_after sweep b) (led-gone sweep other b) in
+      let none : leading sweep.from (body_after sweep space b) ≡ 0 = ap (leading sweep.from) is_led
+      ∙ leading-none sweep.from (led_after sweep b) (led-gone sweep other b) in
       let some = leading-some sweep.from b (n % 5) pointer aims in
       omega (arith, sums, found, sum, none, some)
     where
@@ -219,11 +224,14 @@ module _ (o : Filed) (sweep : Sweep) (key : ℕ) where
         by : (t : Bool) → (j == node / 5) ≡ t → IsSwept r rest j
         by true e =
             let same : j ≡ node / 5 = grind (arith, nat_tests) in
-            inl (maps.bodies j ∙ ap (λ t. option_map (λ b. cond t (body_after sweep (space_under p j) b) b) (body_under p j)) e ∙ once (space_under p j) same (before j))
-        by false e = kept (maps.bodies j ∙ ap (λ t. option_map (λ b. cond t (body_after sweep (space_under p j) b) b) (body_under p j)) e ∙ as_is (body_under p j))
+            inl (maps.bodies j ∙ ap (λ t. option_map (λ b. cond t (body_after sweep (space_under p j) b) b) (body_under p j)) e
+            ∙ once (space_under p j) same (before j))
+        by false e = kept (maps.bodies j ∙ ap (λ t. option_map (λ b. cond t (body_after sweep (space_under p j) b) b) (body_under p j)) e
+            ∙ as_is (body_under p j))
             (grind (arith, nat_tests)) (before j)
 
-    pub swept_ends : (p : Filed) (walk : List ℕ) → walk ≡ [] → ((j : ℕ) → IsSwept p walk j) → (j : ℕ) → body_under p j ≡ option_map (led_after sweep) (body_under o j)
+    pub swept_ends : (p : Filed) (walk : List ℕ) → walk ≡ [] → ((j : ℕ) → IsSwept p walk j) → (j : ℕ) →
+        body_under p j ≡ option_map (led_after sweep) (body_under o j)
     swept_ends p walk none swept j = by (swept j)
       where
         go : (body_under p j ≡ body_under o j) → ((n : ℕ) → is_head n ≡ false → owner o n ≡ Some (node_of key 2) → n / 5 ≡ j → IsIn n walk) →

@@ -1,5 +1,6 @@
 -- Bodied: the bodies of all objects by name, and what stands beside them by key.
-use Rattle.std.specs.Prelude.{◌≡◌, ⊤, ℕ, ◌+◌, ◌*◌, ◌/◌, ◌%◌, ◌≤◌, ◌↔◌, ◌==◌, ◌&&◌, not, nat_lt, Bool, true, List, [], length, map, filter_map, Option, Some, None, IsSome, option_map, if◌then◌else◌}
+use Rattle.std.specs.Prelude.{◌≡◌, ⊤, ℕ, ◌+◌, ◌*◌, ◌/◌, ◌%◌, ◌≤◌, ◌↔◌, ◌==◌, ◌&&◌, not, nat_lt, Bool, true, List, [], length, map, filter_map, Option}
+use Rattle.std.specs.Prelude.{Some, None, IsSome, option_map, if◌then◌else◌}
 use Rattle.std.specs.FinMap.{FinMap}
 use Rattle.fk_model.specs.declared.names.Who.{Who}
 use Rattle.fk_model.specs.declared.body.Body.{Body}

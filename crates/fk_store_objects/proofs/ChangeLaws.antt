@@ -1,5 +1,6 @@
 -- ChangeLaws: what a change of the slab and of the keys is for the objects.
-use Rattle.std.proofs.Common.{Bor, ◌≡◌, ℕ, ◌<◌, ◌≤◌, ltb, length, Bool, true, false, cond, ◌==◌, ◌&&◌, List, [], get_or, Option, Some, None, IsSome, IfSome, option_map, refl, sym, ap, subst, ◌∙◌, arith}
+use Rattle.std.proofs.Common.{Bor, ◌≡◌, ℕ, ◌<◌, ◌≤◌, ltb, length, Bool, true, false, cond, ◌==◌, ◌&&◌, List, [], get_or, Option, Some, None, IsSome}
+use Rattle.std.proofs.Common.{IfSome, option_map, refl, sym, ap, subst, ◌∙◌, arith}
 use Rattle.std.proofs.lemmas.Bool.Decides.{nat_tests}
 use Rattle.std.proofs.lemmas.List.{get_or_past}
 use Rattle.std.specs.Option.{option_copied}

@@ -1,8 +1,12 @@
 -- FiledLaws: keys and names agree, whatever comes, goes or gets another name.
-use Rattle.std.proofs.Common.{◌≡◌, ℕ, ◌<◌, Bool, true, false, cond, ◌==◌, Option, Some, None, refl, sym, ap, ◌∙◌, arith}
+use Rattle.std.proofs.Common.{◌≡◌, ℕ, ◌<◌, Bool, true, false, cond, ◌==◌, Option, Some, None, option_map, refl, sym, ap, ◌∙◌, arith}
 use Rattle.std.proofs.lemmas.Bool.Decides.{nat_tests}
 use Rattle.fk_model.specs.declared.names.Who.{Who}
-use Rattle.fk_store_objects.specs.Filed.{AreFiled}
+use Rattle.fk_model.specs.declared.body.Body.{Body}
+use Rattle.fk_model.specs.Objects.{and_then}
+use Rattle.fk_store_keys.specs.Tables.{nothing, number_of}
+use Rattle.fk_store_objects.specs.declared.entry.Entry.{Entry}
+use Rattle.fk_store_objects.specs.Filed.{Filed, AreFiled, IsFiled, entry_under, key_of, name_under}
 use Rattle.fk_store_objects.specs.Edits.{same_who}
 
 pub who_same : (a b : Who) → same_who a b ≡ true → a ≡ b
@@ -164,3 +168,25 @@ module _ (keyed keyed2 : Who → Option ℕ) (named named2 : ℕ → Option Who)
         by_low : (j : ℕ) (q : Who) (b : Bool) → (j == key) ≡ b → cond b (Some to) (named j) ≡ Some q → j < 858993458
         by_low j q true e h = let here : j ≡ key = grind (arith, nat_tests) in are.small j who (ap named here ∙ there)
         by_low j q false e h = are.small j q h
+
+-- ---- a key as it is written
+
+abbrev body_of : Option Entry → Option Body
+body_of o = option_map (λ (e : Entry). e.body) o
+
+-- under what stands for no key there is no object
+nothing_under : (o : Filed) → IsFiled o → body_of (entry_under o nothing) ≡ None
+unfolding name_under
+nothing_under o filed = by (entry_under o nothing) refl
+  where
+    by : (x : Option Entry) → entry_under o nothing ≡ x → body_of x ≡ None
+    by None e = refl
+    by (Some entry) e = let small = filed.small nothing entry.who (ap (option_map (λ (e : Entry). e.who)) e) in absurd (omega (arith, small))
+
+pub read_word : (o : Filed) → IsFiled o → (who : Who) (word : ℕ) → number_of word ≡ key_of o who →
+    option_map (λ (e : Entry). e.body) (entry_under o word) ≡ and_then (λ key. option_map (λ (e : Entry). e.body) (entry_under o key)) (key_of o who)
+read_word o filed who word is = by (word == nothing) refl ∙ ap (and_then (λ key. body_of (entry_under o key))) is
+  where
+    by : (b : Bool) → (word == nothing) ≡ b → body_of (entry_under o word) ≡ and_then (λ key. body_of (entry_under o key)) (cond b None (Some word))
+    by true e = let same : word ≡ nothing = grind (arith, nat_tests) in ap (λ w. body_of (entry_under o w)) same ∙ nothing_under o filed
+    by false e = refl

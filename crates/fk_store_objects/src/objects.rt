@@ -1,5 +1,6 @@
 //! All objects, by key and by name.
-ghost use Rattle.std.specs.Prelude.{◌≡◌, ◌<◌, ◌≤◌, ◌==◌, ◌&&◌, ℕ, true, false, [], OnOk, OnErr, IfOk, IfSome, IsSome, Some, None, option_map, if◌then◌else◌, slice_index_or};
+ghost use Rattle.std.specs.Prelude.{◌≡◌, ◌<◌, ◌≤◌, ◌==◌, ◌&&◌, ℕ, true, false, [], OnOk, OnErr, IfOk, IfSome, IsSome, Some, None, option_map};
+ghost use Rattle.std.specs.Prelude.{if◌then◌else◌, slice_index_or};
 ghost use Rattle.std.specs.Option.{option_copied};
 ghost use Rattle.fk_model.specs.declared.names.Who.{Who};
 ghost use Rattle.fk_model.specs.Objects.{and_then};
@@ -70,14 +71,16 @@ impl Objects {
     }
 
     /// The body of the object with a name.
-    #[tactic(auto, unfolding(crate::specs::Filed::key_of, crate::specs::Filed::entry_under))]
     #[inline]
     pub fn at(&self, who: Who) -> Option<&Body>
         ensures { option_copied result ≡ and_then (λ key. option_map (λ (e : Entry). e.body) (entry_under self.now key)) (key_of self.now who) }
     {
-        let key = self.keys.at(who.space, who.slot)?;
-        let entry = self.entries.get(key as usize)?;
-        Some(&entry.body)
+        // Under what stands for no key there is no object.
+        let word = self.keys.word(who.space, who.slot);
+        match self.entries.get(word as usize) {
+            None => None,
+            Some(entry) => Some(&entry.body),
+        }
     }
 
     /// Gives the object under a key another body.

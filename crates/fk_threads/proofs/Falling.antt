@@ -1,5 +1,6 @@
 -- Falling: what falling asleep makes of the registers of a thread that waits on a condition.
-use Rattle.std.proofs.Common.{◌≡◌, ℕ, Bool, true, false, cond, eqb, ◌||◌, List, [], ◌∷◌, length, Option, Some, None, option_map, unwrap_or, slice_set, refl, ap, subst}
+use Rattle.std.proofs.Common.{◌≡◌, ℕ, Bool, true, false, cond, eqb, ◌||◌, List, [], ◌∷◌, length, Option, Some, None, option_map, unwrap_or, slice_set}
+use Rattle.std.proofs.Common.{refl, ap, subst}
 use Rattle.fk_model.specs.declared.stage.Stage.{Stage}
 use Rattle.fk_model.specs.declared.stage.Stage.TheVariants.{CondAsleep, CondWait}
 use Rattle.fk_model.specs.declared.thread.Mode as modes_of

@@ -1,5 +1,6 @@
 -- Sleepers: what their registers say, and what waking them makes of these.
-use Rattle.std.proofs.Common.{◌≡◌, ℕ, ◌+◌, ◌<◌, zero, suc, is_some, ◌++◌, append-nil, add-one, arith, Bool, true, false, cond, eqb, ◌||◌, List, [], ◌∷◌, length, get_or, Option, Some, None, unwrap_or, slice_set, IfSome, refl, sym, ap, subst, ◌∙◌}
+use Rattle.std.proofs.Common.{◌≡◌, ℕ, ◌+◌, ◌<◌, zero, suc, is_some, ◌++◌, append-nil, add-one, arith, Bool, true, false, cond, eqb, ◌||◌, List, []}
+use Rattle.std.proofs.Common.{◌∷◌, length, get_or, Option, Some, None, unwrap_or, slice_set, IfSome, refl, sym, ap, subst, ◌∙◌}
 use Rattle.fk_model.specs.declared.stage.Stage.{Stage}
 use Rattle.fk_model.specs.declared.stage.Stage.TheVariants.{CondAsleep, MutexLock}
 use Rattle.fk_model.specs.declared.thread.Mode as modes_of

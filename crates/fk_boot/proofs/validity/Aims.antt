@@ -1,5 +1,6 @@
 -- Objects lead safely where they are to.
-use Rattle.std.proofs.Common.{◌≡◌, ℕ, ◌<◌, ◌≤◌, Bool, true, false, not, ◌||◌, ◌==◌, if◌then◌else◌, List, [], ◌∷◌, ◌++◌, map, length, reverse, Option, Some, None, option_map, refl, sym, ap, subst, ◌∙◌}
+use Rattle.std.proofs.Common.{◌≡◌, ℕ, ◌<◌, ◌≤◌, Bool, true, false, not, ◌||◌, ◌==◌, if◌then◌else◌, List, [], ◌∷◌, ◌++◌, map, length, reverse, Option}
+use Rattle.std.proofs.Common.{Some, None, option_map, refl, sym, ap, subst, ◌∙◌}
 use Rattle.std.proofs.lemmas.List.{reverse-append}
 use Rattle.std.proofs.lemmas.List.Elements.{All-head, All-tail}
 use Rattle.std.proofs.lemmas.Slice.Eq.{bytes_eq-Decides}
@@ -145,7 +146,8 @@ kind-made w x f is = outline-kind (w.body x) ∙ ap (option_map (λ (f : Outline
 set-place : (path : List ℕ) (slot : ℕ) → 1 ≤ length path → set_at (reverse path) slot ≡ reverse (enclosing path ++ slot ∷ [])
 set-place path slot inside = rw (last path inside) (sym (reverse-append (enclosing path) (slot ∷ [])))
 
-refers-safe : (ports : List (List ℕ)) (w : World) (spaces : List SpaceEntry) (objects : List ObjectEntry) (to : List ℕ) → AllThere ports (outline_at w) spaces objects
+refers-safe : (ports : List (List ℕ)) (w : World) (spaces : List SpaceEntry) (objects : List ObjectEntry) (to : List ℕ) →
+    AllThere ports (outline_at w) spaces objects
     → (has_space spaces to || is_one can_be_referred_to (object_with objects to)) ≡ true → is_one_of referable (kind_there w (reverse to)) ≡ true
 refers-safe ports w spaces objects to all h = by (has_space spaces to) refl h
   where
@@ -154,7 +156,8 @@ refers-safe ports w spaces objects to all h = by (has_space spaces to) refl h
     by true e h = rw (kind-at w (reverse to), all.kept to e) refl
     by false e h = one-fits ports w objects referable can_be_referred_to to referable-fits all.made h
 
-aims-safe : (ports : List (List ℕ)) (w : World) (spaces : List SpaceEntry) (objects : List ObjectEntry) (path : List ℕ) (served : Bool) (spec : Spec) → AllThere ports (outline_at w) spaces objects
+aims-safe : (ports : List (List ℕ)) (w : World) (spaces : List SpaceEntry) (objects : List ObjectEntry) (path : List ℕ) (served : Bool) (spec : Spec) →
+    AllThere ports (outline_at w) spaces objects
     → 1 ≤ length path → outline_at w (reverse path) ≡ Some (outline_of (first_body served spec)) → aims_well spaces objects (enclosing path) spec ≡ true
     → AreSafe w (map (Alter (reverse path)) (aims spec))
 aims-safe ports w spaces objects path served (specs.Mapping (Some region) first count offset write) all inside is well =
@@ -202,7 +205,8 @@ pub aims-kinds : (w : World) (os : List ObjectEntry) → kind_there (apply_all (
 unfolding apply_all
 aims-kinds w [] = refl
 aims-kinds w (o ∷ os) =
-    ap kind_there (apply_all-append (aim_changes o) (flat_map aim_changes os) w) ∙ (aims-kinds (apply_all (aim_changes o) w) os ∙ kinds-by w (apply_all (aim_changes o) w) (same-all w (reverse o.path) (aims o.spec)))
+    ap kind_there (apply_all-append (aim_changes o) (flat_map aim_changes os) w)
+    ∙ (aims-kinds (apply_all (aim_changes o) w) os ∙ kinds-by w (apply_all (aim_changes o) w) (same-all w (reverse o.path) (aims o.spec)))
   where
     kinds-by : (w v : World) → outline_at v ≡ outline_at w → kind_there v ≡ kind_there w
     kinds-by w v same = λ i x. (kind-at v x ∙ (ap (λ f. option_map (λ (f : Outline). f.kind) (f x)) same ∙ sym (kind-at w x))) i

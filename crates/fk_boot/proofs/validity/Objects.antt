@@ -1,5 +1,6 @@
 -- Objects are made safely, and are what they are at first.
-use Rattle.std.proofs.Common.{◌≡◌, ℕ, ◌+◌, ◌-◌, ◌≤◌, Bool, true, false, if◌then◌else◌, List, [], ◌∷◌, ◌++◌, append_assoc, append-nil, length, get_or, reverse, Option, Some, None, option_map, refl, subst, arith}
+use Rattle.std.proofs.Common.{◌≡◌, ℕ, ◌+◌, ◌-◌, ◌≤◌, Bool, true, false, if◌then◌else◌, List, [], ◌∷◌, ◌++◌, append_assoc, append-nil, length, get_or}
+use Rattle.std.proofs.Common.{reverse, Option, Some, None, option_map, refl, subst, arith}
 use Rattle.std.proofs.lemmas.Bool.{le-leb, lt-ltb}
 use Rattle.std.proofs.lemmas.List.Elements.{All-nil, All-cons, All-head, All-tail, All-push}
 use Rattle.std.specs.List.{All, flat_map}
@@ -119,7 +120,8 @@ module _ (ports : List (List ℕ)) where
       let v = apply (Make (reverse o.path) (first_body (has_key ports o.path) o.spec)) w in
       record {
         stands = object-stands ports spaces done o w made.stands keeps;
-        as_made = All-push (IsAsMade (outline_at v)) done o (all-still w (reverse o.path) (first_body (has_key ports o.path) o.spec) done empty made.as_made) (made-itself w o);
+        as_made = All-push (IsAsMade (outline_at v)) done o (all-still w (reverse o.path)
+            (first_body (has_key ports o.path) o.spec) done empty made.as_made) (made-itself w o);
       }
 
   pub objects-safe : (spaces : List SpaceEntry) (done os : List ObjectEntry) (w : World) →

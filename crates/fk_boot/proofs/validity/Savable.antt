@@ -1,5 +1,6 @@
 -- The first world of a scenario is whole, and can be saved.
-use Rattle.std.proofs.Common.{◌≡◌, ℕ, zero, suc, ◌-◌, ◌*◌, ◌≤◌, Bool, true, false, cond, if◌then◌else◌, not, ◌&&◌, ◌==◌, nat_lt, nat_le, List, [], ◌∷◌, ◌++◌, length, take, drop, replicate, reverse, map, get_or, Option, Some, None, refl, ap, ◌∙◌, arith}
+use Rattle.std.proofs.Common.{◌≡◌, ℕ, zero, suc, ◌-◌, ◌*◌, ◌≤◌, Bool, true, false, cond, if◌then◌else◌, not, ◌&&◌, ◌==◌, nat_lt, nat_le, List, []}
+use Rattle.std.proofs.Common.{◌∷◌, ◌++◌, length, take, drop, replicate, reverse, map, get_or, Option, Some, None, refl, ap, ◌∙◌, arith}
 use Rattle.std.proofs.lemmas.List.Elements.{All-get_or}
 use Rattle.std.specs.List.{flat_map, list_all, slice_get}
 use Rattle.std.proofs.lemmas.Bool.{and_parts, le-leb}
@@ -34,7 +35,9 @@ use Rattle.fk_scenario.specs.Kept.{KeepsScenario}
 use Rattle.fk_store.specs.World.{first_world}
 use Rattle.fk_scenario.specs.Servers.{has_key}
 use Rattle.fk_boot.specs.Words.{has_words, HasWords}
-use Rattle.fk_boot.specs.FirstWorld.{words_in, page_words, zero_pages, program_page, words_of_program, space_itself, space_changes, first_body, object_changes, aims, points_to, belongs_to, aim_changes, porter, porter_changes, served_ports, boot_changes, booted}
+use Rattle.fk_boot.specs.FirstWorld.{words_in, page_words, zero_pages, program_page, words_of_program, space_itself, space_changes, first_body}
+use Rattle.fk_boot.specs.FirstWorld.{object_changes, aims, points_to, belongs_to, aim_changes, porter, porter_changes, served_ports, boot_changes}
+use Rattle.fk_boot.specs.FirstWorld.{booted}
 use Rattle.fk_boot.proofs.Changes.{apply_all-append}
 use Rattle.fk_boot.proofs.MadeSoFar.{first-stands}
 use Rattle.fk_boot.proofs.Walks.{last}
@@ -374,4 +377,5 @@ booted-savable s keeps words =
 
 pub booted-runnable : (s : Scenario) → KeepsScenario s → HasWords s → IsRunnable (booted s)
 booted-runnable s keeps words = savable_runnable (booted s)
-    (record { valid = booted-valid s keeps; few = (let few = booted-few s keeps in omega (arith, few)); full = booted-full s keeps words }) (booted-savable s keeps words)
+    (record { valid = booted-valid s keeps; few = (let few = booted-few s keeps in omega (arith, few)); full = booted-full s keeps words })
+    (booted-savable s keeps words)

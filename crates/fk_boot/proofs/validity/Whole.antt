@@ -1,5 +1,6 @@
 -- The first world of a scenario is valid.
-use Rattle.std.proofs.Common.{◌≡◌, ℕ, ◌<◌, ◌≤◌, Bool, true, false, if◌then◌else◌, ◌==◌, List, [], ◌∷◌, ◌++◌, append_assoc, append-nil, length, reverse, Some, refl, sym, ◌∙◌, arith}
+use Rattle.std.proofs.Common.{◌≡◌, ℕ, ◌<◌, ◌≤◌, Bool, true, false, if◌then◌else◌, ◌==◌, List, [], ◌∷◌, ◌++◌, append_assoc, append-nil, length}
+use Rattle.std.proofs.Common.{reverse, Some, refl, sym, ◌∙◌, arith}
 use Rattle.std.proofs.lemmas.List.Elements.{All-nil}
 use Rattle.std.specs.List.{flat_map}
 use Rattle.fk_model.specs.Places.{Path}
@@ -99,7 +100,8 @@ spaces-safe programs done (s ∷ ss) w stands each =
 -- ---- the whole
 
 -- where all are made, what objects may lead to is there
-all-there : (ports : List (List ℕ)) (w : World) (spaces : List SpaceEntry) (objects : List ObjectEntry) → Made ports w spaces objects → AllThere ports (outline_at w) spaces objects
+all-there : (ports : List (List ℕ)) (w : World) (spaces : List SpaceEntry) (objects : List ObjectEntry) → Made ports w spaces objects →
+    AllThere ports (outline_at w) spaces objects
 all-there ports w spaces objects made = record {
   kept = λ path has.
       let birth = some (birth_at w (reverse path)) (made.stands.births path ∙ or_right (length path == 0) (has_space spaces path) has) in

@@ -1,7 +1,8 @@
 -- Born: the world finds the path of a space by its birth number.
 --
 -- All spaces are among the objects of the world, since no path is longer than the number of its space.
-use Rattle.std.proofs.Common.{◌≡◌, ℕ, zero, suc, ◌≤◌, Bool, true, false, IsSome, is_some, [], ◌∷◌, length, find, Option, Some, None, option_map, unwrap_or, inl, inr, refl, sym, ap, subst, arith, ◌∙◌, eqb-true, eq-eqb}
+use Rattle.std.proofs.Common.{◌≡◌, ℕ, zero, suc, ◌≤◌, Bool, true, false, IsSome, is_some, [], ◌∷◌, length, find, Option, Some, None, option_map}
+use Rattle.std.proofs.Common.{unwrap_or, inl, inr, refl, sym, ap, subst, arith, ◌∙◌, eqb-true, eq-eqb}
 use Rattle.std.specs.FinMap.{get}
 use Rattle.fk_model.specs.declared.names.Who.{Who}
 use Rattle.fk_model.specs.declared.body.Body as bodies_of

@@ -1,5 +1,6 @@
 -- Kills: an object with nothing in it that is taken away and swept from all bodies is the one destroyed at the path.
-use Rattle.std.proofs.Common.{◌≡◌, ◌≢◌, ℕ, Bool, true, false, cond, ◌&&◌, ◌==◌, List, [], ◌∷◌, Option, Some, None, option_map, is_some, length, refl, sym, ap, subst, ◌∙◌}
+use Rattle.std.proofs.Common.{◌≡◌, ◌≢◌, ℕ, Bool, true, false, cond, ◌&&◌, ◌==◌, List, [], ◌∷◌, Option, Some, None, option_map, is_some, length, refl}
+use Rattle.std.proofs.Common.{sym, ap, subst, ◌∙◌}
 use Rattle.fk_model.specs.declared.limits.TheConstants.{PAGE_WORDS}
 use Rattle.std.specs.FinMap.{FinMap, get}
 use Rattle.fk_model.specs.declared.names.Who.{Who}

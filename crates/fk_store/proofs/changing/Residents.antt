@@ -1,5 +1,6 @@
 -- Residents: an object that has none has nothing in it.
-use Rattle.std.proofs.Common.{Bor, ◌≡◌, ℕ, zero, suc, ◌+◌, ◌-◌, ◌<◌, ◌≤◌, Bool, true, false, ◌∷◌, Option, Some, None, option_map, is_some, IsSome, refl, sym, ap, subst, ◌∙◌, arith}
+use Rattle.std.proofs.Common.{Bor, ◌≡◌, ℕ, zero, suc, ◌+◌, ◌-◌, ◌<◌, ◌≤◌, Bool, true, false, ◌∷◌, Option, Some, None, option_map, is_some, IsSome}
+use Rattle.std.proofs.Common.{refl, sym, ap, subst, ◌∙◌, arith}
 use Rattle.std.specs.FinMap.{get}
 use Rattle.std.specs.Option.{option_copied}
 use Rattle.fk_model.specs.declared.names.Who.{Who}
@@ -183,7 +184,8 @@ module _ (m : Contents) (kept : IsWellFormed m) (space : ℕ) where
 
   pub first-found : (slot : ℕ) → slot < 256 → IsSome (get m.bodies (at space slot)) → ((k : ℕ) → IsSome (get m.bodies (at space k)) → slot ≤ k) →
       Some slot ≡ first_resident (world m) (path m space)
-  first-found slot low there lowest_one = sym (lowest-first 256 slot seen (Some slot) (none_lowest slot seen before) (here (get m.bodies (at space slot)) there refl) refl low)
+  first-found slot low there lowest_one = sym (lowest-first 256 slot seen (Some slot) (none_lowest slot seen before)
+      (here (get m.bodies (at space slot)) there refl) refl low)
     where
       here : (o : Option bodies_of.Body) → IsSome o → get m.bodies (at space slot) ≡ o → seen slot ≡ Some slot
       here None h e = absurd (cc)

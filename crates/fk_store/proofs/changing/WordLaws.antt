@@ -1,5 +1,6 @@
 -- Words: a page that answers is there, and the keeper of a missing one too.
-use Rattle.std.proofs.Common.{◌≡◌, ℕ, zero, suc, ◌/◌, ◌<◌, Bor, Bool, true, false, cond, if◌then◌else◌, List, ◌∷◌, Option, Some, None, option_map, is_some, IsSome, refl, sym, ap, subst, ◌∙◌}
+use Rattle.std.proofs.Common.{◌≡◌, ℕ, zero, suc, ◌/◌, ◌<◌, Bor, Bool, true, false, cond, if◌then◌else◌, List, ◌∷◌, Option, Some, None, option_map}
+use Rattle.std.proofs.Common.{is_some, IsSome, refl, sym, ap, subst, ◌∙◌}
 use Rattle.std.proofs.lemmas.Bool.{lt-ltb}
 use Rattle.std.proofs.lemmas.Option.{same_Some}
 use Rattle.std.specs.Option.{option_copied}

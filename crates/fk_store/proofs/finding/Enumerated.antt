@@ -1,5 +1,6 @@
 -- Enumerated: every object of the world has a name, and its space a home.
-use Rattle.std.proofs.Common.{Bool, IsTrue, ne_eqb, ◌==◌, ◌≡◌, ◌↔◌, ℕ, ◌<◌, true, ◌∷◌, Option, Some, None, option_map, is_some, IsSome, IfSome, refl, sym, ap, ◌∙◌, arith}
+use Rattle.std.proofs.Common.{Bool, IsTrue, ne_eqb, ◌==◌, ◌≡◌, ◌↔◌, ℕ, ◌<◌, true, ◌∷◌, Option, Some, None, option_map, is_some, IsSome, IfSome, refl}
+use Rattle.std.proofs.Common.{sym, ap, ◌∙◌, arith}
 use Rattle.std.specs.declared.cmp.Ordering.{Ordering}
 use Rattle.std.specs.FinMap.{get}
 use Rattle.fk_model.specs.declared.names.Who.{Who}

@@ -1,5 +1,6 @@
 -- Pointers: those of all bodies that lead to an object by name are those of all objects of the world that lead to it.
-use Rattle.std.proofs.Common.{◌≡◌, ℕ, ◌+◌, ◌<◌, ◌≤◌, inl, inr, true, cond, List, [], ◌∷◌, map, length, Option, Some, None, option_map, IsSome, is_some, T, refl, sym, ap, subst, ◌∙◌, arith}
+use Rattle.std.proofs.Common.{◌≡◌, ℕ, ◌+◌, ◌<◌, ◌≤◌, inl, inr, true, cond, List, [], ◌∷◌, map, length, Option, Some, None, option_map, IsSome}
+use Rattle.std.proofs.Common.{is_some, T, refl, sym, ap, subst, ◌∙◌, arith}
 use Rattle.std.specs.List.{sum_by}
 use Rattle.std.proofs.lemmas.List.Sums.{sum_by-cons, sum_by-append}
 use Rattle.std.specs.declared.cmp.Ordering.{Ordering}

@@ -58,7 +58,8 @@ module _ (m : Contents) (kept : IsWellFormed m) where
   none-from (suc fuel) n low off = by (home m n) refl (λ who older more. none-from fuel who.space (omega (arith, older, low)) more)
     where
       by : (o : Option Who) → home m n ≡ o →
-          ((who : Who) → who.space < n → ((q : Who) → IsAbove m.bodies who.space q → is_held_at m.bodies q ≡ false) → decider (world m) (path m who.space) ≡ None) →
+          ((who : Who) → who.space < n → ((q : Who) → IsAbove m.bodies who.space q → is_held_at m.bodies q ≡ false) →
+          decider (world m) (path m who.space) ≡ None) →
           decider (world m) (path m n) ≡ None
       by None up above = decider-none m kept n up
       by (Some who) up above =

@@ -34,4 +34,5 @@ make_object-requires c =
     }
 
 pub returns-clause-world : goal.returns-clause-world
-returns-clause-world c = no-entries (object_changes c.args.ports.now) c.args.entries.now c.loop-entry.entry-index _ _ c.loop-entry-test.false c.loop-entry.invariant.left
+returns-clause-world c = no-entries (object_changes c.args.ports.now) c.args.entries.now c.loop-entry.entry-index _ _ c.loop-entry-test.false
+    c.loop-entry.invariant.left

@@ -9,7 +9,8 @@ use Rattle.fk_boot.proofs.entries.make_objects.Given as goal
 
 abbrev pub invariant-loop-entry : goal.invariant-loop-entry
 invariant-loop-entry l = record {
-  left : apply_all (flat_map (object_changes l.ports) (drop l.entry-index l.entries)) (world l.store) ≡ apply_all (flat_map (object_changes l.ports) l.entries) (world l.fn.store);
+  left : apply_all (flat_map (object_changes l.ports) (drop l.entry-index l.entries)) (world l.store)
+      ≡ apply_all (flat_map (object_changes l.ports) l.entries) (world l.fn.store);
   stands : HasObjects (world l.store) l.spaces (take l.entry-index l.entries);
   keeps : EachAfter (KeepsObject l.spaces) (take l.entry-index l.entries) (drop l.entry-index l.entries);
 }

@@ -12,4 +12,5 @@ loop-index-preserved c =
     (c.is_held_beneath.ensures.none c.if-is_held_beneath.false)
 
 pub returns : goal.returns
-returns c = nowhere_among c.args.store.now (path c.args.store.now c.args.outer) c.args.births.now c.loop-index.index (omega arith) c.requires.all c.loop-index.invariant
+returns c = nowhere_among c.args.store.now (path c.args.store.now c.args.outer) c.args.births.now c.loop-index.index
+    (omega arith) c.requires.all c.loop-index.invariant

@@ -8,7 +8,9 @@ pub returns-in_err-key : goal.returns-in_err-key
 returns-in_err-key c = c.from_residual.ensures ∙ ap (and_then (name_under c.args.objects.now)) c.in_err-key.ensures
 
 pub returns-in_err-entry : goal.returns-in_err-entry
-returns-in_err-entry c = c.from_residual-in_err-entry.ensures ∙ sym (no-name _ c.in_ok-key.key (sym c.in_err-entry.ensures.entry)) ∙ ap (and_then (name_under c.args.objects.now)) c.in_ok-key.ensures
+returns-in_err-entry c = c.from_residual-in_err-entry.ensures ∙ sym (no-name _ c.in_ok-key.key (sym c.in_err-entry.ensures.entry))
+    ∙ ap (and_then (name_under c.args.objects.now)) c.in_ok-key.ensures
 
 pub returns : goal.returns
-returns c = sym (name-of _ c.in_ok-key.key c.in_ok-entry.entry.now (sym c.in_ok-entry.ensures.entry)) ∙ ap (and_then (name_under c.args.objects.now)) c.in_ok-key.ensures
+returns c = sym (name-of _ c.in_ok-key.key c.in_ok-entry.entry.now (sym c.in_ok-entry.ensures.entry))
+    ∙ ap (and_then (name_under c.args.objects.now)) c.in_ok-key.ensures

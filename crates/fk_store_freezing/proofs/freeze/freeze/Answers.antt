@@ -16,7 +16,12 @@ loop-next-init c = record {
 }
 
 pub loop-next-preserved : goal.loop-next-preserved
-loop-next-preserved c = record { closed = c.freeze_next-next.ensures.closed; marked = c.freeze_next-next.ensures.marked; slot = c.freeze_next-next.ensures.slot }
+loop-next-preserved c = record {
+  closed = c.freeze_next-next.ensures.closed;
+  marked = c.freeze_next-next.ensures.marked;
+  slot =
+      c.freeze_next-next.ensures.slot;
+}
 
 pub loop-next-smaller : goal.loop-next-smaller
 loop-next-smaller c = rw c.in-Some.is c.freeze_next-next.ensures.falls

@@ -29,7 +29,8 @@ returns-in-Some-mark_found-clause-falls c =
 pub returns-in-None-mark_found-clause-closed : goal.returns-in-None-mark_found-clause-closed
 returns-in-None-mark_found-clause-closed c =
     let found = c.in-None-mark_found.ensures.none refl in
-    rw (found.0, c.from.ensures) (goes_on c.args.bodies.now c.requires.known c.args.top c.args.space c.args.slot c.in-Some.found c.in-Some.ensures.some.2 _ c.requires.closed found.1)
+    rw (found.0, c.from.ensures) (goes_on c.args.bodies.now c.requires.known c.args.top c.args.space c.args.slot c.in-Some.found
+    c.in-Some.ensures.some.2 _ c.requires.closed found.1)
 
 pub returns-in-None-mark_found-clause-marked : goal.returns-in-None-mark_found-clause-marked
 returns-in-None-mark_found-clause-marked c = rw (c.in-None-mark_found.ensures.none refl).0 c.requires.marked

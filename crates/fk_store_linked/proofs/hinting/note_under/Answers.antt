@@ -12,7 +12,8 @@ returns-in-Some-clause-told c = noted _ _ c.args.to c.in-Some.entry.now c.told_w
 
 pub returns-in-Some-clause-kept : goal.returns-in-Some-clause-kept
 returns-in-Some-clause-kept c = still _ _ c.args.to c.in-Some.entry.now c.told_with.result c.in-Some.ensures.entry c.tell.ensures c.args.lead
-    c.told_anew-told.result c.requires c.told_with.ensures c.filed.ensures (λ j b i there leads old. c.told_anew-told.ensures.kept j b i there leads (rw c.told_of.ensures old))
+    c.told_anew-told.result c.requires c.told_with.ensures c.filed.ensures
+    (λ j b i there leads old. c.told_anew-told.ensures.kept j b i there leads (rw c.told_of.ensures old))
 
 pub returns-in-Some-clause-same : goal.returns-in-Some-clause-same
 returns-in-Some-clause-same c = retold _ _ c.args.to c.in-Some.entry.now c.told_with.result c.in-Some.ensures.entry c.tell.ensures

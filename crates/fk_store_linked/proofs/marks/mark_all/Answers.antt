@@ -7,10 +7,12 @@ returns-then-is_of_pages-clause-still c = still_more c.args.objects.now c.mark.n
 
 pub returns-then-is_of_pages-clause-marked : goal.returns-then-is_of_pages-clause-marked
 returns-then-is_of_pages-clause-marked c = page_marked _ c.args.who c.args.body.now
-    (pages_alone c.args.body.now (sym c.is_of_pages.ensures ∙ c.if-is_of_pages.true)) (is_set c.args.objects.now c.mark.new.self c.args.who.space _ c.mark.ensures.marks)
+    (pages_alone c.args.body.now (sym c.is_of_pages.ensures ∙ c.if-is_of_pages.true))
+    (is_set c.args.objects.now c.mark.new.self c.args.who.space _ c.mark.ensures.marks)
 
 pub returns-then-is_port_in_set-clause-still : goal.returns-then-is_port_in_set-clause-still
-returns-then-is_port_in_set-clause-still c = still_more c.args.objects.now c.mark-then-is_port_in_set.new.self c.args.who.space _ c.mark-then-is_port_in_set.ensures.marks
+returns-then-is_port_in_set-clause-still c = still_more c.args.objects.now c.mark-then-is_port_in_set.new.self c.args.who.space _
+    c.mark-then-is_port_in_set.ensures.marks
 
 pub returns-then-is_port_in_set-clause-marked : goal.returns-then-is_port_in_set-clause-marked
 returns-then-is_port_in_set-clause-marked c = member_marked _ c.args.who c.args.body.now (sym c.is_of_pages.ensures ∙ c.if-is_of_pages.false)

@@ -29,7 +29,8 @@ returns-clause-rings c =
     let b = Reference c.args.to in
     replaced_rings _ _ c.filed.ensures c.args.key found.0 b found.1 (edited_alike _ _ c.args.key b c.put.ensures)
     (edited_bodies _ _ c.args.key b c.put.ensures (ap is_some found.1)) _
-    (single_led _ _ _ c.args.key found.0 b (single_past found.0 (reference_single found.0 found.2)) (single_past b refl) (own_nodes _ c.args.key found.0 found.1)
+    (single_led _ _ _ c.args.key found.0 b (single_past found.0 (reference_single found.0 found.2)) (single_past b refl)
+    (own_nodes _ c.args.key found.0 found.1)
     (c.link_field.ensures.rings _ c.requires.rings))
 
 pub returns-clause-held : goal.returns-clause-held

@@ -2,7 +2,8 @@ use Rattle.std.proofs.Common.{◌≤◌, ◌<◌, ◌+◌, ◌*◌, length, is_s
 use Rattle.fk_model.specs.declared.body.Body.TheVariants.{Reference}
 use Rattle.fk_model.specs.declared.names.Ptr.TheVariants.{Dead}
 use Rattle.fk_store_leads.specs.Leading.{is_reference}
-use Rattle.fk_store_linked.proofs.AlikeLaws.{held_body, some_body, own_nodes, small_body, edited_alike, edited_bodies, replaced_rings, replaced_held, same_count}
+use Rattle.fk_store_linked.proofs.AlikeLaws.{held_body, some_body, own_nodes, small_body, edited_alike, edited_bodies, replaced_rings, replaced_held}
+use Rattle.fk_store_linked.proofs.AlikeLaws.{same_count}
 use Rattle.fk_store_linked.proofs.LinkedLaws.{pointer_node, single_rings}
 use Rattle.fk_store_leads.proofs.PointerLaws.{single_past, reference_single, dead_leads, reference_held}
 use Rattle.fk_store_linked.proofs.replacing.kill_reference.Goals as goal
@@ -40,4 +41,5 @@ pub returns-clause-held : goal.returns-clause-held
 returns-clause-held c = λ n enough.
     let found = held_body _ c.args.key is_reference c.requires.there in
     replaced_held _ _ c.filed.ensures c.args.key found.0 (Reference Dead) found.1 (edited_alike _ _ c.args.key (Reference Dead) c.put.ensures)
-    (edited_bodies _ _ c.args.key (Reference Dead) c.put.ensures (ap is_some found.1)) n n enough (same_count n found.0 (Reference Dead) (reference_held found.0 found.2))
+    (edited_bodies _ _ c.args.key (Reference Dead) c.put.ensures (ap is_some found.1)) n n enough
+    (same_count n found.0 (Reference Dead) (reference_held found.0 found.2))

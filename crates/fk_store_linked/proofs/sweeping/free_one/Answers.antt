@@ -31,7 +31,8 @@ returns-then-is_reference-clause-swept c =
     let now = rw (← leads.2) at c.kill_reference.ensures.bodies in
     freed_swept _ _ c.filed.ensures c.args.key c.args.sweep (is_gone c.args.sweep c.requires.gone) c.requires.here leads.0 leads.1 leads.3
     c.in-Some.entry.now.who.space c.in-Some.entry.now.body here
-    (dies _ _ c.filed.ensures c.args.key c.args.sweep c.requires.gone c.requires.here leads.0 leads.3 c.in-Some.entry.now.who.space c.in-Some.entry.now.body here
+    (dies _ _ c.filed.ensures c.args.key c.args.sweep c.requires.gone c.requires.here leads.0 leads.3 c.in-Some.entry.now.who.space
+    c.in-Some.entry.now.body here
     (sym c.is_reference.ensures ∙ c.if-is_reference.true) now) c.kill_reference.ensures.alike.keys
 
 pub returns-then-is_reference-clause-less : goal.returns-then-is_reference-clause-less
@@ -41,7 +42,8 @@ returns-then-is_reference-clause-less c =
     let now = rw (← leads.2) at c.kill_reference.ensures.bodies in
     freed_less _ _ c.filed.ensures c.args.key c.args.sweep (is_gone c.args.sweep c.requires.gone) c.requires.here leads.0 leads.1 leads.3
     c.in-Some.entry.now.who.space c.in-Some.entry.now.body here
-    (dies _ _ c.filed.ensures c.args.key c.args.sweep c.requires.gone c.requires.here leads.0 leads.3 c.in-Some.entry.now.who.space c.in-Some.entry.now.body here
+    (dies _ _ c.filed.ensures c.args.key c.args.sweep c.requires.gone c.requires.here leads.0 leads.3 c.in-Some.entry.now.who.space
+    c.in-Some.entry.now.body here
     (sym c.is_reference.ensures ∙ c.if-is_reference.true) now) c.kill_reference.ensures.alike.keys
 
 pub kill_reference-requires-clause-there : goal.kill_reference-requires-clause-there
@@ -53,10 +55,13 @@ returns-then-is_reference-clause-held c = c.kill_reference.ensures.held _ c.requ
 
 -- it is there, since it leads there
 pub returns-in_default-clause-alike : goal.returns-in_default-clause-alike
-returns-in_default-clause-alike c = absurd (gone_other _ c.filed.ensures c.args.sweep.from c.args.key c.requires.here c.args.other c.requires.leads c.in_default.ensures.entry)
+returns-in_default-clause-alike c = absurd (gone_other _ c.filed.ensures c.args.sweep.from c.args.key c.requires.here c.args.other c.requires.leads
+    c.in_default.ensures.entry)
 
 pub returns-in_default-clause-swept : goal.returns-in_default-clause-swept
-returns-in_default-clause-swept c = absurd (gone_other _ c.filed.ensures c.args.sweep.from c.args.key c.requires.here c.args.other c.requires.leads c.in_default.ensures.entry)
+returns-in_default-clause-swept c = absurd (gone_other _ c.filed.ensures c.args.sweep.from c.args.key c.requires.here c.args.other c.requires.leads
+    c.in_default.ensures.entry)
 
 pub returns-in_default-clause-less : goal.returns-in_default-clause-less
-returns-in_default-clause-less c = absurd (gone_other _ c.filed.ensures c.args.sweep.from c.args.key c.requires.here c.args.other c.requires.leads c.in_default.ensures.entry)
+returns-in_default-clause-less c = absurd (gone_other _ c.filed.ensures c.args.sweep.from c.args.key c.requires.here c.args.other c.requires.leads
+    c.in_default.ensures.entry)

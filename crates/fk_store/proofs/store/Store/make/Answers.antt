@@ -50,4 +50,5 @@ pub put-requires-clause-known : goal.put-requires-clause-known
 put-requires-clause-known c = known_well _ c.self.invariant
 
 pub put-requires-clause-younger : goal.put-requires-clause-younger
-put-requires-clause-younger c = younger_next _ c.self.invariant c.args.who c.args.body (rw (← c.self.view_is) at c.requires.space) (rw (← c.self.view_is) at c.requires.birth)
+put-requires-clause-younger c = younger_next _ c.self.invariant c.args.who c.args.body (rw (← c.self.view_is) at c.requires.space)
+    (rw (← c.self.view_is) at c.requires.birth)

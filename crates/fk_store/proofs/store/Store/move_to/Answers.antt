@@ -2,7 +2,8 @@ use Rattle.std.proofs.Common.{◌<◌, arith}
 use Rattle.fk_store.specs.Names.{at}
 use Rattle.fk_store.proofs.finding.LookUps.{IsLive-there}
 use Rattle.fk_store.proofs.changing.Residents.{no_residents, none_there}
-use Rattle.fk_store.proofs.changing.Renames.{kept-renamed, world-renamed, none-renamed, kind-renamed, place-target, path-follows, kinds-renamed, lives-renamed, places-renamed, path-stays}
+use Rattle.fk_store.proofs.changing.Renames.{kept-renamed, world-renamed, none-renamed, kind-renamed, place-target, path-follows, kinds-renamed}
+use Rattle.fk_store.proofs.changing.Renames.{lives-renamed, places-renamed, path-stays}
 use Rattle.fk_store.proofs.store.Store.move_to.Goals as goal
 
 pub rename-requires-clause-there : goal.rename-requires-clause-there

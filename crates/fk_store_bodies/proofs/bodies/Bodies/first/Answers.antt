@@ -11,7 +11,8 @@ returns-in_err-key-clause-none c = λ none. rw (← c.self.view_is)
     (nobody_there c.self.inside.objects c.filed.ensures c.args.part c.self.invariant.leads (rw c.whose.ensures at c.in_err-key.ensures.key)))
 
 pub walk-requires-clause-there : goal.walk-requires-clause-there
-walk-requires-clause-there c = rw c.head_of.ensures (head_room c.self.inside.objects _ _ c.in_ok-key.key c.filed.ensures (sym c.in_ok-key.ensures.key) c.self.invariant.long)
+walk-requires-clause-there c = rw c.head_of.ensures (head_room c.self.inside.objects _ _ c.in_ok-key.key c.filed.ensures
+    (sym c.in_ok-key.ensures.key) c.self.invariant.long)
 
 pub walk-requires-clause-head : goal.walk-requires-clause-head
 walk-requires-clause-head c = rw c.head_of.ensures (head_node c.in_ok-key.key)
@@ -21,7 +22,8 @@ first_leading-requires c = players_lead c.self.inside.objects c.filed.ensures c.
     (rw (c.whose.ensures, c.in-Parked.is) at c.in_ok-key.ensures.key) c.walk.result (rw c.head_of.ensures at c.walk.ensures.all _ c.self.invariant.rings)
 
 pub first_told-requires : goal.first_told-requires
-first_told-requires c = players_told c.self.inside.objects c.filed.ensures c.args.part c.self.invariant.told c.in_ok-key.key (rw c.whose.ensures at c.in_ok-key.ensures.key)
+first_told-requires c = players_told c.self.inside.objects c.filed.ensures c.args.part c.self.invariant.told c.in_ok-key.key
+    (rw c.whose.ensures at c.in_ok-key.ensures.key)
     c.told_of_part.result c.told_of_part.ensures
 
 pub returns-in-Parked-clause-some : goal.returns-in-Parked-clause-some

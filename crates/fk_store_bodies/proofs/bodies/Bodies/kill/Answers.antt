@@ -19,7 +19,8 @@ pub leave-requires-clause-low : goal.leave-requires-clause-low
 leave-requires-clause-low c n is = born_low _ _ c.filed.ensures c.self.invariant.homed n c.in-Some.key (sym c.birth_under-birth.ensures ∙ is)
 
 pub leave-requires-clause-empty : goal.leave-requires-clause-empty
-leave-requires-clause-empty c = left_empty c.self.inside.objects _ _ c.filed.ensures c.args.who c.in-Some.key (sym c.in-Some.ensures.key) _ c.free_all.ensures.swept
+leave-requires-clause-empty c = left_empty c.self.inside.objects _ _ c.filed.ensures c.args.who c.in-Some.key
+    (sym c.in-Some.ensures.key) _ c.free_all.ensures.swept
     c.take_away.ensures.gone c.birth_under-birth.result c.birth_under-birth.ensures (rw (← c.self.view_is) at c.requires.empty)
 
 pub invariant_of-self : goal.invariant_of-self

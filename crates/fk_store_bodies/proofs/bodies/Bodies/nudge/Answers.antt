@@ -11,7 +11,8 @@ returns-in-Some-clause-there c b is = rw (← c.self.view_is)
     (quiet_map _ _ c.in-Some.key _ c.nudge_under.ensures c.filed.ensures c.args.who (sym c.in-Some.ensures.key) b (rw (← c.self.view_is) at is))
 
 pub returns-in-Some-clause-none : goal.returns-in-Some-clause-none
-returns-in-Some-clause-none c none = absurd (quiet_there c.self.inside.objects _ c.in-Some.key _ c.nudge_under.ensures c.filed.ensures c.args.who (sym c.in-Some.ensures.key)
+returns-in-Some-clause-none c none = absurd (quiet_there c.self.inside.objects _ c.in-Some.key _ c.nudge_under.ensures c.filed.ensures c.args.who
+    (sym c.in-Some.ensures.key)
     (rw (← c.self.view_is) at none))
 
 pub returns-in_default-clause-there : goal.returns-in_default-clause-there

@@ -2,7 +2,8 @@ use Rattle.std.proofs.Common.{Some, refl, sym, ap, is_some, ◌∙◌, arith}
 use Rattle.fk_store_linked.proofs.AlikeLaws.{no_nodes}
 use Rattle.fk_store_linked.proofs.BodyLaws.{no-body}
 use Rattle.fk_store_linked.proofs.LinkedLaws.{have_heads}
-use Rattle.fk_store_bodies.proofs.MakeLaws.{made_body, made_key, made_rings, made_nodes, made_others, made_held, made_all, made_all_map, kept_all, kept_map, keeps_same, made_filed, not_keyed_there, settled_homes}
+use Rattle.fk_store_bodies.proofs.MakeLaws.{made_body, made_key, made_rings, made_nodes, made_others, made_held, made_all, made_all_map, kept_all}
+use Rattle.fk_store_bodies.proofs.MakeLaws.{kept_map, keeps_same, made_filed, not_keyed_there, settled_homes}
 use Rattle.fk_store_bodies.proofs.Results.{any_err}
 use Rattle.fk_store_bodies.proofs.bodies.Bodies.put.Goals as goal
 
@@ -16,14 +17,16 @@ returns-in_err-make_room-clause-err c = any_err c.from_residual.result _ (rw (�
 
 pub invariant_of-self-in_err-make_nodes : goal.invariant_of-self-in_err-make_nodes
 invariant_of-self-in_err-make_nodes c =
-    kept_all _ _ (keeps_same c.self.inside.objects) _ _ _ _ _ c.self.invariant (λ are. c.make_nodes.ensures.rings _ are) c.make_nodes.ensures.more c.make_room.ensures.same
+    kept_all _ _ (keeps_same c.self.inside.objects) _ _ _ _ _ c.self.invariant
+    (λ are. c.make_nodes.ensures.rings _ are) c.make_nodes.ensures.more c.make_room.ensures.same
 
 pub returns-in_err-make_nodes-clause-err : goal.returns-in_err-make_nodes-clause-err
 returns-in_err-make_nodes-clause-err c = any_err c.from_residual-in_err-make_nodes.result _ (rw (← c.self.view_is) refl)
 
 pub invariant_of-self-in_err-key : goal.invariant_of-self-in_err-key
 invariant_of-self-in_err-key c =
-    kept_all _ _ c.in_err-key.ensures.err _ _ _ _ _ c.self.invariant (λ are. c.make_nodes.ensures.rings _ are) c.make_nodes.ensures.more c.make_room.ensures.same
+    kept_all _ _ c.in_err-key.ensures.err _ _ _ _ _ c.self.invariant
+    (λ are. c.make_nodes.ensures.rings _ are) c.make_nodes.ensures.more c.make_room.ensures.same
 
 pub returns-in_err-key-clause-err : goal.returns-in_err-key-clause-err
 returns-in_err-key-clause-err c = any_err c.from_residual-in_err-key.result _ (rw (← c.self.view_is) (kept_map _ _ c.in_err-key.ensures.err))
@@ -71,7 +74,8 @@ invariant_of-self-2 c =
     made_all c.self.inside.objects _ _ _ _ c.filed.ensures c.self.invariant c.args.who _ c.args.body empty makes _ _ c.tell.ensures.same
     c.mark_all.ensures.keys c.mark_all.ensures.entries c.mark_all.ensures.still c.mark_all.ensures.marked c.tell.ensures.told _ _ _
     (made_rings c.self.inside.objects _ _ _ _ c.filed.ensures c.self.invariant c.args.who _ c.args.body empty makes _
-    (c.link_all.ensures.rings _ (no_nodes c.self.inside.objects _ (no-body c.self.inside.objects _ makes.vacant)) (c.make_nodes.ensures.rings _ c.self.invariant.rings)))
+    (c.link_all.ensures.rings _ (no_nodes c.self.inside.objects _ (no-body c.self.inside.objects _ makes.vacant))
+    (c.make_nodes.ensures.rings _ c.self.invariant.rings)))
     (let more = c.make_nodes.ensures.more in let long = c.link_all.ensures.long in omega (arith, more, long))
     (let room = rw (← makes.next) at c.in_ok-make_nodes.ensures.long in let long = c.link_all.ensures.long in omega (arith, room, long))
     count (rw (← c.self.view_is) at c.requires.leads) (rw (← c.self.view_is) at c.requires.birth)

@@ -20,14 +20,16 @@ rename-requires-clause-there c =
     ap is_some found.1
 
 pub rename-requires-clause-space : goal.rename-requires-clause-space
-rename-requires-clause-space c = in_space _ _ c.rename_all.ensures.alike c.filed.ensures c.args.from c.args.to c.in-Some.key (sym c.in-Some.ensures.key) c.requires.space
+rename-requires-clause-space c = in_space _ _ c.rename_all.ensures.alike c.filed.ensures c.args.from c.args.to c.in-Some.key
+    (sym c.in-Some.ensures.key) c.requires.space
 
 pub rename-requires-clause-free : goal.rename-requires-clause-free
 rename-requires-clause-free c = c.rename_all.ensures.alike.keys c.args.to
     ∙ not_keyed_there c.self.inside.objects c.args.to c.filed.ensures (rw (← c.self.view_is) at c.requires.free)
 
 pub invariant_of-self : goal.invariant_of-self
-invariant_of-self c = renamed_by c.self.inside.objects _ _ _ _ _ _ c.filed.ensures c.self.invariant c.in-Some.key c.args.from c.args.to (sym c.in-Some.ensures.key)
+invariant_of-self c = renamed_by c.self.inside.objects _ _ _ _ _ _ c.filed.ensures c.self.invariant c.in-Some.key c.args.from c.args.to
+    (sym c.in-Some.ensures.key)
     (not_keyed_there c.self.inside.objects c.args.to c.filed.ensures (rw (← c.self.view_is) at c.requires.free)) c.rename_all.ensures c.rename.ensures
     c.mark_again.ensures.keys c.mark_again.ensures.entries c.mark_again.ensures.still c.mark_again.ensures.marked
 

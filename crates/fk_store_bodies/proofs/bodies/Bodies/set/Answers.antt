@@ -8,11 +8,13 @@ pub replace-requires-clause-there : goal.replace-requires-clause-there
 replace-requires-clause-there c = let found = under_name _ c.args.who c.in-Some.key c.filed.ensures (sym c.in-Some.ensures.key) in ap is_some found.1
 
 pub tell-requires-clause-here : goal.tell-requires-clause-here
-tell-requires-clause-here c = set_body c.self.inside.objects _ _ _ _ c.filed.ensures c.self.invariant c.args.who c.in-Some.key c.args.body (sym c.in-Some.ensures.key)
+tell-requires-clause-here c = set_body c.self.inside.objects _ _ _ _ c.filed.ensures c.self.invariant c.args.who c.in-Some.key c.args.body
+    (sym c.in-Some.ensures.key)
     c.replace.ensures.alike c.replace.ensures.bodies
 
 pub tell-requires-clause-others : goal.tell-requires-clause-others
-tell-requires-clause-others c = set_others c.self.inside.objects _ _ _ _ c.filed.ensures c.self.invariant c.args.who c.in-Some.key c.args.body (sym c.in-Some.ensures.key)
+tell-requires-clause-others c = set_others c.self.inside.objects _ _ _ _ c.filed.ensures c.self.invariant c.args.who c.in-Some.key c.args.body
+    (sym c.in-Some.ensures.key)
     c.replace.ensures.alike c.replace.ensures.bodies
 
 pub mark_all-requires : goal.mark_all-requires
@@ -27,7 +29,8 @@ invariant_of-self c = set_all c.self.inside.objects _ _ _ _ c.filed.ensures c.se
 pub returns-in-Some : goal.returns-in-Some
 returns-in-Some c =
     let found = under_name c.self.inside.objects c.args.who c.in-Some.key c.filed.ensures (sym c.in-Some.ensures.key) in
-    rw (← c.self.view_is) (set_map c.self.inside.objects _ _ _ _ c.filed.ensures c.self.invariant c.args.who c.in-Some.key c.args.body (sym c.in-Some.ensures.key)
+    rw (← c.self.view_is) (set_map c.self.inside.objects _ _ _ _ c.filed.ensures c.self.invariant c.args.who c.in-Some.key c.args.body
+    (sym c.in-Some.ensures.key)
     c.replace.ensures.alike c.replace.ensures.bodies _ _ c.tell.ensures.same c.mark_all.ensures.keys c.mark_all.ensures.entries c.mark_all.ensures.still
     found.0 found.1)
 

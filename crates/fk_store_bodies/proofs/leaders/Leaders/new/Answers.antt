@@ -18,7 +18,12 @@ invariant_of-result c =
     nodes_there c.args.objects.now c.walk.result are
 
 pub returns-in-Some-clause-leaders : goal.returns-in-Some-clause-leaders
-returns-in-Some-clause-leaders c = rw c.in-Some.is (record { nodes = c.walk.result; are = rw c.head_of.ensures at c.walk.ensures.all _ c.requires.rings; named = refl })
+returns-in-Some-clause-leaders c = rw c.in-Some.is (record {
+  nodes = c.walk.result;
+  are = rw c.head_of.ensures at c.walk.ensures.all _
+      c.requires.rings;
+  named = refl;
+})
 
 pub returns-in-Some-clause-few : goal.returns-in-Some-clause-few
 returns-in-Some-clause-few c = let few = few_names c.args.objects.now c.walk.result in let low = c.walk.ensures.few in omega (arith, few, low)

@@ -5,7 +5,8 @@ use Rattle.fk_store_freezing.proofs.tree.Tree.aim.Goals as goal
 
 pub settle-requires-clause-known : goal.settle-requires-clause-known
 settle-requires-clause-known c = rw c.aim.ensures
-    (known_set _ c.args.who (Reference c.args.to) (rw (← c.self.view_is) at c.requires.known) (reference_unborn _ (rw (← c.self.view_is) at c.requires.reference)))
+    (known_set _ c.args.who (Reference c.args.to) (rw (← c.self.view_is) at c.requires.known)
+    (reference_unborn _ (rw (← c.self.view_is) at c.requires.reference)))
 
 pub settle-requires-clause-here : goal.settle-requires-clause-here
 settle-requires-clause-here c = rw c.aim.ensures (here_now _ c.args.who (Reference c.args.to))

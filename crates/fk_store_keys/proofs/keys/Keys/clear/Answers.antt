@@ -15,13 +15,15 @@ pub returns-then-at-len-clause-keys : goal.returns-then-at-len-clause-keys
 returns-then-at-len-clause-keys c =
     let low : c.args.space < length c.self.inside.places.items = omega arith in
     let is = c.index-place.ensures ∙ get_or_default c.self.inside.places.items c.args.space _ nothing low in
-    rw (← c.self.view_is) (keys_cleared _ _ c.args.space _ (cleared_seen c.self.inside.places.items c.self.inside.tables c.give_back.new.tables c.self.invariant c.args.space _ low is c.give_back.ensures) refl)
+    rw (← c.self.view_is) (keys_cleared _ _ c.args.space _ (cleared_seen c.self.inside.places.items c.self.inside.tables c.give_back.new.tables
+    c.self.invariant c.args.space _ low is c.give_back.ensures) refl)
 
 pub returns-then-at-len-clause-marks : goal.returns-then-at-len-clause-marks
 returns-then-at-len-clause-marks c =
     let low : c.args.space < length c.self.inside.places.items = omega arith in
     let is = c.index-place.ensures ∙ get_or_default c.self.inside.places.items c.args.space _ nothing low in
-    rw (← c.self.view_is) (marks_cleared _ _ c.args.space _ (cleared_seen c.self.inside.places.items c.self.inside.tables c.give_back.new.tables c.self.invariant c.args.space _ low is c.give_back.ensures) refl)
+    rw (← c.self.view_is) (marks_cleared _ _ c.args.space _ (cleared_seen c.self.inside.places.items c.self.inside.tables c.give_back.new.tables
+    c.self.invariant c.args.space _ low is c.give_back.ensures) refl)
 
 pub returns-else-at-len-clause-keys : goal.returns-else-at-len-clause-keys
 returns-else-at-len-clause-keys c = let long = shown_long c.self.inside.places.items c.self.inside.tables in

@@ -7,7 +7,8 @@ use Rattle.fk_store_keys.proofs.keys.Keys.mark.Goals as goal
 
 pub mark_in-requires-clause-there : goal.mark_in-requires-clause-there
 mark_in-requires-clause-there c = subst (λ p. IsSome (get c.self.inside.tables p)) (sym c.place_of-place.ensures)
-    (has_table c.self.inside.places.items c.self.inside.tables c.self.invariant.placed.none c.args.space c.args.slot (rw (← c.self.view_is) at c.requires.there))
+    (has_table c.self.inside.places.items c.self.inside.tables c.self.invariant.placed.none c.args.space c.args.slot
+    (rw (← c.self.view_is) at c.requires.there))
 
 pub invariant_of-self : goal.invariant_of-self
 invariant_of-self c =
@@ -16,7 +17,8 @@ invariant_of-self c =
 
 pub returns-clause-keys : goal.returns-clause-keys
 returns-clause-keys c = rw (← c.self.view_is) (keys_alike c.self.inside.tables c.mark_in.new.tables
-    (alike keys_in c.self.inside.tables c.mark_in.new.tables c.place_of-place.result c.mark_in.ensures.here.keys c.mark_in.ensures.others) c.self.inside.places.items)
+    (alike keys_in c.self.inside.tables c.mark_in.new.tables c.place_of-place.result c.mark_in.ensures.here.keys c.mark_in.ensures.others)
+    c.self.inside.places.items)
 
 pub returns-clause-marks : goal.returns-clause-marks
 returns-clause-marks c =

@@ -14,8 +14,10 @@ returns-clause-left c =
     let alters = rw c.place_of-place.ensures at c.remove_in.ensures in
     let here = altered_here c.self.inside.places.items c.self.inside.tables c.remove_in.new.tables c.self.invariant.placed c.args.space _ alters in
     rw (← c.self.view_is) (keys_put _ _ c.args.space _
-    (altered_seen c.self.inside.places.items c.self.inside.tables c.remove_in.new.tables c.self.invariant.placed c.args.space _ alters) c.args.slot None here.keys)
+    (altered_seen c.self.inside.places.items c.self.inside.tables c.remove_in.new.tables c.self.invariant.placed c.args.space _ alters) c.args.slot
+    None here.keys)
 
 pub returns-clause-marks : goal.returns-clause-marks
 returns-clause-marks c = rw (← c.self.view_is) (marks_alike c.self.inside.tables c.remove_in.new.tables
-    (alike marks_in c.self.inside.tables c.remove_in.new.tables c.place_of-place.result c.remove_in.ensures.here.marks c.remove_in.ensures.others) c.self.inside.places.items)
+    (alike marks_in c.self.inside.tables c.remove_in.new.tables c.place_of-place.result c.remove_in.ensures.here.marks c.remove_in.ensures.others)
+    c.self.inside.places.items)
