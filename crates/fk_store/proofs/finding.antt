@@ -22,3 +22,4 @@ pub mod Lefts
 pub mod HeldBirths
 pub mod Sizes
 pub mod Leading
+pub mod OneHolder

@@ -1,5 +1,5 @@
 //! Who holds a space, and who decides over what is held.
-ghost use Rattle.std.specs.Prelude.{◌≡◌, ◌<◌, ℕ, Some, IsSome, IfSome, false, option_map, nat_eq, ◌&&◌};
+ghost use Rattle.std.specs.Prelude.{◌≡◌, ◌<◌, ℕ, Some, IsSome, IfSome, true, false, option_map, nat_eq, ◌&&◌};
 ghost use Rattle.fk_model.specs.Places.{Path};
 ghost use Rattle.fk_model.specs.Places.Ptr.{At};
 ghost use Rattle.fk_model.proofs.walks.Members.{IsIn};
@@ -120,9 +120,51 @@ impl Store {
     pub fn frozen_for(&self, me: Who, object: Who) -> bool
         ensures { result ≡ holds.is_frozen_for (world self.now) (place_of self.now me) (place_of self.now object) }
     {
+        if self.holds_the_only(me) {
+            return false;
+        }
         match self.decider(object) {
             None => false,
             Some(holder) => holder != me,
+        }
+    }
+
+    /// One space alone is held, and by this thread: so it decides wherever anybody does, and nobody has to walk up to
+    /// see it.
+    #[inline(always)]
+    pub fn holds_the_only(&self, me: Who) -> bool
+        ensures { result ≡ true → (x : Path) → holds.is_frozen_for (world self.now) (place_of self.now me) x ≡ false }
+    {
+        if self.bodies.is_any_held() {
+            self.is_holder(me)
+        } else {
+            false
+        }
+    }
+
+    /// The same, where some space may be held.
+    #[inline(never)]
+    fn is_holder(&self, me: Who) -> bool
+        ensures { result ≡ true → (x : Path) → holds.is_frozen_for (world self.now) (place_of self.now me) x ≡ false }
+    {
+        match self.only_held() {
+            None => false,
+            Some(who) => match self.holder(who) {
+                None => false,
+                Some(holder) => holder == me,
+            },
+        }
+    }
+
+    /// Where the one space stands that is held; nothing where others may be.
+    fn only_held(&self) -> Option<Who>
+        ensures { IfSome result (λ who. (x : Path) → IsSome (holds.holder_of ((world self.now).body x)) → place_of self.now who ≡ x) }
+    {
+        let births = self.held()?;
+        if births.len() == 1 {
+            self.home(births[0])
+        } else {
+            None
         }
     }
 
