@@ -1,10 +1,11 @@
 -- Currents: a thread with the copy's words is where it was leased, and what follows from that.
-use Rattle.std.proofs.Common.{◌≡◌, ℕ, ◌+◌, ◌-◌, ◌<◌, Bool, true, false, cond, List, [], ◌∷◌}
+use Rattle.std.proofs.Common.{◌≡◌, ℕ, ◌+◌, ◌<◌, Bool, true, false, cond, List, [], ◌∷◌}
 use Rattle.std.proofs.Common.{All, length, Some, None, is_some, slice_index_or, suc, zero, replicate, refl, sym, ap, subst, ◌∙◌}
 use Rattle.std.proofs.lemmas.List.Elements.{All-append, All-cons, All-nil}
 use Rattle.std.proofs.lemmas.Option.{same_Some}
 use Rattle.std.specs.Bool.{OnTrue, OnFalse}
 use Rattle.fk_model.specs.declared.moves.Ask.TheVariants as asks
+use Rattle.fk_model.specs.declared.moves.Move.{Move}
 use Rattle.fk_model.specs.declared.names.Who.{Who}
 use Rattle.fk_model.specs.declared.thread.Thread as threads_of
 use Rattle.fk_model.specs.Holds.{is_free}
@@ -26,6 +27,8 @@ use Rattle.fk_store.specs.World.{world}
 use Rattle.laws_bursts.specs.Bursts.{Burst}
 use Rattle.laws_bursts.specs.Laws.{HasPages, IsWhereItBegan, LeadQuietly, committed, move_of}
 use Rattle.laws_bursts.proofs.Moves.{bursts_are_moves_lem}
+use Rattle.laws_turns.specs.Quiet.{LeadRunning}
+use Rattle.laws_turns.proofs.Running.{bursts_run_lem}
 use Rattle.fk_copies.specs.declared.copied.Copied.{Copied}
 use Rattle.fk_burst.specs.Commits.{IsCurrent, page_at, used_pages}
 use Rattle.fk_copies.specs.Copies.{for_page, burst_of}
@@ -95,7 +98,7 @@ space-born m space born is = subst (λ (p : ℕ → Path). birth_at (world m) (p
 
 -- ---- what is ready is free
 
-pub ready-free : (w : World) (x : Path) (t : Thread) → thread_at w x ≡ Some t → IsReady w x None asks.Run → is_free w (parent x) t ≡ true
+ready-free : (w : World) (x : Path) (t : Thread) → thread_at w x ≡ Some t → IsReady w x None asks.Run → is_free w (parent x) t ≡ true
 unfolding outcome
 ready-free w x t there ready = by (is_free w (parent x) t) refl (subst (λ o. GoesAllowed w x (user_move w x None o)) there ready)
   where
@@ -138,18 +141,25 @@ module _ (w : World) (l : Lease) (valid : IsValid w) (kept : IsKept l) (current 
           All-cons (IsPageThere (space_born w) w) (page_at l.copy l.thread.space k) [] there (All-nil (IsPageThere (space_born w) w))
       by false is = All-nil (IsPageThere (space_born w) w)
 
+  began : IsWhereItBegan w (named w l.thread) b
+  began = record {
+    thread = current.words.thread;
+    there = current.words.there;
+    free = ready-free w (named w l.thread) current.words.thread current.words.there current.ready.1;
+    mode = current.words.mode;
+    counter = current.words.counter;
+  }
+
   pub leads : (v : World) → v ≡ committed w (named w l.thread) c → LeadQuietly w (replicate l.count (move_of (named w l.thread))) v
   leads v becomes = subst (LeadQuietly w (replicate l.count (move_of (named w l.thread)))) (sym becomes)
       (bursts_are_moves_lem w l.thread.slot (space_born w l.thread.space) l.count b c valid.paged began kept.comes current.pages)
-    where
-      began : IsWhereItBegan w (named w l.thread) b
-      began = record {
-        thread = current.words.thread;
-        there = current.words.there;
-        free = ready-free w (named w l.thread) current.words.thread current.words.there current.ready.1;
-        mode = current.words.mode;
-        counter = current.words.counter;
-      }
+
+  abbrev move : Move
+  move = record { who = l.thread; pick = None }
+
+  pub leads-running : (v : World) → v ≡ committed w (named w l.thread) c → LeadRunning move l.count w v
+  leads-running v becomes = subst (LeadRunning move l.count w) (sym becomes)
+      (bursts_run_lem move w l.count b c refl valid.paged began kept.comes current.pages)
 
 -- what has been used has words
 has-words : (c : Copied) → HasUsed (burst_of c) → (page : ℕ) → (burst_of c).used page ≡ true → (burst_of c).page page ≡ Some (for_page c.first c.words [] page)

@@ -53,7 +53,7 @@ is_leased m who l born running copied = record {
   pages = copied.taken
       ∙ ap (λ (p : ℕ → Path). begun (world m) (p who.space) copied.there.regs copied.there.pc) born
       ∙ ap (λ (b : Burst). begun (world m) (space_born (world m) who.space) b.registers b.counter) (sym copied.taken);
-  now = copied.now;
+  copy = copied.copy;
   count = copied.count;
 }
 
@@ -99,7 +99,8 @@ kept_first who taken w space registers counter is first = record {
 
 -- and so does one that has made more instructions
 pub kept_more : (who : Who) (taken now next : Copied) (count more : ℕ) → IsKept (record { thread = who; taken = taken; copy = now; count = count }) →
-    made more (burst_of now) ≡ Some (burst_of next) → next.first ≡ now.first → IsKept (record { thread = who; taken = taken; copy = next; count = count + more })
+    made more (burst_of now) ≡ Some (burst_of next) → next.first ≡ now.first →
+    IsKept (record { thread = who; taken = taken; copy = next; count = count + more })
 kept_more who taken now next count more kept is first = record {
   comes = made_all count more (burst_of taken) (burst_of now) (burst_of next) kept.comes is;
   fresh = kept.fresh;

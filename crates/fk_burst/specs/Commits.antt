@@ -1,10 +1,14 @@
 -- Commits: when a burst may be committed, and which pages it hands back.
-use Rattle.std.specs.Prelude.{ℕ, zero, suc, ◌+◌, ◌≤◌, false, List, [], ◌∷◌, ◌++◌, if◌then◌else◌, slice_index_or}
+use Rattle.std.specs.Prelude.{◌≡◌, ℕ, zero, suc, ◌+◌, ◌≤◌, Bool, false, List, [], ◌∷◌, ◌++◌, None, if◌then◌else◌, slice_index_or}
+use Rattle.std.specs.Bool.{OnTrue, OnFalse}
 use Rattle.fk_model.specs.declared.names.Who.{Who}
 use Rattle.fk_model.specs.Who.{named}
 use Rattle.fk_model.specs.World.{World}
 use Rattle.fk_kernel.specs.declared.replace.BurstPage.{BurstPage}
+use Rattle.fk_kernel.specs.Kernels.{world_of}
+use Rattle.fk_store.specs.Contents.{Contents}
 use Rattle.laws_bursts.specs.Laws.{HasPages}
+use Rattle.laws_turns.specs.Quiet.{LeadRunning}
 use Rattle.fk_copies.specs.declared.copied.Copied.{Copied}
 use Rattle.fk_copies.specs.Copies.{burst_of}
 use Rattle.fk_burst.specs.Lease.{Lease}
@@ -19,6 +23,13 @@ pub record IsCurrent (w : World) (who : Who) (taken now : Copied) : Type 0 where
 -- and so many moves are left
 abbrev pub MayCommit : World → Lease → ℕ → Type 0
 MayCommit w l left = IsCurrent w l.thread l.taken l.copy × (l.count ≤ left)
+
+-- what a commit does to a kernel: so many ready moves of the thread, which runs, where it may; and else nothing
+pub record CommitsSo (l : Lease) (left : ℕ) (k : Contents) (done : Bool) (n : Contents) : Type 0 where
+  pub running : OnTrue done (LeadRunning (record { who = l.thread; pick = None }) l.count (world_of k) (world_of n))
+  pub may : OnTrue done (MayCommit (world_of k) l left)
+  pub may_not : OnFalse done (MayCommit (world_of k) l left → ⊥)
+  pub same : OnFalse done (n ≡ k)
 
 -- the page at a place of a copy
 abbrev pub page_at : Copied → ℕ → ℕ → BurstPage

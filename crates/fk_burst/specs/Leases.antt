@@ -36,7 +36,7 @@ pub record IsCopied (m : Contents) (who : Who) (l : Lease) : Type 0 where
   pub is : Some (thread_by (path m) there) ≡ thread_at (world m) (place (path m) who)
   pub thread : l.thread ≡ who
   pub taken : burst_of l.taken ≡ begun (world m) (path m who.space) there.regs there.pc
-  pub now : l.copy ≡ l.taken
+  pub copy : l.copy ≡ l.taken
   pub count : l.count ≡ 0
 
 -- a lease that begins: a copy of the thread's words and of the pages near its counter
@@ -44,7 +44,7 @@ pub record IsLeased (w : World) (who : Who) (l : Lease) : Type 0 where
   pub thread : l.thread ≡ who
   pub words : HasWords w (named w who) (burst_of l.taken)
   pub pages : burst_of l.taken ≡ begun w (parent (named w who)) (burst_of l.taken).registers (burst_of l.taken).counter
-  pub now : l.copy ≡ l.taken
+  pub copy : l.copy ≡ l.taken
   pub count : l.count ≡ 0
 
 -- the most instructions of a run: 64, or as many as a count of 64 bits has room for

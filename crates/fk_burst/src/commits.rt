@@ -1,5 +1,6 @@
 //! A burst is committed: in one turn of the kernel, as so many moves of its thread.
-ghost use Rattle.std.specs.Prelude.{◌≡◌, ◌+◌, ◌/◌, ◌<◌, ◌≤◌, ◌↔◌, ℕ, All, IsSome, IsTrue, Some, false, length, replicate, slice_index_or, take, true};
+ghost use Rattle.std.specs.Prelude.{◌≡◌, ◌+◌, ◌/◌, ◌<◌, ◌≤◌, ◌↔◌, ℕ, All, IsSome, IsTrue, Some, None, false, length, replicate, slice_index_or};
+ghost use Rattle.std.specs.Prelude.{take, true};
 ghost use Rattle.std.specs.Bool.{OnTrue, OnFalse};
 ghost use Rattle.fk_kernel.specs.Kernels.{world_of};
 ghost use Rattle.fk_kernel.specs.Replaced.{IsPageThere};
@@ -8,9 +9,9 @@ ghost use Rattle.fk_model.specs.Who.{named, space_born};
 ghost use Rattle.fk_store.specs.Paths.{path};
 ghost use Rattle.fk_store.specs.World.{world};
 ghost use Rattle.laws_bursts.specs.Laws.{move_of, committed, LeadQuietly};
+ghost use Rattle.laws_turns.specs.Quiet.{LeadRunning};
 ghost use Rattle.fk_copies.specs.Copies.{burst_of};
 ghost use Rattle.fk_burst.specs.Commits.{used_pages, IsCurrent, MayCommit};
-ghost use Rattle.fk_burst.specs.Kept.{IsKept};
 ghost use Rattle.fk_burst.specs.Leases.{IsReadyToRun};
 
 use crate::leases::{Leased, is_ready_to_run};
@@ -151,12 +152,10 @@ fn may_commit(k: &Kernel, l: &Leased, left: u64) -> bool
 /// that it has used differ from the copy, one that is gone too, or more instructions were made than are left.
 pub fn commit(k: &mut Kernel, l: Leased, left: u64) -> bool
     ensures moves { OnTrue result (LeadQuietly (world_of k.old) (replicate l.count (move_of (named (world_of k.old) l.thread))) (world_of k.new)) }
+    ensures running { OnTrue result (LeadRunning (record { who = l.thread; pick = None }) l.count (world_of k.old) (world_of k.new)) }
     ensures may { OnTrue result (MayCommit (world_of k.old) l left) }
     ensures may_not { OnFalse result (MayCommit (world_of k.old) l left → ⊥) }
     ensures same { OnFalse result (k.new ≡ k.old) }
-    ensures kept { IsKept l }
-    ensures paged { IsPaged (world_of k.old) }
-    ensures world { OnTrue result (world_of k.new ≡ committed (world_of k.old) (named (world_of k.old) l.thread) (burst_of l.copy)) }
 {
     k.names();
     l.keeps();

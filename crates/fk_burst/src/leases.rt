@@ -163,7 +163,7 @@ fn make(copied: &mut Copied, most: u64) -> u64
 /// word of a page that the lease doesn't have.
 #[tactic(auto, using(crate::proofs::Leasing::kept_more))]
 pub fn run(l: &mut Leased)
-    ensures now { burst_of l.new.copy ≡ bursts.run (most l.old.count) (burst_of l.old.copy) }
+    ensures copy { burst_of l.new.copy ≡ bursts.run (most l.old.count) (burst_of l.old.copy) }
     ensures count { l.new.count ≡ l.old.count + bursts.count (most l.old.count) (burst_of l.old.copy) }
     ensures thread { l.new.thread ≡ l.old.thread }
     ensures taken { l.new.taken ≡ l.old.taken }

@@ -1,4 +1,4 @@
-mod Settling
+pub mod Settling
 mod Stays
 mod Quiets
 pub mod Running

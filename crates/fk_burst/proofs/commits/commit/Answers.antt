@@ -1,13 +1,13 @@
-use Rattle.std.proofs.Common.{◌≡◌, Some, replicate, sym, subst}
+use Rattle.std.proofs.Common.{◌≡◌, Some, None, replicate, sym, subst}
 use Rattle.std.proofs.lemmas.Bool.{OnTrue_at}
 use Rattle.fk_model.specs.Valid.{birth_at}
 use Rattle.fk_model.specs.Who.{named, space_born}
 use Rattle.fk_kernel.specs.Kernels.{world_of}
-use Rattle.laws_bursts.specs.Laws.{move_of, committed, LeadQuietly}
-use Rattle.fk_copies.specs.Copies.{burst_of}
+use Rattle.laws_bursts.specs.Laws.{move_of, LeadQuietly}
+use Rattle.laws_turns.specs.Quiet.{LeadRunning}
 use Rattle.fk_burst.specs.Commits.{MayCommit}
 use Rattle.fk_burst.specs.Lease.{Lease}
-use Rattle.fk_burst.proofs.Currents.{has-used, leads, low-pages, pages-there}
+use Rattle.fk_burst.proofs.Currents.{has-used, leads, leads-running, low-pages, pages-there}
 use Rattle.fk_burst.proofs.commits.commit.Goals as goal
 
 pub put_back-requires-clause-low : goal.put_back-requires-clause-low
@@ -46,13 +46,12 @@ returns-then-may_commit-clause-moves c =
     subst (λ (x : Lease). LeadQuietly w (replicate x.count (move_of (named w x.thread))) v) c.l.view_is
     (leads w l c.names.ensures.valid c.l.invariant may.0 c.places.ensures v c.put_back.ensures)
 
-pub returns-then-may_commit-clause-world : goal.returns-then-may_commit-clause-world
-returns-then-may_commit-clause-world c =
+pub returns-then-may_commit-clause-running : goal.returns-then-may_commit-clause-running
+returns-then-may_commit-clause-running c =
     let w = world_of c.args.k.now in
-    subst (λ (x : Lease). world_of c.put_back.new.k ≡ committed w (named w x.thread) (burst_of x.copy)) c.l.view_is c.put_back.ensures
-
-pub returns-then-may_commit-clause-paged : goal.returns-then-may_commit-clause-paged
-returns-then-may_commit-clause-paged c = c.names.ensures.valid.paged
-
-pub returns-else-may_commit-clause-paged : goal.returns-else-may_commit-clause-paged
-returns-else-may_commit-clause-paged c = c.names.ensures.valid.paged
+    let v = world_of c.put_back.new.k in
+    let l : Lease = record { thread = c.l.inside.thread; taken = c.l.inside.taken; copy = c.l.inside.copy; count = c.l.inside.count } in
+    let may : MayCommit w l c.args.left = subst (λ (x : Lease). MayCommit w x c.args.left) (sym c.l.view_is)
+    (OnTrue_at c.if-may_commit.true c.may_commit.ensures.may) in
+    subst (λ (x : Lease). LeadRunning (record { who = x.thread; pick = None }) x.count w v) c.l.view_is
+    (leads-running w l c.names.ensures.valid c.l.invariant may.0 c.places.ensures v c.put_back.ensures)

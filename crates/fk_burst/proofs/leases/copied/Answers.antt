@@ -10,11 +10,11 @@ returns-in-Some-clause-some c = record {
   is = c.in-Some.ensures.thread;
   thread = refl;
   taken = c.of-taken.ensures.begun;
-  now = refl;
+  copy = refl;
   count = refl;
 }
 
 pub invariant_of-result : goal.invariant_of-result
 invariant_of-result c =
-    kept_first c.args.thread c.of-taken.result (world c.args.store.now) (path c.args.store.now c.args.thread.space) c.in-Some.there.now.regs c.in-Some.there.now.pc
-    c.of-taken.ensures.begun c.of-taken.ensures.first
+    kept_first c.args.thread c.of-taken.result (world c.args.store.now) (path c.args.store.now c.args.thread.space)
+    c.in-Some.there.now.regs c.in-Some.there.now.pc c.of-taken.ensures.begun c.of-taken.ensures.first

@@ -1,4 +1,4 @@
-use Rattle.std.proofs.Common.{subst, ◌≡◌, ◌-◌, ◌+◌, suc, Some, rules, sym, ap, ◌∙◌, arith}
+use Rattle.std.proofs.Common.{subst, ◌≡◌, ◌-◌, ◌+◌, suc, Some, rules, sym, ◌∙◌, arith}
 use Rattle.laws_bursts.specs.Bursts.{instructed, made}
 use Rattle.fk_copies.specs.Copies.{burst_of}
 use Rattle.fk_burst.proofs.Runs.{run_more, run_none, count_more, count_none, made_more}
