@@ -6,4 +6,6 @@ pub mod Given
 pub mod Restored
 mod Families
 mod Quiet
+mod Pointing
+mod Holding
 mod Untold

@@ -21,6 +21,7 @@ mod picking;
 mod rows;
 mod sayings;
 mod silent;
+mod sole;
 mod straight;
 
 pub use answering::call;

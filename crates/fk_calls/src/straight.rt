@@ -1,10 +1,13 @@
 //! Porters' calls of which a checkpoint makes many, and whose verdicts need little: one sets a pointer and nothing else, one shows words and changes
 //! nothing. By neither does a native server lose its client, so no look for that is needed, and what they do stands here straight.
-ghost use Rattle.std.specs.Prelude.{◌≡◌, true, false, IsOk, IfOk, IfSome, OnErr};
+ghost use Rattle.std.specs.Prelude.{◌≡◌, ◌↔◌, ℕ, List, IsTrue, true, false, IsOk, IfOk, IfSome, OnErr};
 ghost use Rattle.fk_model.specs.declared.moves.Ask.TheVariants as asks;
 ghost use Rattle.fk_model.specs.Moves as machine;
+ghost use Rattle.fk_model.specs.Moves.{GoesAllowed};
 ghost use Rattle.fk_model.specs.Valid.{IsValid};
 ghost use Rattle.fk_answers.specs.Rooms.{IsRoom};
+ghost use Rattle.fk_plans.specs.Verdicts.{IsVerdict, move_by};
+ghost use Rattle.fk_store.specs.Paths.{path, place};
 ghost use Rattle.fk_store.specs.World.{world};
 ghost use Rattle.fk_calls.specs.Quiet as quiet;
 ghost use Rattle.fk_calls.specs.Judgements.{IsJudged, may_lack};
@@ -13,6 +16,7 @@ ghost use Rattle.fk_calls.specs.Tried.{porter, tried_if, tried_of, IsMade, HasEn
 use crate::answering::may_pick;
 use crate::moves::Told;
 use crate::rows;
+use crate::sole::holds_alone;
 use fk_answers::{answer, lay};
 use fk_model::status::OK;
 use fk_model::{Move, NoMemory, Ptr, Stage, Who};
@@ -68,6 +72,30 @@ pub fn is_quiet(verdict: &Verdict) -> bool
     }
 }
 
+/// Whether a porter's verdict that sets a pointer is ready. Where the porter holds the only space that is held, nothing is frozen for it.
+fn is_pointing_ready(
+    store: &Store,
+    who: Who,
+    chooses: bool,
+    pick: Option<Who>,
+    verdict: &Verdict,
+    set: Pointing,
+) -> bool
+    requires fits { IsVerdict store.now (porter who) verdict.now }
+    requires set { verdict.now ≡ Verdict.Done (Plan.One (Deed.Points set.object set.to)) set.answers }
+    ensures { (words : List ℕ) →
+        IsTrue result ↔ GoesAllowed (world store.now) (place (path store.now) who) (move_by store.now (porter who) words chooses pick verdict.now) }
+{
+    if holds_alone(store, who) {
+        return may_pick(chooses, pick);
+    }
+    let caller = Caller {
+        who,
+        is_porter: true,
+    };
+    is_ready(store, caller, chooses, pick, verdict)
+}
+
 /// Makes a porter's move that sets a pointer, where it is ready, and answers whether it was.
 #[inline(never)]
 pub fn point_at(
@@ -90,11 +118,7 @@ pub fn point_at(
     ensures padded { IsToldPadded (tried_if result told.new) }
     ensures unready { IsUnready store.old m.now (asks.Call stage.now words.now) store.new (tried_if result told.new) }
 {
-    let caller = Caller {
-        who: m.who,
-        is_porter: true,
-    };
-    if !is_ready(store, caller, rows::chooses(stage), m.pick, verdict) {
+    if !is_pointing_ready(store, m.who, rows::chooses(stage), m.pick, verdict, set) {
         return false;
     }
     // Tells that names and paths agree.

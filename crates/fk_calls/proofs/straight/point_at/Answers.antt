@@ -27,18 +27,18 @@ returns-clause-made c =
     let by = caller_by (path m) (porter move.who) c.args.words.now in
     let j : Judgement = record { caller = porter move.who; chooses = chooses c.args.stage.now; verdict = v } in
     let judged = c.requires.judged in
-    let ready = (ready_judged m move ask j _ judged (rw c.chooses.ensures at c.is_ready.ensures c.args.words.now)).0 (cc) in
+    let ready = (ready_judged m move ask j _ judged (rw c.chooses.ensures at c.is_pointing_ready.ensures c.args.words.now)).0 (cc) in
     let step : stepped (world m) (closed by (outcome_by (world m) (path m) by v)) ≡ record { world = world n; said = said_by (path n) c.lay.new.said }
     = rw (c.requires.set, c.point.ensures.world, c.lay.ensures.said (path n)) refl in
     (ready, step_judged m move ask j judged ready ∙ step)
 
-pub returns-then-not-is_ready-clause-unready : goal.returns-then-not-is_ready-clause-unready
-returns-then-not-is_ready-clause-unready c =
+pub returns-then-not-is_pointing_ready-clause-unready : goal.returns-then-not-is_pointing_ready-clause-unready
+returns-then-not-is_pointing_ready-clause-unready c =
     let m = c.args.store.now in
     let move = c.args.m.now in
     let ask = asks.Call c.args.stage.now c.args.words.now in
     let j : Judgement = record { caller = porter move.who; chooses = chooses c.args.stage.now; verdict = c.args.verdict.now } in
-    let ready = (ready_judged m move ask j _ c.requires.judged (rw c.chooses.ensures at c.is_ready.ensures c.args.words.now)).1 in
+    let ready = (ready_judged m move ask j _ c.requires.judged (rw c.chooses.ensures at c.is_pointing_ready.ensures c.args.words.now)).1 in
     ((λ r. let yes = ready r in absurd (cc)), refl)
 
 pub returns-clause-ended : goal.returns-clause-ended
