@@ -7,5 +7,4 @@ pub mod Restored
 mod Families
 mod Quiet
 mod Pointing
-mod Holding
 mod Untold

@@ -21,7 +21,6 @@ mod picking;
 mod rows;
 mod sayings;
 mod silent;
-mod sole;
 mod straight;
 
 pub use answering::call;

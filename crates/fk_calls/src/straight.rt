@@ -16,7 +16,6 @@ ghost use Rattle.fk_calls.specs.Tried.{porter, tried_if, tried_of, IsMade, HasEn
 use crate::answering::may_pick;
 use crate::moves::Told;
 use crate::rows;
-use crate::sole::holds_alone;
 use fk_answers::{answer, lay};
 use fk_model::status::OK;
 use fk_model::{Move, NoMemory, Ptr, Stage, Who};
@@ -86,7 +85,7 @@ fn is_pointing_ready(
     ensures { (words : List ℕ) →
         IsTrue result ↔ GoesAllowed (world store.now) (place (path store.now) who) (move_by store.now (porter who) words chooses pick verdict.now) }
 {
-    if holds_alone(store, who) {
+    if store.holds_the_only(who) {
         return may_pick(chooses, pick);
     }
     let caller = Caller {
