@@ -1,11 +1,13 @@
 -- A text is a trace of legal moves in one way at most, or stops being one at one place.
-use Rattle.std.proofs.Common.{◌≡◌, ℕ, List, [], ◌∷◌, ◌++◌, length, drop, Some, None, All, refl, sym, ap, subst, ◌∙◌, append_assoc, arith, inl, inr}
+use Rattle.std.proofs.Common.{◌≡◌, ℕ, List, [], ◌∷◌, ◌++◌, length, drop, Some, None, decimal, All, refl, sym, ap, subst, ◌∙◌, append_assoc, arith, inl, inr}
 use Rattle.std.proofs.lemmas.List.{append-nil}
 use Rattle.std.proofs.Math.Seq.{drop-append_seam}
 use Rattle.std.proofs.lemmas.List.Elements.{All-push, All-nil, All-head, All-tail}
 use Rattle.std.proofs.lemmas.Option.{same_Some}
 use Rattle.std.specs.Bool.{⊤}
 use Rattle.fk_model.specs.declared.moves.Move.{Move}
+use Rattle.fk_model.specs.Numbers.{plain_number_up_to}
+use Rattle.fk_model.proofs.numbers.Decimals.{plain_number_up_to-only, plain_number_up_to-le}
 use Rattle.fk_trace_text.specs.Trace.{move_text, ended_line, first_line, trace_lines, trace_text, IsMove, EachMayFollow, AreLegal, Spells, BeginsWith, BeginsWithNone, IsFirstBad}
 use Rattle.fk_trace_text.specs.Reading.{cut_at, move_of}
 use Rattle.fk_trace_text.proofs.Cuts.{cut_at-at, cut_at-parts}
@@ -80,6 +82,24 @@ pub BeginsWith-read : (text : List ℕ) (parts : List ℕ × List ℕ) (move : M
 BeginsWith-read text parts move cut read =
     let is_line = move_of-only parts.0 move read in
     record { range = is_line.ranges; spelled = cut_at-parts 10 text parts cut ∙ rw is_line.spelled (sym (append_assoc (move_text move) (10 ∷ []) parts.1)) }
+
+-- two numbers with a dot between them, and the end of the line behind them
+pub BeginsWith-lone : (text : List ℕ) (names parts : List ℕ × List ℕ) (space slot : ℕ) → cut_at 46 text ≡ Some names → cut_at 10 names.1 ≡ Some parts →
+    plain_number_up_to 4294967295 names.0 ≡ Some space → plain_number_up_to 255 parts.0 ≡ Some slot →
+    BeginsWith text (record { who = record { space = space; slot = slot }; pick = None }) parts.1
+BeginsWith-lone text names parts space slot dot end front back =
+    let high = plain_number_up_to-le 4294967295 space names.0 front in
+    let low = plain_number_up_to-le 255 slot parts.0 back in
+    let first : names.0 ≡ decimal space = plain_number_up_to-only 4294967295 space names.0 (omega arith) front in
+    let second : parts.0 ≡ decimal slot = plain_number_up_to-only 255 slot parts.0 (omega arith) back in
+    let who : List ℕ = decimal space ++ 46 ∷ decimal slot in
+    let line : ((who ++ []) ++ 10 ∷ []) ++ parts.1 ≡ decimal space ++ 46 ∷ (decimal slot ++ 10 ∷ parts.1) =
+    ap (λ (front : List ℕ). (front ++ 10 ∷ []) ++ parts.1) (append-nil who) ∙ append_assoc who (10 ∷ []) parts.1
+    ∙ append_assoc (decimal space) (46 ∷ decimal slot) (10 ∷ parts.1) in
+    record {
+      range = record { who = record { space = omega (arith, high); slot = omega (arith, low) }; pick = tt };
+      spelled = cut_at-parts 46 text names dot ∙ rw (cut_at-parts 10 names.1 parts end, first, second) (sym line);
+    }
 
 -- a text that isn't cut begins with no line
 pub BeginsWithNone-uncut : (text : List ℕ) → cut_at 10 text ≡ None → BeginsWithNone (λ _. ⊤) text

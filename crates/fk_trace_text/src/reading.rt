@@ -58,11 +58,38 @@ pub fn after_first_line(text: &[u8]) -> Option<&[u8]>
     text.strip_prefix(b"fluke-trace 1\n")
 }
 
-/// The move whose line a text begins with, and what stands after that line.
-pub fn first_move(text: &[u8]) -> Option<(Move, &[u8])>
+/// The move whose line a text begins with, where it picks nobody, and what stands after that line.
+fn first_lone(text: &[u8]) -> Option<(Move, &[u8])>
+    ensures { IfSome result (λ first. BeginsWith text.now first.0 first.1.now) }
+{
+    let (front, rest) = cut_at(b'.', text)?;
+    let (back, after) = cut_at(b'\n', rest)?;
+    let space = plain_number_up_to(4_294_967_295, front)?;
+    let slot = plain_number_up_to(255, back)?;
+    let who = Who {
+        space: space as u32,
+        slot: slot as u8,
+    };
+    Some((Move { who, pick: None }, after))
+}
+
+/// The same of any move.
+fn first_any(text: &[u8]) -> Option<(Move, &[u8])>
     ensures found { IfSome result (λ first. BeginsWith text.now first.0 first.1.now) }
     ensures none { IfNone result (BeginsWithNone (λ _. ⊤) text.now) }
 {
     let (line, after) = cut_at(b'\n', text)?;
     Some((move_of(line)?, after))
+}
+
+/// The move whose line a text begins with, and what stands after that line.
+pub fn first_move(text: &[u8]) -> Option<(Move, &[u8])>
+    ensures found { IfSome result (λ first. BeginsWith text.now first.0 first.1.now) }
+    ensures none { IfNone result (BeginsWithNone (λ _. ⊤) text.now) }
+{
+    // Most moves pick nobody, and their lines are read in one go.
+    match first_lone(text) {
+        Some(first) => Some(first),
+        None => first_any(text),
+    }
 }
