@@ -1,5 +1,6 @@
 -- Leasing: what a lease begins with.
-use Rattle.std.proofs.Common.{◌≡◌, ℕ, ◌+◌, ◌/◌, ◌↔◌, Bool, true, false, List, Option, None, Some, IfNone, IfSome, IsSome, IsTrue, refl, sym, ap, ◌∙◌}
+use Rattle.std.proofs.Common.{◌≡◌, ℕ, ◌+◌, ◌/◌, ◌↔◌, Bool, true, false, List, None, Some, IsTrue, refl, sym, ap, ◌∙◌}
+use Rattle.std.specs.Bool.{OnTrue, OnFalse}
 use Rattle.fk_model.specs.declared.moves.Ask.TheVariants as asks
 use Rattle.fk_model.specs.declared.names.Who.{Who}
 use Rattle.fk_model.specs.declared.thread.Mode as modes_of
@@ -67,14 +68,14 @@ nobody_runs m who born running none =
 
 -- a copy is one of a lease where the thread is ready
 module _ (m : Contents) (who : Who) (born : path m ≡ space_born (world m)) where
-  pub leased_ready : (o : Option Lease) → IsReadyToRun (world m) who → IfNone o (None ≡ thread_at (world m) (place (path m) who)) →
-      IsSome o ↔ IsReadyToRun (world m) who
-  leased_ready (Some l) ready none = ((λ some. ready), (λ ready. refl))
-  leased_ready None ready none = absurd (nobody_runs m who born ready.0 none)
+  pub leased_ready : (r : Bool) → IsReadyToRun (world m) who → OnFalse r (None ≡ thread_at (world m) (place (path m) who)) →
+      IsTrue r ↔ IsReadyToRun (world m) who
+  leased_ready true ready none = ((λ so. ready), (λ ready. refl))
+  leased_ready false ready none = absurd (nobody_runs m who born ready.0 none)
 
-  pub leased_so : (o : Option Lease) → IsReadyToRun (world m) who → IfSome o (λ l. IsCopied m who l) → IfSome o (λ l. IsLeased (world m) who l)
-  leased_so (Some l) ready copied = is_leased m who l born ready.0 copied
-  leased_so None ready copied = tt
+  pub leased_so : (r : Bool) (l : Lease) → IsReadyToRun (world m) who → OnTrue r (IsCopied m who l) → OnTrue r (IsLeased (world m) who l)
+  leased_so true l ready copied = is_leased m who l born ready.0 copied
+  leased_so false l ready copied = tt
 
   module _ (running : Bool) (is : running ≡ is_running (thread_at (world m) (place (path m) who))) where
     runs-there : running ≡ is_running (thread_at (world m) (named (world m) who))
@@ -88,14 +89,13 @@ module _ (m : Contents) (who : Who) (born : path m ≡ space_born (world m)) whe
     unready_resting rests = ((λ so. absurd (cc)), (λ both. let not_so = sym rests ∙ runs-there ∙ both.0 in absurd (cc)))
 
 -- a lease that begins keeps what a lease keeps
+pub kept_fresh : (who : Who) (taken : Copied) → ((page : ℕ) → (burst_of taken).used page ≡ false) → taken.first ≡ taken.counter / 64 →
+    IsKept (record { thread = who; taken = taken; copy = taken; count = 0 })
+kept_fresh who taken fresh first = record { comes = made_none (burst_of taken); fresh = fresh; begins = first; first = refl }
+
 pub kept_first : (who : Who) (taken : Copied) (w : World) (space : Path) (registers : List ℕ) (counter : ℕ) → burst_of taken ≡ begun w space registers counter →
     taken.first ≡ taken.counter / 64 → IsKept (record { thread = who; taken = taken; copy = taken; count = 0 })
-kept_first who taken w space registers counter is first = record {
-  comes = made_none (burst_of taken);
-  fresh = λ page. ap (λ (b : Burst). b.used page) is;
-  begins = first;
-  first = refl;
-}
+kept_first who taken w space registers counter is first = kept_fresh who taken (λ page. ap (λ (b : Burst). b.used page) is) first
 
 -- and so does one that has made more instructions
 pub kept_more : (who : Who) (taken now next : Copied) (count more : ℕ) → IsKept (record { thread = who; taken = taken; copy = now; count = count }) →

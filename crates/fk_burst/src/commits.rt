@@ -157,9 +157,20 @@ pub fn commit(k: &mut Kernel, l: Leased, left: u64) -> bool
     ensures may_not { OnFalse result (MayCommit (world_of k.old) l left → ⊥) }
     ensures same { OnFalse result (k.new ≡ k.old) }
 {
+    commit_held(k, &l, left)
+}
+
+/// The same of a lease that stays where it is.
+pub fn commit_held(k: &mut Kernel, l: &Leased, left: u64) -> bool
+    ensures moves { OnTrue result (LeadQuietly (world_of k.old) (replicate l.now.count (move_of (named (world_of k.old) l.now.thread))) (world_of k.new)) }
+    ensures running { OnTrue result (LeadRunning (record { who = l.now.thread; pick = None }) l.now.count (world_of k.old) (world_of k.new)) }
+    ensures may { OnTrue result (MayCommit (world_of k.old) l.now left) }
+    ensures may_not { OnFalse result (MayCommit (world_of k.old) l.now left → ⊥) }
+    ensures same { OnFalse result (k.new ≡ k.old) }
+{
     k.names();
     l.keeps();
-    if may_commit(k, &l, left) {
+    if may_commit(k, l, left) {
         l.copy.places();
         put_back(k, l.thread, &l.copy);
         true

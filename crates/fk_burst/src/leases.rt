@@ -1,5 +1,6 @@
 //! Leases: a copy of a running thread that a worker takes with it.
-ghost use Rattle.std.specs.Prelude.{◌≡◌, ◌≤◌, ◌+◌, ◌↔◌, None, Some, IfNone, IfSome, IsSome, IsTrue};
+ghost use Rattle.std.specs.Prelude.{◌≡◌, ◌≤◌, ◌+◌, ◌↔◌, None, Some, IfSome, IsSome, IsTrue};
+ghost use Rattle.std.specs.Bool.{OnTrue, OnFalse};
 ghost use Rattle.fk_kernel.specs.Kernels.{world_of};
 ghost use Rattle.fk_model.specs.declared.moves.Ask.TheVariants as asks;
 ghost use Rattle.fk_model.specs.Moves.{IsReady};
@@ -52,6 +53,49 @@ impl Leased {
         ensures { result ≡ self.now.thread }
     {
         self.thread
+    }
+
+    /// A lease of nobody, to be renewed: no instruction can be made in it.
+    pub fn blank() -> Leased {
+        let taken = Copied::blank();
+        Leased {
+            thread: Who { space: 0, slot: 0 },
+            taken,
+            copy: taken,
+            count: 0,
+        }
+    }
+
+    /// Becomes a lease of the thread in a slot: what `lease` gives, in place, since a lease is large. Says whether the thread is ready in
+    /// running mode.
+    pub fn renew(&mut self, k: &Kernel, thread: Who) -> bool
+        ensures ready { IsTrue result ↔ IsReadyToRun (world_of k.now) thread }
+        ensures leased { OnTrue result (IsLeased (world_of k.now) thread self.new) }
+    {
+        k.names();
+        if is_ready_to_run(k, thread) {
+            self.take(k.store(), thread)
+        } else {
+            false
+        }
+    }
+
+    /// Becomes a copy of the thread in a slot, and says whether one is there.
+    fn take(&mut self, store: &Store, thread: Who) -> bool
+        requires { IsPaged (world store.now) }
+        ensures some { OnTrue result (IsCopied store.now thread self.new) }
+        ensures none { OnFalse result (None ≡ thread_at (world store.now) (place (path store.now) thread)) }
+    {
+        match store.thread(thread) {
+            Some(there) => {
+                self.thread = thread;
+                self.taken.fill(store, thread.space, there);
+                self.copy = self.taken;
+                self.count = 0;
+                true
+            }
+            None => false,
+        }
     }
 
     /// What its type keeps. Nothing is done: by this call it is had of the whole.
@@ -107,39 +151,14 @@ pub(crate) fn is_ready_to_run(k: &Kernel, thread: Who) -> bool
     }
 }
 
-/// A copy of the thread in a slot, where one is there.
-#[tactic(auto, using(crate::proofs::Leasing::kept_first))]
-fn copied(store: &Store, thread: Who) -> Option<Leased>
-    requires { IsPaged (world store.now) }
-    ensures some { IfSome result (λ l. IsCopied store.now thread l) }
-    ensures none { IfNone result (None ≡ thread_at (world store.now) (place (path store.now) thread)) }
-{
-    match store.thread(thread) {
-        Some(there) => {
-            let taken = Copied::of(store, thread.space, there);
-            Some(Leased {
-                thread,
-                taken,
-                copy: taken,
-                count: 0,
-            })
-        }
-        None => None,
-    }
-}
-
 /// A copy of the thread in a slot, with those pages of its space that are there among the page of its counter and the three after it.
 /// There is none exactly where the thread isn't ready in running mode.
 pub fn lease(k: &Kernel, thread: Who) -> Option<Leased>
     ensures ready { IsSome result ↔ IsReadyToRun (world_of k.now) thread }
     ensures leased { IfSome result (λ l. IsLeased (world_of k.now) thread l) }
 {
-    k.names();
-    if is_ready_to_run(k, thread) {
-        copied(k.store(), thread)
-    } else {
-        None
-    }
+    let mut l = Leased::blank();
+    if l.renew(k, thread) { Some(l) } else { None }
 }
 
 /// Makes at most so many instructions, up to one that can't be made, and says how many they were.

@@ -13,5 +13,5 @@
 mod commits;
 mod leases;
 
-pub use commits::commit;
+pub use commits::{commit, commit_held};
 pub use leases::{Leased, count, lease, run};

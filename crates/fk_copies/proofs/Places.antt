@@ -11,7 +11,7 @@ use Rattle.fk_model.specs.World.{World}
 use Rattle.laws_bursts.specs.Bursts.{using, write}
 use Rattle.laws_bursts.specs.Laws.{HasPages}
 use Rattle.fk_copies.specs.declared.copied.Copied.{Copied}
-use Rattle.fk_copies.specs.Copies.{for_page, burst_of, begun, IsSameAt}
+use Rattle.fk_copies.specs.Copies.{for_page, burst_of, begun, laid, IsSameAt}
 
 -- ---- one place of a list that begins with a page
 
@@ -107,21 +107,45 @@ module _ (c : Copied) where
 
 -- ---- the copy with which a lease begins
 
+four-unused : (n : ℕ) → slice_index_or (false ∷ false ∷ false ∷ false ∷ []) n false ≡ false
+four-unused zero = refl
+four-unused (suc zero) = refl
+four-unused (suc (suc zero)) = refl
+four-unused (suc (suc (suc zero))) = refl
+four-unused (suc (suc (suc (suc n)))) = refl
+
+-- a copy of which no place is used has used no page
+pub none-used : (registers : List ℕ) (counter first : ℕ) (there : List Bool) (words : List (List ℕ)) (page : ℕ) →
+    (burst_of (record {
+      registers = registers;
+      counter = counter;
+      first = first;
+      there = there;
+      used = false ∷ false ∷ false ∷ false ∷ [];
+      words = words;
+    })).used page ≡ false
+unfolding burst_of
+none-used registers counter first there words page = by (nat_le first page)
+  where
+    by : (low : Bool) → cond low (slice_index_or (false ∷ false ∷ false ∷ false ∷ []) (page - first) false) false ≡ false
+    by true = four-unused (page - first)
+    by false = refl
+
 -- a page that is there, and its words
 kept : {W : Type 0} (o : Option W) (zeros : W) → cond (is_some o) (Some (unwrap_or o zeros)) None ≡ o
 kept None zeros = refl
 kept (Some words) zeros = refl
 
-module _ (w : World) (space : Path) (registers : List ℕ) (counter : ℕ) (zeros : List ℕ) where
+module _ (w : World) (space : Path) (registers : List ℕ) (counter : ℕ) (za zb zc zd : List ℕ) where
   -- four pages and which of them are there
-  abbrev pub copy_of : Option (List ℕ) → Option (List ℕ) → Option (List ℕ) → Option (List ℕ) → Copied
+  abbrev copy_of : Option (List ℕ) → Option (List ℕ) → Option (List ℕ) → Option (List ℕ) → Copied
   copy_of a b c d = record {
     registers = registers;
     counter = counter;
     first = counter / 64;
     there = is_some a ∷ is_some b ∷ is_some c ∷ is_some d ∷ [];
     used = false ∷ false ∷ false ∷ false ∷ [];
-    words = unwrap_or a zeros ∷ unwrap_or b zeros ∷ unwrap_or c zeros ∷ unwrap_or d zeros ∷ [];
+    words = unwrap_or a za ∷ unwrap_or b zb ∷ unwrap_or c zc ∷ unwrap_or d zd ∷ [];
   }
 
   pub copied_near : (a b c d : Option (List ℕ)) →
@@ -136,44 +160,82 @@ module _ (w : World) (space : Path) (registers : List ℕ) (counter : ℕ) (zero
     used = λ page. unused page (nat_le (counter / 64) page) i;
   }
     where
-      unused_at : (n : ℕ) → slice_index_or (false ∷ false ∷ false ∷ false ∷ []) n false ≡ false
-      unused_at zero = refl
-      unused_at (suc zero) = refl
-      unused_at (suc (suc zero)) = refl
-      unused_at (suc (suc (suc zero))) = refl
-      unused_at (suc (suc (suc (suc n)))) = refl
-
       unused : (page : ℕ) (low : Bool) → cond low (slice_index_or (false ∷ false ∷ false ∷ false ∷ []) (page - counter / 64) false) false ≡ false
-      unused page true = unused_at (page - counter / 64)
+      unused page true = four-unused (page - counter / 64)
       unused page false = refl
 
-      within : (page : ℕ) (o : Option (List ℕ)) → page < counter / 64 + 4 → o ≡ w.page space page →
+      within : (page : ℕ) (o : Option (List ℕ)) (zeros : List ℕ) → page < counter / 64 + 4 → o ≡ w.page space page →
           cond (is_some o) (Some (unwrap_or o zeros)) None ≡ cond (nat_lt page (counter / 64 + 4)) (w.page space page) None
-      within page o less is = kept o zeros ∙ is ∙ sym (ap (λ t. cond t (w.page space page) None) (lt-ltb page (counter / 64 + 4) less))
+      within page o zeros less is = kept o zeros ∙ is ∙ sym (ap (λ t. cond t (w.page space page) None) (lt-ltb page (counter / 64 + 4) less))
 
       at : (n page : ℕ) → page ≡ counter / 64 + n →
           cond (slice_index_or (is_some a ∷ is_some b ∷ is_some c ∷ is_some d ∷ []) n false)
-          (Some (slice_index_or (unwrap_or a zeros ∷ unwrap_or b zeros ∷ unwrap_or c zeros ∷ unwrap_or d zeros ∷ []) n [])) None
+          (Some (slice_index_or (unwrap_or a za ∷ unwrap_or b zb ∷ unwrap_or c zc ∷ unwrap_or d zd ∷ []) n [])) None
           ≡ cond (nat_lt page (counter / 64 + 4)) (w.page space page) None
-      at zero page is = let same : counter / 64 ≡ page = omega (arith, is) in within page a (omega (arith, is)) (at_a ∙ ap (w.page space) same)
+      at zero page is = let same : counter / 64 ≡ page = omega (arith, is) in within page a za (omega (arith, is)) (at_a ∙ ap (w.page space) same)
       at (suc zero) page is =
           let same : counter / 64 + 1 ≡ page = omega (arith, is) in
-          within page b (omega (arith, is)) (at_b ∙ ap (w.page space) same)
+          within page b zb (omega (arith, is)) (at_b ∙ ap (w.page space) same)
       at (suc (suc zero)) page is =
           let same : counter / 64 + 2 ≡ page = omega (arith, is) in
-          within page c (omega (arith, is)) (at_c ∙ ap (w.page space) same)
+          within page c zc (omega (arith, is)) (at_c ∙ ap (w.page space) same)
       at (suc (suc (suc zero))) page is =
           let same : counter / 64 + 3 ≡ page = omega (arith, is) in
-          within page d (omega (arith, is)) (at_d ∙ ap (w.page space) same)
+          within page d zd (omega (arith, is)) (at_d ∙ ap (w.page space) same)
       at (suc (suc (suc (suc n)))) page is = sym (ap (λ t. cond t (w.page space page) None) (le-ltb page (counter / 64 + 4) (omega (arith, is))))
 
       on : (page : ℕ) (low : Bool) → nat_le (counter / 64) page ≡ low →
           cond (cond low (slice_index_or (is_some a ∷ is_some b ∷ is_some c ∷ is_some d ∷ []) (page - counter / 64) false) false)
           (Some (cond low
-          (slice_index_or (unwrap_or a zeros ∷ unwrap_or b zeros ∷ unwrap_or c zeros ∷ unwrap_or d zeros ∷ []) (page - counter / 64) []) [])) None
+          (slice_index_or (unwrap_or a za ∷ unwrap_or b zb ∷ unwrap_or c zc ∷ unwrap_or d zd ∷ []) (page - counter / 64) []) [])) None
           ≡ cond (low && nat_lt page (counter / 64 + 4)) (w.page space page) None
       on page true e = at (page - counter / 64) page (omega (arith, leb-true (counter / 64) page e))
       on page false e = refl
+
+-- the four places of a copy, each with its page where that is there
+module _ (x y z t : List ℕ) where
+  at-0 : (o : Option (List ℕ)) → laid 0 o (x ∷ y ∷ z ∷ t ∷ []) ≡ unwrap_or o x ∷ y ∷ z ∷ t ∷ []
+  at-0 None = refl
+  at-0 (Some page) = refl
+
+  at-1 : (o : Option (List ℕ)) → laid 1 o (x ∷ y ∷ z ∷ t ∷ []) ≡ x ∷ unwrap_or o y ∷ z ∷ t ∷ []
+  at-1 None = refl
+  at-1 (Some page) = refl
+
+  at-2 : (o : Option (List ℕ)) → laid 2 o (x ∷ y ∷ z ∷ t ∷ []) ≡ x ∷ y ∷ unwrap_or o z ∷ t ∷ []
+  at-2 None = refl
+  at-2 (Some page) = refl
+
+  at-3 : (o : Option (List ℕ)) → laid 3 o (x ∷ y ∷ z ∷ t ∷ []) ≡ x ∷ y ∷ z ∷ unwrap_or o t ∷ []
+  at-3 None = refl
+  at-3 (Some page) = refl
+
+all-laid : (x y z t : List ℕ) (a b c d : Option (List ℕ)) →
+    laid 3 d (laid 2 c (laid 1 b (laid 0 a (x ∷ y ∷ z ∷ t ∷ [])))) ≡ unwrap_or a x ∷ unwrap_or b y ∷ unwrap_or c z ∷ unwrap_or d t ∷ []
+all-laid x y z t a b c d = ap (λ ws. laid 3 d (laid 2 c (laid 1 b ws))) (at-0 x y z t a)
+    ∙ ap (λ ws. laid 3 d (laid 2 c ws)) (at-1 (unwrap_or a x) y z t b)
+    ∙ ap (laid 3 d) (at-2 (unwrap_or a x) (unwrap_or b y) z t c)
+    ∙ at-3 (unwrap_or a x) (unwrap_or b y) (unwrap_or c z) t d
+
+-- a copy that is filled with them
+pub filled : (w : World) (space : Path) (registers : List ℕ) (counter : ℕ) (pages : List (List ℕ)) (a b c d : Option (List ℕ)) → length pages ≡ 4 →
+    a ≡ w.page space (counter / 64) → b ≡ w.page space (counter / 64 + 1) → c ≡ w.page space (counter / 64 + 2) → d ≡ w.page space (counter / 64 + 3) →
+    burst_of (record {
+      registers = registers;
+      counter = counter;
+      first = counter / 64;
+      there = is_some a ∷ is_some b ∷ is_some c ∷ is_some d ∷ [];
+      used = false ∷ false ∷ false ∷ false ∷ [];
+      words = laid 3 d (laid 2 c (laid 1 b (laid 0 a pages)));
+    }) ≡ begun w space registers counter
+filled w space registers counter (x ∷ y ∷ z ∷ t ∷ []) a b c d long at_a at_b at_c at_d =
+    ap (λ words. burst_of (record (copy_of w space registers counter x y z t a b c d) { words = words })) (all-laid x y z t a b c d)
+    ∙ copied_near w space registers counter x y z t a b c d at_a at_b at_c at_d
+filled w space registers counter [] a b c d long at_a at_b at_c at_d = absurd (cc)
+filled w space registers counter (x ∷ []) a b c d long at_a at_b at_c at_d = absurd (cc)
+filled w space registers counter (x ∷ y ∷ []) a b c d long at_a at_b at_c at_d = absurd (cc)
+filled w space registers counter (x ∷ y ∷ z ∷ []) a b c d long at_a at_b at_c at_d = absurd (cc)
+filled w space registers counter (x ∷ y ∷ z ∷ t ∷ u ∷ rest) a b c d long at_a at_b at_c at_d = absurd (omega (arith, long))
 
 -- ---- pages of a space
 

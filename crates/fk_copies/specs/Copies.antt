@@ -1,6 +1,6 @@
 -- Copies: the burst that a copy of a thread in code is, and that with which it begins.
 use Rattle.std.specs.Prelude.{◌≡◌, ℕ, ◌+◌, ◌-◌, ◌/◌, Bool, true, false, ◌&&◌, nat_le, nat_lt, List, [], Some, None}
-use Rattle.std.specs.Prelude.{if◌then◌else◌, slice_index_or}
+use Rattle.std.specs.Prelude.{Option, if◌then◌else◌, slice_index_or, slice_set}
 use Rattle.fk_model.specs.declared.limits.TheConstants.{PAGE_WORDS}
 use Rattle.fk_model.specs.Places.{Path}
 use Rattle.fk_model.specs.World.{World}
@@ -35,3 +35,8 @@ begun w space registers counter = record {
 -- the page at a place, if a copy has used it, is in a space as another copy has it
 abbrev pub IsSameAt : World → Path → Copied → Copied → ℕ → Type 0
 IsSameAt w space now taken k = slice_index_or now.used k false ≡ true → w.page space (now.first + k) ≡ (burst_of taken).page (now.first + k)
+
+-- a page at a place of a list, if there is one
+abbrev pub laid : ℕ → Option (List ℕ) → List (List ℕ) → List (List ℕ)
+laid k (Some page) pages = slice_set pages k page
+laid k None pages = pages

@@ -1,6 +1,6 @@
 //! A copy of a thread and of some pages of its space, and instructions in it.
-ghost use Rattle.std.specs.Prelude.{◌≡◌, ◌↔◌, ◌+◌, ◌/◌, ◌<◌, ◌^◌, None, Some, IsSome, IsTrue, IfSome, IfNone, length, slice_index_or, slice_set, unwrap_or};
-ghost use Rattle.std.specs.Prelude.{replicate, [], true, false, if◌then◌else◌};
+ghost use Rattle.std.specs.Prelude.{◌≡◌, ◌↔◌, ◌+◌, ◌/◌, ◌<◌, ◌^◌, None, Some, IsSome, IsTrue, IfSome, IfNone, length, slice_index_or, slice_set};
+ghost use Rattle.std.specs.Prelude.{ℕ, is_some, [], true, false, if◌then◌else◌};
 ghost use Rattle.std.specs.Bool.{OnTrue, OnFalse};
 ghost use Rattle.std.specs.Option.{option_copied};
 ghost use Rattle.fk_model.specs.Instructions.{IsAct};
@@ -9,7 +9,7 @@ ghost use Rattle.fk_store.specs.Paths.{path, place};
 ghost use Rattle.fk_store.specs.World.{world};
 ghost use Rattle.laws_bursts.specs.Bursts.{acted, instructed, put, using, write};
 ghost use Rattle.laws_bursts.specs.Laws.{HasPages};
-ghost use Rattle.fk_copies.specs.Copies.{burst_of, begun, IsSameAt};
+ghost use Rattle.fk_copies.specs.Copies.{burst_of, begun, laid, IsSameAt};
 
 use fk_model::limits::{PAGE_WORDS, PAGES};
 use fk_model::{Act, Thread, Who};
@@ -43,13 +43,19 @@ fn near(store: &Store, space: u32, page: u64) -> Option<&[u64; 64]>
     }
 }
 
-/// The words of a page; zeros where it isn't there.
-fn words_of(page: Option<&[u64; 64]>) -> [u64; 64]
-    ensures { result ≡ unwrap_or (option_copied page.entry) (replicate 64 0) }
+/// Lays a page at a place of four, and says whether there is such a page. Where there is none the place stays as it was.
+#[inline(always)]
+fn lay(words: &mut [[u64; 64]; 4], k: usize, page: Option<&[u64; 64]>) -> bool
+    requires { k < 4 }
+    ensures there { result ≡ is_some (option_copied page.entry) }
+    ensures words { words.new ≡ laid k (option_copied page.entry) words.old }
 {
     match page {
-        Some(words) => *words,
-        None => [0; 64],
+        Some(now) => {
+            words[k] = *now;
+            true
+        }
+        None => false,
     }
 }
 
@@ -81,25 +87,39 @@ fn is_copied(page: Option<&[u64; 64]>, there: bool, words: &[u64; 64]) -> bool
 }
 
 impl Copied {
-    /// A copy of a thread in a space, of which nothing is used.
-    pub fn of(store: &Store, space: u32, thread: &Thread) -> Copied
-        requires { IsPaged (world store.now) }
+    /// A copy of nobody, in which no instruction can be made.
+    pub fn blank() -> Copied
         ensures first { result.first ≡ result.counter / 64 }
-        ensures begun { burst_of result ≡ begun (world store.now) (path store.now space) thread.now.regs thread.now.pc }
+        ensures unused { (page : ℕ) → (burst_of result).used page ≡ false }
+    {
+        Copied {
+            registers: [0; 16],
+            counter: 0,
+            first: 0,
+            there: [false; 4],
+            used: [false; 4],
+            words: [[0; 64]; 4],
+        }
+    }
+
+    /// Becomes a copy of a thread in a space, of which nothing is used. It is filled in place, since it is large.
+    #[inline(always)]
+    pub fn fill(&mut self, store: &Store, space: u32, thread: &Thread)
+        requires { IsPaged (world store.now) }
+        ensures first { self.new.first ≡ self.new.counter / 64 }
+        ensures begun { burst_of self.new ≡ begun (world store.now) (path store.now space) thread.now.regs thread.now.pc }
     {
         let first = thread.pc / PAGE_WORDS;
-        let a = near(store, space, first);
-        let b = near(store, space, first + 1);
-        let c = near(store, space, first + 2);
-        let d = near(store, space, first + 3);
-        Copied {
-            registers: thread.regs,
-            counter: thread.pc,
-            first,
-            there: [a.is_some(), b.is_some(), c.is_some(), d.is_some()],
-            used: [false; 4],
-            words: [words_of(a), words_of(b), words_of(c), words_of(d)],
-        }
+        self.registers = thread.regs;
+        self.counter = thread.pc;
+        self.first = first;
+        self.used = [false; 4];
+        self.there = [
+            lay(&mut self.words, 0, near(store, space, first)),
+            lay(&mut self.words, 1, near(store, space, first + 1)),
+            lay(&mut self.words, 2, near(store, space, first + 2)),
+            lay(&mut self.words, 3, near(store, space, first + 3)),
+        ];
     }
 
     /// A copy has four places. Nothing is done: by this call what its type keeps of them is had above.

@@ -1,18 +1,18 @@
 use Rattle.fk_burst.proofs.Leasing.{leased_ready, leased_so}
-use Rattle.fk_burst.proofs.leases.lease.Goals as goal
+use Rattle.fk_burst.proofs.leases.Leased.renew.Goals as goal
 
-pub copied-requires : goal.copied-requires
-copied-requires c = rw c.store.ensures c.names.ensures.valid.paged
+pub take-requires : goal.take-requires
+take-requires c = rw c.store.ensures c.names.ensures.valid.paged
 
 pub returns-then-is_ready_to_run-clause-ready : goal.returns-then-is_ready_to_run-clause-ready
 returns-then-is_ready_to_run-clause-ready c =
-    leased_ready c.args.k.now c.args.thread c.names.ensures.born c.copied.result (c.is_ready_to_run.ensures.0 c.if-is_ready_to_run.true)
-    (rw c.store.ensures at c.copied.ensures.none)
+    leased_ready c.args.k.now c.args.thread c.names.ensures.born c.take.result (c.is_ready_to_run.ensures.0 c.if-is_ready_to_run.true)
+    (rw c.store.ensures at c.take.ensures.none)
 
 pub returns-then-is_ready_to_run-clause-leased : goal.returns-then-is_ready_to_run-clause-leased
 returns-then-is_ready_to_run-clause-leased c =
-    leased_so c.args.k.now c.args.thread c.names.ensures.born c.copied.result (c.is_ready_to_run.ensures.0 c.if-is_ready_to_run.true)
-    (rw c.store.ensures at c.copied.ensures.some)
+    leased_so c.args.k.now c.args.thread c.names.ensures.born c.take.result c.take.new.self (c.is_ready_to_run.ensures.0 c.if-is_ready_to_run.true)
+    (rw c.store.ensures at c.take.ensures.some)
 
 pub returns-else-is_ready_to_run-clause-ready : goal.returns-else-is_ready_to_run-clause-ready
 returns-else-is_ready_to_run-clause-ready c = (

@@ -8,7 +8,7 @@ use Rattle.laws_turns.specs.Quiet.{LeadRunning}
 use Rattle.fk_burst.specs.Commits.{MayCommit}
 use Rattle.fk_burst.specs.Lease.{Lease}
 use Rattle.fk_burst.proofs.Currents.{has-used, leads, leads-running, low-pages, pages-there}
-use Rattle.fk_burst.proofs.commits.commit.Goals as goal
+use Rattle.fk_burst.proofs.commits.commit_held.Goals as goal
 
 pub put_back-requires-clause-low : goal.put_back-requires-clause-low
 put_back-requires-clause-low c =

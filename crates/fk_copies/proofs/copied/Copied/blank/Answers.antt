@@ -1,0 +1,5 @@
+use Rattle.fk_copies.proofs.Places.{none-used}
+use Rattle.fk_copies.proofs.copied.Copied.blank.Goals as goal
+
+pub returns-clause-unused : goal.returns-clause-unused
+returns-clause-unused c = λ page. none-used _ _ _ _ _ page
