@@ -8,3 +8,4 @@ mod Families
 mod Quiet
 mod Pointing
 mod Untold
+pub mod Touches

@@ -1,13 +1,16 @@
 -- Judgements: the move that a judgement stands for.
-use Rattle.std.specs.Prelude.{◌≡◌, ℕ, Bool, true, false, List, [], length, Option, option_map}
+use Rattle.std.specs.Prelude.{◌≡◌, ◌||◌, ℕ, Bool, true, false, List, [], length, Option, option_map}
 use Rattle.fk_model.specs.declared.moves.Ask.{Ask}
 use Rattle.fk_model.specs.declared.moves.Ask.TheVariants as asks
 use Rattle.fk_model.specs.declared.moves.Move.{Move}
 use Rattle.fk_model.specs.declared.moves.Said.{Said}
 use Rattle.fk_model.specs.declared.names.Who.{Who}
 use Rattle.fk_model.specs.Moves.{outcome, step, IsReady}
-use Rattle.fk_model.specs.Outcomes.{Outcome}
+use Rattle.fk_model.specs.Outcomes.{Outcome, listed}
+use Rattle.fk_model.specs.Places.{Path, same_path}
+use Rattle.fk_model.specs.Searches.{client_at}
 use Rattle.fk_model.specs.Valid.{is_fit}
+use Rattle.fk_model.specs.World.{World}
 use Rattle.fk_store.specs.Contents.{Contents}
 use Rattle.fk_store.specs.Moves.{picked_by, said_by}
 use Rattle.fk_store.specs.Named.{Each}
@@ -21,6 +24,9 @@ use Rattle.fk_plans.specs.Hearers.{IsHeard}
 use Rattle.fk_plans.specs.Movings.{verdict_of}
 use Rattle.fk_plans.specs.Verdicts.{IsVerdict, IsSureVerdict, move_by}
 use Rattle.fk_endings.specs.Clients.{IsEnding}
+use Rattle.fk_wakes.specs.declared.touching.Touched.{Touched}
+use Rattle.fk_wakes.specs.Touches.{is_making, is_touched, leave, MovesFirst}
+use Rattle.laws_machine.specs.Frame.{name_body}
 use Rattle.fk_calls.specs.declared.judging.Judgement.{Judgement}
 use Rattle.fk_calls.specs.Rows.{may_want_memory}
 
@@ -80,3 +86,16 @@ IsHeardBy m n said = IsHeard (path m) (said_by (path n) said) said
 -- a move may want memory, for an object or a page
 abbrev pub may_lack : Contents → Move → Ask → Bool
 may_lack m move ask = may_want_memory (world m) (place (path m) move.who) ask
+
+-- the client of a native server's act: the one that it picks, or has
+abbrev pub client_by : World → Path → Option Path → Ask → Option Path
+client_by w port pick asks.Accept = pick
+client_by w port pick other = client_at w port
+
+-- which objects a move changes besides its mover is told, and what it makes or takes from its place; it makes none where it wants no memory
+pub record TellsTouched (m : Contents) (move : Move) (ask : Ask) (touched : Touched) : Type 0 where
+  pub names : (x : Path) → name_body (world m) (listed (outcome_of m move ask)) x ≡ true →
+      (same_path x (place (path m) move.who) || is_touched (path m) touched x) ≡ true
+  pub leaves : leave (path m) touched (listed (outcome_of m move ask)) ≡ true
+  pub makes : may_lack m move ask ≡ false → is_making touched ≡ false
+  pub moves : MovesFirst (path m) touched (outcome_of m move ask)

@@ -6,8 +6,9 @@ use Rattle.fk_model.specs.declared.names.Who.{Who}
 use Rattle.fk_plans.specs.Hearers.{IsPadded}
 use Rattle.fk_readers.specs.declared.caller.Caller.{Caller}
 use Rattle.fk_store.specs.Contents.{Contents}
+use Rattle.fk_wakes.specs.declared.touching.Touched.{Touched}
 use Rattle.fk_calls.specs.declared.moves.Told.{Told}
-use Rattle.fk_calls.specs.Judgements.{IsEnded, IsHeardBy, IsReadyMove, IsStepTo}
+use Rattle.fk_calls.specs.Judgements.{IsEnded, IsHeardBy, IsReadyMove, IsStepTo, TellsTouched}
 
 -- where it is made it was ready, and is the machine's step to what the store holds then and to what is told
 abbrev pub IsMade : Contents → Move → Ask → Contents → Option Told → Type 0
@@ -24,6 +25,10 @@ IsTold m n tried = IfSome tried (λ told. IsHeardBy m n told.said)
 -- what is told has zeros past its length
 abbrev pub IsToldPadded : Option Told → Type 0
 IsToldPadded tried = IfSome tried (λ told. IsPadded told.said)
+
+-- where it is made, what it touched is told
+abbrev pub TellsOf : Contents → Move → Ask → Touched → Option Told → Type 0
+TellsOf m move ask touched tried = IfSome tried (λ told. TellsTouched m move ask touched)
 
 -- where it isn't made it isn't ready, and all is as it was
 abbrev pub IsUnready : Contents → Move → Ask → Contents → Option Told → Type 0

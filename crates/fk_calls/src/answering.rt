@@ -15,7 +15,7 @@ ghost use Rattle.fk_plans.specs.Verdicts.{outcome_of, IsVerdict, IsSureVerdict};
 ghost use Rattle.fk_calls.specs.Doings.{is_free_porter_at};
 ghost use Rattle.fk_calls.specs.Rows.{takes_memory};
 ghost use Rattle.fk_calls.specs.Judgements.{is_fit_move, IsJudged, may_lack};
-ghost use Rattle.fk_calls.specs.Tried.{porter, tried_if, tried_of, IsMade, HasEnded, IsTold, IsToldPadded, IsUnready, IsLacking};
+ghost use Rattle.fk_calls.specs.Tried.{porter, tried_if, tried_of, IsMade, HasEnded, IsTold, IsToldPadded, IsUnready, IsLacking, TellsOf};
 
 use crate::doing::is_free_porter;
 use crate::moves::{Told, apart};
@@ -31,6 +31,7 @@ use fk_spaces::{page_next, page_read};
 use fk_state::{get_ptr, get_state};
 use fk_store::Store;
 use fk_threads::Answers;
+use fk_wakes::{Touched, touched_by_move};
 
 /// Makes a porter's move that comes to this verdict, where it is ready, and answers whether it was.
 #[inline(never)]
@@ -41,6 +42,7 @@ fn make(
     words: &[u64; 64],
     verdict: &Verdict,
     told: &mut Told,
+    touched: &mut Touched,
 ) -> Result<bool, NoMemory>
     requires judged { IsJudged store.old m.now (asks.Call stage.now words.now)
         (record { caller = porter m.now.who; chooses = machine.chooses stage.now; verdict = verdict.now }) }
@@ -50,6 +52,7 @@ fn make(
     ensures ended { IfOk (tried_of result told.new) (HasEnded store.old store.new) }
     ensures heard { IfOk (tried_of result told.new) (IsTold store.old store.new) }
     ensures padded { IfOk (tried_of result told.new) IsToldPadded }
+    ensures touched { IfOk (tried_of result told.new) (TellsOf store.old m.now (asks.Call stage.now words.now) touched.new) }
     ensures unready { IfOk (tried_of result told.new) (IsUnready store.old m.now (asks.Call stage.now words.now) store.new) }
     ensures lacking { OnErr (tried_of result told.new) (IsLacking store.old m.now (asks.Call stage.now words.now) store.new) }
     ensures sure { may_lack store.old m.now (asks.Call stage.now words.now) ≡ false → IsOk (tried_of result told.new) }
@@ -62,6 +65,7 @@ fn make(
         return Ok(false);
     }
     told.ended = ended_by(store, caller, verdict);
+    *touched = touched_by_move(verdict);
     apart(store, caller, verdict);
     answer(store, caller, words, verdict, &mut told.said)?;
     Ok(true)
@@ -76,6 +80,7 @@ fn refuse(
     words: &[u64; 64],
     status: u8,
     told: &mut Told,
+    touched: &mut Touched,
 ) -> Result<bool, NoMemory>
     requires judged { IsJudged store.old m.now (asks.Call stage.now words.now)
         (record { caller = porter m.now.who; chooses = machine.chooses stage.now; verdict = Verdict.Refused status }) }
@@ -85,11 +90,20 @@ fn refuse(
     ensures ended { IfOk (tried_of result told.new) (HasEnded store.old store.new) }
     ensures heard { IfOk (tried_of result told.new) (IsTold store.old store.new) }
     ensures padded { IfOk (tried_of result told.new) IsToldPadded }
+    ensures touched { IfOk (tried_of result told.new) (TellsOf store.old m.now (asks.Call stage.now words.now) touched.new) }
     ensures unready { IfOk (tried_of result told.new) (IsUnready store.old m.now (asks.Call stage.now words.now) store.new) }
     ensures lacking { OnErr (tried_of result told.new) (IsLacking store.old m.now (asks.Call stage.now words.now) store.new) }
     ensures sure { may_lack store.old m.now (asks.Call stage.now words.now) ≡ false → IsOk (tried_of result told.new) }
 {
-    make(store, m, stage, words, &Verdict::Refused(status), told)
+    make(
+        store,
+        m,
+        stage,
+        words,
+        &Verdict::Refused(status),
+        told,
+        touched,
+    )
 }
 
 /// Whether a porter may pick so.
@@ -107,6 +121,7 @@ fn tell(
     words: &[u64; 64],
     answers: Answers,
     told: &mut Told,
+    touched: &mut Touched,
 ) -> bool
     requires judged { IsJudged store.now m.now (asks.Call stage.now words.now)
         (record { caller = porter m.now.who; chooses = machine.chooses stage.now; verdict = Verdict.Done Plan.Nothing answers }) }
@@ -116,6 +131,7 @@ fn tell(
     ensures ended { HasEnded store.now store.now (tried_if result told.new) }
     ensures heard { IsTold store.now store.now (tried_if result told.new) }
     ensures padded { IsToldPadded (tried_if result told.new) }
+    ensures touched { TellsOf store.now m.now (asks.Call stage.now words.now) touched.new (tried_if result told.new) }
     ensures unready { IsUnready store.now m.now (asks.Call stage.now words.now) store.now (tried_if result told.new) }
 {
     if !may_pick(rows::chooses(stage), m.pick) {
@@ -124,6 +140,11 @@ fn tell(
     // Tells that names and paths agree.
     store.names();
     told.ended = None;
+    *touched = Touched::Few {
+        first: None,
+        second: None,
+        third: None,
+    };
     lay(&mut told.said, OK, answers);
     true
 }
@@ -151,6 +172,7 @@ fn answer_besides(
     words: &[u64; 64],
     verdict: &Verdict,
     told: &mut Told,
+    touched: &mut Touched,
 ) -> Result<bool, NoMemory>
     requires judged { IsJudged store.old m.now (asks.Call stage.now words.now)
         (record { caller = porter m.now.who; chooses = machine.chooses stage.now; verdict = verdict.now }) }
@@ -160,17 +182,18 @@ fn answer_besides(
     ensures ended { IfOk (tried_of result told.new) (HasEnded store.old store.new) }
     ensures heard { IfOk (tried_of result told.new) (IsTold store.old store.new) }
     ensures padded { IfOk (tried_of result told.new) IsToldPadded }
+    ensures touched { IfOk (tried_of result told.new) (TellsOf store.old m.now (asks.Call stage.now words.now) touched.new) }
     ensures unready { IfOk (tried_of result told.new) (IsUnready store.old m.now (asks.Call stage.now words.now) store.new) }
     ensures lacking { OnErr (tried_of result told.new) (IsLacking store.old m.now (asks.Call stage.now words.now) store.new) }
     ensures sure { may_lack store.old m.now (asks.Call stage.now words.now) ≡ false → IsOk (tried_of result told.new) }
 {
     match sets_pointer(verdict) {
-        Some(set) => Ok(point_at(store, m, stage, words, verdict, set, told)),
+        Some(set) => Ok(point_at(store, m, stage, words, verdict, set, told, touched)),
         None => {
             if is_quiet(verdict) {
-                show(store, m, stage, words, verdict, told)
+                show(store, m, stage, words, verdict, told, touched)
             } else {
-                make(store, m, stage, words, verdict, told)
+                make(store, m, stage, words, verdict, told, touched)
             }
         }
     }
@@ -184,6 +207,7 @@ fn answer_verdict(
     words: &[u64; 64],
     verdict: &Verdict,
     told: &mut Told,
+    touched: &mut Touched,
 ) -> Result<bool, NoMemory>
     requires judged { IsJudged store.old m.now (asks.Call stage.now words.now)
         (record { caller = porter m.now.who; chooses = machine.chooses stage.now; verdict = verdict.now }) }
@@ -193,13 +217,14 @@ fn answer_verdict(
     ensures ended { IfOk (tried_of result told.new) (HasEnded store.old store.new) }
     ensures heard { IfOk (tried_of result told.new) (IsTold store.old store.new) }
     ensures padded { IfOk (tried_of result told.new) IsToldPadded }
+    ensures touched { IfOk (tried_of result told.new) (TellsOf store.old m.now (asks.Call stage.now words.now) touched.new) }
     ensures unready { IfOk (tried_of result told.new) (IsUnready store.old m.now (asks.Call stage.now words.now) store.new) }
     ensures lacking { OnErr (tried_of result told.new) (IsLacking store.old m.now (asks.Call stage.now words.now) store.new) }
     ensures sure { may_lack store.old m.now (asks.Call stage.now words.now) ≡ false → IsOk (tried_of result told.new) }
 {
     match few_words(verdict) {
-        Some(answers) => Ok(tell(store, m, stage, words, answers, told)),
-        None => answer_besides(store, m, stage, words, verdict, told),
+        Some(answers) => Ok(tell(store, m, stage, words, answers, told, touched)),
+        None => answer_besides(store, m, stage, words, verdict, told, touched),
     }
 }
 
@@ -213,6 +238,7 @@ fn answer_judged(
     stage: &Stage,
     words: &[u64; 64],
     told: &mut Told,
+    touched: &mut Touched,
 ) -> Result<bool, NoMemory>
     requires free { is_free_porter_at (world store.old) (place (path store.old) m.now.who) ≡ true }
     requires row { let c = caller_by (path store.old) (porter m.now.who) words.now in
@@ -225,13 +251,14 @@ fn answer_judged(
     ensures ended { IfOk (tried_of result told.new) (HasEnded store.old store.new) }
     ensures heard { IfOk (tried_of result told.new) (IsTold store.old store.new) }
     ensures padded { IfOk (tried_of result told.new) IsToldPadded }
+    ensures touched { IfOk (tried_of result told.new) (TellsOf store.old m.now (asks.Call stage.now words.now) touched.new) }
     ensures unready { IfOk (tried_of result told.new) (IsUnready store.old m.now (asks.Call stage.now words.now) store.new) }
     ensures lacking { OnErr (tried_of result told.new) (IsLacking store.old m.now (asks.Call stage.now words.now) store.new) }
     ensures sure { may_lack store.old m.now (asks.Call stage.now words.now) ≡ false → IsOk (tried_of result told.new) }
 {
     match judged {
-        Ok(verdict) => answer_verdict(store, m, stage, words, verdict, told),
-        Err(status) => refuse(store, m, stage, words, *status, told),
+        Ok(verdict) => answer_verdict(store, m, stage, words, verdict, told, touched),
+        Err(status) => refuse(store, m, stage, words, *status, told, touched),
     }
 }
 
@@ -243,6 +270,7 @@ fn call_any(
     stage: &Stage,
     words: &[u64; 64],
     told: &mut Told,
+    touched: &mut Touched,
 ) -> Result<bool, NoMemory>
     requires valid { IsValid (world store.old) }
     requires fit { is_fit_move store.old m.now (asks.Call stage.now words.now) ≡ true }
@@ -254,6 +282,7 @@ fn call_any(
     ensures ended { IfOk (tried_of result told.new) (HasEnded store.old store.new) }
     ensures heard { IfOk (tried_of result told.new) (IsTold store.old store.new) }
     ensures padded { IfOk (tried_of result told.new) IsToldPadded }
+    ensures touched { IfOk (tried_of result told.new) (TellsOf store.old m.now (asks.Call stage.now words.now) touched.new) }
     ensures unready { IfOk (tried_of result told.new) (IsUnready store.old m.now (asks.Call stage.now words.now) store.new) }
     ensures lacking { OnErr (tried_of result told.new) (IsLacking store.old m.now (asks.Call stage.now words.now) store.new) }
     ensures sure { may_lack store.old m.now (asks.Call stage.now words.now) ≡ false → IsOk (tried_of result told.new) }
@@ -269,6 +298,7 @@ fn call_any(
         stage,
         words,
         told,
+        touched,
     )
 }
 
@@ -281,6 +311,7 @@ fn call_search(
     stage: &Stage,
     words: &[u64; 64],
     told: &mut Told,
+    touched: &mut Touched,
 ) -> Result<bool, NoMemory>
     requires valid { IsValid (world store.old) }
     requires fit { is_fit_move store.old m.now (asks.Call stage.now words.now) ≡ true }
@@ -292,6 +323,7 @@ fn call_search(
     ensures ended { IfOk (tried_of result told.new) (HasEnded store.old store.new) }
     ensures heard { IfOk (tried_of result told.new) (IsTold store.old store.new) }
     ensures padded { IfOk (tried_of result told.new) IsToldPadded }
+    ensures touched { IfOk (tried_of result told.new) (TellsOf store.old m.now (asks.Call stage.now words.now) touched.new) }
     ensures unready { IfOk (tried_of result told.new) (IsUnready store.old m.now (asks.Call stage.now words.now) store.new) }
     ensures lacking { OnErr (tried_of result told.new) (IsLacking store.old m.now (asks.Call stage.now words.now) store.new) }
     ensures sure { may_lack store.old m.now (asks.Call stage.now words.now) ≡ false → IsOk (tried_of result told.new) }
@@ -309,9 +341,10 @@ fn call_search(
                 stage,
                 words,
                 told,
+                touched,
             )
         }
-        _ => call_any(store, m, stage, words, told),
+        _ => call_any(store, m, stage, words, told, touched),
     }
 }
 
@@ -323,6 +356,7 @@ fn call_point(
     stage: &Stage,
     words: &[u64; 64],
     told: &mut Told,
+    touched: &mut Touched,
 ) -> Result<bool, NoMemory>
     requires valid { IsValid (world store.old) }
     requires fit { is_fit_move store.old m.now (asks.Call stage.now words.now) ≡ true }
@@ -334,6 +368,7 @@ fn call_point(
     ensures ended { IfOk (tried_of result told.new) (HasEnded store.old store.new) }
     ensures heard { IfOk (tried_of result told.new) (IsTold store.old store.new) }
     ensures padded { IfOk (tried_of result told.new) IsToldPadded }
+    ensures touched { IfOk (tried_of result told.new) (TellsOf store.old m.now (asks.Call stage.now words.now) touched.new) }
     ensures unready { IfOk (tried_of result told.new) (IsUnready store.old m.now (asks.Call stage.now words.now) store.new) }
     ensures lacking { OnErr (tried_of result told.new) (IsLacking store.old m.now (asks.Call stage.now words.now) store.new) }
     ensures sure { may_lack store.old m.now (asks.Call stage.now words.now) ≡ false → IsOk (tried_of result told.new) }
@@ -351,9 +386,10 @@ fn call_point(
                 stage,
                 words,
                 told,
+                touched,
             )
         }
-        _ => call_any(store, m, stage, words, told),
+        _ => call_any(store, m, stage, words, told, touched),
     }
 }
 
@@ -365,6 +401,7 @@ fn call_locate(
     stage: &Stage,
     words: &[u64; 64],
     told: &mut Told,
+    touched: &mut Touched,
 ) -> Result<bool, NoMemory>
     requires valid { IsValid (world store.old) }
     requires fit { is_fit_move store.old m.now (asks.Call stage.now words.now) ≡ true }
@@ -376,6 +413,7 @@ fn call_locate(
     ensures ended { IfOk (tried_of result told.new) (HasEnded store.old store.new) }
     ensures heard { IfOk (tried_of result told.new) (IsTold store.old store.new) }
     ensures padded { IfOk (tried_of result told.new) IsToldPadded }
+    ensures touched { IfOk (tried_of result told.new) (TellsOf store.old m.now (asks.Call stage.now words.now) touched.new) }
     ensures unready { IfOk (tried_of result told.new) (IsUnready store.old m.now (asks.Call stage.now words.now) store.new) }
     ensures lacking { OnErr (tried_of result told.new) (IsLacking store.old m.now (asks.Call stage.now words.now) store.new) }
     ensures sure { may_lack store.old m.now (asks.Call stage.now words.now) ≡ false → IsOk (tried_of result told.new) }
@@ -393,9 +431,10 @@ fn call_locate(
                 stage,
                 words,
                 told,
+                touched,
             )
         }
-        _ => call_any(store, m, stage, words, told),
+        _ => call_any(store, m, stage, words, told, touched),
     }
 }
 
@@ -407,6 +446,7 @@ fn call_count_in(
     stage: &Stage,
     words: &[u64; 64],
     told: &mut Told,
+    touched: &mut Touched,
 ) -> Result<bool, NoMemory>
     requires valid { IsValid (world store.old) }
     requires fit { is_fit_move store.old m.now (asks.Call stage.now words.now) ≡ true }
@@ -418,6 +458,7 @@ fn call_count_in(
     ensures ended { IfOk (tried_of result told.new) (HasEnded store.old store.new) }
     ensures heard { IfOk (tried_of result told.new) (IsTold store.old store.new) }
     ensures padded { IfOk (tried_of result told.new) IsToldPadded }
+    ensures touched { IfOk (tried_of result told.new) (TellsOf store.old m.now (asks.Call stage.now words.now) touched.new) }
     ensures unready { IfOk (tried_of result told.new) (IsUnready store.old m.now (asks.Call stage.now words.now) store.new) }
     ensures lacking { OnErr (tried_of result told.new) (IsLacking store.old m.now (asks.Call stage.now words.now) store.new) }
     ensures sure { may_lack store.old m.now (asks.Call stage.now words.now) ≡ false → IsOk (tried_of result told.new) }
@@ -435,9 +476,10 @@ fn call_count_in(
                 stage,
                 words,
                 told,
+                touched,
             )
         }
-        _ => call_any(store, m, stage, words, told),
+        _ => call_any(store, m, stage, words, told, touched),
     }
 }
 
@@ -449,6 +491,7 @@ fn call_state(
     stage: &Stage,
     words: &[u64; 64],
     told: &mut Told,
+    touched: &mut Touched,
 ) -> Result<bool, NoMemory>
     requires valid { IsValid (world store.old) }
     requires fit { is_fit_move store.old m.now (asks.Call stage.now words.now) ≡ true }
@@ -460,6 +503,7 @@ fn call_state(
     ensures ended { IfOk (tried_of result told.new) (HasEnded store.old store.new) }
     ensures heard { IfOk (tried_of result told.new) (IsTold store.old store.new) }
     ensures padded { IfOk (tried_of result told.new) IsToldPadded }
+    ensures touched { IfOk (tried_of result told.new) (TellsOf store.old m.now (asks.Call stage.now words.now) touched.new) }
     ensures unready { IfOk (tried_of result told.new) (IsUnready store.old m.now (asks.Call stage.now words.now) store.new) }
     ensures lacking { OnErr (tried_of result told.new) (IsLacking store.old m.now (asks.Call stage.now words.now) store.new) }
     ensures sure { may_lack store.old m.now (asks.Call stage.now words.now) ≡ false → IsOk (tried_of result told.new) }
@@ -477,6 +521,7 @@ fn call_state(
                 stage,
                 words,
                 told,
+                touched,
             )
         }
         Stage::GetPtr {
@@ -491,8 +536,9 @@ fn call_state(
             stage,
             words,
             told,
+            touched,
         ),
-        _ => call_any(store, m, stage, words, told),
+        _ => call_any(store, m, stage, words, told, touched),
     }
 }
 
@@ -504,6 +550,7 @@ fn call_pages(
     stage: &Stage,
     words: &[u64; 64],
     told: &mut Told,
+    touched: &mut Touched,
 ) -> Result<bool, NoMemory>
     requires valid { IsValid (world store.old) }
     requires fit { is_fit_move store.old m.now (asks.Call stage.now words.now) ≡ true }
@@ -515,6 +562,7 @@ fn call_pages(
     ensures ended { IfOk (tried_of result told.new) (HasEnded store.old store.new) }
     ensures heard { IfOk (tried_of result told.new) (IsTold store.old store.new) }
     ensures padded { IfOk (tried_of result told.new) IsToldPadded }
+    ensures touched { IfOk (tried_of result told.new) (TellsOf store.old m.now (asks.Call stage.now words.now) touched.new) }
     ensures unready { IfOk (tried_of result told.new) (IsUnready store.old m.now (asks.Call stage.now words.now) store.new) }
     ensures lacking { OnErr (tried_of result told.new) (IsLacking store.old m.now (asks.Call stage.now words.now) store.new) }
     ensures sure { may_lack store.old m.now (asks.Call stage.now words.now) ≡ false → IsOk (tried_of result told.new) }
@@ -532,6 +580,7 @@ fn call_pages(
                 stage,
                 words,
                 told,
+                touched,
             )
         }
         Stage::PageNext { s, from } => {
@@ -542,9 +591,10 @@ fn call_pages(
                 stage,
                 words,
                 told,
+                touched,
             )
         }
-        _ => call_any(store, m, stage, words, told),
+        _ => call_any(store, m, stage, words, told, touched),
     }
 }
 
@@ -556,6 +606,7 @@ pub fn call(
     stage: &Stage,
     words: &[u64; 64],
     told: &mut Told,
+    touched: &mut Touched,
 ) -> Result<bool, NoMemory>
     requires valid { IsValid (world store.old) }
     requires fit { is_fit_move store.old m.now (asks.Call stage.now words.now) ≡ true }
@@ -564,6 +615,7 @@ pub fn call(
     ensures ended { IfOk (tried_of result told.new) (HasEnded store.old store.new) }
     ensures heard { IfOk (tried_of result told.new) (IsTold store.old store.new) }
     ensures padded { IfOk (tried_of result told.new) IsToldPadded }
+    ensures touched { IfOk (tried_of result told.new) (TellsOf store.old m.now (asks.Call stage.now words.now) touched.new) }
     ensures unready { IfOk (tried_of result told.new) (IsUnready store.old m.now (asks.Call stage.now words.now) store.new) }
     ensures lacking { OnErr (tried_of result told.new) (IsLacking store.old m.now (asks.Call stage.now words.now) store.new) }
     ensures sure { may_lack store.old m.now (asks.Call stage.now words.now) ≡ false → IsOk (tried_of result told.new) }
@@ -572,12 +624,16 @@ pub fn call(
         return Ok(false);
     }
     match stage {
-        Stage::Search { .. } => call_search(store, m, stage, words, told),
-        Stage::Point { .. } => call_point(store, m, stage, words, told),
-        Stage::Locate { .. } => call_locate(store, m, stage, words, told),
-        Stage::CountIn { .. } => call_count_in(store, m, stage, words, told),
-        Stage::GetState { .. } | Stage::GetPtr { .. } => call_state(store, m, stage, words, told),
-        Stage::PageRead { .. } | Stage::PageNext { .. } => call_pages(store, m, stage, words, told),
-        _ => call_any(store, m, stage, words, told),
+        Stage::Search { .. } => call_search(store, m, stage, words, told, touched),
+        Stage::Point { .. } => call_point(store, m, stage, words, told, touched),
+        Stage::Locate { .. } => call_locate(store, m, stage, words, told, touched),
+        Stage::CountIn { .. } => call_count_in(store, m, stage, words, told, touched),
+        Stage::GetState { .. } | Stage::GetPtr { .. } => call_state(
+            store, m, stage, words, told, touched,
+        ),
+        Stage::PageRead { .. } | Stage::PageNext { .. } => call_pages(
+            store, m, stage, words, told, touched,
+        ),
+        _ => call_any(store, m, stage, words, told, touched),
     }
 }

@@ -2,11 +2,12 @@
 //!
 //! It stands on the crates of rows, each of which judges stages, on `fk_user`, which judges
 //! instructions, on `fk_plans`, which says when a verdict is ready and carries it out, on `fk_acts` for
-//! native servers, and on `fk_endings` for whose client is lost. Here is
-//! the one match from a stage to its judge. It promises that `ready` answers exactly whether the
+//! native servers, on `fk_endings` for whose client is lost, and on `fk_wakes` for which objects a move
+//! touches. Here is the one match from a stage to its judge. It promises that `ready` answers exactly whether the
 //! abstract machine is ready to make a move, that `take` makes of the store's world what the machine
 //! makes of it, that `attempt` does both, judging once, and tells which native server lost its client,
 //! that `say` does the same of words for a native server, which it lays into the caller's room, and `call` of a porter's answer,
+//! that each of them tells which objects the move touched,
 //! that `is_fit` tells which moves may be made at all, that `may_move` tells cheaply of whom no move is ready, and that
 //! `may_pick` tells whom a user may pick.
 #![tactic(auto)]

@@ -1,18 +1,19 @@
 //! Which moves are ready, and making them.
-ghost use Rattle.std.specs.Prelude.{◌≡◌, ◌↔◌, ℕ, List, None, true, false, IsTrue, IsOk, IfOk, OnErr};
+ghost use Rattle.std.specs.Prelude.{◌≡◌, ◌↔◌, ℕ, List, None, true, false, IsTrue, IsOk, IfOk, OnErr, option_map};
 ghost use Rattle.std.specs.Bool.{OnTrue, OnFalse};
 ghost use Rattle.fk_model.specs.declared.moves.Ask.TheVariants as asks;
 ghost use Rattle.fk_model.specs.Valid.{IsValid};
 ghost use Rattle.fk_model.specs.Searches.{thread_at};
 ghost use Rattle.fk_plans.specs.Effects.{effect_by, of_running, IsEffect};
 ghost use Rattle.fk_plans.specs.Hearers.{IsPadded};
+ghost use Rattle.fk_store.specs.Moves.{picked_by};
 ghost use Rattle.fk_store.specs.Paths.{path, place, HasOwnPath};
 ghost use Rattle.fk_store.specs.World.{world};
 ghost use Rattle.fk_acts.specs.Acts.{is_act};
-ghost use Rattle.fk_calls.specs.Judgements.{is_fit_move, IsEnded, IsMoving, IsReadyMove, IsRun, IsStepTo, may_lack};
+ghost use Rattle.fk_calls.specs.Judgements.{client_by, is_fit_move, IsEnded, IsMoving, IsReadyMove, IsRun, IsStepTo, TellsTouched, may_lack};
 ghost use Rattle.fk_plans.specs.Verdicts.{hearer_of, IsVerdict};
 ghost use Rattle.fk_store.specs.Named.{Each};
-ghost use Rattle.fk_calls.specs.Tried.{IsMade, HasEnded, IsTold, IsToldPadded, IsUnready, IsLacking};
+ghost use Rattle.fk_calls.specs.Tried.{IsMade, HasEnded, IsTold, IsToldPadded, IsUnready, IsLacking, TellsOf};
 ghost use Rattle.fk_calls.specs.Rows as stages;
 ghost use Rattle.fk_calls.specs.Rows.{are_given_for};
 
@@ -27,6 +28,7 @@ use fk_plans::{
 };
 use fk_store::Store;
 use fk_user::Instruction;
+use fk_wakes::{Touched, touched_by_move};
 
 /// What a move tells, and the port whose native server lost its client by it, if one did.
 #[derive(Clone, Copy)]
@@ -100,38 +102,54 @@ fn ready_given(store: &Store, m: &Move, ask: &Ask) -> bool
 /// Makes a move where it is ready, and gives what it tells, and the port whose native server lost its
 /// client by it; none where it isn't ready, and then all stays as it is. It is fit. For want of memory all stays as
 /// it was; a stage that makes an object or a page may want it.
-pub fn attempt(store: &mut Store, m: &Move, ask: &Ask) -> Result<Option<Told>, NoMemory>
+pub fn attempt(
+    store: &mut Store,
+    m: &Move,
+    ask: &Ask,
+    touched: &mut Touched,
+) -> Result<Option<Told>, NoMemory>
     requires valid { IsValid (world store.old) }
     requires fit { is_fit_move store.old m.now ask.now ≡ true }
     ensures made { IfOk result (IsMade store.old m.now ask.now store.new) }
     ensures ended { IfOk result (HasEnded store.old store.new) }
     ensures heard { IfOk result (IsTold store.old store.new) }
     ensures padded { IfOk result IsToldPadded }
+    ensures touched { IfOk result (TellsOf store.old m.now ask.now touched.new) }
     ensures unready { IfOk result (IsUnready store.old m.now ask.now store.new) }
     ensures lacking { OnErr result (IsLacking store.old m.now ask.now store.new) }
     ensures sure { may_lack store.old m.now ask.now ≡ false → IsOk result }
 {
     match ask {
-        Ask::Call { .. } => attempt_judged(store, m, ask),
-        Ask::Run | Ask::Accept | Ask::Give { .. } | Ask::Over => attempt_other(store, m, ask),
+        Ask::Call { .. } => attempt_judged(store, m, ask, touched),
+        Ask::Run | Ask::Accept | Ask::Give { .. } | Ask::Over => attempt_other(
+            store, m, ask, touched,
+        ),
     }
 }
 
 /// The same, of a move of a user or a native server. It stands apart, since a porter's call needs none of the room for what these tell.
 #[inline(never)]
-fn attempt_other(store: &mut Store, m: &Move, ask: &Ask) -> Result<Option<Told>, NoMemory>
+fn attempt_other(
+    store: &mut Store,
+    m: &Move,
+    ask: &Ask,
+    touched: &mut Touched,
+) -> Result<Option<Told>, NoMemory>
     requires valid { IsValid (world store.old) }
     requires fit { is_fit_move store.old m.now ask.now ≡ true }
     ensures made { IfOk result (IsMade store.old m.now ask.now store.new) }
     ensures ended { IfOk result (HasEnded store.old store.new) }
     ensures heard { IfOk result (IsTold store.old store.new) }
     ensures padded { IfOk result IsToldPadded }
+    ensures touched { IfOk result (TellsOf store.old m.now ask.now touched.new) }
     ensures unready { IfOk result (IsUnready store.old m.now ask.now store.new) }
     ensures lacking { OnErr result (IsLacking store.old m.now ask.now store.new) }
     ensures sure { may_lack store.old m.now ask.now ≡ false → IsOk result }
 {
     match ask {
-        Ask::Accept | Ask::Give { .. } | Ask::Over => return Ok(attempt_act(store, m, ask)),
+        Ask::Accept | Ask::Give { .. } | Ask::Over => return Ok(attempt_act(
+            store, m, ask, touched,
+        )),
         Ask::Run | Ask::Call { .. } => {}
     }
     // Most moves are instructions. They need no judgement, which is large.
@@ -143,45 +161,68 @@ fn attempt_other(store: &mut Store, m: &Move, ask: &Ask) -> Result<Option<Told>,
         if let Instruction::Runs(effect) = fk_user::instruction(store, caller, thread) {
             let registers = thread.regs;
             let counter = thread.pc;
-            return Ok(attempt_instruction(store, m, ask, registers, counter, effect));
+            return Ok(attempt_instruction(store, m, ask, registers, counter, effect, touched));
         }
     }
     // Words that go to a receiver need none either.
     if let Some(moving) = moving_of(store, m, ask) {
-        return Ok(attempt_moving(store, m, ask, &moving));
+        return Ok(attempt_moving(store, m, ask, &moving, touched));
     }
-    attempt_judged(store, m, ask)
+    attempt_judged(store, m, ask, touched)
 }
 
 /// The same, of an act of a native server.
-fn attempt_act(store: &mut Store, m: &Move, ask: &Ask) -> Option<Told>
+fn attempt_act(store: &mut Store, m: &Move, ask: &Ask, touched: &mut Touched) -> Option<Told>
     requires valid { IsValid (world store.old) }
     requires act { is_act ask.now ≡ true }
     ensures made { IsMade store.old m.now ask.now store.new result }
     ensures ended { HasEnded store.old store.new result }
     ensures heard { IsTold store.old store.new result }
     ensures padded { IsToldPadded result }
+    ensures touched { TellsOf store.old m.now ask.now touched.new result }
     ensures unready { IsUnready store.old m.now ask.now store.new result }
 {
+    let client = client_of(store, m, ask);
     match fk_acts::attempt(store, m, ask) {
         // By no act does a server lose its client.
-        Some(said) => Some(Told { said, ended: None }),
+        Some(said) => {
+            *touched = Touched::Few {
+                first: client,
+                second: None,
+                third: None,
+            };
+            Some(Told { said, ended: None })
+        }
         None => None,
+    }
+}
+
+/// The client of a native server's act: the one that it picks, or has.
+fn client_of(store: &Store, m: &Move, ask: &Ask) -> Option<Who>
+    requires valid { IsValid (world store.now) }
+    ensures { option_map (place (path store.now)) result
+        ≡ client_by (world store.now) (place (path store.now) m.now.who) (picked_by (path store.now) m.now.pick) ask.now }
+{
+    match ask {
+        Ask::Accept => m.pick,
+        Ask::Run | Ask::Call { .. } | Ask::Give { .. } | Ask::Over => store.client_at(m.who),
     }
 }
 
 /// Makes the next instruction of the user in a slot, or the next stage of its call where that tells nothing, where it is ready, and answers
 /// whether it did; else, and wherever it declines a stage, all stays as it is. No server loses its client by it. So nobody needs room here
 /// for what moves tell.
-pub fn proceed(store: &mut Store, who: Who) -> bool
+pub fn proceed(store: &mut Store, who: Who, touched: &mut Touched) -> bool
     requires valid { IsValid (world store.old) }
+    requires few { touched.old ≡ Touched.Few None None None }
     ensures made { OnTrue result (IsReadyMove store.old (record { who = who; pick = None }) asks.Run
         × IsStepTo store.old (record { who = who; pick = None }) asks.Run store.new Said.Nothing) }
     ensures ended { OnTrue result (IsEnded store.old store.new None) }
+    ensures touched { OnTrue result (TellsTouched store.old (record { who = who; pick = None }) asks.Run touched.new) }
     ensures same { OnFalse result (store.new ≡ store.old) }
 {
     let Some(thread) = running_user(store, who) else {
-        return make_silently(store, who);
+        return make_silently(store, who, touched);
     };
     let caller = Caller {
         who,
@@ -205,6 +246,7 @@ fn attempt_instruction(
     registers: [u64; 16],
     counter: u64,
     effect: Effect,
+    touched: &mut Touched,
 ) -> Option<Told>
     requires valid { IsValid (world store.old) }
     requires run { ask.now ≡ asks.Run }
@@ -217,9 +259,15 @@ fn attempt_instruction(
     ensures ended { HasEnded store.old store.new result }
     ensures heard { IsTold store.old store.new result }
     ensures padded { IsToldPadded result }
+    ensures touched { TellsOf store.old m.now ask.now touched.new result }
     ensures unready { IsUnready store.old m.now ask.now store.new result }
 {
     if make_instruction(store, m, registers, counter, effect) {
+        *touched = Touched::Few {
+            first: None,
+            second: None,
+            third: None,
+        };
         Some(Told {
             said: Said::Nothing,
             ended: None,
@@ -262,13 +310,20 @@ fn make_instruction(
 }
 
 /// The same, of words that go to a thread that receives them.
-fn attempt_moving(store: &mut Store, m: &Move, ask: &Ask, moving: &Moving) -> Option<Told>
+fn attempt_moving(
+    store: &mut Store,
+    m: &Move,
+    ask: &Ask,
+    moving: &Moving,
+    touched: &mut Touched,
+) -> Option<Told>
     requires valid { IsValid (world store.old) }
     requires judged { IsMoving store.old m.now ask.now moving.now }
     ensures made { IsMade store.old m.now ask.now store.new result }
     ensures ended { HasEnded store.old store.new result }
     ensures heard { IsTold store.old store.new result }
     ensures padded { IsToldPadded result }
+    ensures touched { TellsOf store.old m.now ask.now touched.new result }
     ensures unready { IsUnready store.old m.now ask.now store.new result }
 {
     let caller = Caller {
@@ -281,6 +336,11 @@ fn attempt_moving(store: &mut Store, m: &Move, ask: &Ask, moving: &Moving) -> Op
     // Tells that names and paths agree.
     store.names();
     move_words(store, caller, moving);
+    *touched = Touched::Few {
+        first: Some(moving.client),
+        second: Some(moving.receiver),
+        third: Some(moving.sender),
+    };
     Some(Told {
         said: Said::Nothing,
         ended: None,
@@ -288,7 +348,12 @@ fn attempt_moving(store: &mut Store, m: &Move, ask: &Ask, moving: &Moving) -> Op
 }
 
 /// The same, of any move of a user or a porter. It is judged once.
-fn attempt_judged(store: &mut Store, m: &Move, ask: &Ask) -> Result<Option<Told>, NoMemory>
+fn attempt_judged(
+    store: &mut Store,
+    m: &Move,
+    ask: &Ask,
+    touched: &mut Touched,
+) -> Result<Option<Told>, NoMemory>
     requires valid { IsValid (world store.old) }
     requires thread { is_act ask.now ≡ false }
     requires fit { is_fit_move store.old m.now ask.now ≡ true }
@@ -296,6 +361,7 @@ fn attempt_judged(store: &mut Store, m: &Move, ask: &Ask) -> Result<Option<Told>
     ensures ended { IfOk result (HasEnded store.old store.new) }
     ensures heard { IfOk result (IsTold store.old store.new) }
     ensures padded { IfOk result IsToldPadded }
+    ensures touched { IfOk result (TellsOf store.old m.now ask.now touched.new) }
     ensures unready { IfOk result (IsUnready store.old m.now ask.now store.new) }
     ensures lacking { OnErr result (IsLacking store.old m.now ask.now store.new) }
     ensures sure { may_lack store.old m.now ask.now ≡ false → IsOk result }
@@ -308,6 +374,7 @@ fn attempt_judged(store: &mut Store, m: &Move, ask: &Ask) -> Result<Option<Told>
         return Ok(None);
     }
     let ended = ended_by(store, j.caller, &j.verdict);
+    *touched = touched_by_move(&j.verdict);
     apart(store, j.caller, &j.verdict);
     Ok(Some(Told {
         said: carry_out(store, j.caller, given(ask), &j.verdict)?,
@@ -333,16 +400,17 @@ pub fn apart(store: &Store, caller: Caller, verdict: &Verdict)
 
 /// Makes a move, which is ready and fit, and gives what it tells. For want of memory all stays as it was;
 /// a stage that makes an object or a page may want it.
-pub fn take(store: &mut Store, m: &Move, ask: &Ask) -> Result<Said, NoMemory>
+pub fn take(store: &mut Store, m: &Move, ask: &Ask, touched: &mut Touched) -> Result<Said, NoMemory>
     requires valid { IsValid (world store.old) }
     requires ready { IsReadyMove store.old m.now ask.now }
     requires fit { is_fit_move store.old m.now ask.now ≡ true }
     ensures step { IfOk result (λ said. IsStepTo store.old m.now ask.now store.new said) }
     ensures padded { IfOk result (λ said. IsPadded said) }
+    ensures touched { IfOk result (λ said. TellsTouched store.old m.now ask.now touched.new) }
     ensures lacking { OnErr result (store.new ≡ store.old) }
     ensures sure { may_lack store.old m.now ask.now ≡ false → IsOk result }
 {
-    match attempt(store, m, ask)? {
+    match attempt(store, m, ask, touched)? {
         Some(told) => Ok(told.said),
         None => unreachable!(),
     }

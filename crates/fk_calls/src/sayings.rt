@@ -1,6 +1,6 @@
 //! Words that a user sends to a native server, laid straight into the caller's room. What else a move may tell takes much room, which each call on
 //! the way clears and copies.
-ghost use Rattle.std.specs.Prelude.{◌≡◌, ◌≤◌, ◌+◌, ◌-◌, ℕ, [], None, IfSome, IfNone, IsSome, take, drop, replicate};
+ghost use Rattle.std.specs.Prelude.{◌≡◌, ◌≤◌, ◌+◌, ◌-◌, ℕ, false, [], None, IfSome, IfNone, IsSome, take, drop, replicate};
 ghost use Rattle.fk_model.specs.declared.moves.Ask.TheVariants as asks;
 ghost use Rattle.fk_model.specs.declared.moves.Said.TheVariants as says;
 ghost use Rattle.fk_model.specs.Moves.{closed, stepped};
@@ -15,7 +15,8 @@ ghost use Rattle.fk_store.specs.World.{world, IsLive};
 ghost use Rattle.fk_plans.specs.Hearers.{IsPadded};
 ghost use Rattle.fk_plans.specs.Plans.{caller_by};
 ghost use Rattle.fk_plans.specs.Verdicts.{outcome_by, words_told, AreWords, IsVerdict};
-ghost use Rattle.fk_calls.specs.Judgements.{IsEnded, IsHeardBy, IsReadyMove, IsStepTo};
+ghost use Rattle.fk_wakes.specs.Touches.{is_making};
+ghost use Rattle.fk_calls.specs.Judgements.{IsEnded, IsHeardBy, IsReadyMove, IsStepTo, TellsTouched};
 ghost use Rattle.fk_calls.specs.Sayings.{told_by, verdict_of};
 
 use crate::codes::begins_with_client_send;
@@ -25,6 +26,7 @@ use fk_model::{Ask, Move, Peer, Thread, Who};
 use fk_plans::{Caller, Deed, News, Plan, Verdict, Words, is_ready};
 use fk_store::Store;
 use fk_threads::{Answers, advance, count_moved, finish};
+use fk_wakes::Touched;
 
 /// So many words were sent to the native server of a port.
 #[derive(Clone, Copy)]
@@ -49,13 +51,15 @@ pub struct Saying {
 /// Makes the next stage of the user in a slot, where that sends words to a native server and is ready, lays the words into the room, with zeros
 /// behind them, and gives whom they are for. Else, and wherever it declines, it gives none and the store stays as it is: whether the move is
 /// ready then `attempt` tells. By such a stage no server loses its client.
-pub fn say(store: &mut Store, who: Who, room: &mut [u64; 64]) -> Option<Sent>
+pub fn say(store: &mut Store, who: Who, room: &mut [u64; 64], touched: &mut Touched) -> Option<Sent>
     requires valid { IsValid (world store.old) }
     ensures made { IfSome result (λ sent. IsReadyMove store.old (record { who = who; pick = None }) asks.Run
         × IsStepTo store.old (record { who = who; pick = None }) asks.Run store.new (told_by sent room.new)) }
     ensures ended { IsSome result → IsEnded store.old store.new None }
     ensures heard { IfSome result (λ sent. IsHeardBy store.old store.new (told_by sent room.new)) }
     ensures padded { IfSome result (λ sent. IsPadded (told_by sent room.new)) }
+    ensures touched { IsSome result → TellsTouched store.old (record { who = who; pick = None }) asks.Run touched.new }
+    ensures few { IsSome result → is_making touched.new ≡ false }
     ensures same { IfNone result (store.new ≡ store.old) }
 {
     if !may_say(store, who) {
@@ -71,6 +75,11 @@ pub fn say(store: &mut Store, who: Who, room: &mut [u64; 64]) -> Option<Sent>
     // Tells that names and paths agree.
     store.names();
     make(store, j.caller, &saying, room);
+    *touched = Touched::Few {
+        first: Some(saying.client),
+        second: Some(saying.thread),
+        third: None,
+    };
     Some(Sent {
         port: saying.words.port,
         len: saying.words.count,

@@ -15,7 +15,7 @@ ghost use Rattle.fk_plans.specs.Destroys.{destroyed, IsDying};
 ghost use Rattle.fk_plans.specs.Plans.{caller_by};
 ghost use Rattle.fk_plans.specs.Renames.{renames, IsMoving};
 ghost use Rattle.fk_plans.specs.Verdicts.{outcome_by, IsVerdict};
-ghost use Rattle.fk_calls.specs.Judgements.{IsEnded, IsReadyMove, IsStepTo};
+ghost use Rattle.fk_calls.specs.Judgements.{IsEnded, IsReadyMove, IsStepTo, TellsTouched};
 
 use crate::codes::is_on_objects;
 use crate::judging::judge;
@@ -25,15 +25,17 @@ use fk_model::{Ask, Move, Who};
 use fk_plans::{Caller, Plan, Verdict, carry_all, is_ready};
 use fk_store::Store;
 use fk_threads::{Answers, finish};
+use fk_wakes::{Touched, touched_by_move};
 
 /// Makes the next stage of the user in a slot, where that is such a one and ready, and answers whether it did. Else, and wherever it
 /// declines, all stays as it is: whether the move is ready then `attempt` tells.
 #[inline(never)]
-pub fn make_silently(store: &mut Store, who: Who) -> bool
+pub fn make_silently(store: &mut Store, who: Who, touched: &mut Touched) -> bool
     requires valid { IsValid (world store.old) }
     ensures made { OnTrue result (IsReadyMove store.old (record { who = who; pick = None }) asks.Run
         × IsStepTo store.old (record { who = who; pick = None }) asks.Run store.new says.Nothing) }
     ensures ended { OnTrue result (IsEnded store.old store.new None) }
+    ensures touched { OnTrue result (TellsTouched store.old (record { who = who; pick = None }) asks.Run touched.new) }
     ensures same { OnFalse result (store.new ≡ store.old) }
 {
     if !may_be_silent(store, who) {
@@ -50,7 +52,10 @@ pub fn make_silently(store: &mut Store, who: Who) -> bool
         return false;
     }
     match ended_by(store, j.caller, &j.verdict) {
-        None => carry_silently(store, j.caller, &j.verdict),
+        None => {
+            *touched = touched_by_move(&j.verdict);
+            carry_silently(store, j.caller, &j.verdict)
+        }
         Some(_) => false,
     }
 }

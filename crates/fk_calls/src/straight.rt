@@ -11,7 +11,7 @@ ghost use Rattle.fk_store.specs.Paths.{path, place};
 ghost use Rattle.fk_store.specs.World.{world};
 ghost use Rattle.fk_calls.specs.Quiet as quiet;
 ghost use Rattle.fk_calls.specs.Judgements.{IsJudged, may_lack};
-ghost use Rattle.fk_calls.specs.Tried.{porter, tried_if, tried_of, IsMade, HasEnded, IsTold, IsToldPadded, IsUnready, IsLacking};
+ghost use Rattle.fk_calls.specs.Tried.{porter, tried_if, tried_of, IsMade, HasEnded, IsTold, IsToldPadded, IsUnready, IsLacking, TellsOf};
 
 use crate::answering::may_pick;
 use crate::moves::Told;
@@ -22,6 +22,7 @@ use fk_model::{Move, NoMemory, Ptr, Stage, Who};
 use fk_plans::{Caller, Deed, Plan, Verdict, is_ready};
 use fk_store::Store;
 use fk_threads::Answers;
+use fk_wakes::Touched;
 
 /// A pointer that is set, and the few words with which the stage is answered.
 #[derive(Clone, Copy)]
@@ -105,6 +106,7 @@ pub fn point_at(
     verdict: &Verdict,
     set: Pointing,
     told: &mut Told,
+    touched: &mut Touched,
 ) -> bool
     requires judged { IsJudged store.old m.now (asks.Call stage.now words.now)
         (record { caller = porter m.now.who; chooses = machine.chooses stage.now; verdict = verdict.now }) }
@@ -115,6 +117,7 @@ pub fn point_at(
     ensures ended { HasEnded store.old store.new (tried_if result told.new) }
     ensures heard { IsTold store.old store.new (tried_if result told.new) }
     ensures padded { IsToldPadded (tried_if result told.new) }
+    ensures touched { TellsOf store.old m.now (asks.Call stage.now words.now) touched.new (tried_if result told.new) }
     ensures unready { IsUnready store.old m.now (asks.Call stage.now words.now) store.new (tried_if result told.new) }
 {
     if !is_pointing_ready(store, m.who, rows::chooses(stage), m.pick, verdict, set) {
@@ -123,6 +126,11 @@ pub fn point_at(
     // Tells that names and paths agree.
     store.names();
     told.ended = None;
+    *touched = Touched::Few {
+        first: Some(set.object),
+        second: None,
+        third: None,
+    };
     store.point(set.object, set.to);
     lay(&mut told.said, OK, set.answers);
     true
@@ -137,6 +145,7 @@ pub fn show(
     words: &[u64; 64],
     verdict: &Verdict,
     told: &mut Told,
+    touched: &mut Touched,
 ) -> Result<bool, NoMemory>
     requires judged { IsJudged store.old m.now (asks.Call stage.now words.now)
         (record { caller = porter m.now.who; chooses = machine.chooses stage.now; verdict = verdict.now }) }
@@ -147,6 +156,7 @@ pub fn show(
     ensures ended { IfOk (tried_of result told.new) (HasEnded store.old store.new) }
     ensures heard { IfOk (tried_of result told.new) (IsTold store.old store.new) }
     ensures padded { IfOk (tried_of result told.new) IsToldPadded }
+    ensures touched { IfOk (tried_of result told.new) (TellsOf store.old m.now (asks.Call stage.now words.now) touched.new) }
     ensures unready { IfOk (tried_of result told.new) (IsUnready store.old m.now (asks.Call stage.now words.now) store.new) }
     ensures lacking { OnErr (tried_of result told.new) (IsLacking store.old m.now (asks.Call stage.now words.now) store.new) }
     ensures sure { may_lack store.old m.now (asks.Call stage.now words.now) ≡ false → IsOk (tried_of result told.new) }
@@ -161,6 +171,11 @@ pub fn show(
     // Tells that names and paths agree.
     store.names();
     told.ended = None;
+    *touched = Touched::Few {
+        first: None,
+        second: None,
+        third: None,
+    };
     answer(store, caller, words, verdict, &mut told.said)?;
     Ok(true)
 }

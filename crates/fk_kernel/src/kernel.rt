@@ -25,6 +25,7 @@ ghost use Rattle.fk_kernel.specs.Events.{is_fit_event, is_who, AreNamed, IsAccep
 use fk_calls::{Sent, Told};
 use fk_model::{Ask, Move, NoMemory, Said, Stage, Who};
 use fk_store::Store;
+use fk_wakes::Touched;
 use std::marker::Model;
 
 /// What a look at some objects finds.
@@ -128,7 +129,8 @@ impl Kernel {
         ensures done { may_lack (world_of self.old) (event_of (world_of self.old) ask.now m.now) ≡ false → IsOk result }
     {
         self.store.names();
-        fk_calls::take(&mut self.store, m, ask)
+        let mut touched = Touched::Any;
+        fk_calls::take(&mut self.store, m, ask, &mut touched)
     }
 
     /// Makes a move where it is ready, and gives what the move tells, and the port whose native server lost
@@ -157,7 +159,8 @@ impl Kernel {
         ensures done { may_lack (world_of self.old) (event_of (world_of self.old) ask.now m.now) ≡ false → IsOk result }
     {
         self.store.names();
-        let tried = fk_calls::attempt(&mut self.store, m, ask);
+        let mut touched = Touched::Any;
+        let tried = fk_calls::attempt(&mut self.store, m, ask, &mut touched);
         // And so they do in the world that the move leaves.
         self.store.names();
         tried
@@ -190,7 +193,8 @@ impl Kernel {
         ensures lacking { OnErr (tried_of result told.new) (self.new ≡ self.old) }
     {
         self.store.names();
-        let made = fk_calls::call(&mut self.store, m, stage, words, told);
+        let mut touched = Touched::Any;
+        let made = fk_calls::call(&mut self.store, m, stage, words, told, &mut touched);
         // And so they do in the world that the move leaves.
         self.store.names();
         made
@@ -207,7 +211,12 @@ impl Kernel {
         ensures same { OnFalse result (self.new ≡ self.old) }
     {
         self.store.names();
-        let made = fk_calls::proceed(&mut self.store, who);
+        let mut touched = Touched::Few {
+            first: None,
+            second: None,
+            third: None,
+        };
+        let made = fk_calls::proceed(&mut self.store, who, &mut touched);
         self.store.names();
         made
     }
@@ -228,7 +237,8 @@ impl Kernel {
         ensures same { IfNone result (self.new ≡ self.old) }
     {
         self.store.names();
-        let sent = fk_calls::say(&mut self.store, who, room);
+        let mut touched = Touched::Any;
+        let sent = fk_calls::say(&mut self.store, who, room, &mut touched);
         // And so they do in the world that the stage leaves.
         self.store.names();
         sent

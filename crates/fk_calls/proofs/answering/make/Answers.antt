@@ -6,6 +6,7 @@ use Rattle.fk_store.specs.World.{world}
 use Rattle.fk_plans.proofs.Hearers.{heard_verdict}
 use Rattle.fk_calls.specs.declared.judging.Judgement.{Judgement}
 use Rattle.fk_calls.proofs.Judged.{porter, ended_judged, ready_judged, step_judged}
+use Rattle.fk_calls.proofs.Touches.{touching_by}
 use Rattle.fk_calls.proofs.answering.make.Goals as goal
 
 pub returns-clause-made : goal.returns-clause-made
@@ -43,3 +44,9 @@ returns-clause-heard c =
     heard_verdict (world m) (path m) (path c.answer.new.store) c.args.m.now.who c.args.words.now true c.args.verdict.now _ _
     (λ plan n last is. let porter_is = (rw is at c.requires.judged.fits).0 in absurd (cc))
     c.apart.ensures c.in_ok-answer.ensures.step
+
+pub returns-clause-touched : goal.returns-clause-touched
+returns-clause-touched c =
+    let j : Judgement = record { caller = porter c.args.m.now.who; chooses = chooses c.args.stage.now; verdict = c.args.verdict.now } in
+    touching_by c.args.store.now c.args.m.now (asks.Call c.args.stage.now c.args.words.now) j c.touched_by_move.result c.touched_by_move.ensures.by
+    c.requires.judged

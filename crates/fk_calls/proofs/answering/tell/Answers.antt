@@ -12,6 +12,7 @@ use Rattle.fk_store.specs.Paths.{path}
 use Rattle.fk_store.specs.World.{world}
 use Rattle.fk_calls.specs.declared.judging.Judgement.{Judgement}
 use Rattle.fk_calls.proofs.Judged.{porter, quiet_judged, step_judged, still_ready, still_unready}
+use Rattle.fk_calls.proofs.Touches.{touching}
 use Rattle.fk_calls.proofs.answering.tell.Goals as goal
 
 pub returns-clause-made : goal.returns-clause-made
@@ -48,3 +49,8 @@ returns-clause-heard c =
     let step : stepped (world m) (closed (caller_by (path m) (porter who) c.args.words.now) (outcome_by (world m) (path m) (caller_by (path m) (porter who) c.args.words.now) v))
     ≡ record { world = world m; said = said_by (path m) c.lay.new.said } = rw (c.lay.ensures.said (path m)) refl in
     heard_verdict (world m) (path m) (path m) who c.args.words.now true v (world m) c.lay.new.said (λ plan n last is. absurd (cc)) tt step
+
+pub returns-clause-touched : goal.returns-clause-touched
+returns-clause-touched c =
+    let j : Judgement = record { caller = porter c.args.m.now.who; chooses = chooses c.args.stage.now; verdict = verdicts.Done plans.Nothing c.args.answers } in
+    touching c.args.store.now c.args.m.now (asks.Call c.args.stage.now c.args.words.now) j c.requires.judged

@@ -5,6 +5,7 @@ use Rattle.fk_plans.proofs.Hearers.{heard_verdict}
 use Rattle.fk_calls.specs.Judgements.{words_of}
 use Rattle.fk_calls.proofs.Given.{fit_given}
 use Rattle.fk_calls.proofs.Judged.{ended_judged, ready_judged, step_judged, free_there}
+use Rattle.fk_calls.proofs.Touches.{touching_by}
 use Rattle.fk_calls.proofs.moves.attempt_judged.Goals as goal
 
 pub judge-requires-clause-words : goal.judge-requires-clause-words
@@ -40,3 +41,7 @@ returns-clause-heard c =
     heard_verdict (world m) (path m) (path c.carry_out.new.store) j.caller.who (words_of c.args.ask.now) j.caller.is_porter j.verdict _ _
     (λ plan n last is. ((rw is at c.in-Some.ensures.judged.fits).0, c.in_ok-carry_out.ensures.told plan n last is))
     c.apart.ensures step
+
+pub returns-clause-touched : goal.returns-clause-touched
+returns-clause-touched c =
+    touching_by c.args.store.now c.args.m.now c.args.ask.now c.in-Some.j c.touched_by_move.result c.touched_by_move.ensures.by c.in-Some.ensures.judged

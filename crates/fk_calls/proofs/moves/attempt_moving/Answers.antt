@@ -8,6 +8,9 @@ use Rattle.fk_plans.specs.Movings.{plan_of, verdict_of}
 use Rattle.fk_calls.specs.declared.judging.Judgement.{Judgement}
 use Rattle.fk_calls.specs.Judgements.{words_of}
 use Rattle.fk_calls.proofs.Judged.{user, free_there, quiet_judged, ready_judged, step_judged}
+use Rattle.fk_calls.proofs.Touches.{moving_judged, touching_by}
+use Rattle.std.proofs.Common.{Some, sym}
+use Rattle.fk_wakes.specs.declared.touching.Touched.TheVariants.{Few}
 use Rattle.fk_calls.proofs.moves.attempt_moving.Goals as goal
 
 pub is_moving_ready-requires-clause-free : goal.is_moving_ready-requires-clause-free
@@ -41,3 +44,11 @@ returns-clause-ended c =
     let j : Judgement = record { caller = user c.args.m.now.who; chooses = false; verdict = verdict_of moving } in
     quiet_judged m c.move_words.new.store c.args.m.now c.args.ask.now j says.Nothing c.requires.valid c.names.ensures.few
     (each (λ v. IsLeft (world m) (path m) v None) moving.last (plan_of moving) refl refl) c.requires.judged (returns-clause-made c)
+
+pub returns-clause-touched : goal.returns-clause-touched
+returns-clause-touched c =
+    let m = c.args.store.now in
+    let moving = c.args.moving.now in
+    let j : Judgement = record { caller = user c.args.m.now.who; chooses = false; verdict = verdict_of moving } in
+    touching_by m c.args.m.now c.args.ask.now j (Few (Some moving.client) (Some moving.receiver) (Some moving.sender)) (sym (moving_judged moving))
+    c.requires.judged

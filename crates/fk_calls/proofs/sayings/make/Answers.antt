@@ -1,7 +1,6 @@
 use Rattle.std.proofs.Common.{refl}
 use Rattle.fk_model.specs.World.{apply, apply_all}
 use Rattle.fk_store.specs.Paths.{path}
-use Rattle.fk_plans.proofs.Lists.{own_last}
 use Rattle.fk_calls.proofs.sayings.make.Goals as goal
 
 pub returns-then-saying-clause-step : goal.returns-then-saying-clause-step

@@ -1,4 +1,4 @@
-use Rattle.std.proofs.Common.{◌≡◌, None, [], refl, ◌∙◌}
+use Rattle.std.proofs.Common.{◌≡◌, None, Some, [], refl, ◌∙◌}
 use Rattle.fk_model.specs.declared.moves.Ask.TheVariants as asks
 use Rattle.fk_model.specs.declared.moves.Move.{Move}
 use Rattle.fk_model.specs.declared.moves.Said.TheVariants as says
@@ -8,6 +8,10 @@ use Rattle.fk_store.specs.Paths.{path}
 use Rattle.fk_store.specs.World.{world}
 use Rattle.fk_calls.specs.Sayings.{verdict_of}
 use Rattle.fk_calls.proofs.Judged.{free_there, quiet_judged, ready_judged, step_judged}
+use Rattle.fk_calls.proofs.Touches.{touching_by}
+use Rattle.fk_wakes.specs.declared.touching.Touched.{Touched}
+use Rattle.fk_wakes.specs.declared.touching.Touched.TheVariants.{Few}
+use Rattle.fk_wakes.specs.Touches.{judged}
 use Rattle.fk_calls.proofs.sayings.say.Goals as goal
 
 pub is_ready-requires-clause-free : goal.is_ready-requires-clause-free
@@ -49,3 +53,12 @@ returns-clause-heard c =
     (world c.make.new.store) (says.Words saying.words.port c.make.new.room saying.words.count)
     (λ plan n last tells. let same : news.Words saying.words ≡ n = cc in (fits.0, rw (← same) refl))
     c.apart.ensures (rw is c.make.ensures.step)
+
+pub returns-clause-touched : goal.returns-clause-touched
+returns-clause-touched c some =
+    let m = c.args.store.now in
+    let run : Move = record { who = c.args.who; pick = None } in
+    let saying = c.in_ok-saying.saying in
+    let told : Touched = Few (Some saying.client) (Some saying.thread) None in
+    let same : told ≡ judged c.in_ok-j.j.verdict = rw c.in_ok-saying.ensures refl in
+    touching_by m run asks.Run c.in_ok-j.j told same c.in_ok-j.ensures.judged

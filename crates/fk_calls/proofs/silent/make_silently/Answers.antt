@@ -4,6 +4,7 @@ use Rattle.fk_model.specs.declared.moves.Move.{Move}
 use Rattle.fk_model.specs.declared.moves.Said.TheVariants as says
 use Rattle.fk_calls.proofs.Judged.{ended_judged, free_there, ready_judged, step_judged}
 use Rattle.fk_calls.proofs.Untold.{on_true}
+use Rattle.fk_calls.proofs.Touches.{touching_by}
 use Rattle.fk_calls.proofs.silent.make_silently.Goals as goal
 
 pub is_ready-requires-clause-free : goal.is_ready-requires-clause-free
@@ -33,3 +34,10 @@ returns-in-None-clause-ended c =
           (c.in-None.ensures.ending []);
       apart = tt;
     }) c.carry_silently.ensures.step
+
+pub returns-in-None-clause-touched : goal.returns-in-None-clause-touched
+returns-in-None-clause-touched c =
+    let run : Move = record { who = c.args.who; pick = None } in
+    on_true c.carry_silently.result
+    (λ step. touching_by c.args.store.now run asks.Run c.in-Some.j c.touched_by_move.result c.touched_by_move.ensures.by c.in-Some.ensures.judged)
+    c.carry_silently.ensures.step

@@ -11,6 +11,11 @@ use Rattle.fk_store.specs.World.{world}
 use Rattle.fk_endings.specs.Endings.{IsLeft}
 use Rattle.fk_calls.specs.declared.judging.Judgement.{Judgement}
 use Rattle.fk_calls.proofs.Judged.{porter, quiet_judged, ready_judged, step_judged}
+use Rattle.fk_calls.proofs.Touches.{touching_by}
+use Rattle.std.proofs.Common.{Some}
+use Rattle.fk_wakes.specs.declared.touching.Touched.{Touched}
+use Rattle.fk_wakes.specs.declared.touching.Touched.TheVariants.{Few}
+use Rattle.fk_wakes.specs.Touches.{judged}
 use Rattle.fk_calls.proofs.straight.point_at.Goals as goal
 
 pub point-requires : goal.point-requires
@@ -61,3 +66,11 @@ returns-clause-heard c =
     = rw (c.requires.set, c.point.ensures.world, c.lay.ensures.said (path n)) refl in
     heard_verdict (world m) (path m) (path n) who c.args.words.now true v (world n) c.lay.new.said
     (λ plan news last is. let never = sym c.requires.set ∙ is in absurd (cc)) (rw c.requires.set tt) step
+
+pub returns-clause-touched : goal.returns-clause-touched
+returns-clause-touched c =
+    let v = c.args.verdict.now in
+    let j : Judgement = record { caller = porter c.args.m.now.who; chooses = chooses c.args.stage.now; verdict = v } in
+    let told : Touched = Few (Some c.args.set.object) None None in
+    let same : told ≡ judged v = rw c.requires.set refl in
+    touching_by c.args.store.now c.args.m.now (asks.Call c.args.stage.now c.args.words.now) j told same c.requires.judged

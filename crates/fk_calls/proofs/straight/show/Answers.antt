@@ -1,4 +1,4 @@
-use Rattle.std.proofs.Common.{◌≡◌, ◌||◌, is_none, true, ap, refl, sym, ◌∙◌}
+use Rattle.std.proofs.Common.{◌||◌, is_none, true, ap, refl, sym, ◌∙◌}
 use Rattle.fk_model.specs.declared.moves.Ask.TheVariants as asks
 use Rattle.fk_model.specs.Moves.{chooses}
 use Rattle.fk_plans.proofs.Hearers.{heard_verdict}
@@ -7,6 +7,9 @@ use Rattle.fk_store.specs.World.{world}
 use Rattle.fk_calls.specs.declared.judging.Judgement.{Judgement}
 use Rattle.fk_calls.proofs.Judged.{porter, quiet_judged, step_judged}
 use Rattle.fk_calls.proofs.Quiet.{quiet_ready, quiet_unready, quiet_left, quiet_unheard}
+use Rattle.fk_calls.proofs.Touches.{quiet_touches, touching_by}
+use Rattle.std.proofs.Common.{None}
+use Rattle.fk_wakes.specs.declared.touching.Touched.TheVariants.{Few}
 use Rattle.fk_calls.proofs.straight.show.Goals as goal
 
 pub returns-clause-made : goal.returns-clause-made
@@ -39,3 +42,10 @@ returns-clause-heard c =
     heard_verdict (world m) (path m) (path c.answer.new.store) c.args.m.now.who c.args.words.now true c.args.verdict.now _ _
     (λ plan news last is. let loud = rw is at c.requires.quiet in absurd (cc))
     (rw (quiet_unheard c.args.verdict.now c.requires.quiet) tt) c.in_ok-answer.ensures.step
+
+pub returns-clause-touched : goal.returns-clause-touched
+returns-clause-touched c =
+    let v = c.args.verdict.now in
+    let j : Judgement = record { caller = porter c.args.m.now.who; chooses = chooses c.args.stage.now; verdict = v } in
+    touching_by c.args.store.now c.args.m.now (asks.Call c.args.stage.now c.args.words.now) j (Few None None None) (quiet_touches v c.requires.quiet)
+    c.requires.judged
