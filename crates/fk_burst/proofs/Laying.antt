@@ -11,6 +11,14 @@ take_set [] n x less = absurd (omega (arith, less))
 take_set (y ∷ ys) zero x less = refl
 take_set (y ∷ ys) (suc n) x less = ap (λ l. y ∷ l) (take_set ys n x (omega (arith, less)))
 
+-- where no page behind the first two places is used
+pub near_pages : (c : Copied) (space : ℕ) → slice_index_or c.used 2 false ≡ false → slice_index_or c.used 3 false ≡ false →
+    used_pages 4 c space ≡ used_pages 2 c space
+unfolding used_pages
+near_pages c space third fourth =
+    ap (λ u. used_pages 3 c space ++ cond u (page_at c space 3 ∷ []) []) fourth ∙ append-nil (used_pages 3 c space)
+    ∙ ap (λ u. used_pages 2 c space ++ cond u (page_at c space 2 ∷ []) []) third ∙ append-nil (used_pages 2 c space)
+
 pub none_laid : (c : Copied) (space : ℕ) (room : List BurstPage) → take 0 room ≡ used_pages 0 c space
 unfolding used_pages
 none_laid c space room = refl

@@ -30,12 +30,14 @@ const NO_PAGE: BurstPage = BurstPage {
 /// Lays the page at a place of a copy, if it has been used, behind those of the places before, and says how many they are then.
 #[tactic(auto, using(crate::proofs::Laying::laid_page, crate::proofs::Laying::laid_same))]
 #[inline(always)]
-fn lay(copied: &Copied, space: u32, room: &mut [BurstPage; 4], laid: usize, k: usize) -> usize
+fn lay(copied: &Copied, space: u32, room: &mut [BurstPage], laid: usize, k: usize) -> usize
     requires place { k < 4 }
+    requires long { k < length room.old }
     requires low { slice_index_or copied.now.used k false ≡ true → copied.now.first + k < 256 }
     requires few { laid ≤ k }
     requires pages { take laid room.old ≡ used_pages k copied.now space }
     ensures few { result ≤ k + 1 }
+    ensures long { length room.new ≡ length room.old }
     ensures pages { take result room.new ≡ used_pages (k + 1) copied.now space }
 {
     match copied.used_at(k) {
@@ -51,15 +53,29 @@ fn lay(copied: &Copied, space: u32, room: &mut [BurstPage; 4], laid: usize, k: u
     }
 }
 
-/// Lays the pages that a copy has used into the room, and says how many they are.
+/// Lays the pages of the first two places that a copy has used into the room, and says how many they are.
 #[tactic(auto, using(crate::proofs::Laying::none_laid))]
-fn lay_all(copied: &Copied, space: u32, room: &mut [BurstPage; 4]) -> usize
+#[inline(always)]
+fn lay_two(copied: &Copied, space: u32, room: &mut [BurstPage]) -> usize
+    requires long { 2 ≤ length room.old }
     requires low { (k : ℕ) → slice_index_or copied.now.used k false ≡ true → copied.now.first + k < 256 }
-    ensures few { result ≤ 4 }
-    ensures pages { take result room.new ≡ used_pages 4 copied.now space }
+    ensures few { result ≤ 2 }
+    ensures long { length room.new ≡ length room.old }
+    ensures pages { take result room.new ≡ used_pages 2 copied.now space }
 {
     let first = lay(copied, space, room, 0, 0);
-    let second = lay(copied, space, room, first, 1);
+    lay(copied, space, room, first, 1)
+}
+
+/// Lays all pages that a copy has used into the room, and says how many they are.
+fn lay_all(copied: &Copied, space: u32, room: &mut [BurstPage]) -> usize
+    requires long { 4 ≤ length room.old }
+    requires low { (k : ℕ) → slice_index_or copied.now.used k false ≡ true → copied.now.first + k < 256 }
+    ensures few { result ≤ 4 }
+    ensures long { length room.new ≡ length room.old }
+    ensures pages { take result room.new ≡ used_pages 4 copied.now space }
+{
+    let second = lay_two(copied, space, room);
     let third = lay(copied, space, room, second, 2);
     lay(copied, space, room, third, 3)
 }
@@ -106,11 +122,50 @@ fn is_current(k: &Kernel, thread: Who, taken: &Copied, now: &Copied) -> bool
 }
 
 /// So many pages of those in a room.
-fn front(room: &[BurstPage; 4], laid: usize) -> &[BurstPage]
-    requires { laid ≤ 4 }
+fn front(room: &[BurstPage], laid: usize) -> &[BurstPage]
+    requires { laid ≤ length room.now }
     ensures { result.now ≡ take laid room.now }
 {
     &room[..laid]
+}
+
+/// The thread in a slot becomes as a copy has it, and so do these pages, which are those that the copy has used.
+fn hand_back(k: &mut Kernel, thread: Who, now: &Copied, pages: &[BurstPage])
+    requires pages { pages.now ≡ used_pages 4 now.now thread.space }
+    requires there { All (IsPageThere (space_born (world_of k.old)) (world_of k.old)) (used_pages 4 now.now thread.space) }
+    requires has { (page : ℕ) → (burst_of now.now).used page ≡ true → IsSome ((burst_of now.now).page page) }
+    requires long { length now.now.used ≡ 4 }
+    ensures { world_of k.new ≡ committed (world_of k.old) (named (world_of k.old) thread) (burst_of now.now) }
+{
+    k.replace(thread, &now.registers, now.counter, pages);
+}
+
+/// The same, with the pages that are used laid out. It stands apart, since four pages are large and most copies use two at most.
+#[inline(never)]
+fn put_back_far(k: &mut Kernel, thread: Who, now: &Copied)
+    requires low { (place : ℕ) → slice_index_or now.now.used place false ≡ true → now.now.first + place < 256 }
+    requires there { All (IsPageThere (space_born (world_of k.old)) (world_of k.old)) (used_pages 4 now.now thread.space) }
+    requires has { (page : ℕ) → (burst_of now.now).used page ≡ true → IsSome ((burst_of now.now).page page) }
+    requires long { length now.now.used ≡ 4 }
+    ensures { world_of k.new ≡ committed (world_of k.old) (named (world_of k.old) thread) (burst_of now.now) }
+{
+    let mut pages = [NO_PAGE; 4];
+    let used = lay_all(now, thread.space, &mut pages);
+    hand_back(k, thread, now, front(&pages, used));
+}
+
+/// The same, where only pages of the first two places are used.
+fn put_back_near(k: &mut Kernel, thread: Who, now: &Copied)
+    requires near { (slice_index_or now.now.used 2 false ≡ false) × (slice_index_or now.now.used 3 false ≡ false) }
+    requires low { (place : ℕ) → slice_index_or now.now.used place false ≡ true → now.now.first + place < 256 }
+    requires there { All (IsPageThere (space_born (world_of k.old)) (world_of k.old)) (used_pages 4 now.now thread.space) }
+    requires has { (page : ℕ) → (burst_of now.now).used page ≡ true → IsSome ((burst_of now.now).page page) }
+    requires long { length now.now.used ≡ 4 }
+    ensures { world_of k.new ≡ committed (world_of k.old) (named (world_of k.old) thread) (burst_of now.now) }
+{
+    let mut pages = [NO_PAGE; 2];
+    let used = lay_two(now, thread.space, &mut pages);
+    hand_back(k, thread, now, front(&pages, used));
 }
 
 /// The thread in a slot, and the pages of its space that a copy has used, become as the copy has them.
@@ -121,9 +176,11 @@ fn put_back(k: &mut Kernel, thread: Who, now: &Copied)
     requires long { length now.now.used ≡ 4 }
     ensures { world_of k.new ≡ committed (world_of k.old) (named (world_of k.old) thread) (burst_of now.now) }
 {
-    let mut pages = [NO_PAGE; 4];
-    let used = lay_all(now, thread.space, &mut pages);
-    k.replace(thread, &now.registers, now.counter, front(&pages, used));
+    if now.goes_far() {
+        put_back_far(k, thread, now);
+    } else {
+        put_back_near(k, thread, now);
+    }
 }
 
 /// Whether so many moves are left.

@@ -194,6 +194,13 @@ impl Copied {
         }
     }
 
+    /// Whether a page behind the first two places has been used.
+    pub fn goes_far(&self) -> bool
+        ensures near { OnFalse result ((slice_index_or self.now.used 2 false ≡ false) × (slice_index_or self.now.used 3 false ≡ false)) }
+    {
+        if self.used[2] { true } else { self.used[3] }
+    }
+
     /// A place of the four, where its page is there.
     #[tactic(auto, using(crate::proofs::Places::none_there))]
     #[inline(always)]

@@ -1,19 +1,7 @@
-use Rattle.std.proofs.Common.{refl}
-use Rattle.fk_burst.specs.Commits.{used_pages}
 use Rattle.fk_burst.proofs.commits.lay_all.Goals as goal
-
-pub lay-first-requires-clause-low : goal.lay-first-requires-clause-low
-lay-first-requires-clause-low c = c.requires.low 0
-
-pub lay-second-requires-clause-low : goal.lay-second-requires-clause-low
-lay-second-requires-clause-low c = c.requires.low 1
 
 pub lay-third-requires-clause-low : goal.lay-third-requires-clause-low
 lay-third-requires-clause-low c = c.requires.low 2
 
 pub lay-requires-clause-low : goal.lay-requires-clause-low
 lay-requires-clause-low c = c.requires.low 3
-
-pub lay-first-requires-clause-pages : goal.lay-first-requires-clause-pages
-unfolding used_pages
-lay-first-requires-clause-pages c = refl
