@@ -16,7 +16,6 @@ use fk_model::{Ask, Move, Who};
 use fk_moment::Moment;
 use fk_natives::Service;
 use fk_report::End;
-use fk_rounds::same_thread;
 
 impl<S: Service + Drop, W: Worker + Drop> Core<S, W> {
     /// What there is to look at.
@@ -108,7 +107,7 @@ impl<S: Service + Drop, W: Worker + Drop> Core<S, W> {
     pub(crate) fn same_thread(&self) -> Option<Who>
         ensures { IsSome result → self.now.events < self.now.budget }
     {
-        same_thread(&self.moment())
+        self.rounds.same_thread(&self.moment())
     }
 
     /// A move that is ready. There is none exactly where none is ready or the budget is used. At an even number of moves the job whose turn

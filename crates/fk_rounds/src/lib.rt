@@ -9,4 +9,4 @@ mod few;
 mod rounds;
 
 pub use few::is_look;
-pub use rounds::{Rounds, same_thread};
+pub use rounds::Rounds;

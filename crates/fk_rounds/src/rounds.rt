@@ -10,6 +10,11 @@ use fk_natives::Service;
 /// After so many moves the look goes round.
 const ROUND: u64 = 64;
 
+/// For so many spaces the look goes round so many rounds later, an even number.
+const SPACES: u32 = 32;
+
+const LATER: u64 = 8;
+
 /// How far a look has come that goes over all names while a job only looks, and has found nobody.
 #[derive(Clone, Copy)]
 pub(crate) enum Circle {
@@ -42,6 +47,8 @@ pub struct Rounds {
     pub(crate) sought: Option<Who>,
     /// Whether these have come round, so that the look may be left out.
     pub(crate) circle: Circle,
+    /// So many moves are made before the look goes round again.
+    pub(crate) rest: u64,
 }
 
 /// The place after one, among so many.
@@ -50,36 +57,6 @@ fn following(at: usize, len: usize) -> usize {
         Some(next) if next < len => next,
         _ => 0,
     }
-}
-
-/// Whether the look goes round: at one move of 64. While a job's moves take the even numbers, it does at the odd one behind.
-fn is_round<S: Service + Drop, W: Worker + Drop>(moment: &Moment<'_, S, W>) -> bool {
-    match moment.events() % ROUND {
-        0 => true,
-        1 => moment.is_timely(),
-        _ => false,
-    }
-}
-
-/// The thread that moved last, but where the look goes round and where the budget is used.
-pub fn same_thread<S: Service + Drop, W: Worker + Drop>(moment: &Moment<'_, S, W>) -> Option<Who>
-    ensures { IsSome result → moment.now.events < moment.now.budget }
-{
-    if !moment.is_below_budget() || is_round(moment) {
-        return None;
-    }
-    moment.last()
-}
-
-/// Its move, where that is ready and picks nobody.
-fn again<S: Service + Drop, W: Worker + Drop>(moment: &Moment<'_, S, W>) -> Option<Move>
-    ensures { IfSome result (λ m. MayBeMade moment.now m) }
-{
-    let m = Move {
-        who: same_thread(moment)?,
-        pick: None,
-    };
-    if moment.ready(&m) { Some(m) } else { None }
 }
 
 impl Rounds {
@@ -92,7 +69,48 @@ impl Rounds {
             next: 0,
             sought: None,
             circle: Circle::Open,
+            rest: 0,
         }
+    }
+
+    /// Whether the look goes round: at one move of 64, but where many spaces were made. While a job's moves take the even numbers, it
+    /// does at the odd one behind.
+    fn is_round<S: Service + Drop, W: Worker + Drop>(&self, moment: &Moment<'_, S, W>) -> bool {
+        match moment.events() % ROUND {
+            0 => moment.events() >= self.rest,
+            1 => moment.is_timely() && moment.events() >= self.rest,
+            _ => false,
+        }
+    }
+
+    /// The look has gone round. It passes over all names, so where there are many spaces the next one comes later.
+    fn has_gone<S: Service + Drop, W: Worker + Drop>(&mut self, moment: &Moment<'_, S, W>) {
+        let rounds = u64::from(moment.births() / SPACES) * LATER;
+        self.rest = moment.events().saturating_add(rounds * ROUND);
+    }
+
+    /// The thread that moved last, but where the look goes round and where the budget is used.
+    pub fn same_thread<S: Service + Drop, W: Worker + Drop>(
+        &self,
+        moment: &Moment<'_, S, W>,
+    ) -> Option<Who>
+        ensures { IsSome result → moment.now.events < moment.now.budget }
+    {
+        if !moment.is_below_budget() || self.is_round(moment) {
+            return None;
+        }
+        moment.last()
+    }
+
+    /// Its move, where that is ready and picks nobody.
+    fn again<S: Service + Drop, W: Worker + Drop>(&self, moment: &Moment<'_, S, W>) -> Option<Move>
+        ensures { IfSome result (λ m. MayBeMade moment.now m) }
+    {
+        let m = Move {
+            who: self.same_thread(moment)?,
+            pick: None,
+        };
+        if moment.ready(&m) { Some(m) } else { None }
     }
 
     /// A move was made that told the server of this port something, or none.
@@ -116,10 +134,10 @@ impl Rounds {
     /// A move that is ready. There is none exactly where none is ready or the budget is used.
     ///
     /// At an even number of moves the job whose turn it is goes first, where it is due and ready. Else the thread that
-    /// moved last goes on where it is ready, or else the server that heard of its move answers,
-    /// but at one move of 64. Then, and where neither is ready, the look goes round: a thread is sought from the one after
-    /// that which moved last, and in every second round of 64 moves one server is looked at first, each in its
-    /// turn. So nobody who is ready waits for ever behind others.
+    /// moved last goes on where it is ready, or else the server that heard of its move answers, but at one move of 64, or
+    /// of more where there are many spaces. Then, and where neither is ready, the look goes round: a thread is sought from
+    /// the one after that which moved last, and in every second round of 64 moves one server is looked at first, each in
+    /// its turn. So nobody who is ready waits for ever behind others.
     pub fn choose<S: Service + Drop, W: Worker + Drop>(
         &mut self,
         moment: &Moment<'_, S, W>,
@@ -142,7 +160,7 @@ impl Rounds {
         ensures ready { IfSome result (λ m. MayBeMade moment.now m) }
         ensures none { IfNone result (IsOver moment.now.jobs.now.jobs moment.now.budget (seen moment.now)) }
     {
-        match again(moment) {
+        match self.again(moment) {
             Some(m) => Some(m),
             None => self.choose_next(moment),
         }
@@ -172,7 +190,7 @@ impl Rounds {
     ) -> Option<Move>
         ensures { IfSome result (λ m. IsReadyNow moment.now m) }
     {
-        if is_round(moment) {
+        if self.is_round(moment) {
             return None;
         }
         moment.act_besides(self.heard?)
@@ -206,7 +224,10 @@ impl Rounds {
         }
         match self.among(moment) {
             Some(m) => Some(m),
-            None => moment.find(),
+            None => {
+                self.has_gone(moment);
+                moment.find()
+            }
         }
     }
 }
