@@ -1,5 +1,5 @@
 -- Thread scans: which user threads are found among all objects, up to one object.
-use Rattle.std.proofs.Common.{◌≡◌, ◌⊎◌, ◌↔◌, ℕ, Bool, false, ◌+◌, ◌-◌, ◌*◌, ◌^◌, true, IsTrue, IsSome, List, [], ◌∷◌, Contains, Option, Some, None, is_some, option_map, refl, sym, ap, subst, ◌∙◌, inl, inr}
+use Rattle.std.proofs.Common.{◌≡◌, ◌⊎◌, ◌↔◌, ℕ, false, ◌+◌, ◌-◌, ◌*◌, ◌^◌, true, IsTrue, IsSome, List, [], ◌∷◌, Contains, Option, Some, None, is_some, option_map, refl, sym, ap, subst, ◌∙◌, inl, inr}
 use Rattle.std.proofs.lemmas.Map.Lookups.{exact_unsigned}
 use Rattle.std.specs.declared.cmp.Ordering.{Ordering}
 use Rattle.std.specs.declared.cmp.Ordering.TheVariants.{Less, Equal, Greater}

@@ -1,9 +1,10 @@
 -- The user threads of a world, in the order of their paths.
-use Rattle.std.specs.Prelude.{◌≡◌, ℕ, Bool, true, false, List, Contains, All, reverse, Option, Some, None, Vec}
+use Rattle.std.specs.Prelude.{◌≡◌, ℕ, Bool, true, false, IsTrue, List, Contains, All, reverse, Option, Some, None, Vec}
+use Rattle.std.specs.List.{AllByRecursion}
 use Rattle.std.specs.declared.alloc.Global.{Global}
 use Rattle.std.specs.Cmp.Lexicographic.{slice_cmp}
 use Rattle.std.specs.List.Sorted.{IsStrictlySortedBy}
-use Rattle.std.specs.Ordering.{nat_cmp}
+use Rattle.std.specs.Ordering.{is_le, nat_cmp}
 use Rattle.std.specs.declared.cmp.Ordering.{Ordering}
 use Rattle.fk_model.specs.declared.thread.Mode.{Mode as CodeMode}
 use Rattle.fk_model.specs.declared.thread.Mode.TheVariants as modes
@@ -72,3 +73,9 @@ IsKept w kept = (kept.0.items ≡ reverse kept.1.path) × (state_at w kept.1.pat
 
 abbrev pub AreKept : World → List (Slots × ThreadState) → Type 0
 AreKept w kept = All (IsKept w) kept
+
+-- user threads in the order of their paths, and the path from the root down past which none of them is
+pub record IsLine (w : World) (threads : List ThreadState) (farthest : List ℕ) : Type 0 where
+  pub each : All (λ (t : ThreadState). state_at w t.path ≡ Some t) threads
+  pub ordered : IsStrictlySortedBy by_path threads
+  pub none_past : AllByRecursion (λ (t : ThreadState). IsTrue (is_le (slice_cmp nat_cmp (reverse t.path) farthest))) threads

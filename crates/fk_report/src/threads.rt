@@ -1,16 +1,21 @@
 //! The user threads of a store, as a report has them.
-ghost use Rattle.std.specs.Prelude.{◌≡◌, ◌<◌, ◌↔◌, IsTrue, IfOk, OnOk, IfSome, IfNone, Contains, Some, [], reverse};
+ghost use Rattle.std.specs.Prelude.{◌≡◌, ◌<◌, ◌↔◌, IsTrue, IfOk, OnOk, IfSome, IfNone, Contains, Some, [], ◌∷◌, ◌++◌, reverse};
+ghost use Rattle.std.specs.Bool.{OnTrue};
+ghost use Rattle.std.specs.Cmp.Lexicographic.{slice_cmp};
+ghost use Rattle.std.specs.Ordering.{nat_cmp};
+ghost use Rattle.std.specs.declared.cmp.Ordering.TheVariants.{Less};
 ghost use Rattle.std.specs.List.{list_all};
 ghost use Rattle.std.specs.BTreeMap.{values, IsOrdered};
 ghost use Rattle.fk_store.specs.Paths.{path};
 ghost use Rattle.fk_store.specs.World.{world, place_of, IsLive};
 ghost use Rattle.fk_model.specs.Places.{Path};
 ghost use Rattle.fk_model.specs.World.{World};
-ghost use Rattle.fk_report.specs.Threads.{state_at, AreThreads, AreKept, by_slots, is_halted, HaveHalted};
+ghost use Rattle.fk_report.specs.Threads.{state_at, AreThreads, AreKept, IsLine, by_slots, is_halted, HaveHalted};
 
 use fk_model::{List, Mode, NoMemory, Who};
 use fk_store::Store;
 use std::alloc::Global;
+use std::cmp::Ordering;
 use std::collections::BTreeMap;
 
 /// A thread as the report has it. Its path goes from its slot outwards: the last slot is one of the
@@ -170,6 +175,87 @@ fn listed(
     Ok(threads)
 }
 
+/// User threads in the order of their paths, and the path of the last of them from the root down.
+#[derive(Drop)]
+struct Line {
+    threads: List<ThreadState>,
+    last: Vec<u8>,
+}
+
+/// A thread comes behind those of a line where its path is later, and whether it does.
+///
+/// # Errors
+///
+/// There is no memory for it.
+fn line_up(alloc: Global, line: &mut Line, thread: ThreadState) -> Result<bool, NoMemory>
+    ensures later { IfOk result (λ later. OnTrue later (slice_cmp nat_cmp line.old.last.items (reverse thread.path) ≡ Less)) }
+    ensures last { IfOk result (λ later. OnTrue later (line.new.last.items ≡ reverse thread.path)) }
+    ensures threads { IfOk result (λ later. OnTrue later (line.new.threads ≡ line.old.threads ++ thread ∷ [])) }
+{
+    let slots = from_root(alloc, thread.path.as_slice())?;
+    match line.last.cmp(&slots) {
+        Ordering::Less => {
+            line.threads.push(thread)?;
+            line.last = slots;
+            Ok(true)
+        }
+        Ordering::Equal | Ordering::Greater => Ok(false),
+    }
+}
+
+/// The user thread that stands in a slot comes behind those of a line, if one does; and whether they are a line then.
+///
+/// # Errors
+///
+/// There is no memory for it.
+fn line_up_at(alloc: Global, line: &mut Line, store: &Store, who: Who) -> Result<bool, NoMemory>
+    ensures line { IsLine (world store.now) line.old.threads line.old.last.items
+        → IfOk result (λ still. OnTrue still (IsLine (world store.now) line.new.threads line.new.last.items)) }
+    ensures others { (other : ThreadState) → Contains line.old.threads other → IfOk result (λ still. OnTrue still (Contains line.new.threads other)) }
+    ensures itself { (thread : ThreadState) → state_at (world store.now) (place_of store.now who) ≡ Some thread
+        → IfOk result (λ still. OnTrue still (Contains line.new.threads thread)) }
+{
+    match state_of(alloc, store, who)? {
+        None => Ok(true),
+        Some(thread) => line_up(alloc, line, thread),
+    }
+}
+
+/// The user threads of a store, where its objects stand in the order of their paths.
+///
+/// # Errors
+///
+/// There is no memory for the list.
+fn in_line(alloc: Global, store: &Store) -> Result<Option<List<ThreadState>>, NoMemory>
+    ensures { IfOk result (λ found. IfSome found (λ threads. AreThreads (world store.now) threads)) }
+{
+    let mut line = Line {
+        threads: List::new(alloc),
+        last: Vec::new(alloc),
+    };
+    let mut at = store.after(None);
+    while let Some(who) = at {
+        if !line_up_at(alloc, &mut line, store, who)? {
+            return Ok(None);
+        }
+        at = store.after(Some(who));
+    }
+    let Line { threads, last: _ } = line;
+    Ok(Some(threads))
+}
+
+/// The user threads of a store, in the order of their paths, whatever the order of its objects.
+///
+/// # Errors
+///
+/// There is no memory for the list.
+fn in_order(alloc: Global, store: &Store) -> Result<List<ThreadState>, NoMemory>
+    ensures { IfOk result (λ threads. AreThreads (world store.now) threads) }
+{
+    let kept = kept_of(alloc, store)?;
+    listed(alloc, kept)
+}
+
 /// The user threads of a store, in the order of their paths.
 ///
 /// # Errors
@@ -178,8 +264,11 @@ fn listed(
 pub fn threads_of(alloc: Global, store: &Store) -> Result<List<ThreadState>, NoMemory>
     ensures { IfOk result (λ threads. AreThreads (world store.now) threads) }
 {
-    let kept = kept_of(alloc, store)?;
-    listed(alloc, kept)
+    // What a scenario lists mostly stands in this order already.
+    match in_line(alloc, store)? {
+        Some(threads) => Ok(threads),
+        None => in_order(alloc, store),
+    }
 }
 
 /// Each of these threads has halted.

@@ -1,6 +1,6 @@
 use Rattle.fk_store.specs.World.{world}
 use Rattle.fk_report.proofs.KeptThreads.{listed-threads}
-use Rattle.fk_report.proofs.threads.threads_of.Goals as goal
+use Rattle.fk_report.proofs.threads.in_order.Goals as goal
 
 pub returns : goal.returns
 returns c = listed-threads (world c.args.store.now)
