@@ -19,7 +19,7 @@ ghost use Rattle.fk_calls.specs.Rows.{are_given_for};
 
 use crate::judging::{given, judge, moving_of, running, running_user};
 use crate::rows::restores;
-use crate::silent::make_silently;
+use crate::silent::{make_silently, may_be_silent};
 use fk_endings::ended_by;
 use fk_model::{Ask, Move, NoMemory, Said, Stage, Who};
 use fk_plans::{
@@ -222,6 +222,10 @@ pub fn proceed(store: &mut Store, who: Who, touched: &mut Touched) -> bool
     ensures same { OnFalse result (store.new ≡ store.old) }
 {
     let Some(thread) = running_user(store, who) else {
+        // Nobody else is judged for it.
+        if !may_be_silent(store, who) {
+            return false;
+        }
         return make_silently(store, who, touched);
     };
     let caller = Caller {

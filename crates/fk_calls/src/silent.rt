@@ -38,9 +38,6 @@ pub fn make_silently(store: &mut Store, who: Who, touched: &mut Touched) -> bool
     ensures touched { OnTrue result (TellsTouched store.old (record { who = who; pick = None }) asks.Run touched.new) }
     ensures same { OnFalse result (store.new ≡ store.old) }
 {
-    if !may_be_silent(store, who) {
-        return false;
-    }
     let m = Move { who, pick: None };
     let Some(j) = judge(store, &m, &Ask::Run) else {
         return false;
@@ -60,8 +57,9 @@ pub fn make_silently(store: &mut Store, who: Who, touched: &mut Touched) -> bool
     }
 }
 
-/// A user may be about to make such a stage. Nobody else needs to be judged for it.
-fn may_be_silent(store: &Store, who: Who) -> bool {
+/// A user may be about to make such a stage.
+#[inline(always)]
+pub fn may_be_silent(store: &Store, who: Who) -> bool {
     match store.thread(who) {
         Some(thread) => is_on_objects(thread.regs[0]),
         None => false,
