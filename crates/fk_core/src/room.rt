@@ -80,6 +80,14 @@ fn clear_answer(answer: &mut Answer)
     answer.status = 0;
 }
 
+/// Room has zeros again, whatever it held. It stands apart, since it is rare and takes much room, which its caller would clear at entry.
+#[inline(never)]
+fn blank(told: &mut Told)
+    ensures { IsRoom told.new.said }
+{
+    *told = zeros();
+}
+
 /// What is told is zeros again.
 fn clear(told: &mut Told)
     requires { IsPadded told.old.said }
@@ -87,7 +95,7 @@ fn clear(told: &mut Told)
 {
     match &mut told.said {
         Said::Answer(answer) => clear_answer(answer),
-        _ => *told = zeros(),
+        _ => blank(told),
     }
 }
 
@@ -144,7 +152,7 @@ impl Room {
             return called;
         }
         // Where it wasn't made the room may hold anything.
-        self.told = zeros();
+        blank(&mut self.told);
         called
     }
 }
