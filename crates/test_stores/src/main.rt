@@ -7,14 +7,21 @@
 //! `space`, `cond` and `port` make an object, by a space and a slot, `native`, `calling` and `halted` a
 //! thread in this mode, `sending` one that has sent the first block of a message to a port, `reference` one
 //! that leads to another object, `page` a page filled with a word (`making`); `drop` takes a page away,
-//! `clear` lets an object's pointer lead nowhere. All of these show the store then. Where memory is refused, it must
-//! be as it was, and is asked once more; so the program writes the same whichever one allocation of a
-//! making is refused (`rt try --fail-alloc 1..`). The other lines show something (`showing`, `subtrees`).
+//! `clear` lets an object's pointer lead nowhere, `kill` destroys an object in which nothing stands, and
+//! `rename` gives it another slot (`changing`). `nest` makes many spaces, each in the one before, `fill`
+//! many in one, `empty` destroys what stands beneath (`many`). All of these show the store then. Where
+//! memory is refused, it must be as it was, and is asked once more; so the program writes the same
+//! whichever one allocation of a making is refused (`rt try --fail-alloc 1..`). `hold` and `release` show
+//! who decides then, `depth` how deep what lies in a slot is seen (`deep`), and the other lines show something (`showing`,
+//! `subtrees`).
 //!
 //! The program promises nothing.
 #![tactic(auto)]
 
+mod changing;
+mod deep;
 mod making;
+mod many;
 mod numbers;
 mod showing;
 mod subtrees;
@@ -40,10 +47,13 @@ fn show(alloc: Global, store: &Store, verb: &str, rest: &str) -> anyhow::Result<
         "home" => showing::home(alloc, store, who.space),
         "after" => showing::after(alloc, store, who),
         "at" => showing::at(alloc, store, who),
+        "leads" => showing::leads(alloc, store, who),
+        "decider" => showing::decider(alloc, store, who),
         "reach" => showing::reach(alloc, store, who, numbers[2] == 1),
         "report" => showing::report(alloc, store, numbers[0]),
         "closed" => subtrees::show_closed(alloc, store, who),
         "cut" => subtrees::show_cut(alloc, store, who),
+        "depth" => deep::show(alloc, store, who),
         _ => bail!("no such line"),
     }
 }
@@ -61,6 +71,13 @@ fn step(alloc: Global, store: &mut Store, verb: &str, rest: &str) -> anyhow::Res
             showing::all(alloc, store)
         }
         "clear" => clear_pointer(alloc, store, who),
+        "kill" => changing::kill_one(alloc, store, who),
+        "rename" => changing::rename(alloc, store, who, numbers[2]),
+        "hold" => changing::hold(alloc, store, who, numbers::name_of(numbers[2], numbers[3])?),
+        "release" => changing::release(alloc, store, who),
+        "nest" => many::nest(alloc, store, who, numbers[2], numbers[3] == 1),
+        "fill" => many::fill(alloc, store, who, numbers[2]),
+        "empty" => many::empty(alloc, store, who, numbers[2]),
         "page" => put_page_at_last(alloc, store, who, numbers[2]),
         "drop" => {
             store.drop_page(who.space, who.slot);
@@ -70,16 +87,21 @@ fn step(alloc: Global, store: &mut Store, verb: &str, rest: &str) -> anyhow::Res
     }
 }
 
-fn main(rt: HostRuntime) -> anyhow::Result<()> {
-    let mut store = new_store(rt.alloc())?;
+/// Makes the step of each line of standard input, and writes what came of it.
+fn play(rt: &HostRuntime, store: &mut Store) -> anyhow::Result<()> {
     for line in rt.lines(rt.alloc()) {
         let line = line?;
         let (verb, rest) = line.as_str().split_once(' ').unwrap_or(("", ""));
         if verb.is_empty() || verb == "#" {
             continue;
         }
-        let said = step(rt.alloc(), &mut store, verb, rest)?;
+        let said = step(rt.alloc(), store, verb, rest)?;
         println!(rt; "{line} = {said}")?;
     }
     Ok(())
+}
+
+fn main(rt: HostRuntime) -> anyhow::Result<()> {
+    let mut store = new_store(rt.alloc())?;
+    play(&rt, &mut store)
 }

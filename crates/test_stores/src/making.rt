@@ -146,6 +146,14 @@ fn make(store: &mut Store, who: Who, thing: &Thing) -> Result<(), NoMemory> {
     Ok(())
 }
 
+/// Makes a thing in an empty slot of a live space, and asks once more where memory is refused.
+pub fn make_twice(store: &mut Store, who: Who, thing: &Thing) -> anyhow::Result<()> {
+    if make(store, who, thing).is_err() {
+        make(store, who, thing).ok().context("no memory")?;
+    }
+    Ok(())
+}
+
 /// Makes a thing in an empty slot of a live space, and shows the store then.
 pub fn make_at_last(
     alloc: Global,

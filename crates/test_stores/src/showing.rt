@@ -1,6 +1,6 @@
 //! What a store shows of its objects and pages.
 use anyhow::Context;
-use fk_model::{Body, Who};
+use fk_model::{Body, Ptr, Who};
 use fk_report::{End, have_halted, report_text, threads_of};
 use fk_store::{Reach, Store};
 use std::alloc::{AllocError, Global};
@@ -70,6 +70,23 @@ pub fn at(alloc: Global, store: &Store, who: Who) -> anyhow::Result<String> {
         Some(_) => String::from_str(alloc, "something else")?,
         None => String::from_str(alloc, "nothing")?,
     })
+}
+
+/// Where a reference leads, and how many pointers lead to it.
+pub fn leads(alloc: Global, store: &Store, who: Who) -> anyhow::Result<String> {
+    let led = store.pointers_at(who);
+    let to = match store.at(who) {
+        Some(Body::Reference { to: Ptr::At(to) }) => name_text(alloc, Some(*to))?,
+        Some(Body::Reference { to: Ptr::Dead }) => String::from_str(alloc, "to the dead")?,
+        Some(Body::Reference { to: Ptr::Null }) => String::from_str(alloc, "nowhere")?,
+        _ => String::from_str(alloc, "none")?,
+    };
+    Ok(format!(in alloc; "{to}, led to by {led}")?)
+}
+
+/// Who decides over an object.
+pub fn decider(alloc: Global, store: &Store, who: Who) -> anyhow::Result<String> {
+    Ok(name_text(alloc, store.decider(who))?)
 }
 
 /// Where a page is read or written.
