@@ -1,6 +1,6 @@
 //! A case, called.
 use crate::slow::{SlowSink, SlowSource};
-use fk_causes::{MemShelf, MemSink, MemSource, NoMemory, Open, Shelf};
+use fk_causes::{MemShelf, MemSink, MemSource, NoMemory, Open, Shelf, Sink, Source};
 use fk_responders::Table;
 use fk_run::{End, Outcome, Report, fault_line, fluke_top};
 use fk_trace_text::trace_text;
@@ -10,7 +10,7 @@ use std::thread::Threads;
 use test_case_files::{Case, Ending, Fails};
 
 /// A shelf with these files on it. What fails is counted from the next call on.
-fn shelf_of(alloc: Global, case: &Case, fails: &[u64]) -> Result<MemShelf, NoMemory> {
+pub fn shelf_of(alloc: Global, case: &Case, fails: &[u64]) -> Result<MemShelf, NoMemory> {
     let puts = case.files.len() as u64;
     let mut numbers = Vec::new(alloc);
     for call in fails {
@@ -57,6 +57,19 @@ fn ending_of(
     })
 }
 
+/// The command of a case, called over these. So each caller is checked without the promises of `fluke_top`, which none of them needs.
+pub fn outcome_of<R: Threads + Wait + Sync, S: Source, W: Sink>(
+    rt: &R,
+    alloc: Global,
+    table: &Table,
+    case: &Case,
+    source: &mut S,
+    sink: &mut W,
+    shelf: &mut MemShelf,
+) -> Outcome {
+    fluke_top(rt, alloc, &case.words, table, source, sink, shelf, &Open)
+}
+
 /// What comes of the call of a case in which these calls of its source, its sink and its shelf fail.
 pub fn call<R: Threads + Wait + Sync>(
     rt: &R,
@@ -68,16 +81,7 @@ pub fn call<R: Threads + Wait + Sync>(
     let mut source = MemSource::new(case.source.clone()?, fails.source.clone()?);
     let mut sink = MemSink::new(alloc, case.room, fails.sink.clone()?)?;
     let mut shelf = shelf_of(alloc, case, &fails.shelf)?;
-    let outcome = fluke_top(
-        rt,
-        alloc,
-        &case.words,
-        table,
-        &mut source,
-        &mut sink,
-        &mut shelf,
-        &Open,
-    );
+    let outcome = outcome_of(rt, alloc, table, case, &mut source, &mut sink, &mut shelf);
     ending_of(alloc, &outcome, sink.bytes(), &shelf)
 }
 
@@ -91,15 +95,6 @@ pub fn call_slowly<R: Threads + Wait + Sync>(
     let mut source = SlowSource::new(case.source.clone()?);
     let mut sink = SlowSink::new(alloc);
     let mut shelf = shelf_of(alloc, case, &[])?;
-    let outcome = fluke_top(
-        rt,
-        alloc,
-        &case.words,
-        table,
-        &mut source,
-        &mut sink,
-        &mut shelf,
-        &Open,
-    );
+    let outcome = outcome_of(rt, alloc, table, case, &mut source, &mut sink, &mut shelf);
     ending_of(alloc, &outcome, sink.bytes(), &shelf)
 }

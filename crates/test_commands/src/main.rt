@@ -9,6 +9,16 @@
 //! A case may leave a trace that is then played, and has to come to the same. The cases of a file `slow-NAME.cases` are
 //! called over a source that gives one byte a call and a sink that takes one (`slow`).
 //!
+//! Of the cases of a file `short-NAME.cases` nothing may fail. Each is called once with ample memory, and has to end as it says. Then
+//! the program takes all memory that can be had but for a reserve of small pieces (`hoard`), gives these back a few at a time, and calls
+//! the case after each time (`scarce`). Until that ends as the case says, it may only end for want of memory: with that status,
+//! nothing written, and each file as it was or as the case wants it. A case that never ran short differs too. It counts as one call.
+//! What is taken isn't touched, so it costs address space and some 100 MB for the books that the system keeps of it. Where
+//! taking it would starve others (`machine`), or where there is more than can be taken, the program says so on standard error, and has
+//! then called each case with ample memory alone. These files come first, while pieces of memory that are given back still lie
+//! in one row. A build that keeps books of each byte, as that of `rt try`, would need far more:
+//! hand it no such file.
+//!
 //! The program says of each case what differs, and ends with a line of counts; it fails where a case
 //! differs, and where it finds none. It promises no more than that it always ends.
 #![tactic(auto)]
@@ -18,11 +28,16 @@ ghost use Rattle.fk_model.specs.Answers.{answer, reply_words};
 ghost use Rattle.fk_model.specs.declared.moves.Rule.TheVariants as rules;
 
 mod call;
+mod hoard;
+mod machine;
+mod scarce;
+mod short;
 mod slow;
 
 use anyhow::{Context, ensure};
 use fk_model::{Reply, Rule};
 use fk_responders::{Responder, Table, echo, feed, sum};
+use short::try_short;
 use std::alloc::Global;
 use std::fs;
 use std::rt::Files;
@@ -83,6 +98,20 @@ fn try_slowly<R: Print + AllocGlobal + Threads + Wait + Sync>(
     Ok(())
 }
 
+/// Makes the calls of cases while memory is scarce.
+fn try_shortly<R: Files + Print + Eprint + AllocGlobal + Threads + Wait + Sync>(
+    rt: &R,
+    table: &Table,
+    tally: &mut Tally,
+    cases: &[Case],
+) -> anyhow::Result<()> {
+    let found = try_short(rt, table, cases)?;
+    for (case, found) in cases.iter().zip(&found) {
+        count(rt, tally, case, found.difference(rt.alloc())?)?;
+    }
+    Ok(())
+}
+
 /// What is wrong where a call has made no run.
 fn no_run(alloc: Global, found: &Ending) -> anyhow::Result<Option<String>> {
     match found.report {
@@ -132,7 +161,7 @@ fn try_case<R: Print + AllocGlobal + Threads + Wait + Sync>(
 }
 
 /// Makes the calls of all cases of a file.
-fn try_file<R: Files + Print + AllocGlobal + Threads + Wait + Sync>(
+fn try_file<R: Files + Print + Eprint + AllocGlobal + Threads + Wait + Sync>(
     rt: &R,
     table: &Table,
     tally: &mut Tally,
@@ -143,6 +172,9 @@ fn try_file<R: Files + Print + AllocGlobal + Threads + Wait + Sync>(
     let cases = cases_of(rt.alloc(), &sections)?;
     if path.starts_with("slow-") {
         return try_slowly(rt, table, tally, &cases);
+    }
+    if path.starts_with("short-") {
+        return try_shortly(rt, table, tally, &cases);
     }
     for case in &cases {
         try_case(rt, table, tally, case)?;
@@ -164,8 +196,24 @@ fn files_of_cases<R: Files + AllocGlobal + Clone + Drop>(rt: &R) -> anyhow::Resu
     Ok(names)
 }
 
-/// Makes the calls of all files.
-fn try_files<R: Files + Print + AllocGlobal + Clone + Drop + Threads + Wait + Sync>(
+/// Makes the calls of those files whose cases are called while memory is scarce, or else of all others.
+fn try_those<R: Files + Print + Eprint + AllocGlobal + Threads + Wait + Sync>(
+    rt: &R,
+    table: &Table,
+    tally: &mut Tally,
+    names: &[String],
+    scarce: bool,
+) -> anyhow::Result<()> {
+    for path in names {
+        if path.as_str().starts_with("short-") == scarce {
+            try_file(rt, table, tally, path.as_str()).context(format_args!("{path}"))?;
+        }
+    }
+    Ok(())
+}
+
+/// Makes the calls of all files: first those for which memory is scarce, while what is given back in small pieces still lies in one row.
+fn try_files<R: Files + Print + Eprint + AllocGlobal + Clone + Drop + Threads + Wait + Sync>(
     rt: &R,
     table: &Table,
 ) -> anyhow::Result<()> {
@@ -173,9 +221,9 @@ fn try_files<R: Files + Print + AllocGlobal + Clone + Drop + Threads + Wait + Sy
         calls: 0,
         differ: 0,
     };
-    for path in &files_of_cases(rt)? {
-        try_file(rt, table, &mut tally, path.as_str()).context(format_args!("{path}"))?;
-    }
+    let names = files_of_cases(rt)?;
+    try_those(rt, table, &mut tally, &names, true)?;
+    try_those(rt, table, &mut tally, &names, false)?;
     let Tally { calls, differ } = tally;
     println!(rt; "{calls} calls, {differ} differ")?;
     ensure!(calls > 0, "no case was found");

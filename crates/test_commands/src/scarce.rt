@@ -1,8 +1,8 @@
 //! Cases, called with ample memory and while memory is scarce.
+use crate::call::{outcome_of, shelf_of};
 use crate::hoard::Hoard;
-use fk_causes::{MemShelf, MemSink, MemSource, NoMemory, Open, Shelf};
+use fk_causes::{MemSink, MemSource, NoMemory};
 use fk_responders::Table;
-use fk_run::fluke_top;
 use std::alloc::{AllocError, Global};
 use std::collections::BTreeMap;
 use std::fmt;
@@ -39,8 +39,16 @@ pub struct Found {
 
 impl Found {
     /// The last call ended as the case says. Where memory was made scarce, it ran short before.
-    pub fn is_well(&self) -> bool {
+    fn is_well(&self) -> bool {
         self.is_whole && (self.short > 0 || !self.is_scarce)
+    }
+
+    /// What is wrong, if that isn't so.
+    pub fn difference(&self, alloc: Global) -> Result<Option<String>, AllocError> {
+        if self.is_well() {
+            return Ok(None);
+        }
+        Ok(Some(format!(in alloc; "{self}")?))
     }
 }
 
@@ -57,17 +65,6 @@ impl fmt::Display for Found {
             "scarce {is_scarce}, short {short} times, then status {status}, as wanted {is_whole}"
         )
     }
-}
-
-/// A shelf with the files of a case.
-fn shelf_of(alloc: Global, case: &Case) -> Result<MemShelf, NoMemory> {
-    let mut shelf = MemShelf::new(Vec::new(alloc));
-    for (name, bytes) in &case.files {
-        if shelf.put(name.as_str(), bytes).is_err() {
-            return Err(NoMemory);
-        }
-    }
-    Ok(shelf)
 }
 
 /// Each file is as it was or as it is wanted, and none is gone.
@@ -91,16 +88,15 @@ fn call<T: Threads + Wait + Sync>(
 ) -> Result<End, NoMemory> {
     let mut source = MemSource::new(case.source.clone()?, Vec::new(alloc));
     let mut sink = MemSink::new(alloc, case.room, Vec::new(alloc))?;
-    let mut shelf = shelf_of(alloc, case)?;
-    let outcome = fluke_top(
+    let mut shelf = shelf_of(alloc, case, &[])?;
+    let outcome = outcome_of(
         threads,
         alloc,
-        &case.words,
         table,
+        case,
         &mut source,
         &mut sink,
         &mut shelf,
-        &Open,
     );
     let status = outcome.status.number();
     let wanted = &case.wanted;
