@@ -45,7 +45,7 @@ moved_events jobs c m (OfJob begun s stage words) ready =
     let t = heard machine s (said_of c.world e) in
     job_events jobs c e begun t (machine.head t)
 
-counted : (jobs : List Job) (first c : RunCore) (past : List Move) → IsRun (house jobs) first past c → first.events ≡ 0 → c.events ≡ length past
+pub counted : (jobs : List Job) (first c : RunCore) (past : List Move) → IsRun (house jobs) first past c → first.events ≡ 0 → c.events ≡ length past
 counted jobs first _ _ Begins none = none
 counted jobs first _ _ (Goes past c m d run ready settles) none =
     let before = counted jobs first c past run none in

@@ -8,3 +8,4 @@ mod Settles
 mod Leaving
 mod Rooms
 mod Timely
+mod Bursting

@@ -7,3 +7,4 @@ pub mod Cuts
 pub mod Leaves
 pub mod Rooms
 pub mod Given
+pub mod Bursts
