@@ -6,7 +6,7 @@ use Rattle.fk_model.specs.declared.moves.Move.{Move}
 use Rattle.fk_core.specs.Cores.{IsReadyMove, IsAdvanced, IsOver, IsTried}
 use Rattle.fk_books.specs.Shown.{Shown, MayMove, HasEnded, Moves, Comes, IsFirstDue, is_porter}
 
-shown_same : (s t : Shown) → t.jobs ≡ s.jobs → t.budget ≡ s.budget → t.core ≡ s.core → t ≡ s
+pub shown_same : (s t : Shown) → t.jobs ≡ s.jobs → t.budget ≡ s.budget → t.core ≡ s.core → t ≡ s
 shown_same s t jobs budget core = ap (λ j. record { jobs = j; budget = t.budget; core = t.core }) jobs
     ∙ (ap (λ b. record { jobs = s.jobs; budget = b; core = t.core }) budget ∙ ap (λ c. record { jobs = s.jobs; budget = s.budget; core = c }) core)
 

@@ -8,7 +8,7 @@ use Rattle.laws_house.specs.Houses.{Job}
 use Rattle.laws_house.specs.Houses as houses
 use Rattle.laws_jobs.specs.Machines.Head.{Stops, Asks}
 use Rattle.laws_jobs.specs.Machines.{Head}
-use Rattle.laws_runs.specs.Cores.{IsRun, Settles, Asker, asker, moved_by, moved, job_moved, with_end}
+use Rattle.laws_runs.specs.Cores.{IsRun, Settles, Asker, asker, moved_by, job_moved, with_end}
 use Rattle.laws_runs.specs.Cores.Asker.{Nobody, Others, Job as OfJob}
 use Rattle.laws_runs.specs.Cores.IsRun.{Begins, Goes}
 use Rattle.laws_runs.specs.Cores.Settles.{Stays, Ends}

@@ -2,3 +2,4 @@ mod Coming
 mod Playing
 pub mod Runs
 mod Fitting
+mod Bursting

@@ -1,9 +1,11 @@
 -- What contracts see of a core in which moves are made, and of a run from one such core to another.
-use Rattle.std.specs.Prelude.{◌≡◌, ℕ, ◌+◌, ◌<◌, ◌≤◌, ◌%◌, Bool, true, List, Option, Some, None, IfSome, length}
+use Rattle.std.specs.Prelude.{◌≡◌, ℕ, ◌+◌, ◌-◌, ◌<◌, ◌≤◌, ◌%◌, Bool, true, List, Option, Some, None, IfSome, length, replicate}
 use Rattle.std.specs.List.{slice_get}
 use Rattle.fk_model.specs.declared.moves.Move.{Move}
 use Rattle.fk_model.specs.declared.names.Who.{Who}
 use Rattle.fk_model.specs.Searches.{depth}
+use Rattle.fk_burst.specs.Commits.{MayCommit}
+use Rattle.fk_burst.specs.Lease.{Lease}
 use Rattle.laws_house.specs.Houses.{Job}
 use Rattle.laws_house.specs.Laws.{NameUsersSlots}
 use Rattle.laws_runs.specs.Cores.{IsRun}
@@ -40,6 +42,24 @@ pub record Moves (s : Shown) (m : Move) (t : Shown) : Type 0 where
 abbrev pub Comes : Shown → Option Move → Shown → Type 0
 Comes s None t = t ≡ s
 Comes s (Some m) t = Moves s m t
+
+-- ---- several moves at once
+
+-- so many moves of a run lead from one to the other, within the budget
+pub record MovesSo (s : Shown) (ms : List Move) (t : Shown) : Type 0 where
+  pub run : IsRun (house s.jobs) s.core ms t.core
+  pub events : t.core.events ≡ s.core.events + length ms
+  pub within : t.core.events ≤ s.budget
+  pub jobs : t.jobs ≡ s.jobs
+  pub budget : t.budget ≡ s.budget
+
+-- the moves of a lease
+abbrev pub moves_of : Lease → List Move
+moves_of l = replicate l.count (record { who = l.thread; pick = None })
+
+-- it may be committed here
+abbrev pub MayBurst : Shown → Lease → Type 0
+MayBurst s l = MayCommit s.core.world l (s.budget - s.core.events)
 
 -- ---- runs
 

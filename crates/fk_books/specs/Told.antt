@@ -3,7 +3,7 @@ use Rattle.std.specs.Prelude.{◌≡◌, ◌%◌, true, List, [], ◌∷◌, ◌
 use Rattle.std.specs.Coded.{Coded, code_by, coded×, coded_list}
 use Rattle.fk_model.specs.declared.moves.Move.{Move}
 use Rattle.fk_model.specs.contracts.moves.Move as move
-use Rattle.fk_books.specs.Shown.{Shown, Moves, MayMove, HasRun, is_porter}
+use Rattle.fk_books.specs.Shown.{Shown, Moves, MovesSo, MayMove, HasRun, is_porter}
 
 -- what it was begun from, the core to which its moves have come, and these
 pub record Told (C : Type 0) : Type 0 where
@@ -37,6 +37,12 @@ module _ {C : Type 0} (shown : C → Shown) where
     pub boot : d.boot ≡ b.boot
     pub moved : Moves (shown b.core) m (shown d.core)
     pub history : d.history ≡ b.history ++ m ∷ []
+
+  -- it has these moves more, and its core has made them
+  pub record HasMore (b : Told C) (ms : List Move) (d : Told C) : Type 0 where
+    pub boot : d.boot ≡ b.boot
+    pub moved : MovesSo (shown b.core) ms (shown d.core)
+    pub history : d.history ≡ b.history ++ ms
 
   abbrev pub HasOneMore : Told C → Told C → Type 0
   HasOneMore b d = (m : Move) × IsOneMore b m d

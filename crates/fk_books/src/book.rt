@@ -1,12 +1,13 @@
 //! The book of a run.
-ghost use Rattle.std.specs.Prelude.{◌≡◌, ◌≤◌, [], length, map, vec_capacity, IfOk, OnOk, OnErr};
+ghost use Rattle.std.specs.Prelude.{◌≡◌, ◌≤◌, ◌+◌, ◌++◌, [], length, map, replicate, vec_capacity, IfOk, OnOk, OnErr};
 ghost use Rattle.std.specs.Bool.{OnTrue, OnFalse};
 ghost use Rattle.fk_served.specs.Served.{AllFit};
-ghost use Rattle.fk_books.specs.Shown.{IsSound, MayMove, HasEnded};
-ghost use Rattle.fk_books.specs.Told.{Told, IsKept, IsSame, IsOneMore, HasOneMore, TakesDue, GoesOn};
+ghost use Rattle.fk_books.specs.Shown.{IsSound, MayMove, MayBurst, moves_of, HasEnded};
+ghost use Rattle.fk_books.specs.Told.{Told, IsKept, IsSame, IsOneMore, HasMore, HasOneMore, TakesDue, GoesOn};
 
 use crate::playable::Playable;
-use fk_model::{List as Items, Move, NoMemory};
+use fk_burst::{Leased, count};
+use fk_model::{List as Items, Move, NoMemory, Who};
 use fk_responders::Table;
 use fk_rlock::Counted;
 use std::alloc::Global;
@@ -22,6 +23,19 @@ pub struct Book<C: Playable + Drop> {
     boot: Snapshot<C>,
     core: C,
     history: Vec<Move>,
+    /// Whom the workers have out, so that none is leased twice. It is a hint alone.
+    out: [Option<Who>; 8],
+}
+
+/// So many times a move, for which there is room.
+fn push_all(history: &mut Vec<Move>, m: Move, count: u64)
+    requires { length history.old.items + count ≤ vec_capacity history.old }
+    ensures items { history.new.items ≡ history.old.items ++ replicate count m }
+    ensures capacity { vec_capacity history.new ≡ vec_capacity history.old }
+{
+    for _k in 0..count {
+        history.push_reserved(m);
+    }
 }
 
 impl<C: Playable + Drop> Model for Book<C> {
@@ -69,6 +83,7 @@ impl<C: Playable + Drop> Book<C> {
             boot,
             core: first,
             history,
+            out: [None; 8],
         })
     }
 
@@ -103,6 +118,7 @@ impl<C: Playable + Drop> Book<C> {
             boot: _,
             core,
             history,
+            out: _,
         } = self;
         (core, Items::of(history))
     }
@@ -154,6 +170,70 @@ impl<C: Playable + Drop> Book<C> {
         } else {
             Ok(false)
         }
+    }
+
+    /// Makes the moves of a worker's lease at once, where it may be committed with what is left of the budget, and answers whether it did. Else
+    /// all is as before.
+    pub fn burst(&mut self, lease: Leased) -> bool
+        ensures kept { IsKept C.shown self.old × IsKept C.shown self.new }
+        ensures goes { GoesOn self.old self.new }
+        ensures more { OnTrue result (HasMore C.shown self.old (moves_of lease) self.new) }
+        ensures may { OnTrue result (MayBurst (C.shown self.old.core) lease) }
+        ensures may_not { OnFalse result (MayBurst (C.shown self.old.core) lease → ⊥) }
+        ensures same { OnFalse result (IsSame C.shown self.old self.new) }
+    {
+        self.burst_held(&lease)
+    }
+
+    /// The same of a lease that stays where it is.
+    #[tactic(auto, using(crate::proofs::Runs::come, crate::proofs::Runs::same_run, crate::proofs::Runs::goes_not, crate::proofs::Bursting::within_now, crate::proofs::Bursting::goes_so))]
+    fn burst_held(&mut self, lease: &Leased) -> bool
+        ensures kept { IsKept C.shown self.old × IsKept C.shown self.new }
+        ensures goes { GoesOn self.old self.new }
+        ensures more { OnTrue result (HasMore C.shown self.old (moves_of lease.now) self.new) }
+        ensures may { OnTrue result (MayBurst (C.shown self.old.core) lease.now) }
+        ensures may_not { OnFalse result (MayBurst (C.shown self.old.core) lease.now → ⊥) }
+        ensures same { OnFalse result (IsSame C.shown self.old self.new) }
+    {
+        let who = lease.thread();
+        let made = count(lease);
+        if self.core.burst(lease) {
+            push_all(&mut self.history, Move { who, pick: None }, made);
+            true
+        } else {
+            false
+        }
+    }
+
+    /// Renews the lease of a worker, of which the last one is back, and says whether it did: with the thread that moved last, or with another.
+    /// Nothing else changes.
+    pub fn lease(&mut self, worker: u32, stays: bool, lease: &mut Leased) -> bool
+        ensures same { IsSame C.shown self.old self.new }
+    {
+        let place = worker as usize % 8;
+        self.out[place] = None;
+        if self.core.lease(&self.out, stays, lease) {
+            self.out[place] = Some(lease.thread());
+            true
+        } else {
+            false
+        }
+    }
+
+    /// The moves of one turn at the lock by which a lease comes back: those of the lease, where it may be committed, and one more, while any is
+    /// left; and whether one more was made.
+    ///
+    /// # Errors
+    ///
+    /// There is no memory for what the move makes.
+    #[tactic(auto, using(crate::proofs::Runs::goes_further))]
+    pub fn go_burst(&mut self, table: &Table, lease: &Leased) -> Result<bool, NoMemory>
+        requires fits { AllFit (map (λ r. r.rule) table.now.list.items) (C.shown self.old.boot).core.servers }
+        ensures goes { GoesOn self.old self.new }
+        ensures ended { IfOk result (λ more. OnFalse more (HasEnded (C.shown self.new.core))) }
+    {
+        self.burst_held(lease);
+        self.one(table)
     }
 
     /// Makes moves while any is left, at most so many.

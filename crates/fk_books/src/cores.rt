@@ -1,10 +1,12 @@
 //! Cores make moves.
+ghost use Rattle.fk_burst.specs.Commits.{CommitsSo};
 ghost use Rattle.fk_core.specs.Cores.{run_core};
 
 use crate::playable::Playable;
-use fk_core::Core;
+use fk_burst::{Leased, commit_held, count};
+use fk_core::{Core, Kernel};
 use fk_jobs::Worker;
-use fk_model::{Move, NoMemory};
+use fk_model::{Move, NoMemory, Who};
 use fk_natives::Service;
 use fk_responders::Table;
 
@@ -28,4 +30,69 @@ impl<S: Service + Drop, W: Worker + Drop> Playable for Core<S, W> {
             Ok(false)
         }
     }
+
+    fn lease(&self, out: &[Option<Who>; 8], stays: bool, lease: &mut Leased) -> bool {
+        if !self.has_time() {
+            return false;
+        }
+        if stays && renews(self, self.last_thread(), out, lease) {
+            return true;
+        }
+        let mut after = None;
+        for _ in 0..8 {
+            let Some(who) = self.next_thread(after) else {
+                return false;
+            };
+            if !is_out(out, who) {
+                return lease.renew(self.kernel(), who);
+            }
+            after = Some(who);
+        }
+        false
+    }
+
+    fn burst(&mut self, lease: &Leased) -> bool {
+        let left = self.budget() - self.events();
+        let made = count(lease);
+        if made > left {
+            return false;
+        }
+        Core::burst(
+            self,
+            lease.thread(),
+            made,
+            |kernel: &mut Kernel| -> bool
+                ensures { CommitsSo lease.entry.now left kernel.old result kernel.new }
+            { commit_held(kernel, lease, left) },
+        )
+    }
+}
+
+/// A lease is renewed with this thread, unless it is out.
+fn renews<S: Service + Drop, W: Worker + Drop>(
+    core: &Core<S, W>,
+    thread: Option<Who>,
+    out: &[Option<Who>; 8],
+    lease: &mut Leased,
+) -> bool {
+    match thread {
+        Some(who) => {
+            if is_out(out, who) {
+                false
+            } else {
+                lease.renew(core.kernel(), who)
+            }
+        }
+        None => false,
+    }
+}
+
+/// Whether a name is among those that are out.
+fn is_out(out: &[Option<Who>; 8], who: Who) -> bool {
+    for one in out {
+        if *one == Some(who) {
+            return true;
+        }
+    }
+    false
 }

@@ -1,10 +1,11 @@
 //! What a book asks of its core.
-ghost use Rattle.std.specs.Prelude.{◌≡◌, map, IfOk, OnErr, IfNone};
+ghost use Rattle.std.specs.Prelude.{◌≡◌, ◌≤◌, map, IfOk, OnErr, IfNone};
 ghost use Rattle.std.specs.Bool.{OnTrue, OnFalse};
 ghost use Rattle.fk_served.specs.Served.{AllFit};
-ghost use Rattle.fk_books.specs.Shown.{Shown, MayMove, HasEnded, Moves, Comes, IsFirstDue, HasComeTo};
+ghost use Rattle.fk_books.specs.Shown.{Shown, MayMove, MayBurst, HasEnded, Moves, MovesSo, moves_of, Comes, IsFirstDue, HasComeTo};
 
-use fk_model::{Move, NoMemory};
+use fk_burst::Leased;
+use fk_model::{Move, NoMemory, Who};
 use fk_responders::Table;
 
 /// A core in which moves are made, one after the other.
@@ -34,4 +35,19 @@ pub trait Playable {
         ensures unready { IfOk result (λ made. OnFalse made (MayMove (shown self.old) m.now → ⊥)) }
         ensures same { IfOk result (λ made. OnFalse made (shown self.new ≡ shown self.old)) }
         ensures lacking { OnErr result (shown self.new ≡ shown self.old) };
+
+    /// Renews a lease, with a thread that is ready in running mode and not among these, and says whether it did: with the one that moved
+    /// last, or with another; not while a job's moves are due. Which one it is, and whether there is one, is a hint: a lease of any thread may
+    /// be committed where it is as it was.
+    fn lease(&self, out: &[Option<Who>; 8], stays: bool, lease: &mut Leased) -> bool;
+
+    /// Makes the moves of a lease at once where it may be committed with what is left of the budget, and answers whether it did. Else all
+    /// is as before.
+    fn burst(&mut self, lease: &Leased) -> bool
+        requires come { HasComeTo (shown self.old) }
+        requires within { (shown self.old).core.events ≤ (shown self.old).budget }
+        ensures moves { OnTrue result (MovesSo (shown self.old) (moves_of lease.now) (shown self.new)) }
+        ensures may { OnTrue result (MayBurst (shown self.old) lease.now) }
+        ensures may_not { OnFalse result (MayBurst (shown self.old) lease.now → ⊥) }
+        ensures same { OnFalse result (shown self.new ≡ shown self.old) };
 }

@@ -9,6 +9,7 @@
 //! it finds none. It promises of the world to which it gives a porter that this stays valid, and nothing else.
 #![tactic(auto)]
 
+mod bursts;
 mod line;
 mod porter;
 mod world;

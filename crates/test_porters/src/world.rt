@@ -14,6 +14,10 @@
 //! PORT giving WORDS = COUNT`: it gives words, and so many are taken; `fills` with the same: there was no room. `hands
 //! PORT`: it hands the turn over. `untaken`, `ungiven`, `unhanded`: that act isn't ready. `meets PORT =
 //! SPACE SLOT`: whom it may accept, if anybody. `lost PORT`: by the last move a server lost its client; `kept`: none did.
+//!
+//! `leases SLOT = COUNT`: a lease of a thread of the root is taken and run, and has made so many instructions. `unleased
+//! SLOT`: there is none. `commits LEFT`: that lease is committed where so many moves are left; `refused LEFT`: it isn't.
+use crate::bursts::Held;
 use crate::line::Line;
 use crate::porter::put_porter;
 use anyhow::{Context, bail};
@@ -31,6 +35,7 @@ pub struct World {
     porter: Who,
     /// The port whose native server lost its client by the last move.
     ended: Option<Who>,
+    held: Held,
 }
 
 /// The kernel of a scenario, with a porter in a slot.
@@ -182,6 +187,7 @@ impl World {
             kernel,
             porter,
             ended: None,
+            held: Held::none(),
         })
     }
 
@@ -303,6 +309,26 @@ impl World {
         })
     }
 
+    /// A lease of a thread of the root is taken, as a line says.
+    fn leases(&mut self, line: &Line) -> anyhow::Result<bool> {
+        let who = in_root(line.subject.as_slice()).context("no thread")?;
+        let made = self.held.takes(&self.kernel, who);
+        Ok(match line.verb {
+            "leases" => made == Some(*line.wanted.first().context("how many")?),
+            _ => made.is_none(),
+        })
+    }
+
+    /// The lease that was taken last is committed or not, as a line says.
+    fn commits(&mut self, line: &Line) -> anyhow::Result<bool> {
+        let left = *line.subject.first().context("how many are left")?;
+        let done = self
+            .held
+            .commits(&mut self.kernel, left)
+            .context("no lease")?;
+        Ok(done == (line.verb == "commits"))
+    }
+
     /// A step is made, and is as its line says.
     ///
     /// # Errors
@@ -316,6 +342,8 @@ impl World {
                 self.acts(line)
             }
             "meets" | "lost" | "kept" => self.servers(line),
+            "leases" | "unleased" => self.leases(line),
+            "commits" | "refused" => self.commits(line),
             _ => self.thread_steps(line),
         }
     }

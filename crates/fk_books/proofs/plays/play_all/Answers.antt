@@ -1,5 +1,5 @@
 use Rattle.std.proofs.Common.{◌≡◌, length, ap, subst, ◌∙◌, inl, inr, rules, refl}
-use Rattle.fk_trace_text.specs.Trace.{trace_text, Spells, BeginsWithNone}
+use Rattle.fk_trace_text.specs.Trace.{Spells, BeginsWithNone}
 use Rattle.fk_trace_text.proofs.Traces.{Spells-same, Spells-not_bad, trace_text-all}
 use Rattle.fk_books.specs.Shown.{HasRun, MayMove}
 use Rattle.fk_books.specs.Plays.{MayPlay}
