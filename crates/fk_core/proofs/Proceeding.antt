@@ -1,6 +1,7 @@
 -- Proceeding: an instruction is a turn, and one move after another.
-use Rattle.std.proofs.Common.{◌≡◌, ℕ, ◌+◌, ◌<◌, false, length, map, is_some, Option, Some, None, refl, sym, ap, ◌∙◌}
+use Rattle.std.proofs.Common.{◌≡◌, ℕ, ◌+◌, ◌<◌, Bool, true, false, not, length, map, is_some, Option, Some, None, refl, sym, ap, ◌∙◌}
 use Rattle.std.specs.List.{slice_get}
+use Rattle.std.specs.Option.{option_map}
 use Rattle.fk_model.specs.declared.moves.Ask.TheVariants as asks
 use Rattle.fk_model.specs.declared.moves.Move.{Move}
 use Rattle.fk_model.specs.declared.moves.Said as says_of
@@ -66,6 +67,12 @@ none-left q c same none = Stays c (λ why ends. let over : Some ends.job ≡ Non
 
 pub no-porter : (q : Queue) (who : Who) → current q ≡ None → is_porter q who ≡ false
 no-porter q who none = ap (λ o. is_who (porter_of o) who) none
+
+-- where nothing is planned of a job, nothing is asked of it
+pub none-asked : {A B : Type 0} (f : A → B) (o : Option A) (is_none : Bool) → is_some o ≡ not is_none → is_none ≡ true → option_map f o ≡ None
+none-asked f None is_none is so = refl
+none-asked f (Some a) true is so = absurd (cc)
+none-asked f (Some a) false is so = absurd (cc)
 
 -- a move that picks nobody
 pub unpicked : (who : Who) (pick : Option Who) → is_some pick ≡ false → ◌≡◌ {A = Move} (record { who = who; pick = None }) (record { who = who; pick = pick })

@@ -52,6 +52,27 @@ impl<S: Service + Drop, W: Worker + Drop> Core<S, W> {
         }
     }
 
+    /// The same, where that is no instruction and no stage that tells nobody of anything.
+    #[inline(never)]
+    fn go_on_told(&mut self, table: &Table) -> Result<Option<Move>, NoMemory>
+        requires fits { AllFit (map (λ r. r.rule) table.now.list.items) self.old.services.list }
+        requires come { IsGoing self.old }
+        ensures made { IsAdvancedBy self.old.jobs.jobs self.old.budget (run_core self.old) (run_core self.new) result }
+        ensures fits { AllFit (map (λ r. r.rule) table.now.list.items) self.new.services.list }
+        ensures budget { self.new.budget ≡ self.old.budget }
+        ensures jobs { self.new.jobs.jobs ≡ self.old.jobs.jobs }
+    {
+        let Some(who) = self.same_thread() else {
+            return Ok(None);
+        };
+        let m = Move { who, pick: None };
+        if self.go_told(table, &m)? {
+            Ok(Some(m))
+        } else {
+            Ok(None)
+        }
+    }
+
     /// Makes a move that is ready, of whoever comes next.
     #[inline(never)]
     fn go_next(&mut self, table: &Table) -> Result<Option<Move>, NoMemory>
@@ -78,7 +99,7 @@ impl<S: Service + Drop, W: Worker + Drop> Core<S, W> {
         ensures budget { self.new.budget ≡ self.old.budget }
         ensures jobs { self.new.jobs.jobs ≡ self.old.jobs.jobs }
     {
-        match self.go_on(table)? {
+        match self.go_on_told(table)? {
             Some(m) => Ok(Some(m)),
             None => self.go_next(table),
         }

@@ -18,6 +18,10 @@ impl<S: Service + Drop, W: Worker + Drop> Core<S, W> {
         ensures budget { self.new.budget ≡ self.old.budget }
         ensures events { self.new.events ≡ self.old.events }
     {
+        // Mostly none is left.
+        if self.jobs.current().is_none() {
+            return;
+        }
         // One that is at work ends by its moves alone.
         if self.jobs.is_at_work() {
             return;

@@ -222,7 +222,7 @@ impl<S: Service + Drop, W: Worker + Drop> Core<S, W> {
     }
 
     /// The same of any move.
-    fn go_told(&mut self, table: &Table, m: &Move) -> Result<bool, NoMemory>
+    pub(crate) fn go_told(&mut self, table: &Table, m: &Move) -> Result<bool, NoMemory>
         requires few { self.old.events < self.old.budget }
         requires come { IsGoing self.old }
         requires fits { AllFit (map (λ r. r.rule) table.now.list.items) self.old.services.list }
