@@ -53,6 +53,7 @@ impl Turns {
         ensures marks { OnOk result (1 ≤ self.new.marks.spare) }
         ensures ready { self.new.waits.ready ≡ self.old.waits.ready }
         ensures queued { self.new.waits.queued ≡ self.old.waits.queued }
+        ensures marked { self.new.marks.ready ≡ self.old.marks.ready }
     {
         self.waits.reserve(1)?;
         self.marks.reserve(1)

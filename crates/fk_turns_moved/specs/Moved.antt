@@ -45,6 +45,11 @@ is_put (Makes object) who = is_same object who
 is_put (Moves object slot) who = is_same (at object.space slot) who
 is_put other who = false
 
+-- the name of who moved, after the move
+abbrev pub now_named : Who → Touched → Who
+now_named mover (Moves object slot) = if is_same object mover then at object.space slot else mover
+now_named mover other = mover
+
 -- ---- what a move leaves
 
 -- what a reason speaks of isn't told

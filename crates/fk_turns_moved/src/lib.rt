@@ -13,3 +13,4 @@ mod users;
 pub use filling::of;
 pub use moving::moved;
 pub use settling::settle;
+pub use users::is_user;

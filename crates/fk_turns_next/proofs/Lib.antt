@@ -1,0 +1,4 @@
+pub mod Placed
+pub mod Passed
+pub mod Scans
+pub mod Idle

@@ -1,0 +1,35 @@
+use Rattle.std.proofs.Common.{refl, sym, ◌∙◌}
+use Rattle.fk_waits.specs.Lists.{stands}
+use Rattle.fk_waits_causes.proofs.Numbers.{clash}
+use Rattle.fk_turns_next.proofs.Placed.{kept_woken, placed_settled, placed_woken}
+use Rattle.fk_turns_next.proofs.placing.put.Goals as goal
+
+pub wake-requires : goal.wake-requires
+wake-requires c =
+    let there = c.requires.kept.each c.args.who ∙ sym c.is_user.ensures ∙ c.if-not-is_user.false in
+    record {
+      sound = c.requires.kept.sound;
+      waits = λ off. clash (stands c.args.who c.args.turns.now.waits) there off;
+      marks = λ off. clash (stands c.args.who c.args.turns.now.waits) there off;
+    }
+
+pub settle-requires : goal.settle-requires
+settle-requires c = record {
+  consistent = c.requires.valid.consistent;
+  kept = c.requires.kept;
+  user = sym c.is_user.ensures ∙ c.if-not-is_user.false;
+  unready = λ pick ready. c.in-None.ensures.none (pick, ready);
+}
+
+pub returns-in-Some-clause-kept : goal.returns-in-Some-clause-kept
+returns-in-Some-clause-kept c =
+    kept_woken c.args.store.now c.args.who c.args.turns.now.waits c.args.turns.now.marks c.wake.new.self.waits c.wake.new.self.marks c.requires.kept
+    (sym c.is_user.ensures ∙ c.if-not-is_user.false) c.wake.ensures.waits c.wake.ensures.met c.wake.ensures.less c.wake.ensures.sound
+
+pub returns-in-Some-clause-placed : goal.returns-in-Some-clause-placed
+returns-in-Some-clause-placed c user =
+    placed_woken c.args.store.now c.args.who c.args.turns.now.waits c.wake.new.self.waits c.wake.ensures.waits (c.in-Some.ensures.up refl)
+
+pub returns-in-None-clause-placed : goal.returns-in-None-clause-placed
+returns-in-None-clause-placed c user =
+    placed_settled c.args.store.now c.args.who c.args.turns.now.waits c.settle.new.turns.waits c.settle.ensures.settled c.in-None.ensures.none

@@ -1,0 +1,18 @@
+//! What is told of a move is enough for the lists of who waits.
+//!
+//! It stands on `fk_turns_moved`, which says what the lists want of a move, on `fk_wakes` for what is told, on `fk_whys` for the reasons that stay, and on
+//! `laws_users` for users' threads and names. Each law is the contract of a function that does nothing.
+#![tactic(auto)]
+
+ghost use Rattle.fk_turns_told.specs.Told.{ToldMovesLeave, ToldNames};
+
+/// A fit move of which all is told that it changes, makes and takes from its place leaves of a store's user threads what the lists want.
+pub fn told_moves_leave()
+    ensures { ToldMovesLeave }
+{}
+
+/// The name of who moved, as it is told, is that which the move leaves it.
+#[tactic(auto, using(crate::proofs::Told::told_names))]
+pub fn told_names()
+    ensures { ToldNames }
+{}
