@@ -49,14 +49,6 @@ fn forget(changes: &mut Sheet, known: &mut Objects, path: &str) {
     }
 }
 
-/// What stands in a slot in words, where something does.
-fn words_of(alloc: Global, store: &Store, who: Who) -> Result<Option<String>, AllocError> {
-    match store.at(who) {
-        Some(body) => Ok(Some(object_text(alloc, store, who, body)?)),
-        None => Ok(None),
-    }
-}
-
 /// Notes what stands in a slot.
 fn note_slot(
     changes: &mut Sheet,
@@ -65,11 +57,16 @@ fn note_slot(
     who: Who,
 ) -> Result<(), AllocError> {
     let path = path_text(changes.alloc(), store, who)?;
-    match words_of(changes.alloc(), store, who)? {
-        Some(words) => note(changes, known, path, words)?,
-        None => forget(changes, known, path.as_str()),
+    match store.at(who) {
+        Some(body) => {
+            let words = object_text(changes.alloc(), store, who, body)?;
+            note(changes, known, path, words)
+        }
+        None => {
+            forget(changes, known, path.as_str());
+            Ok(())
+        }
     }
-    Ok(())
 }
 
 /// Notes what stands in these slots, and adds what has changed of it.
@@ -101,8 +98,9 @@ fn add_root(alloc: Global, all: &mut Objects, store: &Store) -> Result<(), Alloc
 
 /// Adds what stands in a slot.
 fn add_object(alloc: Global, all: &mut Objects, store: &Store, who: Who) -> Result<(), AllocError> {
-    if let Some(words) = words_of(alloc, store, who)? {
-        all.insert(path_text(alloc, store, who)?, words)?;
+    if let Some(body) = store.at(who) {
+        let path = path_text(alloc, store, who)?;
+        all.insert(path, object_text(alloc, store, who, body)?)?;
     }
     Ok(())
 }

@@ -8,6 +8,9 @@ use lens_text::Sheet;
 use lens_world::{Seen, push_path};
 use std::alloc::{AllocError, Global};
 
+/// The mover, whom it deals with, and its pick, each where that is a thread.
+type Threads = [Option<(Who, Thread)>; 3];
+
 /// What is known before a move.
 #[derive(Drop)]
 pub struct Begun {
@@ -16,24 +19,14 @@ pub struct Begun {
     /// How many words it is to send, and to whom.
     sending: Option<u64>,
     whom: Sheet,
-    /// The mover and whom it deals with, where these are threads.
-    threads: Vec<(Who, Thread)>,
+    threads: Threads,
     servers: Vec<ServerState>,
 }
 
-/// Keeps somebody, where that is a thread.
-fn keep_thread(
-    threads: &mut Vec<(Who, Thread)>,
-    store: &Store,
-    who: Option<Who>,
-) -> Result<(), AllocError> {
-    let Some(who) = who else {
-        return Ok(());
-    };
-    if let Some(thread) = store.thread(who) {
-        threads.push((who, *thread))?;
-    }
-    Ok(())
+/// Somebody with what that is at, where that is a thread.
+fn kept(store: &Store, who: Option<Who>) -> Option<(Who, Thread)> {
+    let who = who?;
+    Some((who, *store.thread(who)?))
 }
 
 /// Whom the mover deals with.
@@ -44,44 +37,30 @@ fn other_of(store: &Store, one: &Move) -> Option<Who> {
     }
 }
 
-/// The mover and whom it deals with, where these are threads.
-fn threads_of(alloc: Global, store: &Store, one: &Move) -> Result<Vec<(Who, Thread)>, AllocError> {
-    let mut threads = Vec::new(alloc);
-    keep_thread(&mut threads, store, Some(one.who))?;
-    keep_thread(&mut threads, store, other_of(store, one))?;
-    keep_thread(&mut threads, store, one.pick)?;
-    Ok(threads)
-}
-
 /// How many words the mover is about to send.
 fn sending_by(store: &Store, who: Who) -> Option<u64> {
     sending_of(store.thread(who)?)
 }
 
-/// What is known before a move, where threads and servers are known.
-fn begun_of(
-    alloc: Global,
-    seen: Seen<'_>,
-    one: &Move,
-    threads: Vec<(Who, Thread)>,
-    servers: Vec<ServerState>,
-) -> Begun {
+/// What is known before a move, where what servers are at is known.
+fn begun_of(alloc: Global, seen: Seen<'_>, one: &Move, servers: Vec<ServerState>) -> Begun {
+    let store = seen.store;
+    let other = other_of(store, one);
     let mut begun = Begun {
         path: Sheet::new(alloc),
         act: Sheet::new(alloc),
-        sending: sending_by(seen.store, one.who),
+        sending: sending_by(store, one.who),
         whom: Sheet::new(alloc),
-        threads,
+        threads: [
+            kept(store, Some(one.who)),
+            kept(store, other),
+            kept(store, one.pick),
+        ],
         servers,
     };
-    push_path(&mut begun.path, seen.store, one.who);
+    push_path(&mut begun.path, store, one.who);
     push_act(&mut begun.act, seen, one);
-    push_named(
-        &mut begun.whom,
-        seen.store,
-        " to ",
-        other_of(seen.store, one),
-    );
+    push_named(&mut begun.whom, store, " to ", other);
     begun
 }
 
@@ -91,9 +70,8 @@ fn begun_of(
 ///
 /// For want of memory.
 pub fn begin(alloc: Global, seen: Seen<'_>, one: &Move) -> Result<Begun, AllocError> {
-    let threads = threads_of(alloc, seen.store, one)?;
     let servers = states_of(alloc, seen.services)?;
-    Ok(begun_of(alloc, seen, one, threads, servers))
+    Ok(begun_of(alloc, seen, one, servers))
 }
 
 /// Adds what the mover did: of a sender, how many of its words went.
@@ -111,19 +89,13 @@ fn push_did(sheet: &mut Sheet, store: &Store, one: &Move, begun: &Begun) {
     }
 }
 
-/// Adds what has come of the mover's move besides its registers. Of a native server there is nothing more to say.
-fn push_end(sheet: &mut Sheet, store: &Store, one: &Move, threads: &[(Who, Thread)]) {
-    match threads.first() {
-        Some((who, before)) if *who == one.who => push_ending(sheet, store, *who, before),
-        _ => {}
-    }
-}
-
 /// Adds the registers of the threads that have changed: the mover's first, each other's behind its path.
-fn push_changes(sheet: &mut Sheet, store: &Store, one: &Move, threads: &[(Who, Thread)]) {
+fn push_changes(sheet: &mut Sheet, store: &Store, one: &Move, threads: &Threads) {
     let mut changes = Sheet::new(sheet.alloc());
-    for (who, before) in threads {
-        push_changed(&mut changes, store, one.who, *who, before);
+    for thread in threads {
+        if let Some((who, before)) = thread {
+            push_changed(&mut changes, store, one.who, *who, before);
+        }
     }
     sheet.add(&changes);
 }
@@ -134,7 +106,10 @@ pub fn push_step(sheet: &mut Sheet, seen: Seen<'_>, one: &Move, begun: &Begun, g
     sheet.add(&begun.path);
     sheet.put(gap);
     push_did(sheet, seen.store, one, begun);
-    push_end(sheet, seen.store, one, &begun.threads);
+    // Of a native server there is nothing more to say than its act.
+    if let Some((who, before)) = &begun.threads[0] {
+        push_ending(sheet, seen.store, *who, before);
+    }
     sheet.put(gap);
     push_changes(sheet, seen.store, one, &begun.threads);
     sheet.put(gap);

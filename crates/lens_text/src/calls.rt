@@ -79,16 +79,26 @@ fn push_first(sheet: &mut Sheet, code: u64, registers: &[u64; 16]) {
     push_form(sheet, form, arguments(stage, registers));
 }
 
+/// A text up to its first blank, and what is behind that.
+fn first_word(text: &str) -> (&str, &str) {
+    match text.split_once(' ') {
+        Some(parts) => parts,
+        None => (text, ""),
+    }
+}
+
 /// Adds a stage: its name, and each argument with its register.
 fn push_form(sheet: &mut Sheet, form: &str, registers: &[u64]) {
-    let (name, arguments) = match form.split_once(' ') {
-        Some(parts) => parts,
-        None => return sheet.put(form),
-    };
+    let (name, mut arguments) = first_word(form);
     sheet.put(name);
-    for (argument, register) in arguments.split(' ').zip(registers.iter()) {
+    for register in registers {
+        if arguments.is_empty() {
+            break;
+        }
+        let (argument, later) = first_word(arguments);
         sheet.puts(&[" ", argument, "="]);
         sheet.number(*register);
+        arguments = later;
     }
 }
 

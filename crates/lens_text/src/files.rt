@@ -1,9 +1,9 @@
-//! The files of the shelf.
+//! The source, and the files of the shelf.
 use crate::problem::{Problem, given};
-use fk_causes::{Shelf, ShelfFail};
+use fk_causes::{ReadError, Shelf, ShelfFail, Source, read_all};
 use std::alloc::{AllocError, Global};
 
-/// That a file couldn't be read.
+/// That something couldn't be read.
 fn unreadable(line: Result<String, AllocError>) -> Problem {
     match line {
         Ok(line) => Problem::Outside(line),
@@ -24,5 +24,24 @@ pub fn file_of<H: Shelf>(alloc: Global, shelf: &mut H, file: &str) -> Result<Vec
         ))),
         Err(ShelfFail::Failed) => Err(unreadable(format!(in alloc; "{file} can't be read"))),
         Err(ShelfFail::NoMemory) => Err(Problem::NoMemory),
+    }
+}
+
+/// All of the source.
+///
+/// # Errors
+///
+/// `Given` where it is too long, `Outside` where it can't be read, and `NoMemory`.
+pub fn source_text<R: Source>(alloc: Global, source: &mut R) -> Result<Vec<u8>, Problem> {
+    match read_all(alloc, source) {
+        Ok(text) => Ok(text),
+        Err(ReadError::TooLong) => Err(given(String::from_str(
+            alloc,
+            "standard input: expected no more than 1048576 bytes",
+        ))),
+        Err(ReadError::ReadFault) => {
+            Err(unreadable(String::from_str(alloc, "standard input can't be read")))
+        }
+        Err(ReadError::NoMemory) => Err(Problem::NoMemory),
     }
 }

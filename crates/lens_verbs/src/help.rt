@@ -3,9 +3,6 @@
 /// What `--version` says.
 pub const VERSION: &str = "lens 1\n";
 
-/// What there is, where a word is wrong.
-pub const VERBS: &str = "tree, steps, why, image, words, page, --help, --version";
-
 /// What `--help` says.
 pub const HELP: &str = "lens: shows what a program, a scenario, a trace and an image hold
 

@@ -1,20 +1,23 @@
 //! The verbs of `lens`: from the words of its command line to what is shown.
 //!
-//! `lens_top` finds the verb in the words (`verb`), reads what it needs from the source and the shelf (`top`), and shows it: `words` a
-//! program's text, assembled and written again so that it assembles to the same words; the others show an image, or watch a run
-//! (`runs`). It writes nothing, and changes no file.
+//! `lens_top` finds what the words ask for, and shows it: an image, a program's text, or a scenario's run, watched (`runs`). There the
+//! moves of a trace are made one by one, each of which was ready, and who watches sees what stands before and after each (`watching`).
+//! It writes nothing, and changes no file.
 //!
-//! It stands on `lens_runs` for runs, on `lens_steps`, `lens_why` and `lens_page` for what is shown of one, on `lens_image` for images,
-//! on `fk_asm` for programs, on `lens_text` for instructions as text and for why something isn't shown, and on `fk_causes` for the
-//! source and the shelf. It promises no more than that each function ends, whatever bytes it is given.
+//! It stands on `fk_first` for the core with which a scenario begins, on `fk_core` for moves, on `fk_commands` for scenarios and images, on
+//! `fk_trace_text` for the lines of a trace; on `lens_page` for what is shown of a run, on `lens_image` for images and programs, on
+//! `lens_text` for the words, and on `fk_causes` for the source and the shelf. It is the one crate of `lens` that knows a core. It promises
+//! no more than that each function ends, whatever bytes it is given.
 #![tactic(auto)]
 
 mod help;
+mod images;
+mod ready;
 mod responders;
 mod runs;
+mod scenarios;
 mod top;
-mod verb;
-mod words;
+mod watching;
 
 pub use lens_text::Problem;
 pub use top::lens_top;

@@ -4,21 +4,20 @@ ghost use Rattle.fk_model.specs.Answers.{answer, reply_words};
 ghost use Rattle.fk_model.specs.declared.moves.Rule.TheVariants as rules;
 
 use crate::runs::show_run;
-use crate::verb::Verb;
 use fk_causes::Shelf;
 use fk_model::{Reply, Rule};
 use fk_responders::{Responder, Table, echo, feed, sum};
-use lens_text::Problem;
+use lens_text::{Asked, Problem};
 use std::alloc::Global;
 
-/// Shows what a verb that watches a run shows, of a scenario's text.
+/// Shows what is asked for of a run of a scenario's text.
 ///
 /// # Errors
 ///
 /// `Given` where the text is no scenario, or a file isn't what the verb needs, `Outside` where a file can't be read, and `NoMemory`.
 pub fn show<H: Shelf>(
     alloc: Global,
-    verb: Verb<'_>,
+    asked: Asked<'_>,
     text: &[u8],
     shelf: &mut H,
 ) -> Result<String, Problem> {
@@ -54,5 +53,5 @@ pub fn show<H: Shelf>(
             { sum(request) },
         )?,
     ))?;
-    show_run(alloc, verb, &Table { list }, text, shelf)
+    show_run(alloc, asked, &Table { list }, text, shelf)
 }

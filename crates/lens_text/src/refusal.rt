@@ -1,11 +1,5 @@
-//! The scenario that a text is, and why it is none.
-ghost use Rattle.std.specs.Prelude.{IfOk, map};
-ghost use Rattle.fk_scenario.specs.Kept.{KeepsScenario, HasRules};
-
-use fk_commands::{Status, scenario_in};
-use fk_responders::Table;
-use fk_scenario::Scenario;
-use lens_text::{Problem, given};
+//! Why a text is no scenario.
+use crate::problem::{Problem, given};
 use std::alloc::Global;
 
 /// What was expected of a scenario, by the rule by which it is refused.
@@ -63,8 +57,9 @@ fn line_of(text: &str, heading: &str, index: u32) -> Option<u64> {
     None
 }
 
-/// That a scenario is refused: the line of the entry, where that is found, else its place in its section.
-fn refused(alloc: Global, text: &[u8], rule: u8, section: u8, index: u32) -> Problem {
+/// That a scenario is refused, by a rule at the entry of a section with this index: the line of the entry, where that is found, else its
+/// place in its section.
+pub fn refused_scenario(alloc: Global, text: &[u8], rule: u8, section: u8, index: u32) -> Problem {
     let (heading, expected) = (heading(section), expected(rule));
     let line = match str::from_utf8(text) {
         Ok(text) => line_of(text, heading, index),
@@ -77,27 +72,5 @@ fn refused(alloc: Global, text: &[u8], rule: u8, section: u8, index: u32) -> Pro
         None => given(format!(in alloc;
             "standard input, {heading}, entry {index}: expected {expected}"
         )),
-    }
-}
-
-/// The scenario that a text is, by the rules that a table has for native servers.
-///
-/// # Errors
-///
-/// `Given` where it is none, and `NoMemory`.
-pub fn scenario_of(alloc: Global, table: &Table, text: &[u8]) -> Result<Scenario, Problem>
-    ensures keeps { IfOk result KeepsScenario }
-    ensures rules { IfOk result (HasRules (map (λ r. r.rule) table.now.list.items)) }
-{
-    match scenario_in(alloc, table, text) {
-        Ok(scenario) => Ok(scenario),
-        Err(
-            Status::BadScenario {
-                rule,
-                section,
-                index,
-            },
-        ) => Err(refused(alloc, text, rule, section, index)),
-        Err(_) => Err(Problem::NoMemory),
     }
 }

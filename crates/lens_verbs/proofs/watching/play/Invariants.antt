@@ -1,7 +1,7 @@
 use Rattle.std.proofs.Common.{map}
 use Rattle.fk_core.specs.Goings.{IsGoing}
 use Rattle.fk_served.specs.Served.{AllFit}
-use Rattle.lens_runs.proofs.watching.play.Given as goal
+use Rattle.lens_verbs.proofs.watching.play.Given as goal
 
 -- the table fits the servers still, and the core was come to by a run
 abbrev pub invariant-loop-index : goal.invariant-loop-index

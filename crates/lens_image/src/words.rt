@@ -45,8 +45,7 @@ pub fn words_text(alloc: Global, text: &[u8]) -> Result<String, Problem> {
     let mut shown = String::new(alloc);
     for (address, word) in words.iter().enumerate() {
         let line = instruction_text(alloc, *word)?;
-        let line = format!(in alloc; "{line:<30} ; {address:>5} {word:016x}\n")?;
-        shown.push_str(line.as_str())?;
+        write!(shown, "{line:<30} ; {address:>5} {word:016x}\n")?;
     }
     Ok(shown)
 }

@@ -1,0 +1,208 @@
+//! What the words of the command line ask for.
+use crate::problem::Problem;
+use fk_model::{is_name, plain_number_up_to};
+use std::alloc::{AllocError, Global};
+
+/// What is asked for.
+#[derive(Clone, Copy)]
+pub enum Verb {
+    Help,
+    Version,
+    /// A program's text, assembled and shown.
+    Words,
+    /// An image.
+    Image,
+    /// The lines by which two images differ.
+    Differences,
+    /// What stands at the beginning.
+    First,
+    /// What stands after so many moves of a trace.
+    Tree,
+    /// The moves of a trace from one on and before another.
+    Steps,
+    /// Why threads aren't ready after so many moves of a trace.
+    Why,
+    /// The run of a trace as a page.
+    Page,
+}
+
+/// What the words of the command line ask for: the verb, its names and its moves.
+#[derive(Clone, Copy)]
+pub struct Asked<'a> {
+    pub verb: Verb,
+    /// The trace or the image.
+    pub name: &'a str,
+    /// The other image.
+    pub other: &'a str,
+    /// The first move that is shown.
+    pub first: u64,
+    /// Before which move a run is to stop.
+    pub end: u64,
+}
+
+/// What there is, where a word is wrong.
+const VERBS: &str = "tree, steps, why, image, words, page, --help, --version";
+
+/// The most moves that a scenario's budget allows.
+const MOST: u64 = 1_000_000;
+
+/// The words of the verbs.
+const WORDS: [&str; 8] = [
+    "tree",
+    "steps",
+    "why",
+    "image",
+    "words",
+    "page",
+    "--help",
+    "--version",
+];
+
+/// What is expected behind each.
+const BEHIND: [&str; 8] = [
+    "no word, or a name and a number of moves",
+    "a name, or a name and two moves",
+    "a name and a number of moves",
+    "one name or two",
+    "no word",
+    "a name",
+    "no word",
+    "no word",
+];
+
+/// The place of a word among those of the verbs.
+fn place_of(word: &str) -> Option<usize> {
+    for (place, one) in WORDS.iter().enumerate() {
+        if *one == word {
+            return Some(place);
+        }
+    }
+    None
+}
+
+/// The verb whose word has this place, with so many words behind it.
+fn verb_with(place: usize, count: usize) -> Option<Verb> {
+    match (place, count) {
+        (0, 0) => Some(Verb::First),
+        (0, 2) => Some(Verb::Tree),
+        (1, 1 | 3) => Some(Verb::Steps),
+        (2, 2) => Some(Verb::Why),
+        (3, 1) => Some(Verb::Image),
+        (3, 2) => Some(Verb::Differences),
+        (4, 0) => Some(Verb::Words),
+        (5, 1) => Some(Verb::Page),
+        (6, 0) => Some(Verb::Help),
+        (7, 0) => Some(Verb::Version),
+        _ => None,
+    }
+}
+
+/// That the words are no verb.
+fn wrong(line: Result<String, AllocError>) -> Problem {
+    match line {
+        Ok(line) => Problem::Words(line),
+        Err(_) => Problem::NoMemory,
+    }
+}
+
+/// That a word too many, or one too few, is behind the verb whose word has this place.
+fn wrong_number(alloc: Global, place: usize) -> Problem {
+    let word = WORDS.get(place).copied().unwrap_or("");
+    let behind = BEHIND.get(place).copied().unwrap_or("");
+    wrong(format!(in alloc; "after {word}: expected {behind}"))
+}
+
+/// The number of moves that a word is.
+fn count_in(word: &String) -> Option<u64> {
+    plain_number_up_to(MOST, word.as_bytes())
+}
+
+/// What is wrong with a word behind a verb, which has to be a name or a number of moves.
+fn fault_of(alloc: Global, word: &String, is_name_wanted: bool) -> Option<Problem> {
+    if is_name_wanted {
+        if is_name(word.as_bytes()) {
+            return None;
+        }
+        return Some(wrong(format!(in alloc;
+            "{word:?}: expected a name, 1 to 32 of a to z, 0 to 9 and _"
+        )));
+    }
+    match count_in(word) {
+        Some(_) => None,
+        None => Some(wrong(format!(in alloc;
+            "{word:?}: expected a number of moves, 0 to 1000000"
+        ))),
+    }
+}
+
+/// What is wrong with the first word behind a verb that isn't what is wanted there: names, so many, and then numbers of moves.
+fn first_fault(alloc: Global, words: &[String], names: usize) -> Option<Problem> {
+    for (place, word) in words.iter().enumerate() {
+        let fault = fault_of(alloc, word, place < names);
+        if fault.is_some() {
+            return fault;
+        }
+    }
+    None
+}
+
+/// A word behind a verb as a name, where there is one.
+fn name_at<'a>(words: &'a [String], place: usize) -> &'a str {
+    match words.get(place) {
+        Some(word) => word.as_str(),
+        None => "",
+    }
+}
+
+/// A word behind a verb as a number of moves, where it is one.
+fn count_at(words: &[String], place: usize) -> Option<u64> {
+    count_in(words.get(place)?)
+}
+
+/// What a verb with these words behind it asks for.
+fn asked_of<'a>(verb: Verb, words: &'a [String]) -> Asked<'a> {
+    let (first, end) = match (verb, count_at(words, 1), count_at(words, 2)) {
+        (Verb::Tree | Verb::Why, Some(count), _) => (0, count),
+        (Verb::Steps, Some(first), Some(last)) => (first, last.saturating_add(1)),
+        (Verb::Steps, _, _) => (0, MOST),
+        _ => (0, u64::MAX),
+    };
+    Asked {
+        verb,
+        name: name_at(words, 0),
+        other: name_at(words, 1),
+        first,
+        end,
+    }
+}
+
+/// What a verb asks for whose word has this place, with these words behind it.
+fn asked_by<'a>(alloc: Global, place: usize, words: &'a [String]) -> Result<Asked<'a>, Problem> {
+    let Some(verb) = verb_with(place, words.len()) else {
+        return Err(wrong_number(alloc, place));
+    };
+    let names = match verb {
+        Verb::Differences => 2,
+        _ => 1,
+    };
+    match first_fault(alloc, words, names) {
+        Some(problem) => Err(problem),
+        None => Ok(asked_of(verb, words)),
+    }
+}
+
+/// What words ask for.
+///
+/// # Errors
+///
+/// `Words` where they are no verb, and `NoMemory`.
+pub fn asked_in<'a>(alloc: Global, words: &'a [String]) -> Result<Asked<'a>, Problem> {
+    let verbs = VERBS;
+    let Some((word, rest)) = words.split_first() else {
+        return Err(wrong(format!(in alloc; "expected one of {verbs}")));
+    };
+    match place_of(word.as_str()) {
+        Some(place) => asked_by(alloc, place, rest),
+        None => Err(wrong(format!(in alloc; "{word:?}: expected one of {verbs}"))),
+    }
+}
