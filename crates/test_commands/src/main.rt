@@ -7,7 +7,8 @@
 //! new case is a new file, or some more lines of one.
 //!
 //! A case may leave a trace that is then played, and has to come to the same. The cases of a file `slow-NAME.cases` are
-//! called over a source that gives one byte a call and a sink that takes one (`slow`).
+//! called over a source that gives one byte a call and a sink that takes one (`slow`). Those of a file `lens-NAME.cases` are calls of
+//! `lens`, each made again over odd bytes (`test_lens`), and a short trace is played as `lens steps` shows it.
 //!
 //! Of the cases of a file `short-NAME.cases` nothing may fail. Each is called once with ample memory, and has to end as it says. Then
 //! the program takes all memory that can be had but for a reserve of small pieces (`hoard`), gives these back a few at a time, and calls
@@ -44,6 +45,7 @@ use std::rt::Files;
 use std::sync::Wait;
 use std::thread::Threads;
 use test_case_files::{Case, Ending, Fails, cases_of, replay_of, sections_of};
+use test_lens::{Odd, show_trace, try_odd};
 
 /// How many calls were made, and how many of them differ from what their case says.
 #[derive(Drop)]
@@ -112,12 +114,47 @@ fn try_shortly<R: Files + Print + Eprint + AllocGlobal + Threads + Wait + Sync>(
     Ok(())
 }
 
+/// Makes the calls of a case of `lens` over odd bytes, and says how many of them aren't answered.
+fn count_odd<R: Print + AllocGlobal>(rt: &R, tally: &mut Tally, case: &Case) -> anyhow::Result<()> {
+    let Odd { calls, silent } = try_odd(rt.alloc(), case).ok().context("no memory")?;
+    tally.calls = tally.calls.saturating_add(calls);
+    tally.differ = tally.differ.saturating_add(silent);
+    if silent > 0 {
+        let name = case.name.as_str();
+        println!(rt; "case {name}: {silent} calls over odd bytes end without an answer")?;
+    }
+    Ok(())
+}
+
+/// Makes the calls of cases of `lens`.
+fn try_lens<R: Print + AllocGlobal>(
+    rt: &R,
+    tally: &mut Tally,
+    cases: &[Case],
+) -> anyhow::Result<()> {
+    for case in cases {
+        let found = test_lens::call(rt.alloc(), case).ok().context("no memory")?;
+        count(rt, tally, case, found.difference(rt.alloc(), &case.wanted)?)?;
+        count_odd(rt, tally, case)?;
+    }
+    Ok(())
+}
+
 /// What is wrong where a call has made no run.
 fn no_run(alloc: Global, found: &Ending) -> anyhow::Result<Option<String>> {
     match found.report {
         Some(_) => Ok(None),
         None => Ok(Some(format!(in alloc; "no run: {found}")?)),
     }
+}
+
+/// The case that plays what another has left as a trace, as `lens steps` shows that where it is short.
+fn shown_replay(alloc: Global, case: &Case, trace: &str, left: &Ending) -> anyhow::Result<Case> {
+    let mut replay = replay_of(alloc, case, trace, left)?;
+    show_trace(alloc, &mut replay, trace)
+        .ok()
+        .context("no memory")?;
+    Ok(replay)
 }
 
 /// Makes the call of a case that leaves a trace, and plays that: both end alike.
@@ -133,7 +170,7 @@ fn try_replay<R: Print + AllocGlobal + Threads + Wait + Sync>(
         .ok()
         .context("no memory")?;
     count(rt, tally, case, no_run(alloc, &left)?)?;
-    let replay = replay_of(alloc, case, trace, &left)?;
+    let replay = shown_replay(alloc, case, trace, &left)?;
     let found = call::call(rt, alloc, table, &replay, &replay.fails)
         .ok()
         .context("no memory")?;
@@ -175,6 +212,9 @@ fn try_file<R: Files + Print + Eprint + AllocGlobal + Threads + Wait + Sync>(
     }
     if path.starts_with("short-") {
         return try_shortly(rt, table, tally, &cases);
+    }
+    if path.starts_with("lens-") {
+        return try_lens(rt, tally, &cases);
     }
     for case in &cases {
         try_case(rt, table, tally, case)?;

@@ -1,11 +1,43 @@
 //! The call of a case.
-use crate::shelf::{FileMap, shelf_of};
-use fk_causes::{MemSource, NoMemory};
+use fk_causes::{MemShelf, MemSource, NoMemory, Shelf};
 use lens_verbs::{Problem, lens_top};
 use std::alloc::Global;
+use std::collections::BTreeMap;
 use test_case_files::{Case, Ending, Fails};
 
-/// What is compared of what was shown: of a page the data alone.
+/// The files of a shelf.
+pub type FileMap = BTreeMap<String, Vec<u8>>;
+
+/// A shelf with these files on it. What fails is counted from the next call on.
+fn shelf_of(alloc: Global, files: &FileMap, fails: &[u64]) -> Result<MemShelf, NoMemory> {
+    let puts = files.len() as u64;
+    let mut numbers = Vec::new(alloc);
+    for call in fails {
+        numbers.push(call.saturating_add(puts))?;
+    }
+    let mut shelf = MemShelf::new(numbers);
+    for (name, bytes) in files {
+        if shelf.put(name.as_str(), bytes).is_err() {
+            return Err(NoMemory);
+        }
+    }
+    Ok(shelf)
+}
+
+/// What is shown of these words over a source and files, or why nothing is, where these calls of the source and the shelf fail.
+pub fn shown_of(
+    alloc: Global,
+    words: &[String],
+    source: Vec<u8>,
+    files: &FileMap,
+    fails: &Fails,
+) -> Result<Result<String, Problem>, NoMemory> {
+    let mut source = MemSource::new(source, fails.source.clone()?);
+    let mut shelf = shelf_of(alloc, files, &fails.shelf)?;
+    Ok(lens_top(alloc, words, &mut source, &mut shelf))
+}
+
+/// What is compared of what was shown: of a page the data alone, since the rest is the same in all.
 fn compared(shown: &str) -> &str {
     let behind = match shown.split_once("id='data'>\n") {
         Some((_, behind)) => behind,
@@ -17,45 +49,28 @@ fn compared(shown: &str) -> &str {
     }
 }
 
-/// How a call ends that shows something.
-fn ending_with(alloc: Global, files: FileMap, shown: &str) -> Result<Ending, NoMemory> {
+/// What comes of the call of a case.
+///
+/// # Errors
+///
+/// For want of memory.
+pub fn call(alloc: Global, case: &Case) -> Result<Ending, NoMemory> {
+    let answer = shown_of(
+        alloc,
+        &case.words,
+        case.source.clone()?,
+        &case.files,
+        &case.fails,
+    )?;
+    let (status, error, output) = match &answer {
+        Ok(shown) => (0, "", compared(shown.as_str())),
+        Err(problem) => (problem.status(), problem.line(), ""),
+    };
     Ok(Ending {
-        status: 0,
-        error: String::new(alloc),
-        output: String::from_str(alloc, compared(shown))?.into_bytes(),
-        files,
+        status,
+        error: String::from_str(alloc, error)?,
+        output: Vec::from_slice(alloc, output.as_bytes())?,
+        files: case.files.clone()?,
         report: None,
     })
-}
-
-/// How a call ends that shows nothing.
-fn ending_without(alloc: Global, files: FileMap, problem: &Problem) -> Result<Ending, NoMemory> {
-    Ok(Ending {
-        status: problem.status(),
-        error: String::from_str(alloc, problem.line())?,
-        output: Vec::new(alloc),
-        files,
-        report: None,
-    })
-}
-
-/// What is shown by a case in which these calls of its source and its shelf fail.
-fn answer_of(
-    alloc: Global,
-    case: &Case,
-    fails: &Fails,
-) -> Result<Result<String, Problem>, NoMemory> {
-    let mut source = MemSource::new(case.source.clone()?, fails.source.clone()?);
-    let mut shelf = shelf_of(alloc, &case.files, &fails.shelf)?;
-    Ok(lens_top(alloc, &case.words, &mut source, &mut shelf))
-}
-
-/// What comes of the call of a case in which these calls of its source and its shelf fail.
-pub fn call(alloc: Global, case: &Case, fails: &Fails) -> Result<Ending, NoMemory> {
-    let answer = answer_of(alloc, case, fails)?;
-    let files = case.files.clone()?;
-    match &answer {
-        Ok(shown) => ending_with(alloc, files, shown.as_str()),
-        Err(problem) => ending_without(alloc, files, problem),
-    }
 }
