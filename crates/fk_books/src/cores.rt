@@ -32,7 +32,8 @@ impl<S: Service + Drop, W: Worker + Drop> Playable for Core<S, W> {
     }
 
     fn lease(&self, out: &[Option<Who>; 8], stays: bool, lease: &mut Leased) -> bool {
-        if !self.has_time() {
+        // A job's moves come at every other plain one, so bursts would make it late.
+        if self.jobs().current().is_some() {
             return false;
         }
         if stays && renews(self, self.last_thread(), out, lease) {

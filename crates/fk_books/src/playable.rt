@@ -37,7 +37,7 @@ pub trait Playable {
         ensures lacking { OnErr result (shown self.new ≡ shown self.old) };
 
     /// Renews a lease, with a thread that is ready in running mode and not among these, and says whether it did: with the one that moved
-    /// last, or with another; not while a job's moves are due. Which one it is, and whether there is one, is a hint: a lease of any thread may
+    /// last, or with another; not while a job is left. Which one it is, and whether there is one, is a hint: a lease of any thread may
     /// be committed where it is as it was.
     fn lease(&self, out: &[Option<Who>; 8], stays: bool, lease: &mut Leased) -> bool;
 

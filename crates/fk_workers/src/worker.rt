@@ -1,18 +1,21 @@
 //! A worker.
 ghost use Rattle.std.specs.Prelude.{◌≡◌, ◌≤◌, false, length, map, IfOk, OnOk};
+ghost use Rattle.std.specs.Bool.{OnFalse};
 ghost use Rattle.fk_books.specs.Served.{AllFit};
 ghost use Rattle.fk_books.specs.Shown.{HasEnded};
-ghost use Rattle.fk_books.specs.Told.{Told, IsKept};
+ghost use Rattle.fk_books.specs.Told.{Told, IsKept, IsSame, GoesOn};
 
 use fk_books::{Book, Playable};
+use fk_burst::{Leased, count, run};
 use fk_causes::Gate;
 use fk_model::NoMemory;
 use fk_responders::Table;
 use fk_rlock::{Pass, Ruled};
 use std::sync::Wait;
 
-/// Takes turns at the lock, and makes some moves in each, until the run has ended. Where it is done, the book that its last turn met has ended;
-/// that was begun from what the pass knows, and has as many moves as the pass has then seen. It calls the gate before each turn.
+/// Takes turns at the lock, and makes some moves in each, until the run has ended; what it makes of a lease between two turns is committed in
+/// the next one, and one plain move goes with it. Where it is done, the book that its last turn met has ended; that was begun from what the
+/// pass knows, and has as many moves as the pass has then seen. It calls the gate before each turn.
 ///
 /// # Errors
 ///
@@ -34,24 +37,166 @@ pub fn work<R: Wait, G: Gate, C: Playable + Drop>(
     ensures met { OnOk result ((b : Told C) × (b.boot ≡ pass.old.boot) × IsKept C.shown b × HasEnded (C.shown b.core) × (length b.history ≡ pass.new.seen)) }
 {
     let mut turn = 0u64;
+    // It is large, so it stays where it is.
+    let mut lease = Leased::blank();
+    let mut plan = Plan::new();
     for _ in rt.forever() {
         gate.pass(worker, turn);
-        if !lock.turn(
+        let done = lock.turn(
             rt,
             pass,
-            |book: &mut Book<C>| -> Result<bool, NoMemory>
+            |book: &mut Book<C>| -> Result<Done, NoMemory>
                 requires { AllFit (map (λ r. r.rule) table.now.list.items) (C.shown book.old.boot).core.servers }
                 ensures { IsKept C.shown book.new × (book.new.boot ≡ book.old.boot) × (length book.old.history ≤ length book.new.history)
-                    × IfOk result (λ more. more ≡ false → HasEnded (C.shown book.new.core)) }
-            {
-                let more = book.go_on(table);
-                book.keeps();
-                more
-            },
-        )? {
+                    × IfOk result (λ done. done.more ≡ false → HasEnded (C.shown book.new.core)) }
+            { take_turn(book, table, worker, &mut lease, &plan) },
+        )?;
+        if !done.more {
             return Ok(());
         }
+        make(&mut lease, done.leased, &mut plan);
         turn = turn.wrapping_add(1);
     }
     unreachable!()
+}
+
+/// What comes of a turn: whether a move was made, and whether there is a lease for the next one.
+#[derive(Clone, Copy)]
+struct Done {
+    more: bool,
+    leased: bool,
+}
+
+/// The moves of a turn, and then a lease for the next one, where one may be taken.
+fn take_turn<C: Playable + Drop>(
+    book: &mut Book<C>,
+    table: &Table,
+    worker: u32,
+    lease: &mut Leased,
+    plan: &Plan,
+) -> Result<Done, NoMemory>
+    requires fits { AllFit (map (λ r. r.rule) table.now.list.items) (C.shown book.old.boot).core.servers }
+    ensures kept { IsKept C.shown book.new }
+    ensures goes { GoesOn book.old book.new }
+    ensures ended { IfOk result (λ done. done.more ≡ false → HasEnded (C.shown book.new.core)) }
+{
+    let more = go(book, table, lease, plan.held)?;
+    let leased = next_lease(book, worker, lease, more, plan);
+    book.keeps();
+    Ok(Done { more, leased })
+}
+
+/// The moves of a turn: those of the lease that comes back and one more, or some plain ones; and whether a plain one was made.
+fn go<C: Playable + Drop>(
+    book: &mut Book<C>,
+    table: &Table,
+    lease: &Leased,
+    held: bool,
+) -> Result<bool, NoMemory>
+    requires fits { AllFit (map (λ r. r.rule) table.now.list.items) (C.shown book.old.boot).core.servers }
+    ensures kept { IsKept C.shown book.new }
+    ensures goes { GoesOn book.old book.new }
+    ensures ended { IfOk result (λ more. OnFalse more (HasEnded (C.shown book.new.core))) }
+{
+    if held {
+        let more = book.go_burst(table, lease);
+        book.keeps();
+        more
+    } else {
+        let more = book.go_on(table);
+        book.keeps();
+        more
+    }
+}
+
+/// A lease for the next turn, where moves are left and the plan has one, and whether there is. Nothing else changes.
+fn next_lease<C: Playable + Drop>(
+    book: &mut Book<C>,
+    worker: u32,
+    lease: &mut Leased,
+    more: bool,
+    plan: &Plan,
+) -> bool
+    ensures same { IsSame C.shown book.old book.new }
+{
+    if more && plan.rest == 0 {
+        book.lease(worker, plan.stays < STAYS, lease)
+    } else {
+        false
+    }
+}
+
+/// The instructions of a lease, without the lock, where there is one.
+fn make(lease: &mut Leased, leased: bool, plan: &mut Plan) {
+    if leased {
+        run(lease);
+        plan.made(count(lease));
+    } else {
+        plan.pass();
+    }
+}
+
+/// A burst of fewer instructions is short.
+const SHORT: u64 = 16;
+
+/// The most turns that go by without a lease.
+const REST: u32 = 16;
+
+/// So many bursts in a row may be of the thread that moved last; the next one is of another.
+const STAYS: u32 = 8;
+
+/// Which turns are with a lease. After a short burst 1, 2, 4 .. 16 turns go by without, after a long one none: so a run of messages pays little
+/// for leases.
+#[derive(Clone, Copy)]
+struct Plan {
+    /// There is a lease to be committed.
+    held: bool,
+    /// So many turns go by without one.
+    rest: u32,
+    /// So many after the next short one.
+    next: u32,
+    /// So many bursts were made since another thread was sought.
+    stays: u32,
+}
+
+impl Plan {
+    fn new() -> Plan {
+        Plan {
+            held: false,
+            rest: 0,
+            next: 1,
+            stays: 0,
+        }
+    }
+
+    /// A turn goes by without a lease, or none could be had.
+    fn pass(&mut self) {
+        self.held = false;
+        if self.rest > 0 {
+            self.rest -= 1;
+        } else {
+            self.begin();
+        }
+    }
+
+    /// A burst of so many instructions was made.
+    fn made(&mut self, count: u64) {
+        self.held = true;
+        self.stays = if self.stays < STAYS {
+            self.stays + 1
+        } else {
+            0
+        };
+        if count < SHORT {
+            self.begin();
+        } else {
+            self.next = 1;
+        }
+    }
+
+    /// So many turns go by, and the next time twice as many.
+    fn begin(&mut self) {
+        self.rest = self.next;
+        self.next = self.next.saturating_mul(2).min(REST);
+    }
 }

@@ -3,11 +3,11 @@ use Rattle.fk_books.specs.Told.{Told}
 use Rattle.fk_workers.proofs.worker.work.Goals as goal
 
 -- the book that the last turn met and left
-pub returns-then-not-branch-clause-met : goal.returns-then-not-branch-clause-met
-returns-then-not-branch-clause-met g c =
-    let met = c.in_ok-turn.ensures.met in
+pub returns-then-not-done-clause-met : goal.returns-then-not-done-clause-met
+returns-then-not-done-clause-met g c =
+    let met = c.in_ok-done.ensures.met in
     let said = met.4 in
-    let none : c.in_ok-turn.field-0 ≡ false = search rules in (
+    let none : c.in_ok-done.done.more ≡ false = search rules in (
       said.left.now,
       said.met.1 ∙ (ap (λ (b : Told _). b.boot) said.shows ∙ (met.2 ∙ c.loop.invariant.3)),
       said.met.0,
