@@ -8,4 +8,5 @@ mod Families
 mod Quiet
 mod Pointing
 mod Untold
+mod Chosen
 pub mod Touches

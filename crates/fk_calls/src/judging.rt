@@ -102,7 +102,7 @@ pub fn running_user<'a>(store: &'a Store, who: Who) -> Option<&'a Thread>
 /// The free user in a slot.
 #[tactic(auto, unfolding(fk_store::specs::Threads::is_free_at))]
 #[inline(always)]
-fn free_user<'a>(store: &'a Store, who: Who) -> Option<&'a Thread>
+pub fn free_user<'a>(store: &'a Store, who: Who) -> Option<&'a Thread>
     ensures free { IsSome result → is_free_at (world store.now) (place (path store.now) who) ≡ true }
     ensures held { IfNone result (is_free_at (world store.now) (place (path store.now) who) ≡ false) }
     ensures space { IsSome result → IsSpace store.now who.space }

@@ -1,6 +1,6 @@
 //! Stages of users by which nobody is told anything and no native server loses its client, made without room for what moves tell. Most
 //! calls on objects, spaces and pages are so.
-ghost use Rattle.std.specs.Prelude.{◌≡◌, [], true, false, None};
+ghost use Rattle.std.specs.Prelude.{◌≡◌, [], true, false, None, IsSome, IfSome};
 ghost use Rattle.std.specs.Bool.{OnTrue, OnFalse};
 ghost use Rattle.fk_model.specs.declared.moves.Ask.TheVariants as asks;
 ghost use Rattle.fk_model.specs.declared.moves.Said.TheVariants as says;
@@ -10,18 +10,22 @@ ghost use Rattle.fk_model.specs.Outcomes.Said.{Nothing};
 ghost use Rattle.fk_model.specs.Places.{same_path};
 ghost use Rattle.fk_model.specs.Valid.{IsValid};
 ghost use Rattle.fk_store.specs.Paths.{path, place};
-ghost use Rattle.fk_store.specs.World.{world, IsLive};
+ghost use Rattle.fk_store.specs.Threads.{is_free_at};
+ghost use Rattle.fk_store.specs.World.{world, IsLive, IsSpace};
 ghost use Rattle.fk_plans.specs.Destroys.{destroyed, IsDying};
 ghost use Rattle.fk_plans.specs.Plans.{caller_by};
 ghost use Rattle.fk_plans.specs.Renames.{renames, IsMoving};
 ghost use Rattle.fk_plans.specs.Verdicts.{outcome_by, IsVerdict};
+ghost use Rattle.fk_calls.specs.Doings.{IsAtStage};
 ghost use Rattle.fk_calls.specs.Judgements.{IsEnded, IsReadyMove, IsStepTo, TellsTouched};
 
 use crate::codes::is_on_objects;
-use crate::judging::judge;
+use crate::doing::{Doing, next_of};
+use crate::judging::free_user;
+use crate::rows;
 use fk_deaths::told_port;
 use fk_endings::ended_by;
-use fk_model::{Ask, Move, Who};
+use fk_model::{Stage, Who};
 use fk_plans::{Caller, Plan, Verdict, carry_all, is_ready};
 use fk_store::Store;
 use fk_threads::{Answers, finish};
@@ -38,20 +42,51 @@ pub fn make_silently(store: &mut Store, who: Who, touched: &mut Touched) -> bool
     ensures touched { OnTrue result (TellsTouched store.old (record { who = who; pick = None }) asks.Run touched.new) }
     ensures same { OnFalse result (store.new ≡ store.old) }
 {
-    let m = Move { who, pick: None };
-    let Some(j) = judge(store, &m, &Ask::Run) else {
-        return false;
+    match stage_of(store, who) {
+        Some(stage) => make_stage(store, who, &stage, touched),
+        None => false,
+    }
+}
+
+/// The next stage of the free user in a slot, if it is at one.
+#[inline(always)]
+fn stage_of(store: &Store, who: Who) -> Option<Stage>
+    ensures free { IsSome result → is_free_at (world store.now) (place (path store.now) who) ≡ true }
+    ensures space { IsSome result → IsSpace store.now who.space }
+    ensures at { IfSome result (λ stage. IsAtStage (world store.now) (place (path store.now) who) stage) }
+{
+    let thread = free_user(store, who)?;
+    match next_of(thread) {
+        Doing::Stage(stage) => Some(stage),
+        Doing::Instruction | Doing::Nothing => None,
+    }
+}
+
+/// Makes this stage of a free user, the first of its call. It is judged where it stands, so that no answer of the judge is handed on.
+#[inline(always)]
+fn make_stage(store: &mut Store, who: Who, stage: &Stage, touched: &mut Touched) -> bool
+    requires valid { IsValid (world store.old) }
+    requires free { is_free_at (world store.old) (place (path store.old) who) ≡ true }
+    requires space { IsSpace store.old who.space }
+    requires at { IsAtStage (world store.old) (place (path store.old) who) stage.now }
+    ensures made { OnTrue result (IsReadyMove store.old (record { who = who; pick = None }) asks.Run
+        × IsStepTo store.old (record { who = who; pick = None }) asks.Run store.new says.Nothing) }
+    ensures ended { OnTrue result (IsEnded store.old store.new None) }
+    ensures touched { OnTrue result (TellsTouched store.old (record { who = who; pick = None }) asks.Run touched.new) }
+    ensures same { OnFalse result (store.new ≡ store.old) }
+{
+    let caller = Caller {
+        who,
+        is_porter: false,
     };
-    if j.caller.is_porter {
+    let verdict = rows::judge(store, caller, &[], stage, None);
+    if !is_ready(store, caller, rows::chooses(stage), None, &verdict) {
         return false;
     }
-    if !is_ready(store, j.caller, j.chooses, m.pick, &j.verdict) {
-        return false;
-    }
-    match ended_by(store, j.caller, &j.verdict) {
+    match ended_by(store, caller, &verdict) {
         None => {
-            *touched = touched_by_move(&j.verdict);
-            carry_silently(store, j.caller, &j.verdict)
+            *touched = touched_by_move(&verdict);
+            carry_silently(store, caller, &verdict)
         }
         Some(_) => false,
     }
