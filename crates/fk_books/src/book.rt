@@ -27,6 +27,13 @@ pub struct Book<C: Playable + Drop> {
     out: [Option<Who>; 8],
 }
 
+/// What comes of a turn at the lock: how many moves of a lease were committed, and whether another move was made.
+#[derive(Clone, Copy)]
+pub struct Gone {
+    pub moves: u64,
+    pub more: bool,
+}
+
 /// So many times a move, for which there is room.
 fn push_all(history: &mut Vec<Move>, m: Move, count: u64)
     requires { length history.old.items + count ≤ vec_capacity history.old }
@@ -221,19 +228,24 @@ impl<C: Playable + Drop> Book<C> {
     }
 
     /// The moves of one turn at the lock by which a lease comes back: those of the lease, where it may be committed, and one more, while any is
-    /// left; and whether one more was made.
+    /// left.
     ///
     /// # Errors
     ///
     /// There is no memory for what the move makes.
     #[tactic(auto, using(crate::proofs::Runs::goes_further))]
-    pub fn go_burst(&mut self, table: &Table, lease: &Leased) -> Result<bool, NoMemory>
+    pub fn go_burst(&mut self, table: &Table, lease: &Leased) -> Result<Gone, NoMemory>
         requires fits { AllFit (map (λ r. r.rule) table.now.list.items) (C.shown self.old.boot).core.servers }
         ensures goes { GoesOn self.old self.new }
-        ensures ended { IfOk result (λ more. OnFalse more (HasEnded (C.shown self.new.core))) }
+        ensures ended { IfOk result (λ gone. OnFalse gone.more (HasEnded (C.shown self.new.core))) }
     {
-        self.burst_held(lease);
-        self.one(table)
+        let moves = if self.burst_held(lease) {
+            count(lease)
+        } else {
+            0
+        };
+        let more = self.one(table)?;
+        Ok(Gone { moves, more })
     }
 
     /// Makes moves while any is left, at most so many.

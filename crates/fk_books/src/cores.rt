@@ -47,6 +47,9 @@ impl<S: Service + Drop, W: Worker + Drop> Playable for Core<S, W> {
             if !is_out(out, who) {
                 return lease.renew(self.kernel(), who);
             }
+            if after == Some(who) {
+                return false;
+            }
             after = Some(who);
         }
         false

@@ -13,7 +13,7 @@ mod cores;
 mod playable;
 mod plays;
 
-pub use book::Book;
+pub use book::{Book, Gone};
 pub use fk_model::NoMemory;
 pub use playable::Playable;
 pub use plays::{PlayFail, play_all};

@@ -5,7 +5,7 @@ ghost use Rattle.fk_books.specs.Served.{AllFit};
 ghost use Rattle.fk_books.specs.Shown.{HasEnded};
 ghost use Rattle.fk_books.specs.Told.{Told, IsKept, IsSame, GoesOn};
 
-use fk_books::{Book, Playable};
+use fk_books::{Book, Gone, Playable};
 use fk_burst::{Leased, count, run};
 use fk_causes::Gate;
 use fk_model::NoMemory;
@@ -51,6 +51,9 @@ pub fn work<R: Wait, G: Gate, C: Playable + Drop>(
                     × IfOk result (λ done. done.more ≡ false → HasEnded (C.shown book.new.core)) }
             { take_turn(book, table, worker, &mut lease, &plan) },
         )?;
+        if done.moves > 0 {
+            gate.committed(worker, done.moves);
+        }
         if !done.more {
             return Ok(());
         }
@@ -60,9 +63,10 @@ pub fn work<R: Wait, G: Gate, C: Playable + Drop>(
     unreachable!()
 }
 
-/// What comes of a turn: whether a move was made, and whether there is a lease for the next one.
+/// What comes of a turn: how many moves of a lease were committed, whether another move was made, and whether there is a lease for the next one.
 #[derive(Clone, Copy)]
 struct Done {
+    moves: u64,
     more: bool,
     leased: bool,
 }
@@ -80,32 +84,39 @@ fn take_turn<C: Playable + Drop>(
     ensures goes { GoesOn book.old book.new }
     ensures ended { IfOk result (λ done. done.more ≡ false → HasEnded (C.shown book.new.core)) }
 {
-    let more = go(book, table, lease, plan.held)?;
-    let leased = next_lease(book, worker, lease, more, plan);
+    let gone = go(book, table, lease, plan.held)?;
+    let leased = next_lease(book, worker, lease, gone.more, plan);
     book.keeps();
-    Ok(Done { more, leased })
+    Ok(Done {
+        moves: gone.moves,
+        more: gone.more,
+        leased,
+    })
 }
 
-/// The moves of a turn: those of the lease that comes back and one more, or some plain ones; and whether a plain one was made.
+/// The moves of a turn: those of the lease that comes back and one more, or some plain ones.
 fn go<C: Playable + Drop>(
     book: &mut Book<C>,
     table: &Table,
     lease: &Leased,
     held: bool,
-) -> Result<bool, NoMemory>
+) -> Result<Gone, NoMemory>
     requires fits { AllFit (map (λ r. r.rule) table.now.list.items) (C.shown book.old.boot).core.servers }
     ensures kept { IsKept C.shown book.new }
     ensures goes { GoesOn book.old book.new }
-    ensures ended { IfOk result (λ more. OnFalse more (HasEnded (C.shown book.new.core))) }
+    ensures ended { IfOk result (λ gone. OnFalse gone.more (HasEnded (C.shown book.new.core))) }
 {
     if held {
-        let more = book.go_burst(table, lease);
+        let gone = book.go_burst(table, lease);
         book.keeps();
-        more
+        gone
     } else {
         let more = book.go_on(table);
         book.keeps();
-        more
+        Ok(Gone {
+            moves: 0,
+            more: more?,
+        })
     }
 }
 

@@ -46,10 +46,11 @@ impl Gate for Hold {
     }
 }
 
-/// Counts its calls.
+/// Counts its calls, and the bursts of more than one instruction.
 #[derive(Drop)]
 pub struct Count {
     calls: AtomicU64,
+    bursts: AtomicU64,
 }
 
 impl Count {
@@ -57,7 +58,13 @@ impl Count {
     pub fn new() -> Count {
         Count {
             calls: AtomicU64::new(0),
+            bursts: AtomicU64::new(0),
         }
+    }
+
+    /// How many bursts of more than one instruction were committed.
+    pub fn bursts(&self) -> u64 {
+        self.bursts.load(Ordering::SeqCst)
     }
 
     /// How often it was called.
@@ -69,5 +76,11 @@ impl Count {
 impl Gate for Count {
     fn pass(&self, _worker: u32, _turn: u64) {
         self.calls.fetch_add(1, Ordering::SeqCst);
+    }
+
+    fn committed(&self, _worker: u32, moves: u64) {
+        if moves > 1 {
+            self.bursts.fetch_add(1, Ordering::SeqCst);
+        }
     }
 }

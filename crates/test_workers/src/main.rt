@@ -39,7 +39,7 @@ fn hold<R: Print + Files + AllocGlobal + Threads + Wait + Sync>(
     Ok(())
 }
 
-/// Where the workers make the moves, the gate is called at least once in 65 of them.
+/// Where the workers make the moves, the gate is called at least once in 65 of them; and bursts are among these.
 fn count<R: Print + AllocGlobal + Threads + Wait + Sync>(
     rt: &R,
     table: &Table,
@@ -49,7 +49,10 @@ fn count<R: Print + AllocGlobal + Threads + Wait + Sync>(
     let events = done.report.history.len() as u64;
     let often = gate.calls() >= events / MOVES;
     print!(rt; "{}", done.output)?;
-    println!(rt; "the gate was called often enough: {often}")?;
+    let bursts = gate.bursts() > 0;
+    println!(rt;
+        "the gate was called often enough: {often}, a burst of more than one instruction was committed: {bursts}"
+    )?;
     Ok(())
 }
 
