@@ -5,19 +5,23 @@ use fk_responders::Table;
 use fk_run::{End, Outcome, Report, fault_line, fluke_top};
 use fk_trace_text::trace_text;
 use std::alloc::Global;
+use std::collections::BTreeMap;
 use std::sync::Wait;
 use std::thread::Threads;
 use test_case_files::{Case, Ending, Fails};
 
+/// The files of a shelf.
+pub type FileMap = BTreeMap<String, Vec<u8>>;
+
 /// A shelf with these files on it. What fails is counted from the next call on.
-pub fn shelf_of(alloc: Global, case: &Case, fails: &[u64]) -> Result<MemShelf, NoMemory> {
-    let puts = case.files.len() as u64;
+pub fn shelf_of(alloc: Global, files: &FileMap, fails: &[u64]) -> Result<MemShelf, NoMemory> {
+    let puts = files.len() as u64;
     let mut numbers = Vec::new(alloc);
     for call in fails {
         numbers.push(call.saturating_add(puts))?;
     }
     let mut shelf = MemShelf::new(numbers);
-    for (name, bytes) in &case.files {
+    for (name, bytes) in files {
         if shelf.put(name.as_str(), bytes).is_err() {
             return Err(NoMemory);
         }
@@ -80,7 +84,7 @@ pub fn call<R: Threads + Wait + Sync>(
 ) -> Result<Ending, NoMemory> {
     let mut source = MemSource::new(case.source.clone()?, fails.source.clone()?);
     let mut sink = MemSink::new(alloc, case.room, fails.sink.clone()?)?;
-    let mut shelf = shelf_of(alloc, case, &fails.shelf)?;
+    let mut shelf = shelf_of(alloc, &case.files, &fails.shelf)?;
     let outcome = outcome_of(rt, alloc, table, case, &mut source, &mut sink, &mut shelf);
     ending_of(alloc, &outcome, sink.bytes(), &shelf)
 }
@@ -94,7 +98,7 @@ pub fn call_slowly<R: Threads + Wait + Sync>(
 ) -> Result<Ending, NoMemory> {
     let mut source = SlowSource::new(case.source.clone()?);
     let mut sink = SlowSink::new(alloc);
-    let mut shelf = shelf_of(alloc, case, &[])?;
+    let mut shelf = shelf_of(alloc, &case.files, &[])?;
     let outcome = outcome_of(rt, alloc, table, case, &mut source, &mut sink, &mut shelf);
     ending_of(alloc, &outcome, sink.bytes(), &shelf)
 }

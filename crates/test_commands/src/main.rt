@@ -8,7 +8,7 @@
 //!
 //! A case may leave a trace that is then played, and has to come to the same. The cases of a file `slow-NAME.cases` are
 //! called over a source that gives one byte a call and a sink that takes one (`slow`). Those of a file `lens-NAME.cases` are calls of
-//! `lens`, each made again over odd bytes (`test_lens`), and a short trace is played as `lens steps` shows it.
+//! `lens` (`shown`), each made again over odd bytes (`odd`), and a short trace is played as `lens steps` shows it (`trace`).
 //!
 //! Of the cases of a file `short-NAME.cases` nothing may fail. Each is called once with ample memory, and has to end as it says. Then
 //! the program takes all memory that can be had but for a reserve of small pieces (`hoard`), gives these back a few at a time, and calls
@@ -31,10 +31,16 @@ ghost use Rattle.fk_model.specs.declared.moves.Rule.TheVariants as rules;
 mod call;
 mod hoard;
 mod machine;
+mod odd;
 mod scarce;
 mod short;
+mod shown;
 mod slow;
+mod trace;
 
+use crate::odd::{Odd, try_odd};
+use crate::shown::show;
+use crate::trace::show_trace;
 use anyhow::{Context, ensure};
 use fk_model::{Reply, Rule};
 use fk_responders::{Responder, Table, echo, feed, sum};
@@ -45,7 +51,6 @@ use std::rt::Files;
 use std::sync::Wait;
 use std::thread::Threads;
 use test_case_files::{Case, Ending, Fails, cases_of, replay_of, sections_of};
-use test_lens::{Odd, show_trace, try_odd};
 
 /// How many calls were made, and how many of them differ from what their case says.
 #[derive(Drop)]
@@ -133,7 +138,7 @@ fn try_lens<R: Print + AllocGlobal>(
     cases: &[Case],
 ) -> anyhow::Result<()> {
     for case in cases {
-        let found = test_lens::call(rt.alloc(), case).ok().context("no memory")?;
+        let found = show(rt.alloc(), case).ok().context("no memory")?;
         count(rt, tally, case, found.difference(rt.alloc(), &case.wanted)?)?;
         count_odd(rt, tally, case)?;
     }

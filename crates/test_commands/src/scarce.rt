@@ -88,7 +88,7 @@ fn call<T: Threads + Wait + Sync>(
 ) -> Result<End, NoMemory> {
     let mut source = MemSource::new(case.source.clone()?, Vec::new(alloc));
     let mut sink = MemSink::new(alloc, case.room, Vec::new(alloc))?;
-    let mut shelf = shelf_of(alloc, case, &[])?;
+    let mut shelf = shelf_of(alloc, &case.files, &[])?;
     let outcome = outcome_of(
         threads,
         alloc,

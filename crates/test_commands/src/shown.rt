@@ -1,28 +1,9 @@
-//! The call of a case.
-use fk_causes::{MemShelf, MemSource, NoMemory, Shelf};
+//! The call of a case of `lens`.
+use crate::call::{FileMap, shelf_of};
+use fk_causes::{MemSource, NoMemory};
 use lens_verbs::{Problem, lens_top};
 use std::alloc::Global;
-use std::collections::BTreeMap;
 use test_case_files::{Case, Ending, Fails};
-
-/// The files of a shelf.
-pub type FileMap = BTreeMap<String, Vec<u8>>;
-
-/// A shelf with these files on it. What fails is counted from the next call on.
-fn shelf_of(alloc: Global, files: &FileMap, fails: &[u64]) -> Result<MemShelf, NoMemory> {
-    let puts = files.len() as u64;
-    let mut numbers = Vec::new(alloc);
-    for call in fails {
-        numbers.push(call.saturating_add(puts))?;
-    }
-    let mut shelf = MemShelf::new(numbers);
-    for (name, bytes) in files {
-        if shelf.put(name.as_str(), bytes).is_err() {
-            return Err(NoMemory);
-        }
-    }
-    Ok(shelf)
-}
 
 /// What is shown of these words over a source and files, or why nothing is, where these calls of the source and the shelf fail.
 pub fn shown_of(
@@ -49,12 +30,8 @@ fn compared(shown: &str) -> &str {
     }
 }
 
-/// What comes of the call of a case.
-///
-/// # Errors
-///
-/// For want of memory.
-pub fn call(alloc: Global, case: &Case) -> Result<Ending, NoMemory> {
+/// What comes of the call of a case of `lens`.
+pub fn show(alloc: Global, case: &Case) -> Result<Ending, NoMemory> {
     let answer = shown_of(
         alloc,
         &case.words,

@@ -1,6 +1,6 @@
-//! Calls over odd bytes: those of a case with its images cut at each byte, with its source cut at each of the first bytes, and with
+//! Calls of `lens` over odd bytes: those of a case with its images cut at each byte, with its source cut at each of the first bytes, and with
 //! each of the first bytes of its traces set to 255. Each must show something, or say why it doesn't.
-use crate::calls::shown_of;
+use crate::shown::shown_of;
 use fk_causes::NoMemory;
 use lens_verbs::Problem;
 use std::alloc::{AllocError, Global};
@@ -83,10 +83,6 @@ fn spoil(
 }
 
 /// Makes the calls of a case over odd bytes.
-///
-/// # Errors
-///
-/// For want of memory.
 pub fn try_odd(alloc: Global, case: &Case) -> Result<Odd, NoMemory> {
     let mut odd = Odd {
         calls: 0,

@@ -1,5 +1,5 @@
 //! The trace that `lens steps` shows.
-use crate::calls::shown_of;
+use crate::shown::shown_of;
 use fk_causes::NoMemory;
 use std::alloc::{AllocError, Global};
 use test_case_files::{Case, Fails};
@@ -38,10 +38,6 @@ fn shown_trace(alloc: Global, case: &Case, trace: &str) -> Result<String, NoMemo
 }
 
 /// Has what `lens steps` shows of a trace of a case's shelf, by `cut -f1`, take the place of that trace where it is short.
-///
-/// # Errors
-///
-/// For want of memory.
 pub fn show_trace(alloc: Global, case: &mut Case, trace: &str) -> Result<(), NoMemory> {
     let file = format!(in alloc; "{trace}.trc")?;
     match case.files.get(file.as_str()) {
