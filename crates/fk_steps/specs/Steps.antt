@@ -1,7 +1,11 @@
 -- Steps: what a move leaves of where threads stand.
-use Rattle.std.specs.Prelude.{◌≡◌, ◌≤◌, Bool, true, false, Option, Some, None, Result, Ok, Err}
+use Rattle.std.specs.Prelude.{◌≡◌, ◌≤◌, ◌&&◌, ◌==◌, Bool, true, false, [], Option, Some, None, is_none, Result, Ok, Err}
 use Rattle.fk_model.specs.declared.moves.Ask.{Ask}
 use Rattle.fk_model.specs.declared.moves.Move.{Move}
+use Rattle.fk_model.specs.declared.names.Who.{Who}
+use Rattle.fk_model.specs.declared.thread.Mode as modes_of
+use Rattle.fk_model.specs.declared.thread.Mode.TheVariants as modes
+use Rattle.fk_model.specs.declared.thread.Thread as threads_of
 use Rattle.fk_calls.specs.declared.moves.Told.{Told}
 use Rattle.fk_store.specs.Contents.{Contents}
 use Rattle.fk_store.specs.Moves.{picked_by}
@@ -10,7 +14,13 @@ use Rattle.fk_turns.specs.Turns.{IsSound}
 use Rattle.fk_turns_moved.specs.Kept.{is_user_at}
 use Rattle.fk_turns_next.specs.Waiting.{IsPlaced, Standing}
 use Rattle.fk_turns_told.specs.Told.{name_after}
-use Rattle.fk_waits.specs.Lists.{Lists}
+use Rattle.fk_waits.specs.Lists.{stands, woken, Lists}
+use Rattle.fk_wakes.specs.declared.touching.Touched.{Touched}
+use Rattle.fk_wakes.specs.declared.touching.Touched.TheVariants.{Few}
+
+abbrev pub is_running : modes_of.Mode → Bool
+is_running modes.Running = true
+is_running other = false
 
 -- there is room for one more thread
 abbrev pub HasSeat : Lists → Lists → Type 0
@@ -33,3 +43,21 @@ was_made (Err lacking) = false
 abbrev pub IsPut : Contents → Move → Ask → Contents → Standing → Type 0
 IsPut m move ask n s =
     is_user_at n (name_after m move.who (picked_by (path m) move.pick) ask) ≡ true → IsPlaced n s (name_after m move.who (picked_by (path m) move.pick) ask)
+
+-- ---- a thread that runs on
+
+-- it runs, isn't stopped and has no fault
+abbrev pub runs_on : threads_of.Thread → Bool
+runs_on t = is_running t.mode && (t.stops == 0 && is_none t.fault)
+
+-- nobody but who moved was touched
+abbrev pub touches_nobody : Touched → Bool
+touches_nobody (Few first second third) = is_none first && (is_none second && is_none third)
+touches_nobody other = false
+
+-- it stood, went last, and no change may free any other
+pub record IsTurned (who : Who) (waits marks now then_marks : Lists) : Type 0 where
+  pub turned : now ≡ woken who waits
+  pub stood : stands who waits ≡ true
+  pub none : marks.ready ≡ []
+  pub same : then_marks ≡ marks

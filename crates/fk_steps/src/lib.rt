@@ -5,6 +5,7 @@
 //! and else last of the queued, at its cause, and that a move which isn't made leaves the lists as they were.
 #![tactic(auto)]
 
+mod plain;
 mod room;
 mod steps;
 

@@ -15,6 +15,7 @@ ghost use Rattle.fk_turns_moved.specs.Moved.{now_named};
 ghost use Rattle.fk_turns_next.specs.Waiting.{standing, ComesAfter, IsPlaced};
 ghost use Rattle.fk_steps.specs.Steps.{was_made, IsPut};
 
+use crate::plain::after_plain;
 use crate::room::{reserve_for, reserve_for_stage, seat_for};
 use fk_calls::{Sent, Told};
 use fk_model::{Ask, Move, NoMemory, Said, Stage, Who};
@@ -109,6 +110,21 @@ fn after_if(turns: &mut Turns, store: &Store, made: bool, mover: Who, touched: &
     }
 }
 
+/// The same after a move that most often touches nobody but who moved.
+fn after_plain_if(turns: &mut Turns, store: &Store, made: bool, mover: Who, touched: &Touched)
+    requires valid { IsValid (world store.now) }
+    requires comes { OnTrue made (ComesAfter store.now mover touched.now turns.old.waits turns.old.marks) }
+    requires kept { OnFalse made (AreKept store.now turns.old.waits turns.old.marks) }
+    ensures kept { AreKept store.now turns.new.waits turns.new.marks }
+    ensures placed { OnTrue made (is_user_at store.now (now_named mover touched.now) ≡ true
+        → IsPlaced store.now (standing turns.new.waits) (now_named mover touched.now)) }
+    ensures still { OnFalse made (standing turns.new.waits ≡ standing turns.old.waits) }
+{
+    if made {
+        after_plain(turns, store, mover, touched);
+    }
+}
+
 /// Makes a porter's call where it is ready, as `fk_calls::call` does, and keeps the lists.
 ///
 /// # Errors
@@ -182,7 +198,7 @@ pub fn proceed(store: &mut Store, turns: &mut Turns, who: Who) -> bool
     let made = fk_calls::proceed(store, who, &mut touched);
     // And so they do in the world that the move leaves.
     store.names();
-    after_if(turns, store, made, who, &touched);
+    after_plain_if(turns, store, made, who, &touched);
     made
 }
 

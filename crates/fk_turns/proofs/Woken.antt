@@ -1,11 +1,12 @@
 -- Woken: who stands where once a thread is woken, parked or gone.
-use Rattle.std.proofs.Common.{◌≡◌, ◌≤◌, ◌+◌, ◌-◌, ◌&&◌, ◌||◌, Bool, true, false, List, [], ◌∷◌, ◌++◌, if◌then◌else◌, refl, sym, ap, subst, ◌∙◌, arith}
+use Rattle.std.proofs.Common.{◌≡◌, ◌≤◌, ◌+◌, ◌-◌, ◌&&◌, ◌||◌, Bool, true, false, List, [], ◌∷◌, ◌++◌, Option, Some, None, is_some, if◌then◌else◌, refl, sym}
+use Rattle.std.proofs.Common.{ap, subst, ◌∙◌, arith}
 use Rattle.std.proofs.lemmas.Bool.{or_from, or_right}
 use Rattle.fk_model.specs.declared.names.Who.{Who}
 use Rattle.fk_waits_names.specs.Names.{is_same}
 use Rattle.fk_waits_names.proofs.Order.{same_who}
-use Rattle.fk_waits.specs.Lists.{is_cause, is_in, is_queued, left, Lists, parked, stands, without, without_queued, woken}
-use Rattle.fk_turns.specs.Turns.{free_cause, waits_at, IsSound}
+use Rattle.fk_waits.specs.Lists.{first_ready, is_cause, is_in, is_queued, left, Lists, parked, stands, without, without_queued, woken}
+use Rattle.fk_turns.specs.Turns.{free_cause, is_front, waits_at, IsSound}
 
 -- ---- one list
 
@@ -213,3 +214,21 @@ pub room_left : (n : Who) (l now : Lists) → stands n l ≡ true → now ≡ le
 room_left n l now there is =
     let more : now.spare ≡ l.spare + 1 = ap (λ (a : Lists). a.spare) is ∙ ap (λ (t : Bool). if t then l.spare + 1 else l.spare) there in
     omega (arith, more)
+
+-- ---- who is first
+
+pub front_first : (who : Who) (l : List Who) → is_front who l ≡ true → Some who ≡ first_ready l
+front_first who [] is = absurd (cc)
+front_first who (x ∷ l) is = ap (λ (w : Who). Some w) (sym (same_who x who is))
+
+pub no_front : (o : Option Who) (l : List Who) → o ≡ first_ready l → is_some o ≡ false → l ≡ []
+no_front None [] is off = refl
+no_front None (x ∷ l) is off = absurd (cc)
+no_front (Some w) l is off = absurd (cc)
+
+pub sound_turned : (n : Who) (waits marks : Lists) → IsSound waits marks → stands n waits ≡ true → IsSound (woken n waits) marks
+sound_turned n waits marks sound there = record { both = λ x. sound.both x ∙ sym (stands_woken n x waits ∙ by x (is_same n x) refl); free = sound.free }
+  where
+    by : (x : Who) (t : Bool) → is_same n x ≡ t → (t || stands x waits) ≡ stands x waits
+    by x true e = sym (subst (λ (w : Who). stands w waits ≡ true) (same_who n x e) there)
+    by x false e = refl

@@ -8,6 +8,11 @@ use Rattle.fk_waits.specs.Lists.{is_cause, is_in, is_queued, stands, Lists}
 abbrev pub free_cause : Who
 free_cause = record { space = 0; slot = 0 }
 
+-- a thread is the first of these
+abbrev pub is_front : Who → List Who → Bool
+is_front who [] = false
+is_front who (x ∷ l) = is_same x who
+
 -- a thread is queued at this cause
 abbrev pub waits_at : Who → Who → List (Who × Who) → Bool
 waits_at cause who [] = false

@@ -1,8 +1,10 @@
 //! Turns.
 ghost use Rattle.std.specs.Prelude.{◌≡◌, ◌≤◌, ◌||◌, [], true, false, IfOk, OnOk, if◌then◌else◌};
+ghost use Rattle.std.specs.Bool.{OnTrue, OnFalse};
 ghost use Rattle.fk_model.specs.declared.names.Who as names_of;
 ghost use Rattle.fk_waits_names.specs.Names.{is_same};
 ghost use Rattle.fk_waits.specs.Lists.{first_ready, is_cause, is_in, is_queued, left, parked, stands, woken};
+ghost use Rattle.fk_turns.specs.Turns as turns_of;
 ghost use Rattle.fk_turns.specs.Turns.{free_cause, AreMet, IsLess, IsRoused, IsSound};
 
 use fk_model::{NoMemory, Who};
@@ -167,6 +169,37 @@ impl Turns {
         while let Some(who) = self.marks.first(FREE) {
             self.marks.once();
             self.marks.wake(who);
+        }
+    }
+
+    /// A thread that is ready first goes last, where no change may free any that is queued; and whether that was so. Then nobody else need be looked at.
+    pub fn turn(&mut self, who: Who) -> bool
+        requires sound { IsSound self.old.waits self.old.marks }
+        ensures sound { IsSound self.new.waits self.new.marks }
+        ensures turned { OnTrue result (self.new.waits ≡ woken who self.old.waits) }
+        ensures stood { OnTrue result (stands who self.old.waits ≡ true) }
+        ensures none { OnTrue result (self.old.marks.ready ≡ []) }
+        ensures marks { self.new.marks ≡ self.old.marks }
+        ensures same { OnFalse result (self.new.waits ≡ self.old.waits) }
+    {
+        if self.marks.next().is_some() {
+            return false;
+        }
+        if !self.is_front(who) {
+            return false;
+        }
+        self.waits.once();
+        self.waits.pass();
+        true
+    }
+
+    /// A thread is ready first.
+    fn is_front(&self, who: Who) -> bool
+        ensures { result ≡ turns_of.is_front who self.now.waits.ready }
+    {
+        match self.waits.next() {
+            Some(first) => first == who,
+            None => false,
         }
     }
 

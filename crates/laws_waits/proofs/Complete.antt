@@ -15,7 +15,7 @@ use Rattle.fk_model.specs.declared.stage.Stage.TheVariants.{ClientOver, Wait, Se
 use Rattle.fk_model.specs.declared.statuses.status.TheConstants as status
 use Rattle.fk_model.specs.declared.thread.Turn.{Turn}
 use Rattle.fk_model.specs.declared.thread.Turn.TheVariants as turns
-use Rattle.fk_model.specs.Places.{Path, parent, Ptr}
+use Rattle.fk_model.specs.Places.{Path, parent, slot_of, Ptr}
 use Rattle.fk_model.specs.Places.Ptr.{Null, Dead, At, Out, Outside, Far}
 use Rattle.fk_model.specs.Objects.{Mode, Peer, Talk, Thread, Body, kind_of, mutex_of, thread_of, and_then, or_else, holds}
 use Rattle.fk_model.specs.Objects.Mode.{Running, Calling, Halted, Native}
@@ -41,7 +41,7 @@ use Rattle.fk_model.specs.Readers.{accessed}
 use Rattle.fk_model.specs.Calls.{todo_of}
 use Rattle.fk_model.specs.Moves.{chooses, with_pick, closed, is_denied, stage_row, allowed_row, call_row, GoesAllowed, goes_on, user_move, outcome, IsReady}
 use Rattle.fk_model.specs.Valid.{IsValid}
-use Rattle.laws_waits.specs.Rows.{can_wait}
+use Rattle.laws_waits.specs.Rows.{can_wait, FreeRunnersAreReady}
 use Rattle.laws_waits.specs.Stuck.{is_resting, Reason, IsStuck, IsAtStage}
 use Rattle.laws_waits.specs.Stuck.Reason.{Resting, Locking, Sleeping, Connecting, Receiving, Passing, Sending, Lacking, Waiting}
 use Rattle.laws_waits.specs.Complete.{is_outer, is_barred, IsWholeWorld, HasReason, UnheldThreadsHaveReasons}
@@ -190,6 +190,18 @@ instruction-acts w space slot g counter =
     access-acts (slot ∷ space) false (halts_with (slot ∷ space) g counter) (executes todo_of w space (slot ∷ space) g counter)
     (reach_word w space counter false)
     (stop-acts w space (slot ∷ space) g counter) (λ s page. performs-acts w space (slot ∷ space) g counter (act (word_at w s page counter) g counter))
+
+-- so a free thread that runs is ready while nothing is held
+pub free_runners_are_ready : FreeRunnersAreReady
+unfolding outcome
+free_runners_are_ready w x t g unheld there free mode =
+    subst (λ o. GoesAllowed w x (user_move w x None o)) (sym there)
+    (subst (λ b. GoesAllowed w x (when b (goes_on w x None t t.mode))) (sym free)
+    (subst (λ m. GoesAllowed w x (goes_on w x None t m)) (sym mode)
+    (on (run_row w (parent x) (slot_of x) g t.counter) (instruction-acts w (parent x) (slot_of x) g t.counter))))
+  where
+    on : (o : Outcome) → IsAct o → GoesAllowed w x (with_pick false None o)
+    on o act = subst (λ o. GoesAllowed w x (with_pick false None o)) (sym act.is) (all-allowed w unheld x act.changes)
 
 -- ---- what a row that waits has read
 
@@ -731,17 +743,7 @@ module _ (w : World) (k : ℕ) (s : Path) where
       -- ---- an instruction goes
 
       run-ready : (g : List ℕ) → t.mode ≡ Running g → ⊥
-      unfolding outcome
-      run-ready g mode = unready None (run_ready g mode)
-        where
-          on : (o : Outcome) → IsAct o → GoesAllowed w me (with_pick false None o)
-          on o act = subst (λ o. GoesAllowed w me (with_pick false None o)) (sym act.is) (all-allowed w unheld me act.changes)
-
-          run_ready : (g : List ℕ) → t.mode ≡ Running g → IsReady w me None asks.Run
-          run_ready g mode =
-              subst (λ o. GoesAllowed w me (user_move w me None o)) (sym there)
-              (subst (λ b. GoesAllowed w me (when b (goes_on w me None t t.mode))) (sym free)
-              (subst (λ m. GoesAllowed w me (goes_on w me None t m)) (sym mode) (on (run_row w s k g t.counter) (instruction-acts w s k g t.counter))))
+      run-ready g mode = unready None (free_runners_are_ready w me t g unheld there free mode)
 
 pub has_reason : UnheldThreadsHaveReasons
 has_reason w k s t valid few whole unheld there busy unready = by (is_resting t) refl

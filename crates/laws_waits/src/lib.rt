@@ -15,7 +15,7 @@ ghost use Rattle.laws_waits.specs.Complete.{UnheldThreadsHaveReasons};
 ghost use Rattle.laws_waits.specs.Few.{ClientsAreFound, ThreadEditsTouchFew};
 ghost use Rattle.laws_waits.specs.Found.{IdleWaitsAreStuck, UnheldWaitsAreStuck};
 ghost use Rattle.laws_waits.specs.Laws.{MovesLeaveStuck, StuckIsUnready, StuckStays};
-ghost use Rattle.laws_waits.specs.Rows.{InstructionsNeverWait, OtherStagesNeverWait};
+ghost use Rattle.laws_waits.specs.Rows.{FreeRunnersAreReady, InstructionsNeverWait, OtherStagesNeverWait};
 ghost use Rattle.laws_waits.specs.Wakes.{ChangesTouchFew};
 
 /// A change that leaves what keeps a thread from moving keeps it so, in any world.
@@ -73,6 +73,11 @@ pub fn changes_touch_few()
 pub fn few_rows_wait()
     ensures stages { OtherStagesNeverWait }
     ensures instructions { InstructionsNeverWait }
+{}
+
+/// While no space is held, a free thread that runs is ready.
+pub fn free_runners_are_ready()
+    ensures { FreeRunnersAreReady }
 {}
 
 /// While no space is held, every thread that isn't ready has a reason, and it isn't the last.

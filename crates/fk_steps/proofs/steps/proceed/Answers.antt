@@ -5,8 +5,8 @@ use Rattle.fk_model.specs.declared.moves.Said.TheVariants as says
 use Rattle.fk_steps.proofs.Stepped.{comes_true, kept_wider, put_true, run_fit, same_wider, still_then, still_true, valid_true}
 use Rattle.fk_steps.proofs.steps.proceed.Goals as goal
 
-pub after_if-requires : goal.after_if-requires
-after_if-requires c =
+pub after_plain_if-requires : goal.after_plain_if-requires
+after_plain_if-requires c =
     let m = c.args.store.now in
     let n = c.proceed-made.new.store in
     let run : Move = record { who = c.args.who; pick = None } in
@@ -29,15 +29,15 @@ returns-clause-placed c =
     let m = c.args.store.now in
     let run : Move = record { who = c.args.who; pick = None } in
     put_true m c.proceed-made.new.store run asks.Run c.requires.valid c.names.ensures.few (run_fit m run) c.names.ensures.born c.names-2.ensures.born
-    c.names-2.ensures.few c.proceed-made.new.touched c.after_if.new.turns.waits says.Nothing c.proceed-made.result c.proceed-made.ensures.made
-    c.proceed-made.ensures.touched c.after_if.ensures.placed
+    c.names-2.ensures.few c.proceed-made.new.touched c.after_plain_if.new.turns.waits says.Nothing c.proceed-made.result c.proceed-made.ensures.made
+    c.proceed-made.ensures.touched c.after_plain_if.ensures.placed
 
 pub returns-clause-still : goal.returns-clause-still
 returns-clause-still c =
     let was = c.args.turns.now in
     let now = c.seat_for.new.turns in
-    still_then was.waits now.waits c.after_if.new.turns.waits _ (same_wider was.waits was.marks now.waits now.marks c.seat_for.ensures.wider)
-    c.after_if.ensures.still
+    still_then was.waits now.waits c.after_plain_if.new.turns.waits _ (same_wider was.waits was.marks now.waits now.marks c.seat_for.ensures.wider)
+    c.after_plain_if.ensures.still
 
 pub returns-then-not-seat_for-clause-kept : goal.returns-then-not-seat_for-clause-kept
 returns-then-not-seat_for-clause-kept c =

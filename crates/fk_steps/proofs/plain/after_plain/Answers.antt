@@ -1,0 +1,48 @@
+use Rattle.std.proofs.Common.{◌≡◌, true, sym, subst}
+use Rattle.fk_turns_moved.specs.Kept.{is_user_at}
+use Rattle.fk_turns_moved.specs.Moved.{now_named, IsMoved}
+use Rattle.fk_turns_next.specs.Waiting.{standing, ComesAfter, IsPlaced}
+use Rattle.fk_turns_next.proofs.Placed.{placed_woken}
+use Rattle.fk_waits.specs.Lists.{Lists}
+use Rattle.fk_wakes.specs.declared.touching.Touched.{Touched}
+use Rattle.fk_steps.proofs.Went.{kept_went}
+use Rattle.fk_steps.proofs.plain.after_plain.Goals as goal
+
+pub is_quick-requires : goal.is_quick-requires
+is_quick-requires c = record { sound = c.requires.comes.kept.sound }
+
+pub after-requires : goal.after-requires
+after-requires c =
+    let n = c.args.store.now in
+    let was = c.args.turns.now in
+    let now = c.is_quick.new.turns in
+    let waits = rw c.if-is_quick.false at c.is_quick.ensures.waits in
+    let marks = rw c.if-is_quick.false at c.is_quick.ensures.marks in
+    record {
+      valid = c.requires.valid;
+      comes = subst (λ (l : Lists). ComesAfter n c.args.mover c.args.touched.now l now.marks) (sym waits)
+          (subst (λ (l : Lists). ComesAfter n c.args.mover c.args.touched.now was.waits l) (sym marks) c.requires.comes);
+    }
+
+pub returns-then-is_quick-clause-kept : goal.returns-then-is_quick-clause-kept
+returns-then-is_quick-clause-kept c =
+    let n = c.args.store.now in
+    let was = c.args.turns.now in
+    let now = c.is_quick.new.turns in
+    let comes = c.requires.comes in
+    let alone = rw c.if-is_quick.true at c.is_quick.ensures.alone in
+    let turned = rw c.if-is_quick.true at c.is_quick.ensures.turned in
+    let user = rw c.if-is_quick.true at c.is_quick.ensures.user in
+    kept_went comes.before n c.args.mover was.waits was.marks now.waits now.marks comes.kept
+    (subst (λ (t : Touched). IsMoved comes.before n c.args.mover t) alone comes.moved) turned user c.is_quick.ensures.sound
+
+pub returns-then-is_quick-clause-placed : goal.returns-then-is_quick-clause-placed
+returns-then-is_quick-clause-placed c =
+    let n = c.args.store.now in
+    let mover = c.args.mover in
+    let now = c.is_quick.new.turns in
+    let alone = rw c.if-is_quick.true at c.is_quick.ensures.alone in
+    let turned = rw c.if-is_quick.true at c.is_quick.ensures.turned in
+    let up = rw c.if-is_quick.true at c.is_quick.ensures.up in
+    subst (λ (t : Touched). is_user_at n (now_named mover t) ≡ true → IsPlaced n (standing now.waits) (now_named mover t)) (sym alone)
+    (λ user. placed_woken n mover c.args.turns.now.waits now.waits turned.turned up)

@@ -1,0 +1,23 @@
+use Rattle.std.proofs.Common.{sym, ◌∙◌}
+use Rattle.fk_steps.proofs.Went.{alone_if, anyway, off_anyway, turned_if}
+use Rattle.fk_steps.proofs.plain.is_quick.Goals as goal
+
+pub returns-clause-turned : goal.returns-clause-turned
+returns-clause-turned c =
+    let was = c.args.turns.now in
+    let now = c.turn.new.self in
+    turned_if c.turn.result c.args.mover was.waits was.marks now.waits now.marks c.turn.ensures.turned c.turn.ensures.stood c.turn.ensures.none
+    c.turn.ensures.marks
+
+pub returns-clause-alone : goal.returns-clause-alone
+returns-clause-alone c =
+    anyway c.turn.result (alone_if c.args.touched.now (sym c.touches_nobody.ensures ∙ c.if-not-touches_nobody.false))
+
+pub returns-clause-up : goal.returns-clause-up
+returns-clause-up c = let up = rw c.if-not-goes_on.false at c.goes_on.ensures.up in anyway c.turn.result up
+
+pub returns-clause-user : goal.returns-clause-user
+returns-clause-user c = let user = rw c.if-not-goes_on.false at c.goes_on.ensures.user in anyway c.turn.result user
+
+pub returns-clause-marks : goal.returns-clause-marks
+returns-clause-marks c = off_anyway c.turn.result c.turn.ensures.marks
