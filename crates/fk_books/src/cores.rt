@@ -10,6 +10,9 @@ use fk_model::{Move, NoMemory, Who};
 use fk_natives::Service;
 use fk_responders::Table;
 
+/// Where more spaces than these were made, no other thread is sought for a lease, since such a look may pass over all names.
+const MOST_SPACES: u32 = 512;
+
 impl<S: Service + Drop, W: Worker + Drop> Playable for Core<S, W> {
     ghost shown = { λ c. record { jobs = c.jobs.jobs; budget = c.budget; core = run_core c } };
 
@@ -38,6 +41,9 @@ impl<S: Service + Drop, W: Worker + Drop> Playable for Core<S, W> {
         }
         if stays && renews(self, self.last_thread(), out, lease) {
             return true;
+        }
+        if self.kernel().store().next_birth() > MOST_SPACES {
+            return false;
         }
         let mut after = None;
         for _ in 0..8 {
