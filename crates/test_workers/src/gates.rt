@@ -3,7 +3,7 @@ use fk_causes::Gate;
 use std::sync::atomic::{AtomicBool, AtomicU64, Ordering};
 use std::thread::yield_now;
 
-/// How often worker 0 looks whether worker 1 has passed.
+/// How often who is held looks whether it may pass.
 const LOOKS: u32 = 10_000_000;
 
 /// Holds worker 0 before its first turn until worker 1 has passed.
@@ -46,7 +46,8 @@ impl Gate for Hold {
     }
 }
 
-/// Counts its calls, and the bursts of more than one instruction.
+/// Counts its calls, and the bursts of more than one instruction. All workers but 0 are held before their first turn until there is
+/// such a burst, so that nobody is in its way, for `LOOKS` looks at most.
 #[derive(Drop)]
 pub struct Count {
     calls: AtomicU64,
@@ -74,8 +75,17 @@ impl Count {
 }
 
 impl Gate for Count {
-    fn pass(&self, _worker: u32, _turn: u64) {
+    fn pass(&self, worker: u32, turn: u64) {
         self.calls.fetch_add(1, Ordering::SeqCst);
+        if worker == 0 || turn > 0 {
+            return;
+        }
+        for _ in 0..LOOKS {
+            if self.bursts() > 0 {
+                return;
+            }
+            yield_now();
+        }
     }
 
     fn committed(&self, _worker: u32, moves: u64) {
