@@ -17,9 +17,6 @@ use fk_moment::Moment;
 use fk_natives::Service;
 use fk_report::End;
 
-/// No bursts are made in so many moves before a job's time.
-const AHEAD: u64 = 1024;
-
 impl<S: Service + Drop, W: Worker + Drop> Core<S, W> {
     /// What there is to look at.
     pub(crate) fn moment(&self) -> Moment<'_, S, W>
@@ -111,14 +108,6 @@ impl<S: Service + Drop, W: Worker + Drop> Core<S, W> {
         ensures { IsSome result → self.now.events < self.now.budget }
     {
         self.rounds.same_thread(&self.moment())
-    }
-
-    /// Whether bursts make no job late: none has made a move, and none's time comes soon. It is a hint: nothing is said of it.
-    pub fn has_time(&self) -> bool {
-        match self.jobs.current() {
-            Some(plan) => !self.jobs.is_at_work() && plan.at > self.events.saturating_add(AHEAD),
-            None => true,
-        }
     }
 
     /// The thread that moved last, if one has. It is a hint: nothing is said of it.
