@@ -1,1 +1,3 @@
+pub use Rattle.fk_endings.specs.Endings
+pub use Rattle.fk_endings.specs.Clients
 pub mod Acts

@@ -13,4 +13,7 @@ mod judging;
 mod making;
 mod moves;
 
+pub use fk_endings::ended_by;
+pub use fk_links::{connect, disconnect, link_park, link_set, wait};
+pub use fk_transfer::{moving, over, receive, send};
 pub use moves::{attempt, ready};

@@ -42,9 +42,9 @@ use Rattle.fk_store.specs.Threads.{todo_of_mode, todo_of_thread, todo_at, is_fre
 use Rattle.fk_store.specs.World.{world}
 use Rattle.fk_user.specs.Effects.{IsInstruction}
 use Rattle.fk_user.specs.Running.{run_at, run_of_thread, run_in_mode}
-use Rattle.fk_endings.specs.Clients.{IsEnding}
-use Rattle.fk_endings.specs.Endings.{IsLeft}
-use Rattle.fk_endings.proofs.Verdicts.{verdict-ending}
+use Rattle.fk_acts.specs.Clients.{IsEnding}
+use Rattle.fk_acts.specs.Endings.{IsLeft}
+use Rattle.fk_acts.proofs.Verdicts.{verdict-ending}
 use Rattle.fk_calls.specs.declared.judging.Judgement.{Judgement}
 use Rattle.fk_calls.specs.Doings.{IsAtStage, is_free_porter_at}
 use Rattle.fk_calls.specs.Rows.{takes_memory, first_takes_memory}

@@ -13,7 +13,7 @@ use Rattle.fk_plans.specs.Verdicts.{hearer_of, move_by}
 use Rattle.fk_store.specs.Contents.{Contents}
 use Rattle.fk_store.specs.Paths.{path, place}
 use Rattle.fk_store.specs.World.{world}
-use Rattle.fk_endings.specs.Endings.{IsLeft}
+use Rattle.fk_acts.specs.Endings.{IsLeft}
 use Rattle.fk_calls.specs.declared.judging.Judgement.{Judgement}
 use Rattle.fk_calls.specs.Judgements.{words_of, IsJudged, IsReadyMove}
 use Rattle.fk_calls.specs.Quiet.{is_quiet}

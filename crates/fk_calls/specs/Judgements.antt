@@ -23,7 +23,7 @@ use Rattle.fk_plans.specs.declared.plan.Verdict.TheVariants as verdicts
 use Rattle.fk_plans.specs.Hearers.{IsHeard}
 use Rattle.fk_plans.specs.Movings.{verdict_of}
 use Rattle.fk_plans.specs.Verdicts.{IsVerdict, IsSureVerdict, move_by}
-use Rattle.fk_endings.specs.Clients.{IsEnding}
+use Rattle.fk_acts.specs.Clients.{IsEnding}
 use Rattle.fk_wakes.specs.declared.touching.Touched.{Touched}
 use Rattle.fk_wakes.specs.Touches.{is_making, is_touched, leave, MovesFirst}
 use Rattle.laws_machine.specs.Frame.{name_body}

@@ -20,10 +20,10 @@ ghost use Rattle.fk_calls.specs.Rows.{are_given, are_given_for};
 use crate::codes::begins_with_send;
 use crate::doing::{Doing, doing_of, is_free_porter, next_of};
 use crate::rows;
+use fk_acts::moving;
 use fk_model::{Ask, Mode, Move, Stage, Thread, Turn, Who};
 use fk_plans::{Caller, Moving, Verdict};
 use fk_store::Store;
-use fk_transfer::moving;
 
 /// Who moves, whether its stage may pick, and what the move comes to.
 #[derive(Clone, Copy)]

@@ -20,7 +20,7 @@ ghost use Rattle.fk_calls.specs.Rows.{are_given_for};
 use crate::judging::{given, judge, moving_of, running, running_user};
 use crate::rows::restores;
 use crate::silent::{make_silently, may_be_silent};
-use fk_endings::ended_by;
+use fk_acts::ended_by;
 use fk_model::{Ask, Move, NoMemory, Said, Stage, Who};
 use fk_plans::{
     Caller, Effect, Moving, News, Verdict, carry_out, is_effect_ready, is_moving_ready, is_ready,

@@ -13,8 +13,8 @@ ghost use Rattle.fk_plans.specs.Verdicts.{JudgesGiven, IsVerdict, IsSureVerdict,
 ghost use Rattle.fk_calls.specs.Rows as stages;
 ghost use Rattle.fk_calls.specs.Rows.{are_given, takes_memory, IsFirst};
 
+use fk_acts::{connect, disconnect, link_park, link_set, over, receive, send, wait};
 use fk_faults::{fault_done, fault_park, fault_set};
-use fk_links::{connect, disconnect, link_park, link_set, wait};
 use fk_model::status::DENIED;
 use fk_model::{Stage, Turn, Who};
 use fk_objects::{clear, count_in, create, destroy, locate, point, rename, search};
@@ -29,7 +29,6 @@ use fk_store::Store;
 use fk_sync::{
     cond_asleep, cond_broadcast, cond_signal, cond_wait, mutex_lock, mutex_trylock, mutex_unlock,
 };
-use fk_transfer::{over, receive, send};
 
 /// A stage that may pick whom it acts on.
 pub fn chooses(stage: &Stage) -> bool

@@ -12,5 +12,6 @@ mod picks;
 mod ports;
 mod sleepers;
 
+pub use fk_calls::{Sent, Told, attempt, call, may_move, proceed, ready, say};
 pub use moves::Picker;
 pub use picks::{ready_accept, ready_pick};

@@ -15,12 +15,12 @@ use Rattle.fk_store.specs.Contents.{Contents}
 use Rattle.fk_store.specs.Moves.{picked_by}
 use Rattle.fk_store.specs.Paths.{path, place}
 use Rattle.fk_store.specs.World.{world, place_of}
-use Rattle.fk_calls.specs.declared.moves.Told.{Told}
-use Rattle.fk_calls.specs.Judgements.{is_fit_move, may_lack, IsReadyMove, IsStepTo, TellsTouched}
-use Rattle.fk_calls.specs.Tried.{IsLacking, IsMade, IsUnready, TellsOf}
+use Rattle.fk_turns_next.specs.Tellings.{Told}
+use Rattle.fk_turns_next.specs.Judgements.{is_fit_move, may_lack, IsReadyMove, IsStepTo, TellsTouched}
+use Rattle.fk_turns_next.specs.Tried.{IsLacking, IsMade, IsUnready, TellsOf}
 use Rattle.fk_turns.specs.Turns.{waits_at}
-use Rattle.fk_turns_moved.specs.Kept.{is_user_at, AreKept, IsFiled, IsFiledAs}
-use Rattle.fk_turns_moved.specs.Moved.{now_named, HasPlaceFor, HasRoom, IsLeft, IsMoved}
+use Rattle.fk_turns_told.specs.Kept.{is_user_at, AreKept, IsFiled, IsFiledAs}
+use Rattle.fk_turns_told.specs.Moved.{now_named, HasPlaceFor, HasRoom, IsLeft, IsMoved}
 use Rattle.fk_turns_next.specs.Waiting.{standing, ComesAfter, IsPlaced}
 use Rattle.fk_turns_told.specs.Told.{IsMadeTo, IsStored, IsToldOf}
 use Rattle.fk_turns_told.proofs.Told.{told_moves_leave, told_names}

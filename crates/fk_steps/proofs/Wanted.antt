@@ -9,8 +9,8 @@ use Rattle.fk_model.specs.Searches.{thread_at}
 use Rattle.fk_model.specs.World.{World}
 use Rattle.fk_store.specs.Bodies.{thread_by}
 use Rattle.fk_store.specs.Threads.{todo_at}
-use Rattle.fk_calls.specs.Doings.{first_of}
-use Rattle.fk_calls.specs.Rows.{first_takes_memory, takes_memory}
+use Rattle.fk_turns_next.specs.Doings.{first_of}
+use Rattle.fk_turns_next.specs.Rows.{first_takes_memory, takes_memory}
 
 pub wants_first : (o : Option (List Stage)) (stage : Stage) → first_of o ≡ Some stage → takes_memory false stage ≡ first_takes_memory (unwrap_or o [])
 wants_first None stage e = absurd (cc)

@@ -19,9 +19,9 @@ use Rattle.fk_store.specs.Names.{at}
 use Rattle.fk_store.specs.World.{world, place_of}
 use Rattle.fk_turns.specs.Turns.{waits_at, IsSound}
 use Rattle.fk_turns.proofs.Woken.{queued_off, stands_woken, waits_less}
-use Rattle.fk_turns_moved.specs.Kept.{is_user_at, AreKept, IsFiled, IsFiledAs}
-use Rattle.fk_turns_moved.specs.Moved.{is_named, is_told, IsMoved}
-use Rattle.fk_turns_moved.proofs.After.{waits_queued}
+use Rattle.fk_turns_told.specs.Kept.{is_user_at, AreKept, IsFiled, IsFiledAs}
+use Rattle.fk_turns_told.specs.Moved.{is_named, is_told, IsMoved}
+use Rattle.fk_turns_told.proofs.After.{waits_queued}
 use Rattle.fk_turns_next.specs.Waiting.{IsMoveReady}
 use Rattle.fk_waits.specs.Lists.{is_in, is_queued, stands, without_queued, woken, Lists}
 use Rattle.fk_waits_causes.proofs.Numbers.{clash}

@@ -6,12 +6,12 @@ use Rattle.fk_model.specs.declared.names.Who.{Who}
 use Rattle.fk_model.specs.declared.thread.Mode as modes_of
 use Rattle.fk_model.specs.declared.thread.Mode.TheVariants as modes
 use Rattle.fk_model.specs.declared.thread.Thread as threads_of
-use Rattle.fk_calls.specs.declared.moves.Told.{Told}
+use Rattle.fk_turns_next.specs.Tellings.{Told}
 use Rattle.fk_store.specs.Contents.{Contents}
 use Rattle.fk_store.specs.Moves.{picked_by}
 use Rattle.fk_store.specs.Paths.{path}
 use Rattle.fk_turns.specs.Turns.{IsSound}
-use Rattle.fk_turns_moved.specs.Kept.{is_user_at}
+use Rattle.fk_turns_told.specs.Kept.{is_user_at}
 use Rattle.fk_turns_next.specs.Waiting.{IsPlaced, Standing}
 use Rattle.fk_turns_told.specs.Told.{name_after}
 use Rattle.fk_waits.specs.Lists.{stands, woken, Lists}

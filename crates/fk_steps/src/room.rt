@@ -9,10 +9,10 @@ ghost use Rattle.fk_store.specs.Bodies.{thread_by};
 ghost use Rattle.fk_store.specs.Paths.{path, place};
 ghost use Rattle.fk_store.specs.Threads.{todo_at};
 ghost use Rattle.fk_store.specs.World.{world};
-ghost use Rattle.fk_calls.specs.Doings.{first_of};
-ghost use Rattle.fk_calls.specs.Judgements.{may_lack};
-ghost use Rattle.fk_calls.specs.Rows as stages;
-ghost use Rattle.fk_calls.specs.Rows.{first_takes_memory};
+ghost use Rattle.fk_turns_next.specs.Doings.{first_of};
+ghost use Rattle.fk_turns_next.specs.Judgements.{may_lack};
+ghost use Rattle.fk_turns_next.specs.Rows as stages;
+ghost use Rattle.fk_turns_next.specs.Rows.{first_takes_memory};
 ghost use Rattle.fk_turns.specs.Turns.{IsSound};
 ghost use Rattle.fk_steps.specs.Steps.{HasSeat, IsWider};
 

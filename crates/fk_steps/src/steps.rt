@@ -6,25 +6,24 @@ ghost use Rattle.fk_model.specs.Valid.{IsValid};
 ghost use Rattle.fk_answers.specs.Rooms.{IsRoom};
 ghost use Rattle.fk_plans.specs.Hearers.{IsPadded};
 ghost use Rattle.fk_store.specs.World.{world};
-ghost use Rattle.fk_calls.specs.Judgements.{is_fit_move, may_lack, IsEnded, IsHeardBy, IsReadyMove, IsStepTo};
-ghost use Rattle.fk_calls.specs.declared.moves.Told as calls;
-ghost use Rattle.fk_calls.specs.Sayings.{told_by};
-ghost use Rattle.fk_calls.specs.Tried.{tried_of, IsMade, HasEnded, IsTold, IsToldPadded, IsUnready};
-ghost use Rattle.fk_turns_moved.specs.Kept.{is_user_at, AreKept};
-ghost use Rattle.fk_turns_moved.specs.Moved.{now_named};
+ghost use Rattle.fk_turns_next.specs.Judgements.{is_fit_move, may_lack, IsEnded, IsHeardBy, IsReadyMove, IsStepTo};
+ghost use Rattle.fk_turns_next.specs.Tellings as calls;
+ghost use Rattle.fk_turns_next.specs.Sayings.{told_by};
+ghost use Rattle.fk_turns_next.specs.Tried.{tried_of, IsMade, HasEnded, IsTold, IsToldPadded, IsUnready};
+ghost use Rattle.fk_turns_told.specs.Kept.{is_user_at, AreKept};
+ghost use Rattle.fk_turns_told.specs.Moved.{now_named};
 ghost use Rattle.fk_turns_next.specs.Waiting.{standing, ComesAfter, IsPlaced};
 ghost use Rattle.fk_steps.specs.Steps.{was_made, IsPut};
 
 use crate::plain::after_plain;
 use crate::room::{reserve_for, reserve_for_stage, seat_for};
-use fk_calls::{Sent, Told};
 use fk_model::{Ask, Move, NoMemory, Said, Stage, Who};
 use fk_store::Store;
 use fk_turns::Turns;
-use fk_turns_next::after;
+use fk_turns_next::{Sent, Told, after};
 use fk_wakes::Touched;
 
-/// Makes a move where it is ready, as `fk_calls::attempt` does, and keeps the lists: who moved is in its place.
+/// Makes a move where it is ready, as `fk_turns_next::attempt` does, and keeps the lists: who moved is in its place.
 ///
 /// # Errors
 ///
@@ -53,7 +52,7 @@ pub fn attempt(
     reserve_for(turns, store, m, ask)?;
     store.names();
     let mut touched = Touched::Any;
-    let tried = fk_calls::attempt(store, m, ask, &mut touched);
+    let tried = fk_turns_next::attempt(store, m, ask, &mut touched);
     // And so they do in the world that the move leaves.
     store.names();
     after_if(turns, store, is_made(&tried), m.who, &touched);
@@ -125,7 +124,7 @@ fn after_plain_if(turns: &mut Turns, store: &Store, made: bool, mover: Who, touc
     }
 }
 
-/// Makes a porter's call where it is ready, as `fk_calls::call` does, and keeps the lists.
+/// Makes a porter's call where it is ready, as `fk_turns_next::call` does, and keeps the lists.
 ///
 /// # Errors
 ///
@@ -156,7 +155,7 @@ pub fn call(
     reserve_for_stage(turns, stage)?;
     store.names();
     let mut touched = Touched::Any;
-    let made = fk_calls::call(store, m, stage, words, told, &mut touched);
+    let made = fk_turns_next::call(store, m, stage, words, told, &mut touched);
     // And so they do in the world that the move leaves.
     store.names();
     after_if(turns, store, is_done(&made), m.who, &touched);
@@ -173,7 +172,7 @@ fn is_done(made: &Result<bool, NoMemory>) -> bool
     }
 }
 
-/// Makes the next instruction of the user in a slot, or the next stage of its call where that tells nothing, as `fk_calls::proceed` does, and keeps the lists.
+/// Makes the next instruction of the user in a slot, or the next stage of its call where that tells nothing, as `fk_turns_next::proceed` does, and keeps the lists.
 pub fn proceed(store: &mut Store, turns: &mut Turns, who: Who) -> bool
     requires valid { IsValid (world store.old) }
     requires kept { AreKept store.old turns.old.waits turns.old.marks }
@@ -195,14 +194,14 @@ pub fn proceed(store: &mut Store, turns: &mut Turns, who: Who) -> bool
         second: None,
         third: None,
     };
-    let made = fk_calls::proceed(store, who, &mut touched);
+    let made = fk_turns_next::proceed(store, who, &mut touched);
     // And so they do in the world that the move leaves.
     store.names();
     after_plain_if(turns, store, made, who, &touched);
     made
 }
 
-/// Makes the next stage of the user in a slot, where that sends words to a native server, as `fk_calls::say` does, and keeps the lists.
+/// Makes the next stage of the user in a slot, where that sends words to a native server, as `fk_turns_next::say` does, and keeps the lists.
 pub fn say(store: &mut Store, turns: &mut Turns, who: Who, room: &mut [u64; 64]) -> Option<Sent>
     requires valid { IsValid (world store.old) }
     requires kept { AreKept store.old turns.old.waits turns.old.marks }
@@ -219,7 +218,7 @@ pub fn say(store: &mut Store, turns: &mut Turns, who: Who, room: &mut [u64; 64])
 {
     store.names();
     let mut touched = Touched::Any;
-    let sent = fk_calls::say(store, who, room, &mut touched);
+    let sent = fk_turns_next::say(store, who, room, &mut touched);
     // And so they do in the world that the move leaves.
     store.names();
     after_if(turns, store, sent.is_some(), who, &touched);

@@ -7,7 +7,7 @@ use Rattle.fk_model.specs.Places.{Path}
 use Rattle.fk_model.specs.Moves.{IsReady}
 use Rattle.fk_picks.specs.Stands.{IsPicked}
 use Rattle.fk_picks.specs.declared.moves.Picker.TheVariants.{User}
-use Rattle.fk_calls.specs.Judgements.{IsReadyMove}
+use Rattle.fk_picks.specs.Judgements.{IsReadyMove}
 use Rattle.fk_store.specs.Contents.{Contents}
 use Rattle.fk_store.specs.Moves.{picked_by}
 use Rattle.fk_store.specs.Paths.{path}

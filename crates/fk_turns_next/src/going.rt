@@ -3,7 +3,7 @@ ghost use Rattle.std.specs.Prelude.{◌≡◌, [], IfSome, IfNone, option_map};
 ghost use Rattle.fk_model.specs.declared.moves.Ask.TheVariants as asks;
 ghost use Rattle.fk_model.specs.Valid.{IsValid};
 ghost use Rattle.fk_store.specs.World.{world};
-ghost use Rattle.fk_calls.specs.Judgements.{IsReadyMove};
+ghost use Rattle.fk_picks.specs.Judgements.{IsReadyMove};
 ghost use Rattle.fk_turns_moved.specs.Kept.{AreKept};
 ghost use Rattle.fk_waits.specs.Lists.{first_ready};
 ghost use Rattle.fk_turns_next.specs.Waiting.{standing, AreWaiting, ArePassed, IsIdle};

@@ -3,7 +3,7 @@ ghost use Rattle.std.specs.Prelude.{◌≡◌, true, IfSome, IfNone, IsSome};
 ghost use Rattle.fk_model.specs.declared.moves.Ask.TheVariants as asks;
 ghost use Rattle.fk_model.specs.Valid.{IsValid};
 ghost use Rattle.fk_store.specs.World.{world, place_of};
-ghost use Rattle.fk_calls.specs.Judgements.{IsReadyMove};
+ghost use Rattle.fk_picks.specs.Judgements.{IsReadyMove};
 ghost use Rattle.fk_turns_moved.specs.Kept.{is_user_at, AreKept};
 ghost use Rattle.fk_turns_moved.specs.Moved.{now_named};
 ghost use Rattle.fk_turns_next.specs.Waiting.{standing, ComesAfter, IsMoveReady, IsPlaced};
@@ -70,11 +70,11 @@ pub fn ready_move(store: &Store, who: Who) -> Option<Move>
     ensures none { IfNone result (IsMoveReady (world store.now) (place_of store.now who) → ⊥) }
 {
     // Most objects are no thread that may move, and a judgement is large.
-    if !fk_calls::may_move(store, who) {
+    if !fk_picks::may_move(store, who) {
         return None;
     }
     let m = Move { who, pick: None };
-    if fk_calls::ready(store, &m, &Ask::Run) {
+    if fk_picks::ready(store, &m, &Ask::Run) {
         return Some(m);
     }
     fk_picks::ready_pick(store, who)

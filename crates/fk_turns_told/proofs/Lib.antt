@@ -1,2 +1,3 @@
+pub use Rattle.fk_turns_moved.proofs.After
 pub mod Places
 pub mod Told

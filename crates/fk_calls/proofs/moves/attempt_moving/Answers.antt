@@ -2,7 +2,7 @@ use Rattle.std.proofs.Common.{false, None, refl, ◌∙◌}
 use Rattle.fk_model.specs.declared.moves.Said.TheVariants as says
 use Rattle.fk_store.specs.Paths.{path}
 use Rattle.fk_store.specs.World.{world}
-use Rattle.fk_endings.specs.Endings.{IsLeft}
+use Rattle.fk_acts.specs.Endings.{IsLeft}
 use Rattle.fk_plans.proofs.Moved.{each, fits_plan}
 use Rattle.fk_plans.specs.Movings.{plan_of, verdict_of}
 use Rattle.fk_calls.specs.declared.judging.Judgement.{Judgement}

@@ -8,7 +8,7 @@ use Rattle.fk_plans.specs.Verdicts.{outcome_by}
 use Rattle.fk_store.specs.Moves.{said_by}
 use Rattle.fk_store.specs.Paths.{path}
 use Rattle.fk_store.specs.World.{world}
-use Rattle.fk_endings.specs.Endings.{IsLeft}
+use Rattle.fk_acts.specs.Endings.{IsLeft}
 use Rattle.fk_calls.specs.declared.judging.Judgement.{Judgement}
 use Rattle.fk_calls.proofs.Judged.{porter, quiet_judged, ready_judged, step_judged}
 use Rattle.fk_calls.proofs.Touches.{touching_by}

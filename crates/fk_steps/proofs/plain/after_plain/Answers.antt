@@ -1,6 +1,6 @@
 use Rattle.std.proofs.Common.{◌≡◌, true, sym, subst}
-use Rattle.fk_turns_moved.specs.Kept.{is_user_at}
-use Rattle.fk_turns_moved.specs.Moved.{now_named, IsMoved}
+use Rattle.fk_turns_told.specs.Kept.{is_user_at}
+use Rattle.fk_turns_told.specs.Moved.{now_named, IsMoved}
 use Rattle.fk_turns_next.specs.Waiting.{standing, ComesAfter, IsPlaced}
 use Rattle.fk_turns_next.proofs.Placed.{placed_woken}
 use Rattle.fk_waits.specs.Lists.{Lists}

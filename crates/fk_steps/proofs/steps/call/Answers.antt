@@ -1,5 +1,5 @@
 use Rattle.fk_model.specs.declared.moves.Ask.TheVariants as asks
-use Rattle.fk_calls.specs.Tried.{tried_of}
+use Rattle.fk_turns_next.specs.Tried.{tried_of}
 use Rattle.fk_steps.proofs.Stepped.{comes_tried, kept_wider, put_tried, same_wider, still_then, still_tried, valid_tried}
 use Rattle.fk_steps.proofs.steps.call.Goals as goal
 

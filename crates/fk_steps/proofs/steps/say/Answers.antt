@@ -1,8 +1,8 @@
 use Rattle.std.proofs.Common.{None}
 use Rattle.fk_model.specs.declared.moves.Ask.TheVariants as asks
 use Rattle.fk_model.specs.declared.moves.Move.{Move}
-use Rattle.fk_calls.specs.declared.sayings.Sent.{Sent}
-use Rattle.fk_calls.specs.Sayings.{told_by}
+use Rattle.fk_turns_next.specs.Tellings.{Sent}
+use Rattle.fk_turns_next.specs.Sayings.{told_by}
 use Rattle.fk_steps.proofs.Stepped.{comes_some, none_same, put_some, run_fit, still_some, valid_some}
 use Rattle.fk_steps.proofs.steps.say.Goals as goal
 
