@@ -2,3 +2,4 @@ pub mod There
 pub mod Renamed
 pub mod Settled
 pub mod Listed
+pub mod Last

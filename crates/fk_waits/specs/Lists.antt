@@ -1,7 +1,8 @@
 -- Lists: who is ready and who is queued, and what each call makes of it.
-use Rattle.std.specs.Prelude.{◌≡◌, ℕ, ◌+◌, ◌-◌, Bool, true, false, ◌||◌, List, [], ◌∷◌, ◌++◌, map, Option, Some, None, if◌then◌else◌}
+use Rattle.std.specs.Prelude.{◌≡◌, ℕ, ◌+◌, ◌-◌, Bool, true, false, ◌||◌, ◌&&◌, List, [], ◌∷◌, ◌++◌, map, Option, Some, None, if◌then◌else◌}
 use Rattle.fk_model.specs.declared.names.Who.{Who}
 use Rattle.fk_waits_names.specs.Names.{is_same}
+use Rattle.fk_waits_causes.specs.Causes.{is_same_cause}
 
 -- the threads that are ready, in order; those that are queued, each behind its cause, in the order in which they were
 -- parked; and for how many more there is room
@@ -106,3 +107,29 @@ pub record StandOnce (lists : Lists) : Type 0 where
   pub ready : AreOnce lists.ready
   pub queued : AreOnce (map (λ (q : Who × Who). q.1) lists.queued)
   pub apart : (thread : Who) → is_in thread lists.ready ≡ true → is_queued thread lists.queued ≡ false
+
+-- a thread is the last of these
+pub record IsLast (thread : Who) (ready : List Who) : Type 0 where
+  pub front : List Who
+  pub is : ready ≡ front ++ thread ∷ []
+
+-- a thread is the last of those that are queued, at this cause
+pub record IsLastAt (thread cause : Who) (queued : List (Who × Who)) : Type 0 where
+  pub front : List (Who × Who)
+  pub is : queued ≡ front ++ (cause, thread) ∷ []
+
+abbrev pub IsLastFor : Who → Option Who → Lists → Type 0
+IsLastFor thread None lists = IsLast thread lists.ready
+IsLastFor thread (Some cause) lists = IsLastAt thread cause lists.queued
+
+-- the last, as far as it is known, once a thread is out
+abbrev pub last_without : Who → Option Who → Option Who
+last_without thread None = None
+last_without thread (Some who) = if is_same who thread then None else Some who
+
+abbrev pub is_known : Option Who → Who → Bool
+is_known None thread = false
+is_known (Some who) thread = is_same who thread
+
+abbrev pub is_put : Option Who → Option Who → Who → Option Who → Bool
+is_put last its thread cause = is_known last thread && is_same_cause its cause

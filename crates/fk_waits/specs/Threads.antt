@@ -1,8 +1,9 @@
 -- Threads: those that stand, in the order in which they came to where they stand, each with what it waits for.
-use Rattle.std.specs.Prelude.{◌≡◌, ◌+◌, ◌≤◌, ◌<◌, ◌^◌, ◌-◌, ℕ, Bool, false, ◌||◌, List, [], ◌∷◌, length, map, Option, Some, None, is_some, if◌then◌else◌}
+use Rattle.std.specs.Prelude.{◌≡◌, ◌+◌, ◌≤◌, ◌<◌, ◌^◌, ◌-◌, ℕ, Bool, false, ◌||◌, List, [], ◌∷◌, length, map, Option, Some, None, is_some, IfSome}
+use Rattle.std.specs.Prelude.{if◌then◌else◌}
 use Rattle.fk_model.specs.declared.names.Who.{Who}
 use Rattle.fk_waits_names.specs.Names.{is_same, key_at}
-use Rattle.fk_waits.specs.Lists.{Lists, new_name}
+use Rattle.fk_waits.specs.Lists.{IsLastFor, Lists, new_name}
 use Rattle.fk_waits_causes.specs.Causes.{is_same_cause, new_cause, standings, AreStanding, Standing}
 use Rattle.fk_waits.specs.declared.threads.Threads.{Threads}
 
@@ -103,7 +104,12 @@ with_name from to x = (new_name from to x.0, x.1)
 abbrev pub with_cause : Who → Who → Who × Option Who → Who × Option Who
 with_cause from to x = (x.0, new_cause from to x.1)
 
--- the invariant of the lists: they stand so, and so many are queued
+-- they stand so, and so many are queued
 pub record IsKept (t : Threads) (queued : ℕ) : Type 0 where
   pub there : AreThere t (pairs_of t)
   pub count : queued ≡ length (are_queued (pairs_of t))
+
+-- the invariant of the lists: besides, who is known to have been put last of all stands last
+pub record IsHeld (t : Threads) (queued : ℕ) (last cause : Option Who) : Type 0 where
+  pub kept : IsKept t queued
+  pub last_is : IfSome last (λ who. IsLastFor who cause (lists_of t))

@@ -104,6 +104,12 @@ impl Threads {
         self.causes.rename_cause(from, to);
     }
 
+    /// Who waits for the same behind a thread, or is ready as it is. It is a hint: nothing is said of it.
+    pub fn behind(&self, thread: Who) -> Option<Who> {
+        let key = self.names.find(thread)?;
+        self.causes.behind(key)
+    }
+
     /// The first that waits for something, or that is ready.
     pub fn first(&self, cause: Option<Who>) -> Option<Who>
         requires { Stand self.now }

@@ -1,6 +1,10 @@
 //! The lists of those who wait.
 ghost use Rattle.std.specs.Prelude.{◌≡◌, ◌≤◌, ◌+◌, ◌-◌, ◌<◌, ◌^◌, [], length, false, true, IfOk, OnOk, if◌then◌else◌};
-ghost use Rattle.fk_waits.specs.Lists.{Lists, first_queued, first_ready, is_cause, left, parked, passed, renamed, settled, stands, woken, StandOnce};
+ghost use Rattle.std.specs.Bool.{OnTrue};
+ghost use Rattle.fk_waits_causes.specs.Causes.{is_same_cause};
+ghost use Rattle.fk_waits.specs.Lists as lists;
+ghost use Rattle.fk_waits.specs.Lists.{Lists, first_queued, first_ready, is_cause, left, parked, passed, renamed, settled, stands, woken, IsLast};
+ghost use Rattle.fk_waits.specs.Lists.{IsLastFor, StandOnce};
 
 use crate::threads::Threads;
 use fk_model::{NoMemory, Who};
@@ -15,6 +19,9 @@ const MOST: usize = 1 << 62;
 pub struct Waits {
     threads: Threads,
     queued: u64,
+    /// The thread that was put last of all, where it is known, and its cause. So nobody is moved who stands there already.
+    last: Option<Who>,
+    cause: Option<Who>,
 }
 
 impl Model for Waits {
@@ -22,11 +29,11 @@ impl Model for Waits {
 
     ghost Value = { Lists };
 
-    ghost use Rattle.fk_waits.specs.Threads.{lists_of, IsKept};
+    ghost use Rattle.fk_waits.specs.Threads.{lists_of, IsHeld};
 
     ghost view = { λ w. lists_of w.threads };
 
-    ghost invariant = { λ w. IsKept w.threads w.queued };
+    ghost invariant = { λ w. IsHeld w.threads w.queued w.last w.cause };
 }
 
 impl Waits {
@@ -39,7 +46,12 @@ impl Waits {
         ensures { IfOk result (λ w. w ≡ record { ready = []; queued = []; spare = 0 }) }
     {
         let threads = Threads::new(alloc)?;
-        Ok(Waits { threads, queued: 0 })
+        Ok(Waits {
+            threads,
+            queued: 0,
+            last: None,
+            cause: None,
+        })
     }
 
     /// Makes room for so many more threads. The lists stay.
@@ -96,6 +108,7 @@ impl Waits {
     {
         let waited = self.threads.leave(thread);
         self.queued = counted(self.queued, waited, false);
+        self.last = last_without(thread, self.last);
     }
 
     /// A name stands wherever another stood, as a thread and as a cause. It stood nowhere.
@@ -104,6 +117,7 @@ impl Waits {
         requires cause { is_cause to self.old.queued ≡ false }
         ensures { self.new ≡ renamed from to self.old }
     {
+        self.last = None;
         self.threads.rename_cause(from, to);
         self.threads.rename_thread(from, to);
     }
@@ -132,6 +146,39 @@ impl Waits {
         self.threads.first(None)
     }
 
+    /// Who is ready and stands behind a thread that is, if the lists have both. It is a hint: nothing is said of it.
+    pub fn behind(&self, thread: Who) -> Option<Who> {
+        self.threads.behind(thread)
+    }
+
+    /// A thread is known to be the last of the ready: nobody was moved after it.
+    pub fn is_last(&self, thread: Who) -> bool
+        ensures { OnTrue result (IsLast thread self.now.ready) }
+    {
+        self.is_settled(thread, None)
+    }
+
+    /// A thread is known to stand last with this cause, or last of the ready.
+    fn is_settled(&self, thread: Who, cause: Option<Who>) -> bool
+        ensures { OnTrue result (IsLastFor thread cause self.now) }
+    {
+        is_put(self.last, self.cause, thread, cause)
+    }
+
+    /// There is room for one more.
+    pub fn has_room(&self) -> bool
+        ensures { OnTrue result (1 ≤ self.now.spare) }
+    {
+        self.threads.len() < self.threads.seats()
+    }
+
+    /// Nobody is ready.
+    pub fn is_idle(&self) -> bool
+        ensures { OnTrue result (self.now.ready ≡ []) }
+    {
+        !(self.queued < self.threads.len() as u64)
+    }
+
     /// How many threads are queued.
     pub fn len(&self) -> u64
         ensures { result ≡ length self.now.queued }
@@ -144,8 +191,22 @@ impl Waits {
         requires { stands thread self.old ≡ false → 1 ≤ self.old.spare }
         ensures { self.new ≡ settled thread cause self.old }
     {
+        self.once();
+        if self.is_settled(thread, cause) {
+            return;
+        }
+        self.put_last(thread, cause);
+    }
+
+    /// The same of one that may stand anywhere.
+    fn put_last(&mut self, thread: Who, cause: Option<Who>)
+        requires { stands thread self.old ≡ false → 1 ≤ self.old.spare }
+        ensures { self.new ≡ settled thread cause self.old }
+    {
         let waited = self.threads.settle(thread, cause);
         self.queued = counted(self.queued, waited, cause.is_some());
+        self.last = Some(thread);
+        self.cause = cause;
     }
 }
 
@@ -157,4 +218,47 @@ fn counted(queued: u64, was: bool, is: bool) -> u64
 {
     let others = if was { queued - 1 } else { queued };
     if is { others + 1 } else { others }
+}
+
+/// Who was put last of all, as far as it is known, once a thread has gone out of where it was.
+fn last_without(thread: Who, last: Option<Who>) -> Option<Who>
+    ensures { result ≡ lists.last_without thread last }
+{
+    match last {
+        Some(who) if who == thread => None,
+        _ => last,
+    }
+}
+
+/// Who was put last of all, as far as it is known, is this one.
+fn is_known(last: Option<Who>, thread: Who) -> bool
+    ensures { result ≡ lists.is_known last thread }
+{
+    match last {
+        Some(last) => last == thread,
+        None => false,
+    }
+}
+
+/// Two threads wait for the same, or both are ready.
+fn is_equal(one: Option<Who>, other: Option<Who>) -> bool
+    ensures { result ≡ is_same_cause one other }
+{
+    match one {
+        Some(one) => match other {
+            Some(other) => one == other,
+            None => false,
+        },
+        None => match other {
+            Some(_) => false,
+            None => true,
+        },
+    }
+}
+
+/// Who was put last of all, and its cause, are these.
+fn is_put(last: Option<Who>, its: Option<Who>, thread: Who, cause: Option<Who>) -> bool
+    ensures { result ≡ lists.is_put last its thread cause }
+{
+    is_known(last, thread) && is_equal(its, cause)
 }

@@ -134,6 +134,11 @@ impl Causes {
         }
     }
 
+    /// Who waits for the same behind the thread with a node in the order, or is ready as it is. It is a hint: nothing is said of it.
+    pub fn behind(&self, key: usize) -> Option<Who> {
+        self.queues.behind(key)
+    }
+
     /// The first that waits for a cause.
     fn first_named(&self, name: Who) -> Option<Who>
         requires { Stand self.now self.now.ready }

@@ -214,6 +214,19 @@ impl Queues {
         }
     }
 
+    /// Who stands behind the thread with a node in the order, in its queue. It is a hint: nothing is said of it.
+    pub fn behind(&self, key: usize) -> Option<Who> {
+        let node = self.order.get(key)?.at;
+        let next = self.lines.get(node)?.next;
+        let place = self.lines.get(next)?;
+        // A queue's head leads to itself.
+        if place.at == next {
+            None
+        } else {
+            Some(place.who)
+        }
+    }
+
     /// The thread with a node in the order has another name, and stands where it stood.
     pub fn rename_thread(&mut self, key: usize, who: Who)
         requires { HasPlace self.old key }

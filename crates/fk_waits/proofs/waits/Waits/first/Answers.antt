@@ -5,10 +5,10 @@ use Rattle.fk_waits.proofs.Listed.{first_is_queued}
 use Rattle.fk_waits.proofs.waits.Waits.first.Goals as goal
 
 pub first-requires : goal.first-requires
-first-requires c = record { list = pairs_of c.self.inside.threads; there = c.self.invariant.there }
+first-requires c = record { list = pairs_of c.self.inside.threads; there = c.self.invariant.kept.there }
 
 pub returns : goal.returns
 returns c =
     let t = c.self.inside.threads in
-    c.first.ensures (pairs_of t) c.self.invariant.there ∙ first_is_queued c.args.cause (pairs_of t)
+    c.first.ensures (pairs_of t) c.self.invariant.kept.there ∙ first_is_queued c.args.cause (pairs_of t)
     ∙ ap (λ (lists : Lists). first_queued c.args.cause lists.queued) c.self.view_is

@@ -3,4 +3,4 @@ use Rattle.fk_waits.specs.Lists.{Lists}
 use Rattle.fk_waits.proofs.waits.Waits.len.Goals as goal
 
 pub returns : goal.returns
-returns c = c.self.invariant.count ∙ ap (λ (lists : Lists). length lists.queued) c.self.view_is
+returns c = c.self.invariant.kept.count ∙ ap (λ (lists : Lists). length lists.queued) c.self.view_is

@@ -5,4 +5,4 @@ use Rattle.fk_waits.proofs.Listed.{stand_once}
 use Rattle.fk_waits.proofs.waits.Waits.once.Goals as goal
 
 pub returns : goal.returns
-returns c = subst StandOnce c.self.view_is (stand_once c.self.inside.threads (pairs_of c.self.inside.threads) c.self.invariant.there)
+returns c = subst StandOnce c.self.view_is (stand_once c.self.inside.threads (pairs_of c.self.inside.threads) c.self.invariant.kept.there)

@@ -1,32 +1,7 @@
-use Rattle.std.proofs.Common.{ap, ◌∙◌}
-use Rattle.fk_waits.specs.Lists.{settled}
-use Rattle.fk_waits.specs.Threads.{pairs_of}
-use Rattle.fk_waits.proofs.Listed.{count_settled, fits, kept_settled, queued_least, queued_most, settled_lists}
+use Rattle.std.proofs.lemmas.Bool.{OnTrue_at}
+use Rattle.fk_waits.proofs.Last.{last_stays}
 use Rattle.fk_waits.proofs.waits.Waits.settle.Goals as goal
 
-pub settle-waited-requires : goal.settle-waited-requires
-settle-waited-requires c = fits c.self.inside.threads c.args.thread c.args.self.now c.self.invariant.there c.self.view_is c.requires
-
-pub counted-self-inside-requires : goal.counted-self-inside-requires
-counted-self-inside-requires c =
-    let t = c.self.inside.threads in
-    let k = c.self.invariant in
-    record {
-      some = queued_least t c.args.thread c.settle-waited.result k.there (c.settle-waited.ensures.waited (pairs_of t) k.there) k.count;
-      few = queued_most t k.there k.count;
-    }
-
-pub invariant_of-self : goal.invariant_of-self
-invariant_of-self c =
-    let t = c.self.inside.threads in
-    let k = c.self.invariant in
-    kept_settled t c.settle-waited.new.self c.args.thread c.args.cause k.there (c.settle-waited.ensures.there (pairs_of t) k.there)
-    (count_settled t c.args.thread c.args.cause k.there k.count (c.settle-waited.ensures.waited (pairs_of t) k.there)
-    c.is_some.ensures c.counted-self-inside.ensures)
-
-pub returns : goal.returns
-returns c =
-    let t = c.self.inside.threads in
-    let k = c.self.invariant in
-    settled_lists t c.settle-waited.new.self (pairs_of t) k.there c.settle-waited.ensures.seats c.args.thread c.args.cause
-    (c.settle-waited.ensures.there (pairs_of t) k.there) ∙ ap (settled c.args.thread c.args.cause) c.self.view_is
+pub returns-then-is_settled : goal.returns-then-is_settled
+returns-then-is_settled c =
+    last_stays c.args.thread c.args.cause c.args.self.now c.once.ensures (OnTrue_at c.if-is_settled.true c.is_settled.ensures)
