@@ -2,10 +2,12 @@
 use Rattle.std.proofs.Common.{◌≡◌, ◌≤◌, ◌+◌, ◌-◌, ◌&&◌, ◌||◌, Bool, true, false, List, [], ◌∷◌, ◌++◌, Option, Some, None, is_some, if◌then◌else◌, refl, sym}
 use Rattle.std.proofs.Common.{ap, subst, ◌∙◌, arith}
 use Rattle.std.proofs.lemmas.Bool.{or_from, or_right}
+use Rattle.std.specs.Bool.{OnTrue}
 use Rattle.fk_model.specs.declared.names.Who.{Who}
 use Rattle.fk_waits_names.specs.Names.{is_same}
 use Rattle.fk_waits_names.proofs.Order.{same_who}
-use Rattle.fk_waits.specs.Lists.{first_ready, is_cause, is_in, is_queued, left, Lists, parked, stands, without, without_queued, woken}
+use Rattle.fk_waits.proofs.Last.{last_stands, last_woken}
+use Rattle.fk_waits.specs.Lists.{first_ready, is_cause, is_in, is_queued, left, Lists, parked, stands, without, without_queued, woken, IsLast, StandOnce}
 use Rattle.fk_turns.specs.Turns.{free_cause, is_front, waits_at, IsSound}
 
 -- ---- one list
@@ -221,14 +223,27 @@ pub front_first : (who : Who) (l : List Who) → is_front who l ≡ true → Som
 front_first who [] is = absurd (cc)
 front_first who (x ∷ l) is = ap (λ (w : Who). Some w) (sym (same_who x who is))
 
-pub no_front : (o : Option Who) (l : List Who) → o ≡ first_ready l → is_some o ≡ false → l ≡ []
-no_front None [] is off = refl
-no_front None (x ∷ l) is off = absurd (cc)
-no_front (Some w) l is off = absurd (cc)
-
 pub sound_turned : (n : Who) (waits marks : Lists) → IsSound waits marks → stands n waits ≡ true → IsSound (woken n waits) marks
 sound_turned n waits marks sound there = record { both = λ x. sound.both x ∙ sym (stands_woken n x waits ∙ by x (is_same n x) refl); free = sound.free }
   where
     by : (x : Who) (t : Bool) → is_same n x ≡ t → (t || stands x waits) ≡ stands x waits
     by x true e = sym (subst (λ (w : Who). stands w waits ≡ true) (same_who n x e) there)
     by x false e = refl
+
+-- ---- who is ready last is woken
+
+pub back_turned : (who : Who) (waits : Lists) (b : Bool) → StandOnce waits → OnTrue b (IsLast who waits.ready) → OnTrue b (waits ≡ woken who waits)
+back_turned who waits true once is = sym (last_woken who waits once is)
+back_turned who waits false once is = tt
+
+pub back_stands : (who : Who) (waits : Lists) (b : Bool) → OnTrue b (IsLast who waits.ready) → OnTrue b (stands who waits ≡ true)
+back_stands who waits true is = last_stands who waits is
+back_stands who waits false is = tt
+
+pub on_true : {P : Type 0} (b : Bool) → P → OnTrue b P
+on_true true p = p
+on_true false p = tt
+
+pub both_room : (P Q : Type 0) (b : Bool) → P → OnTrue b Q → OnTrue b (P × Q)
+both_room P Q true p q = (p, q)
+both_room P Q false p q = tt

@@ -61,6 +61,17 @@ impl Turns {
         self.marks.reserve(1)
     }
 
+    /// There is room for one more thread.
+    pub fn has_seat(&self) -> bool
+        ensures { OnTrue result ((1 ≤ self.now.waits.spare) × (1 ≤ self.now.marks.spare)) }
+    {
+        if self.waits.has_room() {
+            self.marks.has_room()
+        } else {
+            false
+        }
+    }
+
     /// A thread is ready, last of all. It stands, or there is room for it.
     pub fn wake(&mut self, who: Who)
         requires sound { IsSound self.old.waits self.old.marks }
@@ -172,7 +183,8 @@ impl Turns {
         }
     }
 
-    /// A thread that is ready first goes last, where no change may free any that is queued; and whether that was so. Then nobody else need be looked at.
+    /// A thread that is ready last or first goes last, where no change may free any that is queued; and whether that was so. Then nobody else need be
+    /// looked at.
     pub fn turn(&mut self, who: Who) -> bool
         requires sound { IsSound self.old.waits self.old.marks }
         ensures sound { IsSound self.new.waits self.new.marks }
@@ -182,9 +194,33 @@ impl Turns {
         ensures marks { self.new.marks ≡ self.old.marks }
         ensures same { OnFalse result (self.new.waits ≡ self.old.waits) }
     {
-        if self.marks.next().is_some() {
+        if !self.marks.is_idle() {
             return false;
         }
+        if self.is_back(who) {
+            return true;
+        }
+        self.go_last(who)
+    }
+
+    /// A thread is known to be ready last, so that it needn't go there.
+    fn is_back(&self, who: Who) -> bool
+        ensures turned { OnTrue result (self.now.waits ≡ woken who self.now.waits) }
+        ensures stood { OnTrue result (stands who self.now.waits ≡ true) }
+    {
+        self.waits.once();
+        self.waits.is_last(who)
+    }
+
+    /// A thread that is ready first goes last; and whether it was.
+    fn go_last(&mut self, who: Who) -> bool
+        requires sound { IsSound self.old.waits self.old.marks }
+        ensures sound { IsSound self.new.waits self.new.marks }
+        ensures turned { OnTrue result (self.new.waits ≡ woken who self.old.waits) }
+        ensures stood { OnTrue result (stands who self.old.waits ≡ true) }
+        ensures marks { self.new.marks ≡ self.old.marks }
+        ensures same { OnFalse result (self.new.waits ≡ self.old.waits) }
+    {
         if !self.is_front(who) {
             return false;
         }

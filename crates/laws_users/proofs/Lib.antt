@@ -1,3 +1,4 @@
 pub mod Rows
 pub mod Stood
 pub mod Named
+pub mod Gives

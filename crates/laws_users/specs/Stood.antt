@@ -1,9 +1,13 @@
 -- Stood: who was a user's thread before a move, and who is one after it.
 use Rattle.std.specs.Prelude.{◌≡◌, Bool, true, false, not, ◌||◌, List, [], ◌∷◌, Option}
 use Rattle.fk_model.specs.declared.moves.Ask.{Ask}
+use Rattle.fk_model.specs.declared.moves.Ask.TheVariants as asks
+use Rattle.fk_model.specs.declared.stage.Stage.{Stage}
+use Rattle.fk_model.specs.declared.stage.Stage.TheVariants.{PageGive}
 use Rattle.fk_model.specs.Holds.{is_porter}
 use Rattle.fk_model.specs.Moves.{outcome, step}
-use Rattle.fk_model.specs.Objects.{Thread, holds}
+use Rattle.fk_model.specs.Objects.{Mode, Thread, holds}
+use Rattle.fk_model.specs.Objects.Mode.{Calling}
 use Rattle.fk_model.specs.Outcomes.{listed}
 use Rattle.fk_model.specs.Places.{Path, same_path, parent}
 use Rattle.fk_model.specs.Searches.{thread_at}
@@ -43,3 +47,24 @@ UsersStood = (w : World) (x : Path) (pick : Option Path) (ask : Ask) (q : Path) 
 abbrev pub UsersStay : Type 0
 UsersStay = (w : World) (x : Path) (pick : Option Path) (ask : Ask) (q : Path) → IsRooted w → put (listed (outcome w x pick ask)) q ≡ false →
     taken (listed (outcome w x pick ask)) q ≡ false → is_users_at w q ≡ true → is_users_at (step w x pick ask).world q ≡ true
+
+-- ---- who gives a page
+
+abbrev pub is_giving : Stage → Bool
+is_giving (PageGive s page address) = true
+is_giving other = false
+
+abbrev pub gives_first : Mode → Bool
+gives_first (Calling (stage ∷ todo) rest) = is_giving stage
+gives_first other = false
+
+-- the stage that a mover is asked for, or that comes next of its call, gives a page
+abbrev pub gives : Ask → Option Thread → Bool
+gives asks.Run o = holds (λ (t : Thread). gives_first t.mode) o
+gives (asks.Call stage words) o = is_giving stage
+gives other o = false
+
+-- such a move puts nothing anywhere
+abbrev pub GivesPutNothing : Type 0
+GivesPutNothing = (w : World) (x : Path) (pick : Option Path) (ask : Ask) (q : Path) → gives ask (thread_at w x) ≡ true →
+    put (listed (outcome w x pick ask)) q ≡ false

@@ -4,7 +4,7 @@
 #![tactic(auto)]
 
 ghost use Rattle.laws_users.specs.Named.{NamesStay, NamesStood, SpacesStay};
-ghost use Rattle.laws_users.specs.Stood.{UsersStay, UsersStood};
+ghost use Rattle.laws_users.specs.Stood.{GivesPutNothing, UsersStay, UsersStood};
 
 /// Whoever is a user's thread after a move was one before it, or was put there by it: no move makes a porter one.
 #[tactic(auto, using(crate::proofs::Stood::users_stood))]
@@ -34,4 +34,10 @@ pub fn names_stood()
 /// A space stays where it is, unless it is taken from there.
 pub fn spaces_stay()
     ensures { SpacesStay }
+{}
+
+/// A move that gives a page puts nothing anywhere.
+#[tactic(auto, using(crate::proofs::Gives::gives_put_nothing))]
+pub fn gives_put_nothing()
+    ensures { GivesPutNothing }
 {}
