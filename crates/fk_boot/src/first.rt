@@ -4,7 +4,7 @@ ghost use Rattle.fk_model.specs.Valid.{IsValid};
 ghost use Rattle.fk_model.specs.Whole.{IsSavable};
 ghost use Rattle.laws_whole.specs.Runnable.{IsRunnable};
 ghost use Rattle.fk_scenario.specs.Kept.{KeepsScenario};
-ghost use Rattle.fk_store.specs.World.{world};
+ghost use Rattle.fk_kernel.specs.Kernels.{world_of as world};
 ghost use Rattle.fk_boot.specs.FirstWorld.{booted};
 ghost use Rattle.fk_boot.specs.Services.{first_services, by_paths};
 
@@ -44,7 +44,7 @@ pub fn boot(alloc: Global, scenario: &Scenario) -> Result<First, NoMemory>
     let store = first_store(alloc, scenario)?;
     let services = services_of(alloc, &store, scenario.servers.as_slice())?;
     Ok(First {
-        kernel: Kernel::of(store)?,
+        kernel: Kernel::of(alloc, store)?,
         services,
         budget: scenario.budget,
         workers: scenario.workers,

@@ -6,7 +6,7 @@ use Rattle.fk_model.specs.Who.{named}
 use Rattle.fk_model.specs.World.{World}
 use Rattle.fk_kernel.specs.declared.replace.BurstPage.{BurstPage}
 use Rattle.fk_kernel.specs.Kernels.{world_of}
-use Rattle.fk_store.specs.Contents.{Contents}
+use Rattle.fk_kernel.specs.Kernels.{Kept}
 use Rattle.laws_bursts.specs.Laws.{HasPages}
 use Rattle.laws_turns.specs.Quiet.{LeadRunning}
 use Rattle.fk_copies.specs.declared.copied.Copied.{Copied}
@@ -25,7 +25,7 @@ abbrev pub MayCommit : World → Lease → ℕ → Type 0
 MayCommit w l left = IsCurrent w l.thread l.taken l.copy × (l.count ≤ left)
 
 -- what a commit does to a kernel: so many ready moves of the thread, which runs, where it may; and else nothing
-pub record CommitsSo (l : Lease) (left : ℕ) (k : Contents) (done : Bool) (n : Contents) : Type 0 where
+pub record CommitsSo (l : Lease) (left : ℕ) (k : Kept) (done : Bool) (n : Kept) : Type 0 where
   pub running : OnTrue done (LeadRunning (record { who = l.thread; pick = None }) l.count (world_of k) (world_of n))
   pub may : OnTrue done (MayCommit (world_of k) l left)
   pub may_not : OnFalse done (MayCommit (world_of k) l left → ⊥)

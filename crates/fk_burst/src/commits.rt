@@ -4,7 +4,9 @@ ghost use Rattle.std.specs.Prelude.{take, true};
 ghost use Rattle.std.specs.Bool.{OnTrue, OnFalse};
 ghost use Rattle.fk_kernel.specs.Kernels.{world_of};
 ghost use Rattle.fk_kernel.specs.Replaced.{IsPageThere};
+ghost use Rattle.fk_model.specs.Searches.{thread_at};
 ghost use Rattle.fk_model.specs.Valid.{birth_at, IsPaged};
+ghost use Rattle.fk_plans.specs.Effects.{is_running};
 ghost use Rattle.fk_model.specs.Who.{named, space_born};
 ghost use Rattle.fk_store.specs.Paths.{path};
 ghost use Rattle.fk_store.specs.World.{world};
@@ -131,6 +133,7 @@ fn front(room: &[BurstPage], laid: usize) -> &[BurstPage]
 
 /// The thread in a slot becomes as a copy has it, and so do these pages, which are those that the copy has used.
 fn hand_back(k: &mut Kernel, thread: Who, now: &Copied, pages: &[BurstPage])
+    requires running { is_running (thread_at (world_of k.old) (named (world_of k.old) thread)) ≡ true }
     requires pages { pages.now ≡ used_pages 4 now.now thread.space }
     requires there { All (IsPageThere (space_born (world_of k.old)) (world_of k.old)) (used_pages 4 now.now thread.space) }
     requires has { (page : ℕ) → (burst_of now.now).used page ≡ true → IsSome ((burst_of now.now).page page) }
@@ -143,6 +146,7 @@ fn hand_back(k: &mut Kernel, thread: Who, now: &Copied, pages: &[BurstPage])
 /// The same, with the pages that are used laid out. It stands apart, since four pages are large and most copies use two at most.
 #[inline(never)]
 fn put_back_far(k: &mut Kernel, thread: Who, now: &Copied)
+    requires running { is_running (thread_at (world_of k.old) (named (world_of k.old) thread)) ≡ true }
     requires low { (place : ℕ) → slice_index_or now.now.used place false ≡ true → now.now.first + place < 256 }
     requires there { All (IsPageThere (space_born (world_of k.old)) (world_of k.old)) (used_pages 4 now.now thread.space) }
     requires has { (page : ℕ) → (burst_of now.now).used page ≡ true → IsSome ((burst_of now.now).page page) }
@@ -156,6 +160,7 @@ fn put_back_far(k: &mut Kernel, thread: Who, now: &Copied)
 
 /// The same, where only pages of the first two places are used.
 fn put_back_near(k: &mut Kernel, thread: Who, now: &Copied)
+    requires running { is_running (thread_at (world_of k.old) (named (world_of k.old) thread)) ≡ true }
     requires near { (slice_index_or now.now.used 2 false ≡ false) × (slice_index_or now.now.used 3 false ≡ false) }
     requires low { (place : ℕ) → slice_index_or now.now.used place false ≡ true → now.now.first + place < 256 }
     requires there { All (IsPageThere (space_born (world_of k.old)) (world_of k.old)) (used_pages 4 now.now thread.space) }
@@ -170,6 +175,7 @@ fn put_back_near(k: &mut Kernel, thread: Who, now: &Copied)
 
 /// The thread in a slot, and the pages of its space that a copy has used, become as the copy has them.
 fn put_back(k: &mut Kernel, thread: Who, now: &Copied)
+    requires running { is_running (thread_at (world_of k.old) (named (world_of k.old) thread)) ≡ true }
     requires low { (place : ℕ) → slice_index_or now.now.used place false ≡ true → now.now.first + place < 256 }
     requires there { All (IsPageThere (space_born (world_of k.old)) (world_of k.old)) (used_pages 4 now.now thread.space) }
     requires has { (page : ℕ) → (burst_of now.now).used page ≡ true → IsSome ((burst_of now.now).page page) }

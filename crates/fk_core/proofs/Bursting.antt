@@ -18,8 +18,8 @@ use Rattle.fk_model.specs.Runs.{Event, after}
 use Rattle.fk_model.specs.Searches.{thread_at}
 use Rattle.fk_model.specs.Who.{named}
 use Rattle.fk_model.specs.World.{World}
-use Rattle.fk_store.specs.Contents.{Contents}
-use Rattle.fk_store.specs.World.{world}
+use Rattle.fk_rounds.specs.Kernels.{Kept}
+use Rattle.fk_rounds.specs.Kernels.{world_of as world}
 use Rattle.laws_house.specs.Houses.{Job}
 use Rattle.laws_runs.specs.Cores.{IsRun, Settles, is_porter_of}
 use Rattle.laws_runs.specs.Cores.IsRun.{Begins, Goes}
@@ -28,13 +28,13 @@ use Rattle.laws_turns.specs.Quiet.{LeadRunning}
 use Rattle.laws_turns.proofs.Running.{first-runs, running_moves_are_quiet_lem}
 use Rattle.laws_turns.proofs.Settling.{quiet_moves_are_turns_lem}
 use Rattle.fk_jobs.specs.Jobs.{Queue}
-use Rattle.fk_served.specs.Served.{Services, asked, hears_of, news_at, after_news, said_at}
+use Rattle.fk_rounds.specs.Served.{Services, asked, hears_of, news_at, after_news, said_at}
 use Rattle.fk_core.specs.Bursts.{MakesMoves}
 use Rattle.fk_core.specs.Cores.{RunCore, house, core_at}
 use Rattle.fk_core.specs.Goings.{HasCome}
 use Rattle.fk_natives.specs.Natives as natives
-use Rattle.fk_served.specs.Served.{servers}
-use Rattle.fk_served.proofs.Acts.{servers_ask_as_users}
+use Rattle.fk_rounds.specs.Served.{servers}
+use Rattle.fk_rounds.proofs.Acts.{servers_ask_as_users}
 use Rattle.laws_house.proofs.House.{house_is_tidy}
 use Rattle.laws_runs.proofs.Composing.{stands}
 use Rattle.fk_core.proofs.Going.{counted, goes_on}
@@ -98,7 +98,7 @@ comes_along jobs budget c _ _ come Begins = come
 comes_along jobs budget c _ _ come (Goes past e m d run ready turned) = goes_on jobs budget e d m (comes_along jobs budget c e past come run) ready turned
 
 -- so many moves, at least one, and what settles behind them are so many turns
-pub moves_turn : (m n : Contents) (services : Services) (q : Queue) (events count : ℕ) (who : Who) (d : RunCore) → IsSound (world m) →
+pub moves_turn : (m n : Kept) (services : Services) (q : Queue) (events count : ℕ) (who : Who) (d : RunCore) → IsSound (world m) →
     LeadRunning (record { who = who; pick = None }) (suc count) (world m) (world n) →
     Settles (house q.jobs) (core_at n services q (events + suc count)) d →
     IsRun (house q.jobs) (core_at m services q events) (replicate (suc count) (record { who = who; pick = None })) d
@@ -121,7 +121,7 @@ moves_turn m n services q events count who d sound led settles =
         by false other = refl
 
 -- the same where at least one is made
-pub burst_made : (m n : Contents) (services : Services) (q : Queue) (budget events count : ℕ) (who : Who) (d : RunCore) →
+pub burst_made : (m n : Kept) (services : Services) (q : Queue) (budget events count : ℕ) (who : Who) (d : RunCore) →
     HasCome q.jobs budget (core_at m services q events) → events + count ≤ budget → MakesMoves who count m true n → 0 < count →
     Settles (house q.jobs) (core_at n services q (events + count)) d →
     IsRun (house q.jobs) (core_at m services q events) (replicate count (record { who = who; pick = None })) d
@@ -130,7 +130,7 @@ burst_made m n services q budget events (suc count) who d come few led some sett
     moves_turn m n services q events count who d (come_sound q.jobs budget (core_at m services q events) come (omega (arith, few))) led settles
 
 -- and where none is made the world is as it was
-pub burst_none : (m n : Contents) (services : Services) (q : Queue) (events count : ℕ) (who : Who) → MakesMoves who count m true n → count ≡ 0 →
+pub burst_none : (m n : Kept) (services : Services) (q : Queue) (events count : ℕ) (who : Who) → MakesMoves who count m true n → count ≡ 0 →
     IsRun (house q.jobs) (core_at m services q events) (replicate count (record { who = who; pick = None })) (core_at n services q events)
 burst_none m n services q events zero who led none =
     subst (λ (w : World). IsRun (house q.jobs) (core_at m services q events) [] (record (core_at m services q events) { world = w })) led Begins

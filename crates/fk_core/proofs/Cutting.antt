@@ -24,13 +24,13 @@ use Rattle.laws_runs.specs.Cores.Settles.{Stays, Ends}
 use Rattle.laws_runs.specs.Onwards.{event_by}
 use Rattle.fk_jobs.specs.Jobs.{Queue}
 use Rattle.fk_jobs.specs.Turns.{core_of}
-use Rattle.fk_served.specs.Served.{Services}
+use Rattle.fk_rounds.specs.Served.{Services}
 use Rattle.fk_core.specs.Cores.{RunCore, house, IsReadyMove, IsTurned, IsTried}
 use Rattle.fk_core.specs.Cuts.{IsEvent, HasDone, KeepsCuts, LeavesStrangers, IsOfStranger}
 use Rattle.fk_core.specs.Goings.{HasCome}
-use Rattle.fk_moment.proofs.Asking.{asked_other}
+use Rattle.fk_rounds.proofs.Asking.{asked_other}
 use Rattle.fk_core.proofs.Going.{job_fits}
-use Rattle.fk_served.proofs.Acts.{fit-asked}
+use Rattle.fk_rounds.proofs.Acts.{fit-asked}
 
 settled-world : (jobs : List Job) (c d : RunCore) → Settles (house jobs) c d → d.world ≡ c.world
 settled-world jobs _ _ (Stays c none) = refl

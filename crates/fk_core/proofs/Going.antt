@@ -22,12 +22,12 @@ use Rattle.laws_runs.specs.Cores.IsRun.{Begins, Goes}
 use Rattle.laws_runs.specs.Cores.Settles.{Stays, Ends}
 use Rattle.fk_jobs.specs.Jobs.{Queue, asked_by, state_of}
 use Rattle.fk_jobs.specs.Turns.{core_of}
-use Rattle.fk_served.specs.Served.{Services, servers}
-use Rattle.fk_served.proofs.Acts.{servers_ask_as_users}
-use Rattle.fk_store.specs.Contents.{Contents}
+use Rattle.fk_rounds.specs.Served.{Services, servers}
+use Rattle.fk_rounds.proofs.Acts.{servers_ask_as_users}
+use Rattle.fk_rounds.specs.Kernels.{Kept}
 use Rattle.fk_core.specs.Cores.{RunCore, house, core_at, is_porter, IsReadyMove, IsTurned, IsTried, IsAdvanced}
 use Rattle.fk_core.specs.Goings.{HasCome}
-use Rattle.fk_moment.proofs.Asking.{asks_for}
+use Rattle.fk_rounds.proofs.Asking.{asks_for}
 
 settled_events : (jobs : List Job) (c d : RunCore) → Settles (house jobs) c d → d.events ≡ c.events
 settled_events jobs _ _ (Stays c none) = refl
@@ -87,7 +87,7 @@ pub come_same : (jobs more : List Job) (budget other : ℕ) (c d : RunCore) → 
 come_same jobs more budget other c d same_jobs same_budget same come =
     subst (λ j. HasCome j other d) (sym same_jobs) (subst (λ b. HasCome jobs b d) (sym same_budget) (subst (HasCome jobs budget) (sym same) come))
 
-pub come_plain : (m n : Contents) (services new : Services) (q r : Queue) (events later budget other : ℕ) → n ≡ m → new ≡ services → r ≡ q →
+pub come_plain : (m n : Kept) (services new : Services) (q r : Queue) (events later budget other : ℕ) → n ≡ m → new ≡ services → r ≡ q →
     later ≡ events → other ≡ budget → HasCome q.jobs budget (core_at m services q events) → HasCome r.jobs other (core_at n new r later)
 come_plain m n services new q r events later budget other kernel list queue count same come =
     subst (λ n. HasCome r.jobs other (core_at n new r later)) (sym kernel)

@@ -48,7 +48,7 @@ use Rattle.laws_runs.proofs.Composing.{Stands, stands, Made_here, made_here}
 use Rattle.laws_runs.proofs.Named.{named_there, caller_there}
 use Rattle.laws_runs.proofs.Turning.{jobs_moves}
 use Rattle.laws_savable.specs.Savable.{IsSound}
-use Rattle.fk_served.specs.Served.{servers}
+use Rattle.fk_rounds.specs.Served.{servers}
 use Rattle.fk_core.specs.Cores.{RunCore, house, IsReadyMove, IsTurned}
 use Rattle.fk_core.specs.Leaves.{LeavesBeside, LeavesTheRest}
 

@@ -11,24 +11,24 @@ use Rattle.fk_model.specs.Endings.{has_ended}
 use Rattle.fk_model.specs.Moves.{Step}
 use Rattle.fk_model.specs.Outcomes.Said.{Nothing}
 use Rattle.fk_model.specs.Who.{named, event_of}
-use Rattle.fk_store.specs.Contents.{Contents}
+use Rattle.fk_rounds.specs.Kernels.{Kept}
 use Rattle.fk_store.specs.Moves.{said_by}
-use Rattle.fk_store.specs.Paths.{path}
-use Rattle.fk_store.specs.World.{world}
+use Rattle.fk_rounds.specs.Kernels.{path_of as path}
+use Rattle.fk_rounds.specs.Kernels.{world_of as world}
 use Rattle.laws_runs.specs.Cores.{Settles}
 use Rattle.laws_runs.specs.Cores.Settles.{Stays}
 use Rattle.fk_jobs.specs.Jobs.{Queue, current}
-use Rattle.fk_moment.specs.Events.{IsReadyEvent, is_who, step_of}
+use Rattle.fk_rounds.specs.Events.{IsReadyEvent, is_who, step_of}
 use Rattle.fk_plans.specs.Hearers.{says_to, says_to_who}
-use Rattle.fk_served.specs.Served.{Services, told}
+use Rattle.fk_rounds.specs.Served.{Services, told}
 use Rattle.fk_core.specs.Cores.{RunCore, house, core_at, porter_of, is_porter, IsAdvanced}
-use Rattle.fk_served.proofs.Acts.{runs}
-use Rattle.fk_moment.proofs.Asking.{asks_other, others_ready}
-use Rattle.fk_served.proofs.Lists.{untold}
+use Rattle.fk_rounds.proofs.Acts.{runs}
+use Rattle.fk_rounds.proofs.Asking.{asks_other, others_ready}
+use Rattle.fk_rounds.proofs.Lists.{untold}
 use Rattle.fk_core.proofs.Turning.{turned}
 
 -- the next stage of a user that tells this, and ends no talk with a native server
-pub spoken : (m n : Contents) (services new : Services) (q : Queue) (budget events : ℕ) (who : Who) (said : says_of.Said) (d : RunCore) →
+pub spoken : (m n : Kept) (services new : Services) (q : Queue) (budget events : ℕ) (who : Who) (said : says_of.Said) (d : RunCore) →
     events < budget → is_porter q who ≡ false →
     IsReadyEvent (world m) (event_of (world m) asks.Run (record { who = who; pick = None }))
     × (step_of (world m) (event_of (world m) asks.Run (record { who = who; pick = None })) ≡ record { world = world n; said = said_by (path n) said }) →
@@ -47,7 +47,7 @@ spoken m n services new q budget events who said d few other made ends tells hea
       count,
     )
 
-pub proceeded : (m n : Contents) (services : Services) (q : Queue) (budget events : ℕ) (who : Who) (d : RunCore) → events < budget → is_porter q who ≡ false →
+pub proceeded : (m n : Kept) (services : Services) (q : Queue) (budget events : ℕ) (who : Who) (d : RunCore) → events < budget → is_porter q who ≡ false →
     IsReadyEvent (world m) (event_of (world m) asks.Run (record { who = who; pick = None }))
     × (step_of (world m) (event_of (world m) asks.Run (record { who = who; pick = None })) ≡ record { world = world n; said = Nothing }) →
     ((port : Who) → has_ended (world m) (world n) (named (world m) port) ≡ false) →

@@ -3,7 +3,7 @@ use Rattle.std.proofs.Common.{◌≡◌, ◌∙◌, ℕ, List, ◌++◌, ◌-◌
 use Rattle.std.proofs.lemmas.List.{replicate-append-replicate}
 use Rattle.fk_model.specs.declared.moves.Said.{Said}
 use Rattle.fk_plans.specs.Hearers.{IsPadded}
-use Rattle.fk_moment.specs.Rooms.{IsRoom}
+use Rattle.fk_rounds.specs.Rooms.{IsRoom}
 
 -- zeros over the first words, and zeros behind them
 pub cleared : (count : ℕ) (words : List ℕ) → count ≤ 64 → drop count words ≡ replicate (64 - count) 0 → replicate count 0 ++ drop count words ≡ replicate 64 0

@@ -9,7 +9,7 @@ use Rattle.laws_runs.specs.Cores.Settles.{Stays, Ends}
 use Rattle.laws_house.specs.Houses.{Job}
 use Rattle.fk_jobs.specs.Jobs.{Queue, with_idle}
 use Rattle.fk_jobs.specs.Turns.{core_of}
-use Rattle.fk_served.specs.Served.{Services}
+use Rattle.fk_rounds.specs.Served.{Services}
 use Rattle.fk_core.specs.Cores.{RunCore, house}
 
 -- what settles from here settles from there

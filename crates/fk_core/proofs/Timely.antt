@@ -6,8 +6,8 @@ use Rattle.laws_house.specs.Houses.{Job, State}
 use Rattle.laws_runs.specs.Cores.{Work, IsOtherReady}
 use Rattle.fk_jobs.specs.Jobs.{Queue, current}
 use Rattle.fk_jobs.specs.Turns.{core_of}
-use Rattle.fk_served.specs.Served.{Services}
-use Rattle.fk_moment.specs.Moments.{house, is_timely, is_timely_by, IsDue}
+use Rattle.fk_rounds.specs.Served.{Services}
+use Rattle.fk_rounds.specs.Moments.{house, is_timely, is_timely_by, IsDue}
 
 pub timely_due : (q : Queue) (w : World) (services : Services) (events : ℕ) → is_timely q events ≡ true → IsDue q.jobs (core_of w services q events)
 timely_due q w services events timely = of (current q) refl timely

@@ -5,9 +5,9 @@ use Rattle.fk_model.specs.World.{World}
 use Rattle.laws_house.specs.Houses.{Job}
 use Rattle.fk_jobs.specs.Jobs.{Queue}
 use Rattle.fk_jobs.specs.Turns.{core_of}
-use Rattle.fk_served.specs.Served.{Services}
+use Rattle.fk_rounds.specs.Served.{Services}
 use Rattle.fk_core.specs.Cores.{RunCore, has_come, is_porter, IsReadyMove, IsFirstDue, IsOver, IsTried, IsAdvanced, IsAdvancedOrOver}
-use Rattle.fk_moment.proofs.Due.{chosen_first}
+use Rattle.fk_rounds.proofs.Due.{chosen_first}
 
 -- a move that is tried is ready as this exactly where it is as that
 pub tried_as : {E : Type 0} (r : Result Bool E) (A B : Type 0) (jobs : List Job) (c : RunCore) (m : Move) (d : RunCore) → (A → B) → (B → A) →

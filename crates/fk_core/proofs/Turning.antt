@@ -11,10 +11,10 @@ use Rattle.fk_model.specs.Moves.{Step}
 use Rattle.fk_model.specs.Places.{Path}
 use Rattle.fk_model.specs.Runs.{after}
 use Rattle.fk_model.specs.Who.{named, event_of}
-use Rattle.fk_store.specs.Contents.{Contents}
+use Rattle.fk_rounds.specs.Kernels.{Kept}
 use Rattle.fk_store.specs.Moves.{said_by}
-use Rattle.fk_store.specs.Paths.{path}
-use Rattle.fk_store.specs.World.{world}
+use Rattle.fk_rounds.specs.Kernels.{path_of as path}
+use Rattle.fk_rounds.specs.Kernels.{world_of as world}
 use Rattle.laws_house.specs.Houses.{End, machine}
 use Rattle.laws_house.specs.Houses.{State as State_of}
 use Rattle.laws_jobs.specs.Machines.{Head, Reply, reply_of, said_of}
@@ -27,16 +27,16 @@ use Rattle.fk_jobs.specs.Jobs.{Queue, current, first_of, state_from, state_of, a
 use Rattle.fk_jobs.specs.Jobs.{hears as jobs_hear}
 use Rattle.fk_jobs.specs.Turns.{core_of}
 use Rattle.fk_jobs.proofs.Turns.{job_moves}
-use Rattle.fk_moment.specs.Events.{step_of, is_who}
+use Rattle.fk_rounds.specs.Events.{step_of, is_who}
 use Rattle.fk_plans.specs.Hearers.{says_to, says_to_who}
-use Rattle.fk_served.specs.Served.{Services, servers, hears_of, told}
+use Rattle.fk_rounds.specs.Served.{Services, servers, hears_of, told}
 use Rattle.fk_core.specs.Cores.{RunCore, house, core_at, reply_to, porter_of, is_porter, IsTurned, IsCalledMove, IsCalledBy}
-use Rattle.fk_served.proofs.Hearing.{goes, hears-alike}
-use Rattle.fk_moment.proofs.Asking.{AsksFor}
-use Rattle.fk_moment.proofs.Asking.{asks_for as job_asks_for}
+use Rattle.fk_rounds.proofs.Hearing.{goes, hears-alike}
+use Rattle.fk_rounds.proofs.Asking.{AsksFor}
+use Rattle.fk_rounds.proofs.Asking.{asks_for as job_asks_for}
 
 -- a move of a user or a server, and then jobs that end without one
-pub turned : (m n : Contents) (services new : Services) (q : Queue) (events : ℕ) (mv : Move) (ask : Ask) (said : says_of.Said) (ended : Option Who)
+pub turned : (m n : Kept) (services new : Services) (q : Queue) (events : ℕ) (mv : Move) (ask : Ask) (said : says_of.Said) (ended : Option Who)
     (d : RunCore) →
     asker (house q.jobs) (core_at m services q events) mv.who ≡ Others ask
     → step_of (world m) (event_of (world m) ask mv) ≡ record { world = world n; said = said_by (path n) said }
@@ -78,7 +78,7 @@ pub hears-jobs : (q : Queue) (events status : ℕ) (words : List ℕ) → (jobs_
 hears-jobs q events status words = hears-jobs-by q events status words (work_of events q.work (first_of q.ends (current q)))
 
 -- a job's move
-pub job-turned : (m n : Contents) (services new : Services) (q r : Queue) (events : ℕ) (mv : Move) (ask : Ask) (said : says_of.Said) (ended : Option Who)
+pub job-turned : (m n : Kept) (services new : Services) (q r : Queue) (events : ℕ) (mv : Move) (ask : Ask) (said : says_of.Said) (ended : Option Who)
     (d : RunCore) →
     AsksFor ask (asker (house q.jobs) (core_at m services q events) mv.who)
     → step_of (world m) (event_of (world m) ask mv) ≡ record { world = world n; said = said_by (path n) said }
@@ -112,7 +112,7 @@ job-turned m n services new q r events mv ask said ended d found made ends tells
     subst (λ c. Settles (house q.jobs) c d) (sym comes) (subst (λ j. Settles (house j) (core_at n new r (events + 1)) d) jobs settles)
 
 -- the same of jobs in which room was made before
-pub hears-same : (m n : Contents) (services new : Services) (q r s : Queue) (events : ℕ) (mv : Move) (ask : Ask) (said : says_of.Said) (ended : Option Who)
+pub hears-same : (m n : Kept) (services new : Services) (q r s : Queue) (events : ℕ) (mv : Move) (ask : Ask) (said : says_of.Said) (ended : Option Who)
     (d : RunCore) →
     r.jobs ≡ q.jobs → r.ends ≡ q.ends → r.work ≡ q.work → is_porter q mv.who ≡ true → asked_by (state_of r) ≡ Some ask
     → IsReadyAt (world m) (event_of (world m) ask mv)

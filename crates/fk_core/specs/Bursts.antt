@@ -1,11 +1,11 @@
 -- Bursts: what a function that makes moves of a thread at once does to a kernel.
 use Rattle.std.specs.Prelude.{◌≡◌, ℕ, Bool, true, false, None}
 use Rattle.fk_model.specs.declared.names.Who.{Who}
-use Rattle.fk_store.specs.Contents.{Contents}
-use Rattle.fk_store.specs.World.{world}
+use Rattle.fk_rounds.specs.Kernels.{Kept}
+use Rattle.fk_rounds.specs.Kernels.{world_of as world}
 use Rattle.laws_turns.specs.Quiet.{LeadRunning}
 
 -- it makes so many ready moves of a thread in running mode, or leaves the kernel as it is
-abbrev pub MakesMoves : Who → ℕ → Contents → Bool → Contents → Type 0
+abbrev pub MakesMoves : Who → ℕ → Kept → Bool → Kept → Type 0
 MakesMoves thread count k true n = LeadRunning (record { who = thread; pick = None }) count (world k) (world n)
 MakesMoves thread count k false n = n ≡ k

@@ -1,2 +1,2 @@
 -- How a run ends, in a core.
-pub use Rattle.fk_moment.specs.Ends.{IsAtRest, IsEnded}
+pub use Rattle.fk_rounds.specs.Ends.{IsAtRest, IsEnded}

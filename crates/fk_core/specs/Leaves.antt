@@ -11,7 +11,7 @@ use Rattle.laws_house.specs.Laws.{IsGrounded}
 use Rattle.laws_restore.specs.Rest.{IsSameFar}
 use Rattle.laws_runs.specs.Cores.{IsRun, asker}
 use Rattle.laws_runs.specs.Cores.Asker.{Job as OfJob}
-use Rattle.fk_served.specs.Served.{servers}
+use Rattle.fk_rounds.specs.Served.{servers}
 use Rattle.fk_core.specs.Cores.{RunCore, house}
 
 -- a checkpoint's move leaves every page, and every object but its nester's scratch and who holds the subtree's root; a restore's leaves

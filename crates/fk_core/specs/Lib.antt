@@ -1,5 +1,6 @@
-pub use Rattle.fk_served.specs.Served
-pub use Rattle.fk_moment.specs.Events
+pub use Rattle.fk_rounds.specs.Served
+pub use Rattle.fk_rounds.specs.Events
+pub use Rattle.fk_rounds.specs.Kernels
 pub mod Cores
 pub mod Goings
 pub mod Ends

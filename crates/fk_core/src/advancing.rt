@@ -1,6 +1,6 @@
 //! Moves that a core makes by itself, one after the other.
 ghost use Rattle.std.specs.Prelude.{◌≡◌, ◌<◌, true, None, IfOk, OnErr, IfSome, IfNone, map};
-ghost use Rattle.fk_served.specs.Served.{AllFit};
+ghost use Rattle.fk_rounds.specs.Served.{AllFit};
 ghost use Rattle.fk_core.specs.Cores.{run_core, is_porter, has_come, IsReadyMove, IsOver, IsAdvanced, IsAdvancedBy, IsAdvancedOrOver, IsFirstDue, is_timely};
 ghost use Rattle.fk_core.specs.Goings.{IsGoing};
 ghost use Rattle.fk_jobs.specs.Jobs.{current};

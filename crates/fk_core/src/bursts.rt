@@ -3,7 +3,7 @@ ghost use Rattle.std.specs.Prelude.{◌≡◌, ◌+◌, ◌≤◌, ◌<◌, Bool
 ghost use Rattle.std.specs.Bool.{OnTrue, OnFalse};
 ghost use Rattle.std.specs.Fn.{FnOnceReturnsAtMut, FnOnceTakesAtMut};
 ghost use Rattle.laws_runs.specs.Cores.{IsRun, Settles};
-ghost use Rattle.fk_store.specs.Contents.{Contents};
+ghost use Rattle.fk_rounds.specs.Kernels.{Kept};
 ghost use Rattle.fk_core.specs.Bursts.{MakesMoves};
 ghost use Rattle.fk_core.specs.Cores.{core_at, house, run_core};
 ghost use Rattle.fk_core.specs.Goings.{HasCome, IsGoing};
@@ -11,8 +11,8 @@ ghost use Rattle.fk_core.specs.Goings.{HasCome, IsGoing};
 use crate::turns::Core;
 use fk_jobs::Worker;
 use fk_model::Who;
-use fk_moment::Kernel;
 use fk_natives::Service;
+use fk_rounds::Kernel;
 
 /// What a function makes of a kernel that makes so many instructions of a thread at once, or leaves it as it is.
 fn let_make<F: FnOnce(&mut Kernel) -> bool>(
@@ -21,8 +21,8 @@ fn let_make<F: FnOnce(&mut Kernel) -> bool>(
     count: u64,
     f: F,
 ) -> bool
-    requires may { (k : Contents) → FnOnceTakesAtMut F.FnOnce f k }
-    requires makes { (k n : Contents) (made : Bool) → FnOnceReturnsAtMut F.FnOnce f k made n → MakesMoves thread count k made n }
+    requires may { (k : Kept) → FnOnceTakesAtMut F.FnOnce f k }
+    requires makes { (k n : Kept) (made : Bool) → FnOnceReturnsAtMut F.FnOnce f k made n → MakesMoves thread count k made n }
     ensures answer { FnOnceReturnsAtMut F.FnOnce f kernel.old result kernel.new }
     ensures makes { MakesMoves thread count kernel.old result kernel.new }
 {
@@ -54,7 +54,7 @@ impl<S: Service + Drop, W: Worker + Drop> Core<S, W> {
     fn goes_so(&mut self, thread: Who, count: u64) -> bool
         requires few { self.old.events + count ≤ self.old.budget }
         ensures so { result ≡ true }
-        ensures turns { (m : Contents) → HasCome self.old.jobs.jobs self.old.budget (core_at m self.old.services.list self.old.jobs self.old.events)
+        ensures turns { (m : Kept) → HasCome self.old.jobs.jobs self.old.budget (core_at m self.old.services.list self.old.jobs self.old.events)
             → MakesMoves thread count m true self.old.kernel
             → IsRun (house self.old.jobs.jobs) (core_at m self.old.services.list self.old.jobs self.old.events)
             (replicate count (record { who = thread; pick = None })) (run_core self.new) }
@@ -75,9 +75,9 @@ impl<S: Service + Drop, W: Worker + Drop> Core<S, W> {
     pub fn burst<F: FnOnce(&mut Kernel) -> bool>(&mut self, thread: Who, count: u64, f: F) -> bool
         requires few { self.old.events + count ≤ self.old.budget }
         requires come { IsGoing self.old }
-        requires may { (k : Contents) → FnOnceTakesAtMut F.FnOnce f k }
-        requires makes { (k n : Contents) (made : Bool) → FnOnceReturnsAtMut F.FnOnce f k made n → MakesMoves thread count k made n }
-        ensures answer { (n : Contents) × FnOnceReturnsAtMut F.FnOnce f self.old.kernel result n }
+        requires may { (k : Kept) → FnOnceTakesAtMut F.FnOnce f k }
+        requires makes { (k n : Kept) (made : Bool) → FnOnceReturnsAtMut F.FnOnce f k made n → MakesMoves thread count k made n }
+        ensures answer { (n : Kept) × FnOnceReturnsAtMut F.FnOnce f self.old.kernel result n }
         ensures turns { OnTrue result (IsRun (house self.old.jobs.jobs) (run_core self.old)
             (replicate count (record { who = thread; pick = None })) (run_core self.new)) }
         ensures same { OnFalse result (run_core self.new ≡ run_core self.old) }

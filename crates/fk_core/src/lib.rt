@@ -20,5 +20,5 @@ mod room;
 mod settling;
 mod turns;
 
-pub use fk_moment::Kernel;
+pub use fk_rounds::Kernel;
 pub use turns::Core;

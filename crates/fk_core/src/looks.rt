@@ -4,18 +4,18 @@ ghost use Rattle.laws_runs.specs.Cores as runs;
 ghost use Rattle.laws_runs.specs.Cores.{EndsNow};
 ghost use Rattle.laws_whole.specs.Runnable.{has_all_words};
 ghost use Rattle.fk_jobs.specs.Jobs.{current, unmoved_of};
-ghost use Rattle.fk_moment.specs.Moments.{seen};
-ghost use Rattle.fk_served.specs.Served.{asked};
+ghost use Rattle.fk_rounds.specs.Moments.{seen, AreUsersIdle};
+ghost use Rattle.fk_rounds.specs.Served.{asked};
 ghost use Rattle.fk_core.specs.Cores.{house, run_core, porter_of, is_porter, has_come, IsReadyMove, IsAnyMove, IsDue, IsFirstDue, IsOver};
 ghost use Rattle.fk_core.specs.Ends.{IsEnded};
-ghost use Rattle.fk_store.specs.World.{world};
+ghost use Rattle.fk_rounds.specs.Kernels.{world_of as world};
 
 use crate::turns::Core;
 use fk_jobs::{Unmoved, Worker};
 use fk_model::{Ask, Move, Who};
-use fk_moment::Moment;
 use fk_natives::Service;
 use fk_report::End;
+use fk_rounds::Moment;
 
 impl<S: Service + Drop, W: Worker + Drop> Core<S, W> {
     /// What there is to look at.
@@ -115,17 +115,20 @@ impl<S: Service + Drop, W: Worker + Drop> Core<S, W> {
         self.last
     }
 
-    /// A thread that is ready, after another or after that which moved last. It is a hint: nothing is said of it.
+    /// The first thread of those that may be ready, or the one behind another. It is a hint: nothing is said of it.
     pub fn next_thread(&self, after: Option<Who>) -> Option<Who> {
-        let after = match after {
-            Some(who) => Some(who),
-            None => self.last,
-        };
-        Some(self.kernel.next_besides(after, self.porter())?.who)
+        match after {
+            Some(who) => self.kernel.waits().behind(who),
+            None => self.kernel.waits().next(),
+        }
     }
 
-    /// A move that is ready. There is none exactly where none is ready or the budget is used. At an even number of moves the job whose turn
-    /// it is goes first, where it is due and ready; and nobody who is ready waits for ever behind others.
+    /// A move that is ready. There is none exactly where none is ready or the budget is used.
+    ///
+    /// At an even number of moves the job whose turn it is goes first, where it is due and ready. Else the thread that
+    /// moved last goes on where it is ready, or else the server that heard of its move answers, but at one move of 64. Then, and where
+    /// neither is ready, the look goes round: in every second round of 64 moves one server is looked at first, each in its turn, and then
+    /// the thread moves that is first of the ready. So nobody who is ready waits for ever behind others.
     pub fn choose(&mut self) -> Option<Move>
         ensures ready { IfSome result (λ m. (self.old.events < self.old.budget) × IsReadyMove self.old.jobs.jobs (run_core self.old) m) }
         ensures none { IfNone result (IsOver self.old.jobs.jobs self.old.budget (run_core self.old)) }
@@ -134,18 +137,44 @@ impl<S: Service + Drop, W: Worker + Drop> Core<S, W> {
         ensures budget { self.new.budget ≡ self.old.budget }
         ensures jobs { self.new.jobs.jobs ≡ self.old.jobs.jobs }
     {
-        let moment = Moment::of(
-            &self.kernel,
-            &self.services,
-            &self.jobs,
-            self.budget,
-            self.events,
-            self.last,
-        );
-        self.rounds.choose(&moment)
+        match self.job_first() {
+            Some(m) => Some(m),
+            None => self.choose_other(),
+        }
     }
 
-    /// The same of whoever comes next, after the thread that moved last.
+    /// The move of the job whose turn it is, at an even number of moves, where its time has come.
+    fn job_first(&self) -> Option<Move>
+        ensures ready { IfSome result (λ m. (self.now.events < self.now.budget) × IsReadyMove self.now.jobs.jobs (run_core self.now) m) }
+        ensures porter { IfSome result (λ m. is_porter self.now.jobs m.who ≡ true) }
+        ensures none { IfNone result (has_come self.now.jobs self.now.budget self.now.events ≡ true
+            → (m : _) → is_porter self.now.jobs m.who ≡ true → IsReadyMove self.now.jobs.jobs (run_core self.now) m → ⊥) }
+    {
+        self.moment().job_first()
+    }
+
+    /// A ready move of whoever has moved last, or comes next.
+    fn choose_other(&mut self) -> Option<Move>
+        ensures ready { IfSome result (λ m. (self.old.events < self.old.budget) × IsReadyMove self.old.jobs.jobs (run_core self.old) m) }
+        ensures none { IfNone result (IsOver self.old.jobs.jobs self.old.budget (run_core self.old)) }
+        ensures same { run_core self.new ≡ run_core self.old }
+        ensures budget { self.new.budget ≡ self.old.budget }
+        ensures jobs { self.new.jobs.jobs ≡ self.old.jobs.jobs }
+    {
+        match self.again() {
+            Some(m) => Some(m),
+            None => self.choose_next(),
+        }
+    }
+
+    /// The move of the thread that moved last, where that is ready and picks nobody.
+    fn again(&self) -> Option<Move>
+        ensures { IfSome result (λ m. (self.now.events < self.now.budget) × IsReadyMove self.now.jobs.jobs (run_core self.now) m) }
+    {
+        self.rounds.again(&self.moment())
+    }
+
+    /// A move that is ready, of whoever comes next. There is none exactly where none is ready or the budget is used.
     pub(crate) fn choose_next(&mut self) -> Option<Move>
         ensures ready { IfSome result (λ m. (self.old.events < self.old.budget) × IsReadyMove self.old.jobs.jobs (run_core self.old) m) }
         ensures none { IfNone result (IsOver self.old.jobs.jobs self.old.budget (run_core self.old)) }
@@ -153,6 +182,20 @@ impl<S: Service + Drop, W: Worker + Drop> Core<S, W> {
         ensures budget { self.new.budget ≡ self.old.budget }
         ensures jobs { self.new.jobs.jobs ≡ self.old.jobs.jobs }
     {
+        match self.choose_act() {
+            Some(m) => Some(m),
+            None => self.choose_later(),
+        }
+    }
+
+    /// A ready act of a server that comes before the threads.
+    fn choose_act(&mut self) -> Option<Move>
+        ensures ready { IfSome result (λ m. (self.old.events < self.old.budget) × IsReadyMove self.old.jobs.jobs (run_core self.old) m) }
+        ensures same { run_core self.new ≡ run_core self.old }
+        ensures queue { self.new.jobs ≡ self.old.jobs }
+        ensures budget { self.new.budget ≡ self.old.budget }
+        ensures events { self.new.events ≡ self.old.events }
+    {
         let moment = Moment::of(
             &self.kernel,
             &self.services,
@@ -161,32 +204,82 @@ impl<S: Service + Drop, W: Worker + Drop> Core<S, W> {
             self.events,
             self.last,
         );
-        self.rounds.choose_next(&moment)
+        self.rounds.choose_act(&moment)
     }
 
-    /// Whether nobody is left to be looked at before the job's next move: all names were, and there is no server.
-    fn is_quiet(&self) -> bool {
-        self.rounds.is_closed() && self.services.len() == 0
+    /// A ready move of a thread, or else of a server, or else of the due job.
+    fn choose_later(&mut self) -> Option<Move>
+        ensures ready { IfSome result (λ m. (self.old.events < self.old.budget) × IsReadyMove self.old.jobs.jobs (run_core self.old) m) }
+        ensures none { IfNone result (IsOver self.old.jobs.jobs self.old.budget (run_core self.old)) }
+        ensures same { run_core self.new ≡ run_core self.old }
+        ensures budget { self.new.budget ≡ self.old.budget }
+        ensures jobs { self.new.jobs.jobs ≡ self.old.jobs.jobs }
+    {
+        if self.events >= self.budget {
+            return None;
+        }
+        match self.next_user() {
+            Some(m) => Some(m),
+            None => self.choose_besides(),
+        }
     }
 
-    /// While the time has come of the job whose turn it is, a ready move of one of some few who go before it.
+    /// The move of the first of the ready threads that can move, unless it stands by the name of the porter whose job's turn it is.
+    fn next_user(&mut self) -> Option<Move>
+        ensures ready { IfSome result (λ m. IsReadyMove self.old.jobs.jobs (run_core self.old) m) }
+        ensures none { IfNone result (AreUsersIdle self.old.jobs (world self.old.kernel)) }
+        ensures same { run_core self.new ≡ run_core self.old }
+        ensures queue { self.new.jobs ≡ self.old.jobs }
+        ensures budget { self.new.budget ≡ self.old.budget }
+        ensures events { self.new.events ≡ self.old.events }
+    {
+        let porter = self.porter();
+        self.kernel.next_besides(porter)
+    }
+
+    /// A ready act of a server, or else the due job's move, where no thread's is ready.
+    fn choose_besides(&self) -> Option<Move>
+        requires idle { AreUsersIdle self.now.jobs (world self.now.kernel) }
+        ensures ready { IfSome result (λ m. IsReadyMove self.now.jobs.jobs (run_core self.now) m) }
+        ensures none { IfNone result (IsAnyMove self.now.jobs.jobs (run_core self.now) → ⊥) }
+    {
+        self.moment().find_besides()
+    }
+
+    /// While the time has come of the job whose turn it is, a ready move of those who go before it: of a server, or of a thread, or of one of some few
+    /// servers.
     pub(crate) fn choose_few(&mut self) -> Option<Move>
         ensures ready { IfSome result (λ m. (self.old.events < self.old.budget) × IsReadyMove self.old.jobs.jobs (run_core self.old) m) }
         ensures same { run_core self.new ≡ run_core self.old }
         ensures budget { self.new.budget ≡ self.old.budget }
         ensures jobs { self.new.jobs.jobs ≡ self.old.jobs.jobs }
     {
-        if self.is_quiet() {
+        if self.events >= self.budget || !self.moment().is_timely() {
             return None;
         }
-        let moment = Moment::of(
-            &self.kernel,
-            &self.services,
-            &self.jobs,
-            self.budget,
-            self.events,
-            self.last,
-        );
-        self.rounds.choose_few(&moment)
+        match self.choose_act() {
+            Some(m) => Some(m),
+            None => self.choose_among(),
+        }
+    }
+
+    /// The same of a thread, or of one of some few servers.
+    fn choose_among(&mut self) -> Option<Move>
+        ensures ready { IfSome result (λ m. IsReadyMove self.old.jobs.jobs (run_core self.old) m) }
+        ensures same { run_core self.new ≡ run_core self.old }
+        ensures budget { self.new.budget ≡ self.old.budget }
+        ensures jobs { self.new.jobs.jobs ≡ self.old.jobs.jobs }
+    {
+        match self.next_user() {
+            Some(m) => Some(m),
+            None => self.few_acts(),
+        }
+    }
+
+    /// A ready act of one of some few servers.
+    fn few_acts(&self) -> Option<Move>
+        ensures { IfSome result (λ m. IsReadyMove self.now.jobs.jobs (run_core self.now) m) }
+    {
+        self.rounds.choose_few(&self.moment())
     }
 }

@@ -6,15 +6,15 @@ ghost use Rattle.fk_model.specs.Endings.{has_ended};
 ghost use Rattle.fk_model.specs.Who.{event_of, named};
 ghost use Rattle.fk_store.specs.Moves.{said_by};
 ghost use Rattle.fk_plans.specs.Hearers.{says_to, says_to_who, IsPadded};
-ghost use Rattle.fk_moment.specs.Rooms.{IsRoom};
-ghost use Rattle.fk_moment.specs.Tried.{tried_of};
-ghost use Rattle.fk_moment.specs.Kernels.{path_of, world_of};
-ghost use Rattle.fk_moment.specs.Events.{is_fit_event, is_who, IsReadyEvent, step_of};
+ghost use Rattle.fk_rounds.specs.Rooms.{IsRoom};
+ghost use Rattle.fk_rounds.specs.Tried.{tried_of};
+ghost use Rattle.fk_rounds.specs.Kernels.{path_of, world_of};
+ghost use Rattle.fk_rounds.specs.Events.{is_fit_event, is_who, IsReadyEvent, step_of};
 ghost use Rattle.fk_core.specs.Rooms.{is_made};
 
 use crate::given::Given;
 use fk_model::{Answer, Move, NoMemory, Said, Stage, Who};
-use fk_moment::{Kernel, Told};
+use fk_rounds::{Kernel, Told};
 use std::marker::Model;
 
 /// Room for what a porter's call tells. What the call before told is cleared by its length, which is mostly short.
@@ -25,7 +25,7 @@ pub(crate) struct Room {
 
 impl Model for Room {
     ghost use Rattle.fk_plans.specs.Hearers.{IsPadded};
-    ghost use Rattle.fk_moment.specs.Tolds as tolds;
+    ghost use Rattle.fk_rounds.specs.Tolds as tolds;
 
     ghost Value = { tolds.Told };
 

@@ -2,23 +2,21 @@
 ghost use Rattle.fk_model.specs.declared.moves.Rule.{Rule};
 ghost use Rattle.std.specs.Prelude.{◌≡◌, ◌↔◌, List, [], ◌+◌, ◌<◌, Some, true, false, IsTrue, OnOk, OnErr, map};
 ghost use Rattle.std.specs.Bool.{OnTrue, OnFalse};
-ghost use Rattle.fk_served.specs.Served.{AllFit, shown};
+ghost use Rattle.fk_rounds.specs.Served.{AllFit, shown};
 ghost use Rattle.fk_core.specs.Cores.{run_core, is_porter, reply_to, IsReadyMove, IsAskedMove, IsCalledMove, IsTurned, IsTried, IsAdvanced, is_timely};
 ghost use Rattle.fk_core.specs.Cuts.{KeepsCuts, LeavesStrangers};
 ghost use Rattle.fk_core.specs.Goings.{IsGoing};
 ghost use Rattle.fk_core.specs.Leaves.{LeavesTheRest};
-ghost use Rattle.fk_store.specs.World.{world};
+ghost use Rattle.fk_rounds.specs.Kernels.{world_of as world};
 ghost use Rattle.fk_jobs.specs.Jobs.{hears};
 
 use crate::given::Given;
 use crate::room::Room;
 use fk_jobs::{Jobs, Worker};
 use fk_model::{Answer, Ask, Move, NoMemory, Reply, Said, Who};
-use fk_moment::Kernel;
 use fk_natives::Service;
 use fk_responders::Table;
-use fk_rounds::{Rounds, is_look};
-use fk_served::Services;
+use fk_rounds::{Kernel, Rounds, Services};
 
 /// A kernel with its native servers and its jobs, and how many moves it has made of how many.
 #[derive(Drop)]
@@ -388,7 +386,7 @@ impl<S: Service + Drop, W: Worker + Drop> Core<S, W> {
         self.services.hear(table, told);
         tell_jobs(&mut self.jobs, self.events, &told.said);
         self.events += 1;
-        self.rounds.hear_call(hearer(&told.said), is_look(&stage));
+        self.rounds.hear(hearer(&told.said));
         self.settle();
         Ok(true)
     }

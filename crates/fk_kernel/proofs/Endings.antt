@@ -1,5 +1,6 @@
 -- Endings: which native server has lost its client, by its port's name.
-use Rattle.std.proofs.Common.{◌≡◌, ◌≤◌, Bool, true, false, ◌&&◌, is_some, is_none, Option, Some, None, Result, Ok, Err, IfOk, IfSome, IsSome, option_map, List, ℕ, refl, sym, ap, subst, ◌∙◌}
+use Rattle.std.proofs.Common.{◌≡◌, ◌≤◌, Bool, true, false, ◌&&◌, is_some, is_none, Option, Some, None, Result, Ok, Err, IfOk, IfSome, IsSome}
+use Rattle.std.proofs.Common.{option_map, List, ℕ, refl, sym, ap, subst, ◌∙◌}
 use Rattle.std.specs.Bool.{OnTrue}
 use Rattle.fk_model.specs.declared.moves.Ask.{Ask}
 use Rattle.fk_model.specs.declared.moves.Ask.TheVariants as asks
@@ -22,10 +23,10 @@ use Rattle.fk_store.specs.World.{world}
 use Rattle.fk_plans.specs.Hearers.{says_to, says_to_who}
 use Rattle.fk_endings.specs.Clients.{HasClient, LosesClient}
 use Rattle.fk_endings.proofs.Changes.{client-found, found-client}
-use Rattle.fk_calls.specs.declared.moves.Told.{Told}
-use Rattle.fk_calls.specs.declared.sayings.Sent.{Sent}
-use Rattle.fk_calls.specs.Judgements.{IsEnded, IsHeardBy, IsReadyMove, IsStepTo}
-use Rattle.fk_calls.specs.Sayings.{told_by}
+use Rattle.fk_steps.specs.Tellings.{Told}
+use Rattle.fk_steps.specs.Tellings.{Sent}
+use Rattle.fk_steps.specs.Judgements.{IsEnded, IsHeardBy, IsReadyMove, IsStepTo}
+use Rattle.fk_steps.specs.Sayings.{told_by}
 use Rattle.fk_kernel.specs.Events.{is_who, step_of, IsReadyEvent}
 
 module _ (m n : Contents) (valid : IsValid (world m)) (few : (world m).next ≤ depth) (kept : IsValid (world n)) (low : (world n).next ≤ depth) where

@@ -1,57 +1,46 @@
--- Kept: a fit step keeps a world valid.
-use Rattle.std.proofs.Common.{◌≡◌, ◌≤◌, ℕ, List, Bool, true, false, refl, Option, Some, None, Result, Ok, Err, IfOk, IfSome, IfNone, OnErr, ap, subst}
+-- Kept: a move that isn't made leaves a kernel as it was.
+use Rattle.std.proofs.Common.{◌≡◌, Bool, true, false, Option, Some, None, Result, Ok, Err, IfOk, IfSome, IfNone, OnErr, IsSome, refl, subst}
 use Rattle.std.specs.Bool.{OnTrue, OnFalse}
 use Rattle.fk_model.specs.declared.moves.Ask.{Ask}
-use Rattle.fk_model.specs.declared.moves.Ask.TheVariants as asks
 use Rattle.fk_model.specs.declared.moves.Move.{Move}
-use Rattle.fk_model.specs.declared.moves.Said.{Said}
-use Rattle.fk_model.specs.Moves.{Step}
-use Rattle.fk_model.specs.Searches.{depth}
-use Rattle.fk_model.specs.Valid.{IsValid, is_fit}
-use Rattle.laws_machine.proofs.validity.Steps.{step_keeps_valid_lem}
+use Rattle.fk_model.specs.Who.{event_of, space_born}
 use Rattle.fk_store.specs.Contents.{Contents}
-use Rattle.fk_store.specs.Moves.{picked_by}
-use Rattle.fk_store.specs.Paths.{path, place}
+use Rattle.fk_store.specs.Paths.{path}
 use Rattle.fk_store.specs.World.{world}
-use Rattle.fk_calls.specs.declared.moves.Told.{Told}
-use Rattle.fk_calls.specs.declared.sayings.Sent.{Sent}
-use Rattle.fk_calls.specs.Judgements.{is_fit_move, IsStepTo}
-use Rattle.fk_calls.specs.Sayings.{told_by}
+use Rattle.fk_steps.specs.Tellings.{Told}
+use Rattle.fk_steps.specs.Judgements.{IsReadyMove}
+use Rattle.fk_steps.specs.Tried.{IsUnready}
+use Rattle.fk_steps.specs.Steps.{was_made}
+use Rattle.fk_steps.specs.Waiting.{Standing}
+use Rattle.fk_kernel.specs.Events.{IsReadyEvent}
+use Rattle.fk_kernel.specs.Kernels.{Kept}
 
--- to run is fit
-run-fit : (m : Contents) (move : Move) → is_fit_move m move asks.Run ≡ true
-unfolding is_fit
-run-fit m move = refl
+abbrev pub kept_of : Contents → Standing → Kept
+kept_of m s = record { store = m; standing = s }
 
-module _ (m n : Contents) (move : Move) (ask : Ask) (valid : IsValid (world m)) (few : (world m).next ≤ depth) (fit : is_fit_move m move ask ≡ true) where
-  kept-made : (said : Said) → IsStepTo m move ask n said → IsValid (world n)
-  kept-made said is = subst IsValid (ap (λ (s : Step). s.world) is)
-      (step_keeps_valid_lem (world m) (place (path m) move.who) (picked_by (path m) move.pick) ask valid few fit)
+module _ (m n : Contents) (s t : Standing) where
+  same-both : n ≡ m → t ≡ s → kept_of n t ≡ kept_of m s
+  same-both store standing = λ i. record { store = store i; standing = standing i }
 
-  kept-same : n ≡ m → IsValid (world n)
-  kept-same same = rw same valid
+  pub same-err : {A E : Type 0} (r : Result A E) → OnErr r (n ≡ m) → OnErr r (t ≡ s) → OnErr r (kept_of n t ≡ kept_of m s)
+  same-err (Ok a) lacking still = tt
+  same-err (Err e) lacking still = same-both lacking still
 
-  -- a step leaves a valid world
-  pub kept-step : {E : Type 0} (r : Result Said E) → IfOk r (λ said. IsStepTo m move ask n said) → OnErr r (n ≡ m) → IsValid (world n)
-  kept-step (Ok said) is same = kept-made said is
-  kept-step (Err e) is same = kept-same same
+  pub same-lacking : {E : Type 0} (r : Result (Option Told) E) → OnErr r (n ≡ m) → OnFalse (was_made r) (t ≡ s) → OnErr r (kept_of n t ≡ kept_of m s)
+  same-lacking (Ok tried) lacking still = tt
+  same-lacking (Err e) lacking still = same-both lacking still
 
-  -- and a move that is tried
-  pub kept-tried : {E : Type 0} (R N : Type 0) (r : Result (Option Told) E) →
-      IfOk r (λ tried. IfSome tried (λ told. R × IsStepTo m move ask n told.said)) →
-      IfOk r (λ tried. IfNone tried (N × (n ≡ m))) → OnErr r (R × (n ≡ m)) → IsValid (world n)
-  kept-tried R N (Ok None) made same lacking = kept-same same.1
-  kept-tried R N (Ok (Some told)) made same lacking = kept-made told.said made.1
-  kept-tried R N (Err e) made same lacking = kept-same lacking.1
+  pub same-unready : {E : Type 0} (move : Move) (ask : Ask) → path m ≡ space_born (world m) → (r : Result (Option Told) E) →
+      IfOk r (IsUnready m move ask n) → OnFalse (was_made r) (t ≡ s) →
+      IfOk r (λ tried. IfNone tried ((IsReadyEvent (world m) (event_of (world m) ask move) → ⊥) × (kept_of n t ≡ kept_of m s)))
+  same-unready move ask born (Ok (Some told)) unready still = tt
+  same-unready move ask born (Ok None) unready still = ((λ ready. unready.0 (rw born ready)), same-both unready.1 still)
+  same-unready move ask born (Err e) unready still = unready
 
--- an instruction that is proceeded with
-pub kept-proceeded : (m n : Contents) (move : Move) (R : Type 0) (said : Said) → IsValid (world m) → (world m).next ≤ depth → (b : Bool) →
-    OnTrue b (R × IsStepTo m move asks.Run n said) → OnFalse b (n ≡ m) → IsValid (world n)
-kept-proceeded m n move R said valid few true made same = kept-made m n move asks.Run valid few (run-fit m move) said made.1
-kept-proceeded m n move R said valid few false made same = kept-same m n move asks.Run valid few (run-fit m move) same
+  pub same-false : (b : Bool) → OnFalse b (n ≡ m) → OnFalse b (t ≡ s) → OnFalse b (kept_of n t ≡ kept_of m s)
+  same-false true same still = tt
+  same-false false same still = same-both same still
 
--- words for a native server
-pub kept-said : (m n : Contents) (move : Move) (words : List ℕ) (R : Type 0) → IsValid (world m) → (world m).next ≤ depth → (o : Option Sent) →
-    IfSome o (λ sent. R × IsStepTo m move asks.Run n (told_by sent words)) → IfNone o (n ≡ m) → IsValid (world n)
-kept-said m n move words R valid few (Some sent) made same = kept-made m n move asks.Run valid few (run-fit m move) (told_by sent words) made.1
-kept-said m n move words R valid few None made same = kept-same m n move asks.Run valid few (run-fit m move) same
+  pub same-none : {A : Type 0} (o : Option A) → IfNone o (n ≡ m) → IfNone o (t ≡ s) → IfNone o (kept_of n t ≡ kept_of m s)
+  same-none (Some a) same still = tt
+  same-none None same still = same-both same still

@@ -3,3 +3,4 @@ mod Kept
 mod Endings
 mod Replacing
 pub mod Promises
+mod Rewrote

@@ -11,8 +11,8 @@ use Rattle.fk_store.specs.Contents.{Contents}
 use Rattle.fk_store.specs.Moves.{picked_by, said_by}
 use Rattle.fk_store.specs.Paths.{path, place}
 use Rattle.fk_store.specs.World.{world}
-use Rattle.fk_calls.specs.declared.moves.Told.{Told}
-use Rattle.fk_calls.specs.Judgements.{is_fit_move, IsReadyMove, IsStepTo}
+use Rattle.fk_steps.specs.Tellings.{Told}
+use Rattle.fk_steps.specs.Judgements.{is_fit_move, IsReadyMove, IsStepTo}
 use Rattle.laws_prompt.specs.Events.{IsPrompt, IsCorrect}
 use Rattle.laws_prompt.proofs.Events.{prompt_is_ready, correct_step}
 use Rattle.fk_kernel.specs.Events.{is_fit_event}

@@ -13,25 +13,18 @@ use Rattle.fk_model.specs.Searches.{thread_at}
 use Rattle.fk_store.specs.Contents.{Contents}
 use Rattle.fk_store.specs.Paths.{path}
 use Rattle.fk_store.specs.World.{world, place_of, IsLive}
-use Rattle.fk_picks.specs.Stands.{IsPicked}
-use Rattle.fk_picks.proofs.Scans.{IsAhead, rootless, thread_there}
+use Rattle.fk_steps.proofs.Ahead.{IsAhead, rootless, thread_there}
 use Rattle.std.specs.Ordering.{is_le, is_lt, ordering_reverse}
 use Rattle.fk_store_leads.proofs.NameLaws.{who_total}
 use Rattle.std.specs.declared.cmp.Ordering.{Ordering}
 use Rattle.std.specs.declared.cmp.Ordering.TheVariants.{Less, Equal, Greater}
-use Rattle.fk_picks.specs.declared.moves.Picker.TheVariants.{User}
 use Rattle.fk_store.specs.Names.{who_cmp}
 use Rattle.fk_store.specs.Orders.{comes_after, IsFirstAfter}
-use Rattle.fk_kernel.specs.Events.{is_past, is_who, AreNamed, IsIdleBetween, IsIdleUpTo, IsMoveReady, IsReadyBesides}
+use Rattle.fk_kernel.specs.Events.{is_past, is_who, AreNamed, IsAnyReady, IsIdleBetween, IsIdleUpTo, IsMoveReady, IsReadyBesides}
 
 -- a user is ready
 abbrev pub IsUp : Contents → Who → Type 0
 IsUp m other = IsMoveReady (world m) (place_of m other)
-
--- it isn't, where it is neither with a pick nor without
-pub no_move : (m : Contents) (me : Who) → (IsReady (world m) (place_of m me) None asks.Run → ⊥) → ((q : Path) → IsPicked m (User me) q → ⊥) → IsUp m me → ⊥
-no_move m me alone picked (None, ready) = alone ready
-no_move m me alone picked (Some q, ready) = picked q ready
 
 -- ---- the order of names
 
@@ -83,7 +76,8 @@ nobody_besides m besides born none move ready = by (thread_at (world m) (named (
     there = ap (λ (p : ℕ → Path). move.who.slot ∷ p move.who.space) born
 
     by : (o : Option Thread) → thread_at (world m) (named (world m) move.who) ≡ o → ⊥
-    by None e = let waits = no_thread (world m) (named (world m) move.who) (option_map (named (world m)) move.pick) e in let moves = ready.1 in rw waits at moves
+    by None e = let waits = no_thread (world m) (named (world m) move.who) (option_map (named (world m)) move.pick) e in let moves = ready.1 in
+        rw waits at moves
     by (Some t) e =
         let some = thread_there (world m) (named (world m) move.who) t e in
         none move.who (rw there some) ready.0 (option_map (named (world m)) move.pick, rw there ready.1)
@@ -101,7 +95,8 @@ all_ahead m after last besides None first = λ other live is. first other live i
 all_ahead m after last besides (Some who) first = λ other live is. first.2 other live is.0
 
 -- past the last of them there is none
-pub none_past : (m : Contents) (after last besides : Option Who) (who : Who) → IsAhead m (IsUpBetween m after last besides) (Some who) → is_past who last ≡ true →
+pub none_past : (m : Contents) (after last besides : Option Who) (who : Who) → IsAhead m (IsUpBetween m after last besides) (Some who) →
+    is_past who last ≡ true →
     IsIdleBetween m after last besides
 none_past m after None besides who ahead past other live comes within is up = absurd (cc)
 none_past m after (Some last) besides who ahead past other live comes within is up =
@@ -110,14 +105,6 @@ none_past m after (Some last) besides who ahead past other live comes within is 
 
 pub idle_between : (m : Contents) (after last besides : Option Who) → IsAhead m (IsUpBetween m after last besides) None → IsIdleBetween m after last besides
 idle_between m after last besides ahead other live comes within is up = ahead other live (comes, within, is, up)
-
--- a user that is looked at and isn't ready is passed, where the one that follows is known
-pub idle_passed : (m : Contents) (after besides : Option Who) (who : Who) (next : Option Who) → IsAhead m (IsUpBetween m after None besides) next →
-    IsFirstAfter who_cmp (IsLive m) (Some who) next → IsIdleBetween m after (Some who) besides
-idle_passed m after besides who None ahead first other live comes within is up = ahead other live (comes, refl, is, up)
-idle_passed m after besides who (Some next) ahead first other live comes within is up =
-    let later : IsTrue (is_lt (who_cmp who other)) = lt_le who next other first.1 (ahead other live (comes, refl, is, up)) in
-    absurd (cc)
 
 -- nobody after an object, nor up to it
 pub idle_around : (m : Contents) (last besides : Option Who) → IsIdleBetween m last None besides → IsIdleUpTo m last besides →
@@ -134,3 +121,7 @@ pub moves_besides : (besides : Option Who) (who : Who) (o : Option Move) → is_
     → IfSome o (λ m. is_who besides m.who ≡ false)
 moves_besides besides who None is same = tt
 moves_besides besides who (Some m) is same = rw same is
+
+-- nobody else is ready, where nobody is
+pub none_besides : (w : World) (besides : Option Who) → (IsAnyReady w → ⊥) → (m : Move) → IsReadyBesides w besides m → ⊥
+none_besides w besides none m ready = none (named w m.who, option_map (named w) m.pick, ready.1)

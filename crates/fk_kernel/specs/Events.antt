@@ -10,13 +10,11 @@ use Rattle.fk_model.specs.Runs.{Event}
 use Rattle.fk_model.specs.Valid.{is_fit, kind_there}
 use Rattle.fk_model.specs.Who.{event_of}
 use Rattle.fk_model.specs.World.{World}
-use Rattle.fk_calls.specs.Rows.{may_want_memory}
+use Rattle.fk_steps.specs.Rows.{may_want_memory}
 use Rattle.fk_store.specs.Contents.{Contents}
 use Rattle.fk_store.specs.Names.{same_who, who_cmp}
 use Rattle.fk_store.specs.Orders.{comes_after}
 use Rattle.fk_store.specs.World.{world, place_of, IsLive}
-use Rattle.fk_kernel.specs.declared.kernel.Look.{Look}
-use Rattle.fk_kernel.specs.declared.kernel.Look.TheVariants.{Found, Passed, Nobody}
 
 -- an event is ready in the machine
 abbrev pub IsReadyEvent : World → Event → Type 0
@@ -71,12 +69,6 @@ IsIdleBetween m after last besides = (other : Who) → IsLive m other → IsTrue
 abbrev pub IsIdleUpTo : Contents → Option Who → Option Who → Type 0
 IsIdleUpTo m None besides = ⊤
 IsIdleUpTo m (Some last) besides = IsIdleBetween m None (Some last) besides
-
--- what a look after an object finds: a move that is ready but of one, or how far nobody is
-abbrev pub IsLooked : Contents → Option Who → Option Who → Look → Type 0
-IsLooked m after besides (Found move) = IsReadyBesides (world m) besides move
-IsLooked m after besides (Passed last) = IsIdleBetween m after (Some last) besides
-IsLooked m after besides Nobody = IsIdleBetween m after None besides
 
 -- every object has a name
 abbrev pub AreNamed : Contents → Type 0

@@ -1,6 +1,6 @@
 //! The kernel. Its contracts speak of paths and those of the store of names, so each call begins with the store's
 //! `names`: it does nothing, and tells that the two agree, which a store keeps and only a call of it can say.
-ghost use Rattle.std.specs.Prelude.{◌≡◌, ◌≤◌, ◌↔◌, true, false, IsTrue, IsOk, IfOk, IfSome, IfNone, IsSome, OnErr, None, Some};
+ghost use Rattle.std.specs.Prelude.{◌≡◌, ◌≤◌, ◌↔◌, true, false, IsTrue, IsOk, IfOk, IfSome, IfNone, IsSome, OnErr, None, Some, option_map};
 ghost use Rattle.fk_model.specs.declared.moves.Ask.TheVariants as asks;
 ghost use Rattle.std.specs.Bool.{OnTrue, OnFalse};
 ghost use Rattle.fk_model.specs.Outcomes.Said.{Nothing};
@@ -12,60 +12,67 @@ ghost use Rattle.fk_store.specs.Paths.{place};
 ghost use Rattle.fk_store.specs.World.{world};
 ghost use Rattle.fk_plans.specs.Hearers.{says_to, says_to_who, IsPadded};
 ghost use Rattle.fk_answers.specs.Rooms.{IsRoom};
-ghost use Rattle.fk_calls.specs.Judgements.{IsReadyMove};
-ghost use Rattle.fk_calls.specs.Sayings.{told_by};
-ghost use Rattle.fk_calls.specs.Tried.{tried_of};
+ghost use Rattle.fk_steps.specs.Judgements.{IsReadyMove};
+ghost use Rattle.fk_steps.specs.Sayings.{told_by};
+ghost use Rattle.fk_steps.specs.Tried.{tried_of};
 ghost use Rattle.laws_prompt.specs.Events.{IsPrompt, IsCorrect};
 ghost use Rattle.laws_whole.specs.Runnable.{IsRunnable};
 ghost use Rattle.fk_model.specs.Endings.{has_ended};
-ghost use Rattle.fk_kernel.specs.Kernels.{path_of, store_of, world_of, HasShapes};
+ghost use Rattle.fk_steps.specs.Steps.{IsPut};
+ghost use Rattle.fk_steps.specs.Waiting.{standing, ArePassed, AreWaiting};
+ghost use Rattle.fk_waits.specs.Lists.{first_ready};
+ghost use Rattle.fk_kernel.specs.Kernels.{path_of, standing_of, store_of, world_of, HasShapes};
 ghost use Rattle.fk_kernel.specs.Events as events;
-ghost use Rattle.fk_kernel.specs.Events.{is_fit_event, is_who, AreNamed, IsAcceptReady, IsAnyReady, IsIdleBetween, IsIdleUpTo, IsLooked, IsMoveReady, IsReadyBesides, IsReadyEvent, may_lack, step_of};
+ghost use Rattle.fk_kernel.specs.Events.{is_fit_event, is_who, AreNamed, IsAcceptReady, IsAnyReady, IsIdleBetween, IsIdleUpTo, IsMoveReady};
+ghost use Rattle.fk_kernel.specs.Events.{IsReadyBesides, IsReadyEvent, may_lack, step_of};
 
-use fk_calls::{Sent, Told};
 use fk_model::{Ask, Move, NoMemory, Said, Stage, Who};
+use fk_steps::{Sent, Told, ready_move};
 use fk_store::Store;
-use fk_wakes::Touched;
+use fk_turns::Turns;
+use fk_waits::Waits;
+use std::alloc::Global;
 use std::marker::Model;
 
-/// What a look at some objects finds.
-#[derive(Clone, Copy)]
-pub enum Look {
-    /// A move that is ready.
-    Found(Move),
-    /// Nobody up to this object, with which the look ended.
-    Passed(Who),
-    /// Nobody up to the last object of all.
-    Nobody,
-}
-
-/// A store whose threads move. Its world is valid.
+/// A store whose threads move, and where its user threads stand. Its world is valid.
 #[derive(Drop)]
 pub struct Kernel {
     pub(crate) store: Store,
+    pub(crate) turns: Turns,
 }
 
 impl Model for Kernel {
-    ghost use Rattle.fk_model.specs.Valid.{IsValid};
-    ghost use Rattle.fk_store.specs.Contents.{Contents, coded_contents};
-    ghost use Rattle.fk_store.specs.World.{world};
+    ghost use Rattle.fk_steps.specs.Waiting.{standing};
+    ghost use Rattle.fk_kernel.specs.Kernels.{coded_kept, IsHeld, Kept};
 
-    ghost Value = { Contents };
+    ghost Value = { Kept };
 
-    ghost coded = { coded_contents };
+    ghost coded = { coded_kept };
 
-    ghost view = { λ kernel. kernel.store };
+    ghost view = { λ kernel. record { store = kernel.store; standing = standing kernel.turns.waits } };
 
-    ghost invariant = { λ kernel. IsValid (world kernel.store) };
+    ghost invariant = { λ kernel. IsHeld kernel.store kernel.turns.waits kernel.turns.marks };
 }
 
 impl Kernel {
     /// The kernel of a store whose world is valid. An error says that memory is lacking.
-    pub fn of(store: Store) -> Result<Kernel, NoMemory>
+    pub fn of(alloc: Global, store: Store) -> Result<Kernel, NoMemory>
         requires valid { IsValid (world store) }
         ensures { IfOk result (λ kernel. store_of kernel ≡ store) }
     {
-        Ok(Kernel { store })
+        let mut turns = fk_steps::of(alloc, &store)?;
+        // With room beforehand a move needn't look whether it wants some.
+        turns.reserve()?;
+        Ok(Kernel { store, turns })
+    }
+
+    /// Who is ready and who is queued at what. Each user's thread stands once, and none that is queued can move.
+    pub fn waits(&self) -> &Waits
+        ensures standing { standing result.now ≡ standing_of self.now }
+        ensures waiting { AreWaiting (store_of self.now) result.now }
+    {
+        fk_steps::waiting(&self.turns, &self.store);
+        self.turns.waits()
     }
 
     /// Its store.
@@ -103,7 +110,7 @@ impl Kernel {
         ensures prompt { IsPrompt (world_of self.now) (event_of (world_of self.now) ask.now m.now) → IsTrue result }
     {
         self.store.names();
-        fk_calls::ready(&self.store, m, ask)
+        fk_steps::ready(&self.store, m, ask)
     }
 
     /// Whether a move is fit. All are but those of porters that make a talk or a fault again with words
@@ -112,7 +119,7 @@ impl Kernel {
         ensures { result ≡ is_fit_event (world_of self.now) (event_of (world_of self.now) ask.now m.now) }
     {
         self.store.names();
-        fk_calls::is_fit(&self.store, m, ask)
+        fk_steps::is_fit(&self.store, m, ask)
     }
 
     /// Makes a move, which is ready and fit, and gives what the move tells. Only a stage that makes an
@@ -125,12 +132,12 @@ impl Kernel {
         ensures correct { IfOk result (λ said. IsCorrect (world_of self.old) (event_of (world_of self.old) ask.now m.now)
             (world_of self.new) (said_by (path_of self.new) said)) }
         ensures padded { IfOk result (λ said. IsPadded said) }
+        ensures placed { IfOk result (λ said. IsPut (store_of self.old) m.now ask.now (store_of self.new) (standing_of self.new)) }
         ensures lacking { OnErr result (self.new ≡ self.old) }
         ensures done { may_lack (world_of self.old) (event_of (world_of self.old) ask.now m.now) ≡ false → IsOk result }
     {
         self.store.names();
-        let mut touched = Touched::Any;
-        fk_calls::take(&mut self.store, m, ask, &mut touched)
+        fk_steps::take(&mut self.store, &mut self.turns, m, ask)
     }
 
     /// Makes a move where it is ready, and gives what the move tells, and the port whose native server lost
@@ -159,8 +166,7 @@ impl Kernel {
         ensures done { may_lack (world_of self.old) (event_of (world_of self.old) ask.now m.now) ≡ false → IsOk result }
     {
         self.store.names();
-        let mut touched = Touched::Any;
-        let tried = fk_calls::attempt(&mut self.store, m, ask, &mut touched);
+        let tried = fk_steps::attempt(&mut self.store, &mut self.turns, m, ask);
         // And so they do in the world that the move leaves.
         self.store.names();
         tried
@@ -193,8 +199,7 @@ impl Kernel {
         ensures lacking { OnErr (tried_of result told.new) (self.new ≡ self.old) }
     {
         self.store.names();
-        let mut touched = Touched::Any;
-        let made = fk_calls::call(&mut self.store, m, stage, words, told, &mut touched);
+        let made = fk_steps::call(&mut self.store, &mut self.turns, m, stage, words, told);
         // And so they do in the world that the move leaves.
         self.store.names();
         made
@@ -211,12 +216,7 @@ impl Kernel {
         ensures same { OnFalse result (self.new ≡ self.old) }
     {
         self.store.names();
-        let mut touched = Touched::Few {
-            first: None,
-            second: None,
-            third: None,
-        };
-        let made = fk_calls::proceed(&mut self.store, who, &mut touched);
+        let made = fk_steps::proceed(&mut self.store, &mut self.turns, who);
         self.store.names();
         made
     }
@@ -237,20 +237,23 @@ impl Kernel {
         ensures same { IfNone result (self.new ≡ self.old) }
     {
         self.store.names();
-        let mut touched = Touched::Any;
-        let sent = fk_calls::say(&mut self.store, who, room, &mut touched);
+        let sent = fk_steps::say(&mut self.store, &mut self.turns, who, room);
         // And so they do in the world that the stage leaves.
         self.store.names();
         sent
     }
 
-    /// A user's move that is ready. There is none exactly where no user's move is.
+    /// The move of the first of the ready threads that can move. Those before it are queued, each at its cause. There is none exactly where no user's move is
+    /// ready, and then all are queued.
     pub fn next(&mut self) -> Option<Move>
         ensures ready { IfSome result (λ m. IsReadyEvent (world_of self.old) (event_of (world_of self.old) Ask.Run m)) }
         ensures none { IfNone result (IsAnyReady (world_of self.old) → ⊥) }
-        ensures same { self.new ≡ self.old }
+        ensures passed { ArePassed (store_of self.old) (standing_of self.old) (standing_of self.new) }
+        ensures first { option_map (λ m. m.who) result ≡ first_ready (standing_of self.new).ready }
+        ensures store { store_of self.new ≡ store_of self.old }
     {
-        self.next_after(None)
+        self.store.names();
+        fk_steps::next(&mut self.turns, &self.store)
     }
 
     /// The same. It looks first at the users after this object in the order of spaces and slots, and then
@@ -266,44 +269,63 @@ impl Kernel {
         }
     }
 
-    /// A move that is ready of any user but one, sought in the same order. There is none exactly where no such move is.
-    pub fn next_besides(&self, last: Option<Who>, besides: Option<Who>) -> Option<Move>
+    /// The move that comes next of any user but one. There is none exactly where no such move is ready.
+    pub fn next_besides(&mut self, besides: Option<Who>) -> Option<Move>
+        ensures ready { IfSome result (λ m. IsReadyBesides (world_of self.old) besides m) }
+        ensures none { IfNone result ((m : _) → IsReadyBesides (world_of self.old) besides m → ⊥) }
+        ensures store { store_of self.new ≡ store_of self.old }
+    {
+        let next = self.next();
+        self.unless(next, besides)
+    }
+
+    /// The move that comes next, unless it is this one's: then another is sought.
+    fn unless(&self, next: Option<Move>, besides: Option<Who>) -> Option<Move>
+        requires ready { IfSome next (λ m. IsReadyEvent (world_of self.now) (event_of (world_of self.now) Ask.Run m)) }
+        requires none { IfNone next (IsAnyReady (world_of self.now) → ⊥) }
+        ensures ready { IfSome result (λ m. IsReadyBesides (world_of self.now) besides m) }
+        ensures none { IfNone result ((m : _) → IsReadyBesides (world_of self.now) besides m → ⊥) }
+    {
+        match next {
+            Some(m) => {
+                if besides == Some(m.who) {
+                    return self.any_besides(besides);
+                }
+                Some(m)
+            }
+            None => None,
+        }
+    }
+
+    /// A move that is ready of any user but one, where nothing is to change: of the first of the ready, or else sought among all. There is none
+    /// exactly where no such move is.
+    pub fn any_besides(&self, besides: Option<Who>) -> Option<Move>
         ensures ready { IfSome result (λ m. IsReadyBesides (world_of self.now) besides m) }
         ensures none { IfNone result ((m : _) → IsReadyBesides (world_of self.now) besides m → ⊥) }
     {
         self.store.names();
-        match self.ready_between(last, None, besides) {
+        match self.front_besides(besides) {
             Some(m) => Some(m),
-            None => self.ready_up_to(last, besides),
+            None => self.ready_between(None, None, besides),
         }
     }
 
-    /// Looks for a ready move of any user but one, at the objects after one in the order of spaces and slots: at so many at
-    /// most, and at one at least. So who has others to ask as well needn't look at all objects at once.
-    pub fn look_besides(&self, after: Option<Who>, besides: Option<Who>, most: u32) -> Look
-        ensures { IsLooked self.now after besides result }
+    /// A ready move of the first of the ready, unless it is this one.
+    fn front_besides(&self, besides: Option<Who>) -> Option<Move>
+        ensures ready { IfSome result (λ m. IsReadyMove (store_of self.now) m asks.Run) }
+        ensures other { IfSome result (λ m. is_who besides m.who ≡ false) }
     {
-        self.store.names();
-        let mut at = self.store.after(after);
-        let mut left = most;
-        while let Some(who) = at {
-            if let Some(m) = self.ready_besides(who, besides) {
-                return Look::Found(m);
-            }
-            at = self.store.after(Some(who));
-            if left <= 1 {
-                return Look::Passed(who);
-            }
-            left -= 1;
+        match self.turns.next() {
+            Some(who) => self.ready_besides(who, besides),
+            None => None,
         }
-        Look::Nobody
     }
 
     /// A ready move of a user among those up to an object, but one.
     fn ready_up_to(&self, last: Option<Who>, besides: Option<Who>) -> Option<Move>
-        ensures ready { IfSome result (λ m. IsReadyMove self.now m asks.Run) }
+        ensures ready { IfSome result (λ m. IsReadyMove (store_of self.now) m asks.Run) }
         ensures other { IfSome result (λ m. is_who besides m.who ≡ false) }
-        ensures none { IfNone result (IsIdleUpTo self.now last besides) }
+        ensures none { IfNone result (IsIdleUpTo (store_of self.now) last besides) }
     {
         match last {
             Some(_) => self.ready_between(None, last, besides),
@@ -319,10 +341,10 @@ impl Kernel {
         last: Option<Who>,
         besides: Option<Who>,
     ) -> Option<Move>
-        ensures ready { IfSome result (λ m. IsReadyMove self.now m asks.Run) }
+        ensures ready { IfSome result (λ m. IsReadyMove (store_of self.now) m asks.Run) }
         ensures other { IfSome result (λ m. is_who besides m.who ≡ false) }
-        ensures none { IfNone result (IsIdleBetween self.now after last besides) }
-        ensures named { AreNamed self.now }
+        ensures none { IfNone result (IsIdleBetween (store_of self.now) after last besides) }
+        ensures named { AreNamed (store_of self.now) }
     {
         let mut at = self.store.after(after);
         while let Some(who) = at {
@@ -339,7 +361,7 @@ impl Kernel {
 
     /// A move of the user in a slot that is ready, unless it is this one.
     fn ready_besides(&self, who: Who, besides: Option<Who>) -> Option<Move>
-        ensures ready { IfSome result (λ m. IsReadyMove self.now m asks.Run) }
+        ensures ready { IfSome result (λ m. IsReadyMove (store_of self.now) m asks.Run) }
         ensures other { IfSome result (λ m. is_who besides m.who ≡ false) }
         ensures none { IfNone result (is_who besides who ≡ false → IsMoveReady (world_of self.now) (place (path_of self.now) who) → ⊥) }
     {
@@ -351,19 +373,11 @@ impl Kernel {
 
     /// A move of the user in a slot that is ready. It picks somebody where its stage asks for that.
     fn ready_move(&self, who: Who) -> Option<Move>
-        ensures ready { IfSome result (λ m. IsReadyMove self.now m asks.Run) }
+        ensures ready { IfSome result (λ m. IsReadyMove (store_of self.now) m asks.Run) }
         ensures who { IfSome result (λ m. m.who ≡ who) }
         ensures none { IfNone result (IsMoveReady (world_of self.now) (place (path_of self.now) who) → ⊥) }
     {
-        // Most objects are no thread that may move, and a judgement is large.
-        if !fk_calls::may_move(&self.store, who) {
-            return None;
-        }
-        let m = Move { who, pick: None };
-        if fk_calls::ready(&self.store, &m, &Ask::Run) {
-            return Some(m);
-        }
-        fk_picks::ready_pick(&self.store, who)
+        ready_move(&self.store, who)
     }
 
     /// Whom the native server of a port may accept: a thread at its connect there, or one whose talk waits
@@ -374,7 +388,7 @@ impl Kernel {
         ensures none { IfNone result (IsAcceptReady (world_of self.now) (named (world_of self.now) port) → ⊥) }
     {
         self.store.names();
-        fk_picks::ready_accept(&self.store, port)
+        fk_steps::ready_accept(&self.store, port)
     }
 }
 

@@ -19,6 +19,6 @@
 mod kernel;
 mod replace;
 
-pub use fk_calls::{Sent, Told};
-pub use kernel::{Kernel, Look};
+pub use fk_steps::{Sent, Told};
+pub use kernel::Kernel;
 pub use replace::BurstPage;

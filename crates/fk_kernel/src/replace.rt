@@ -1,16 +1,20 @@
 //! A thread and some pages get other words at once, as by several instructions.
-ghost use Rattle.std.specs.Prelude.{◌≡◌, All};
-ghost use Rattle.fk_model.specs.Who.{space_born};
+ghost use Rattle.std.specs.Prelude.{◌≡◌, true, All};
+ghost use Rattle.fk_model.specs.Searches.{thread_at};
+ghost use Rattle.fk_model.specs.Who.{named, space_born};
 ghost use Rattle.fk_model.specs.World.{apply};
 ghost use Rattle.fk_model.specs.World.Change.{PutPage};
 ghost use Rattle.fk_store.specs.Paths.{path};
 ghost use Rattle.fk_store.specs.World.{world};
+ghost use Rattle.fk_plans.specs.Effects.{is_running};
 ghost use Rattle.fk_kernel.specs.Kernels.{path_of, world_of};
 ghost use Rattle.fk_kernel.specs.Replaced.{IsPageThere, replaced, rewritten};
 
 use crate::Kernel;
 use fk_model::{Mode, Who};
+use fk_steps::moved;
 use fk_store::Store;
+use fk_wakes::Touched;
 
 /// A page of the space with this birth number, and words for it.
 #[derive(Clone, Copy)]
@@ -41,14 +45,24 @@ fn rewrite(store: &mut Store, pages: &[BurstPage])
 }
 
 impl Kernel {
-    /// A thread goes on, running, with these registers at this counter, and pages that are there get these words. All else stays.
+    /// A thread that runs goes on with these registers at this counter, and pages that are there get these words. All else stays, and each user's thread still
+    /// stands once, and none that is queued can move.
     pub fn replace(&mut self, thread: Who, regs: &[u64; 16], pc: u64, pages: &[BurstPage])
-        requires { All (IsPageThere (space_born (world_of self.old)) (world_of self.old)) pages.now }
+        requires running { is_running (thread_at (world_of self.old) (named (world_of self.old) thread)) ≡ true }
+        requires pages { All (IsPageThere (space_born (world_of self.old)) (world_of self.old)) pages.now }
         ensures world { world_of self.new ≡ replaced (world_of self.old) thread regs.now pc pages.now }
         ensures paths { path_of self.new ≡ path_of self.old }
     {
         self.names();
         rewrite(&mut self.store, pages);
         self.store.proceed(thread, regs, pc, Mode::Running);
+        // And so they do in the world that is left.
+        self.store.names();
+        let alone = Touched::Few {
+            first: None,
+            second: None,
+            third: None,
+        };
+        moved(&mut self.turns, &self.store, thread, &alone);
     }
 }

@@ -19,16 +19,12 @@ use Rattle.fk_model.specs.Places.Ptr.{At}
 use Rattle.fk_model.specs.Valid.{is_served_port}
 use Rattle.fk_natives.specs.Natives.{State}
 use Rattle.laws_runs.specs.Cores.{IsOtherReady}
-use Rattle.fk_served.specs.Looks.{Look, Found, Passed, Nobody}
-use Rattle.fk_served.specs.Events.{IsLooked, IsReadyBesides, is_who}
-use Rattle.fk_store.specs.Contents.{Contents}
-use Rattle.fk_store.specs.World.{world}
-use Rattle.fk_jobs.specs.Jobs.{Queue, current}
+use Rattle.fk_jobs.specs.Jobs.{Queue}
 use Rattle.fk_jobs.specs.Turns.{core_of}
 use Rattle.fk_served.specs.Served.{Services, serving, asked, asked_of}
-use Rattle.fk_moment.specs.Moments.{RunCore, house, core_at, is_act, is_porter, porter_of, IsOthersMove, HasNoAct, HaveNoActs, IsFound}
+use Rattle.fk_moment.specs.Moments.{RunCore, house, is_act, is_porter, AreUsersIdle, IsOthersMove, HasNoAct, HaveNoActs}
 use Rattle.fk_served.proofs.Acts.{found, never-calls, runs}
-use Rattle.fk_moment.proofs.Asking.{IsAsked, asked_other, other_name, runs_move, others_ready}
+use Rattle.fk_moment.proofs.Asking.{IsAsked, asked_other, other_name, runs_move}
 
 -- who needs no pick has none
 no-pick : (w : World) (x p : Path) (o : Outcome) → GoesAllowed w x (with_pick false (Some p) o) → ⊥
@@ -98,7 +94,7 @@ one-more q c from at port is none before k served low high there other = by (nat
 -- ---- no move is left
 
 pub over : (q : Queue) (w : World) (services : Services) (events : ℕ) →
-    ((m : Move) → is_porter q m.who ≡ false → IsReadyAt w (event_of w asks.Run m) → ⊥) → HaveNoActs q (core_of w services q events) 0 (length services) →
+    AreUsersIdle q w → HaveNoActs q (core_of w services q events) 0 (length services) →
     IsOtherReady (house q.jobs) (core_of w services q events) → ⊥
 over q w services events users acts (m, ask, as_others, ready) = by_ask ask wants.is ready
   where
@@ -138,13 +134,3 @@ runs-other q w services events m other ready =
 pub if-some : {A : Type 0} (o : Option A) (X Y : A → Type 0) → ((a : A) → X a → Y a) → IfSome o X → IfSome o Y
 if-some None X Y f h = tt
 if-some (Some a) X Y f h = f a h
-
--- what a look besides the porter finds is ready in a core
-pub found_ready : (m s : Contents) (services : Services) (q : Queue) (events : ℕ) (after besides : Option Who) (look : Look) → s ≡ m →
-    besides ≡ porter_of (current q) → IsLooked s after besides look → IsFound q.jobs (core_at m services q events) look
-found_ready m s services q events after besides (Found move) same porter there =
-    let at = subst (λ k. IsReadyBesides (world k) besides move) same there in
-    others_ready q (world m) services events move
-    (runs-other q (world m) services events move (subst (λ o. is_who o move.who ≡ false) porter at.0) at.1)
-found_ready m s services q events after besides (Passed last) same porter there = tt
-found_ready m s services q events after besides Nobody same porter there = tt

@@ -10,11 +10,10 @@ use Rattle.fk_model.specs.declared.names.Who.{Who}
 use Rattle.fk_model.specs.Who.{event_of}
 use Rattle.fk_jobs.specs.Jobs.{Queue, current, asked_by, state_of}
 use Rattle.fk_jobs.specs.Turns.{core_of}
-use Rattle.fk_served.specs.Looks.{Look, Found, Passed, Nobody}
 use Rattle.fk_served.specs.Events.{is_who}
 use Rattle.fk_natives.specs.Natives.{State}
-use Rattle.fk_store.specs.Contents.{Contents}
-use Rattle.fk_store.specs.World.{world}
+use Rattle.fk_served.specs.Kernels.{Kept}
+use Rattle.fk_served.specs.Kernels.{world_of as world}
 use Rattle.laws_house.specs.Houses as houses
 use Rattle.laws_house.specs.Houses.{Job, End}
 use Rattle.laws_jobs.specs.Machines.{IsReadyAt}
@@ -31,7 +30,7 @@ abbrev pub RunCore : Type 0
 RunCore = Core houses.State End Services
 
 -- a kernel with its servers and what its jobs have come to, after so many moves
-abbrev pub core_at : Contents → Services → Queue → ℕ → RunCore
+abbrev pub core_at : Kept → Services → Queue → ℕ → RunCore
 core_at m services q events = core_of (world m) services q events
 
 -- what a moment in code shows
@@ -122,11 +121,9 @@ abbrev pub HaveNoActs : Queue → RunCore → ℕ → ℕ → Type 0
 HaveNoActs q c from to = (k : ℕ) (served : Who × State) → from ≤ k → k < to → slice_get c.servers k ≡ Some served →
     is_porter q served.0 ≡ false → HasNoAct c served.0
 
--- what a look at some names has found is ready
-abbrev pub IsFound : List Job → RunCore → Look → Type 0
-IsFound jobs c (Found m) = IsReadyMove jobs c m
-IsFound jobs c (Passed last) = Unit {0}
-IsFound jobs c Nobody = Unit {0}
+-- no user's move is ready, but maybe the porter's whose job's turn it is
+abbrev pub AreUsersIdle : Queue → World → Type 0
+AreUsersIdle q w = (m : Move) → is_porter q m.who ≡ false → IsReadyAt w (event_of w asks.Run m) → ⊥
 
 -- there is no move left: none is ready, or the budget is used
 abbrev pub IsOver : List Job → ℕ → RunCore → Type 0

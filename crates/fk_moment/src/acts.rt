@@ -1,7 +1,7 @@
 //! Acts of servers.
 ghost use Rattle.std.specs.Prelude.{◌≡◌, ◌≤◌, false, None, IfSome, IfNone, length};
 ghost use Rattle.fk_moment.specs.Moments.{seen, is_porter, IsReadyNow, IsAskedMove, IsOthersMove, HasNoAct, HaveNoActs};
-ghost use Rattle.fk_store.specs.World.{world};
+ghost use Rattle.fk_served.specs.Kernels.{world_of as world};
 ghost use Rattle.fk_model.specs.Who.{event_of};
 ghost use Rattle.laws_jobs.specs.Machines.{IsReadyAt};
 

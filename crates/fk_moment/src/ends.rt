@@ -2,7 +2,7 @@
 ghost use Rattle.std.specs.Prelude.{◌↔◌, IsTrue};
 ghost use Rattle.fk_moment.specs.Moments.{seen, IsAnyMove};
 ghost use Rattle.fk_moment.specs.Ends.{IsAtRest, IsEnded};
-ghost use Rattle.fk_store.specs.World.{world};
+ghost use Rattle.fk_served.specs.Kernels.{world_of as world};
 
 use crate::moment::Moment;
 use fk_jobs::Worker;

@@ -1,34 +1,22 @@
 //! A look for a move that is ready.
-ghost use Rattle.std.specs.Prelude.{◌≡◌, true, false, IfSome, IfNone};
-ghost use Rattle.fk_moment.specs.Moments.{house, seen, is_porter, has_come, IsReadyNow, MayBeMade, IsOthersMove, IsAnyMove, IsFound};
-ghost use Rattle.fk_store.specs.World.{world};
-ghost use Rattle.fk_model.specs.Who.{event_of};
-ghost use Rattle.fk_model.specs.declared.moves.Ask.TheVariants as asks;
+ghost use Rattle.std.specs.Prelude.{◌≡◌, true, IfSome, IfNone};
+ghost use Rattle.fk_moment.specs.Moments.{house, seen, is_porter, has_come, IsReadyNow, MayBeMade, IsOthersMove, IsAnyMove, AreUsersIdle};
+ghost use Rattle.fk_served.specs.Kernels.{world_of as world};
 ghost use Rattle.laws_runs.specs.Cores.{IsOtherReady};
-ghost use Rattle.laws_jobs.specs.Machines.{IsReadyAt};
 
 use crate::moment::Moment;
 use fk_jobs::Worker;
-use fk_model::{Move, Who};
+use fk_model::Move;
 use fk_natives::Service;
-use fk_served::Look;
 
 impl<'a, S: Service + Drop, W: Worker + Drop> Moment<'a, S, W> {
-    /// A thread's move that is ready, sought from the one after that which moved last.
+    /// A thread's move that is ready.
     fn user(&self) -> Option<Move>
         ensures ready { IfSome result (λ m. IsReadyNow self.now m) }
         ensures other { IfSome result (λ m. IsOthersMove self.now.jobs.now.jobs (seen self.now) m) }
-        ensures none { IfNone result ((m : _) → is_porter self.now.jobs.now m.who ≡ false
-            → IsReadyAt (world self.now.kernel.now) (event_of (world self.now.kernel.now) asks.Run m) → ⊥) }
+        ensures none { IfNone result (AreUsersIdle self.now.jobs.now (world self.now.kernel.now)) }
     {
-        self.kernel.next_besides(self.last, self.porter())
-    }
-
-    /// What a look at so many names after one finds.
-    pub fn look_on(&self, after: Option<Who>, most: u32) -> Look
-        ensures { IsFound self.now.jobs.now.jobs (seen self.now) result }
-    {
-        self.kernel.look_besides(after, self.porter(), most)
+        self.kernel.any_besides(self.porter())
     }
 
     /// A move of a user or a server that is ready: a thread's, or else a server's act.
@@ -73,7 +61,19 @@ impl<'a, S: Service + Drop, W: Worker + Drop> Moment<'a, S, W> {
         ensures ready { IfSome result (λ m. IsReadyNow self.now m) }
         ensures none { IfNone result (IsAnyMove self.now.jobs.now.jobs (seen self.now) → ⊥) }
     {
-        match self.find_other() {
+        match self.user() {
+            Some(m) => Some(m),
+            None => self.find_besides(),
+        }
+    }
+
+    /// A move that is ready, where no thread's is: a server's act, or else the due job's.
+    pub fn find_besides(&self) -> Option<Move>
+        requires idle { AreUsersIdle self.now.jobs.now (world self.now.kernel.now) }
+        ensures ready { IfSome result (λ m. IsReadyNow self.now m) }
+        ensures none { IfNone result (IsAnyMove self.now.jobs.now.jobs (seen self.now) → ⊥) }
+    {
+        match self.find_act(self.services.len()) {
             Some(m) => Some(m),
             None => self.job_move(),
         }

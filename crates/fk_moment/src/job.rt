@@ -3,7 +3,7 @@ ghost use Rattle.std.specs.Prelude.{◌≡◌, ◌↔◌, Some, None, IsTrue, If
 ghost use Rattle.laws_runs.specs.Cores as runs;
 ghost use Rattle.laws_runs.specs.Cores.{IsGone, IsOtherReady, EndsFor, EndsNow};
 ghost use Rattle.fk_jobs.specs.Jobs.{current, job_of, unmoved_of};
-ghost use Rattle.fk_store.specs.World.{world};
+ghost use Rattle.fk_served.specs.Kernels.{world_of as world};
 ghost use Rattle.fk_moment.specs.Moments.{house, seen, IsDue};
 
 use crate::moment::Moment;

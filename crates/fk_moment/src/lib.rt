@@ -15,5 +15,5 @@ mod job;
 mod moment;
 mod readiness;
 
-pub use fk_served::{Kernel, Look, Told};
+pub use fk_served::{Kernel, Services, Told};
 pub use moment::Moment;

@@ -55,11 +55,6 @@ impl<'a, S: Service + Drop, W: Worker + Drop> Moment<'a, S, W> {
         self.events
     }
 
-    /// How many spaces have been made so far, the root among them.
-    pub fn births(&self) -> u32 {
-        self.kernel.store().next_birth()
-    }
-
     /// The thread that has moved last.
     pub fn last(&self) -> Option<Who>
         ensures { result ≡ self.now.last }

@@ -3,7 +3,7 @@ ghost use Rattle.std.specs.Prelude.{◌≡◌, ◌↔◌, true, IsTrue, IfSome};
 ghost use Rattle.fk_served.specs.Served.{asked};
 ghost use Rattle.laws_whole.specs.Runnable.{has_all_words};
 ghost use Rattle.fk_moment.specs.Moments.{seen, is_porter, IsReadyNow, IsAskedMove, IsCalledMove};
-ghost use Rattle.fk_store.specs.World.{world};
+ghost use Rattle.fk_served.specs.Kernels.{world_of as world};
 
 use crate::moment::Moment;
 use fk_jobs::Worker;

@@ -12,6 +12,6 @@ mod picks;
 mod ports;
 mod sleepers;
 
-pub use fk_calls::{Sent, Told, attempt, call, may_move, proceed, ready, say};
+pub use fk_calls::{Sent, Told, attempt, call, is_fit, may_move, proceed, ready, say};
 pub use moves::Picker;
 pub use picks::{ready_accept, ready_pick};

@@ -1,12 +1,10 @@
-//! Who moves next.
+//! Who moves before others: the thread that moved last, and which servers.
 //!
-//! It stands on `fk_moment` for what is ready at a moment of a run. It promises that a move is chosen that is ready, wherever there is one
-//! and the budget has one more, and at an even number of moves a due job's. Beyond that the look goes round: nobody who is ready waits for
-//! ever behind others.
+//! It stands on `fk_moment` for what is ready at a moment of a run. It promises that what it chooses is ready, and that the budget has one more. Where it
+//! chooses nobody, the thread comes next that is first of the ready. Beyond that the look goes round: nobody who is ready waits for ever behind others.
 #![tactic(auto)]
 
-mod few;
 mod rounds;
 
-pub use few::is_look;
+pub use fk_moment::{Kernel, Moment, Services, Told};
 pub use rounds::Rounds;

@@ -13,10 +13,10 @@ use Rattle.fk_model.specs.Who.{named}
 use Rattle.fk_natives.specs.declared.service.Side.TheVariants as sides
 use Rattle.fk_natives.specs.Natives as natives
 use Rattle.fk_natives.specs.Natives.{State, OfConsole, OfServer, News, hears, DoesFit}
-use Rattle.fk_store.specs.Contents.{Contents}
+use Rattle.fk_kernel.specs.Kernels.{Kept}
 use Rattle.fk_store.specs.Moves.{said_by}
-use Rattle.fk_store.specs.Paths.{path}
-use Rattle.fk_store.specs.World.{world}
+use Rattle.fk_kernel.specs.Kernels.{path_of as path}
+use Rattle.fk_kernel.specs.Kernels.{world_of as world}
 use Rattle.fk_kernel.specs.Events.{step_of, is_who}
 use Rattle.fk_plans.specs.Hearers.{says_to, says_to_who}
 use Rattle.fk_served.specs.Served.{Services, said_at, news_at, after_news, hears_of, said_to, news_to, told, AllFit, HearByNames, FitsOnceTold}
@@ -34,7 +34,7 @@ said-alike p (says.Full port) x who same = refl
 said-alike p (says.Over port) x who same = rw same refl
 said-alike p (says.Ended port) x who same = refl
 
-module _ (m n : Contents) (e : Event) (said : says_of.Said) (ended : Option Who)
+module _ (m n : Kept) (e : Event) (said : says_of.Said) (ended : Option Who)
     (made : step_of (world m) e ≡ record { world = world n; said = said_by (path n) said })
     (ends : (port : Who) → has_ended (world m) (world n) (named (world m) port) ≡ is_who ended port)
     (tells : (port : Who) → says_to (step_of (world m) e).said (named (world m) port) ≡ says_to_who said port) where

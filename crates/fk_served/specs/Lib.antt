@@ -1,7 +1,6 @@
 pub use Rattle.fk_kernel.specs.Events
 pub use Rattle.fk_kernel.specs.Kernels
 pub mod Served
-pub mod Looks
 pub use Rattle.fk_kernel.specs.Rooms
 pub use Rattle.fk_kernel.specs.Tried
 pub use Rattle.fk_kernel.specs.Tolds

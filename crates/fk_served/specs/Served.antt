@@ -20,10 +20,10 @@ use Rattle.fk_model.specs.World.{World}
 use Rattle.fk_natives.specs.Natives as natives
 use Rattle.fk_natives.specs.Natives.{State, News, hears, asks_for, DoesFit}
 use Rattle.fk_store.specs.Names.{same_who}
-use Rattle.fk_store.specs.Contents.{Contents}
+use Rattle.fk_kernel.specs.Kernels.{Kept}
 use Rattle.fk_store.specs.Moves.{said_by}
-use Rattle.fk_store.specs.Paths.{path}
-use Rattle.fk_store.specs.World.{world}
+use Rattle.fk_kernel.specs.Kernels.{path_of as path}
+use Rattle.fk_kernel.specs.Kernels.{world_of as world}
 use Rattle.fk_plans.specs.Hearers.{says_to, says_to_who}
 use Rattle.fk_kernel.specs.Events.{is_who, step_of}
 use Rattle.laws_frozen.specs.Users.{is_users}
@@ -140,7 +140,7 @@ pub record Housed : Type 0 where
 
 -- where a move's step is known, whose talk it ends, and whom it tells what, each server hears by its name what it hears by its port's path
 abbrev pub HearByNames : Type 0
-HearByNames = (m n : Contents) (e : Event) (said : says_of.Said) (ended : Option Who) →
+HearByNames = (m n : Kept) (e : Event) (said : says_of.Said) (ended : Option Who) →
     step_of (world m) e ≡ record { world = world n; said = said_by (path n) said } →
     ((port : Who) → has_ended (world m) (world n) (named (world m) port) ≡ is_who ended port) →
     ((port : Who) → says_to (step_of (world m) e).said (named (world m) port) ≡ says_to_who said port) →

@@ -13,7 +13,7 @@ ghost use Rattle.fk_served.specs.Served.{ServersAskAsUsers, HearByNames, FitsOnc
 mod services;
 mod told;
 
-pub use fk_kernel::{Kernel, Look, Told};
+pub use fk_kernel::{Kernel, Told};
 pub use services::Services;
 
 /// Native servers ask for what users may.

@@ -48,6 +48,10 @@ pub fn seat_for(turns: &mut Turns, store: &Store, who: Who) -> bool
     ensures room { OnTrue result (first_takes_memory (todo_at (world store.now) (place (path store.now) who)) ≡ true
         → HasSeat turns.new.waits turns.new.marks) }
 {
+    // Mostly there is, and then nobody is looked at.
+    if turns.has_seat() {
+        return true;
+    }
     reserve_where(turns, user_wants(store, who)).is_ok()
 }
 

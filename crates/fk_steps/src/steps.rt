@@ -55,7 +55,7 @@ pub fn attempt(
     let tried = fk_turns_next::attempt(store, m, ask, &mut touched);
     // And so they do in the world that the move leaves.
     store.names();
-    after_if(turns, store, is_made(&tried), m.who, &touched);
+    after_plain_if(turns, store, is_made(&tried), m.who, &touched);
     tried
 }
 
@@ -221,6 +221,6 @@ pub fn say(store: &mut Store, turns: &mut Turns, who: Who, room: &mut [u64; 64])
     let sent = fk_turns_next::say(store, who, room, &mut touched);
     // And so they do in the world that the move leaves.
     store.names();
-    after_if(turns, store, sent.is_some(), who, &touched);
+    after_plain_if(turns, store, sent.is_some(), who, &touched);
     sent
 }

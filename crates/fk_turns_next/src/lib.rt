@@ -8,6 +8,6 @@
 mod going;
 mod placing;
 
-pub use fk_picks::{Sent, Told, attempt, call, proceed, say};
+pub use fk_picks::{Sent, Told, attempt, call, is_fit, proceed, ready, ready_accept, say};
 pub use going::{next, waiting};
 pub use placing::{after, ready_move};

@@ -6,6 +6,8 @@
 
 ghost use Rattle.fk_turns_told.specs.Told.{ToldMovesLeave, ToldNames};
 
+pub use fk_turns_moved::{moved, of};
+
 /// A fit move of which all is told that it changes, makes and takes from its place leaves of a store's user threads what the lists want.
 pub fn told_moves_leave()
     ensures { ToldMovesLeave }

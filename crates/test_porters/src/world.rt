@@ -52,7 +52,7 @@ fn kernel_of(alloc: Global, text: &[u8], porter: Who) -> anyhow::Result<Kernel> 
     let Ok(()) = put_porter(&mut store, porter) else {
         bail!("no memory");
     };
-    let Ok(kernel) = Kernel::of(store) else {
+    let Ok(kernel) = Kernel::of(alloc, store) else {
         bail!("no memory");
     };
     Ok(kernel)

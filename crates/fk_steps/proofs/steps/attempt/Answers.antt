@@ -1,8 +1,8 @@
 use Rattle.fk_steps.proofs.Stepped.{comes_tried, kept_wider, put_tried, same_wider, still_then, still_tried, valid_tried}
 use Rattle.fk_steps.proofs.steps.attempt.Goals as goal
 
-pub after_if-requires : goal.after_if-requires
-after_if-requires c =
+pub after_plain_if-requires : goal.after_plain_if-requires
+after_plain_if-requires c =
     let m = c.args.store.now in
     let n = c.attempt-tried.new.store in
     let move = c.args.m.now in
@@ -23,17 +23,18 @@ after_if-requires c =
 
 pub returns-clause-placed : goal.returns-clause-placed
 returns-clause-placed c =
-    let placed = rw c.is_made.ensures at c.after_if.ensures.placed in
+    let placed = rw c.is_made.ensures at c.after_plain_if.ensures.placed in
     put_tried c.args.store.now c.attempt-tried.new.store c.args.m.now c.args.ask.now c.requires.valid c.names.ensures.few c.requires.fit c.names.ensures.born
-    c.names-2.ensures.born c.names-2.ensures.few c.attempt-tried.new.touched c.after_if.new.turns.waits c.attempt-tried.result c.attempt-tried.ensures.made
+    c.names-2.ensures.born c.names-2.ensures.few c.attempt-tried.new.touched c.after_plain_if.new.turns.waits c.attempt-tried.result
+    c.attempt-tried.ensures.made
     c.attempt-tried.ensures.touched placed
 
 pub returns-clause-still : goal.returns-clause-still
 returns-clause-still c =
     let was = c.args.turns.now in
     let now = c.reserve_for.new.turns in
-    let still = rw c.is_made.ensures at c.after_if.ensures.still in
-    still_then was.waits now.waits c.after_if.new.turns.waits _ (same_wider was.waits was.marks now.waits now.marks c.reserve_for.ensures.wider) still
+    let still = rw c.is_made.ensures at c.after_plain_if.ensures.still in
+    still_then was.waits now.waits c.after_plain_if.new.turns.waits _ (same_wider was.waits was.marks now.waits now.marks c.reserve_for.ensures.wider) still
 
 pub returns-clause-valid : goal.returns-clause-valid
 returns-clause-valid c =

@@ -6,8 +6,8 @@ use Rattle.fk_turns_next.specs.Sayings.{told_by}
 use Rattle.fk_steps.proofs.Stepped.{comes_some, none_same, put_some, run_fit, still_some, valid_some}
 use Rattle.fk_steps.proofs.steps.say.Goals as goal
 
-pub after_if-requires : goal.after_if-requires
-after_if-requires c =
+pub after_plain_if-requires : goal.after_plain_if-requires
+after_plain_if-requires c =
     let m = c.args.store.now in
     let n = c.say-sent.new.store in
     let run : Move = record { who = c.args.who; pick = None } in
@@ -28,14 +28,14 @@ returns-clause-placed c some =
     let m = c.args.store.now in
     let run : Move = record { who = c.args.who; pick = None } in
     let said = λ (sent : Sent). told_by sent c.say-sent.new.room in
-    let placed = rw c.is_some.ensures at c.after_if.ensures.placed in
+    let placed = rw c.is_some.ensures at c.after_plain_if.ensures.placed in
     put_some m c.say-sent.new.store run c.requires.valid c.names.ensures.few (run_fit m run) c.names.ensures.born c.names-2.ensures.born c.names-2.ensures.few
-    c.say-sent.new.touched c.after_if.new.turns.waits said c.say-sent.result c.say-sent.ensures.made c.say-sent.ensures.touched placed some
+    c.say-sent.new.touched c.after_plain_if.new.turns.waits said c.say-sent.result c.say-sent.ensures.made c.say-sent.ensures.touched placed some
 
 pub returns-clause-still : goal.returns-clause-still
 returns-clause-still c =
-    let still = rw c.is_some.ensures at c.after_if.ensures.still in
-    none_same c.args.turns.now.waits c.after_if.new.turns.waits c.say-sent.result still
+    let still = rw c.is_some.ensures at c.after_plain_if.ensures.still in
+    none_same c.args.turns.now.waits c.after_plain_if.new.turns.waits c.say-sent.result still
 
 pub returns-clause-valid : goal.returns-clause-valid
 returns-clause-valid c =

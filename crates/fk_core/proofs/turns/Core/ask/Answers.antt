@@ -1,5 +1,5 @@
 use Rattle.std.proofs.Common.{◌∙◌, ap}
-use Rattle.fk_served.specs.Served.{asked}
+use Rattle.fk_rounds.specs.Served.{asked}
 use Rattle.fk_core.specs.Cores.{RunCore}
 use Rattle.fk_core.proofs.turns.Core.ask.Goals as goal
 

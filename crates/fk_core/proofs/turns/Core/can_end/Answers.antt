@@ -1,7 +1,7 @@
 use Rattle.std.proofs.Common.{IfNone}
 use Rattle.laws_runs.specs.Cores as runs
 use Rattle.laws_runs.specs.Cores.{EndsNow}
-use Rattle.fk_moment.specs.Moments.{seen}
+use Rattle.fk_rounds.specs.Moments.{seen}
 use Rattle.fk_core.specs.Cores.{house, run_core}
 use Rattle.fk_core.proofs.Trying.{there}
 use Rattle.fk_core.proofs.turns.Core.can_end.Goals as goal

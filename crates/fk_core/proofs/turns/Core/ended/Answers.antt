@@ -1,4 +1,4 @@
-use Rattle.fk_moment.specs.Moments.{seen}
+use Rattle.fk_rounds.specs.Moments.{seen}
 use Rattle.fk_core.specs.Cores.{run_core}
 use Rattle.fk_core.specs.Ends.{IsEnded}
 use Rattle.fk_core.proofs.Trying.{there_by}

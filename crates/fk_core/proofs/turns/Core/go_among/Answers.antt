@@ -1,4 +1,4 @@
-use Rattle.fk_store.specs.World.{world}
+use Rattle.fk_rounds.specs.Kernels.{world_of as world}
 use Rattle.fk_core.specs.Cores.{run_core}
 use Rattle.fk_core.proofs.Trying.{advanced_of, first_further}
 use Rattle.fk_core.proofs.turns.Core.go_among.Goals as goal

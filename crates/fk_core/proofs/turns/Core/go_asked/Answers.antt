@@ -1,10 +1,10 @@
 use Rattle.std.proofs.Common.{◌≡◌, ◌∙◌, sym, ap, subst, map, Some}
 use Rattle.fk_model.specs.Who.{named}
-use Rattle.fk_store.specs.World.{world}
-use Rattle.fk_served.specs.Served.{asked, told}
-use Rattle.fk_served.proofs.Acts.{fit-asked}
-use Rattle.fk_served.proofs.Hearing.{fits-told}
-use Rattle.fk_moment.proofs.Asking.{asks_other, others_ready, ready_asked}
+use Rattle.fk_rounds.specs.Kernels.{world_of as world}
+use Rattle.fk_rounds.specs.Served.{asked, told}
+use Rattle.fk_rounds.proofs.Acts.{fit-asked}
+use Rattle.fk_rounds.proofs.Hearing.{fits-told}
+use Rattle.fk_rounds.proofs.Asking.{asks_other, others_ready, ready_asked}
 use Rattle.fk_core.proofs.Turning.{turned}
 use Rattle.fk_core.proofs.turns.Core.go_asked.Goals as goal
 

@@ -1,10 +1,10 @@
 use Rattle.std.proofs.Common.{◌≡◌, ◌∙◌, sym, ap, length, map, Some, true}
 use Rattle.std.specs.Prelude.{slice_get}
-use Rattle.fk_store.specs.World.{world}
+use Rattle.fk_rounds.specs.Kernels.{world_of as world}
 use Rattle.fk_model.specs.declared.moves.Ask.TheVariants as asks
 use Rattle.fk_jobs.specs.Jobs.{Queue, asked_by, call_with, first_of, state_from, state_of}
-use Rattle.fk_served.specs.Served.{told}
-use Rattle.fk_served.proofs.Hearing.{fits-told}
+use Rattle.fk_rounds.specs.Served.{told}
+use Rattle.fk_rounds.proofs.Hearing.{fits-told}
 use Rattle.fk_core.proofs.Going.{call_fits}
 use Rattle.fk_core.proofs.Turning.{hears-jobs, hears-same}
 use Rattle.fk_core.proofs.turns.Core.go_call.Goals as goal

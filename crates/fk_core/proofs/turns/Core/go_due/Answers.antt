@@ -1,7 +1,7 @@
 use Rattle.std.proofs.Common.{◌∙◌, None, sym}
-use Rattle.fk_store.specs.World.{world}
+use Rattle.fk_rounds.specs.Kernels.{world_of as world}
 use Rattle.fk_core.specs.Cores.{run_core}
-use Rattle.fk_moment.proofs.Asking.{none_ready}
+use Rattle.fk_rounds.proofs.Asking.{none_ready}
 use Rattle.fk_core.proofs.Cutting.{of-unready}
 use Rattle.fk_core.proofs.turns.Core.go_due.Goals as goal
 

@@ -1,6 +1,6 @@
 use Rattle.std.proofs.Common.{refl}
-use Rattle.fk_store.specs.World.{world}
-use Rattle.fk_moment.proofs.Asking.{called_ready, ready_called, ready_due}
+use Rattle.fk_rounds.specs.Kernels.{world_of as world}
+use Rattle.fk_rounds.proofs.Asking.{called_ready, ready_called, ready_due}
 use Rattle.fk_core.proofs.Trying.{tried_as}
 use Rattle.fk_core.proofs.turns.Core.go_job.Goals as goal
 

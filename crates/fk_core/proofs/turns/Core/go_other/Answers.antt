@@ -1,6 +1,6 @@
 use Rattle.std.proofs.lemmas.Bool.{OnTrue_at}
-use Rattle.fk_store.specs.World.{world}
-use Rattle.fk_moment.proofs.Asking.{ready_asked}
+use Rattle.fk_rounds.specs.Kernels.{world_of as world}
+use Rattle.fk_rounds.proofs.Asking.{ready_asked}
 use Rattle.fk_core.proofs.turns.Core.go_other.Goals as goal
 
 pub returns-then-go_said-clause-tried : goal.returns-then-go_said-clause-tried

@@ -1,8 +1,8 @@
 use Rattle.std.proofs.Common.{◌≡◌, ◌∙◌, false, is_some, Some, None, refl, sym, ap, map, subst}
 use Rattle.fk_model.specs.declared.moves.Move.{Move}
 use Rattle.fk_model.specs.declared.moves.Said.TheVariants as says
-use Rattle.fk_served.specs.Served.{told}
-use Rattle.fk_served.proofs.Hearing.{fits-told}
+use Rattle.fk_rounds.specs.Served.{told}
+use Rattle.fk_rounds.proofs.Hearing.{fits-told}
 use Rattle.fk_core.specs.Cores.{run_core, IsAdvanced}
 use Rattle.fk_core.proofs.Proceeding.{spoken, unpicked}
 use Rattle.fk_core.proofs.turns.Core.go_said.Goals as goal

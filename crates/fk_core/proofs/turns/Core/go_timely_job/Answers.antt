@@ -1,5 +1,5 @@
-use Rattle.fk_store.specs.World.{world}
-use Rattle.fk_moment.proofs.Asking.{called_ready, ready_called}
+use Rattle.fk_rounds.specs.Kernels.{world_of as world}
+use Rattle.fk_rounds.proofs.Asking.{called_ready, ready_called}
 use Rattle.fk_core.proofs.Timely.{timely_due}
 use Rattle.fk_core.proofs.Trying.{tried_as}
 use Rattle.fk_core.proofs.turns.Core.go_timely_job.Goals as goal

@@ -1,6 +1,6 @@
 use Rattle.std.proofs.Common.{◌∙◌, sym}
-use Rattle.fk_store.specs.World.{world}
-use Rattle.fk_moment.proofs.Asking.{asked_ready, ready_asked}
+use Rattle.fk_rounds.specs.Kernels.{world_of as world}
+use Rattle.fk_rounds.proofs.Asking.{asked_ready, ready_asked}
 use Rattle.fk_core.proofs.Trying.{tried_as}
 use Rattle.fk_core.proofs.turns.Core.go_told.Goals as goal
 

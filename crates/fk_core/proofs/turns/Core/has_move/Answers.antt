@@ -1,5 +1,5 @@
 use Rattle.std.proofs.Common.{◌↔◌, IsTrue}
-use Rattle.fk_moment.specs.Moments.{seen}
+use Rattle.fk_rounds.specs.Moments.{seen}
 use Rattle.fk_core.specs.Cores.{run_core, IsAnyMove}
 use Rattle.fk_core.proofs.Trying.{there}
 use Rattle.fk_core.proofs.turns.Core.has_move.Goals as goal

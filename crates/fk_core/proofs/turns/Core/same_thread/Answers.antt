@@ -1,5 +1,5 @@
 use Rattle.std.proofs.Common.{◌<◌, IsSome}
-use Rattle.fk_moment.specs.Moments.{seen}
+use Rattle.fk_rounds.specs.Moments.{seen}
 use Rattle.fk_core.specs.Cores.{run_core}
 use Rattle.fk_core.proofs.Trying.{there_by}
 use Rattle.fk_core.proofs.turns.Core.same_thread.Goals as goal

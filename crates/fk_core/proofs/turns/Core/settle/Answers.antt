@@ -1,5 +1,5 @@
 use Rattle.std.proofs.Common.{refl, sym, ◌∙◌}
-use Rattle.fk_store.specs.World.{world}
+use Rattle.fk_rounds.specs.Kernels.{world_of as world}
 use Rattle.fk_core.specs.Cores.{run_core}
 use Rattle.fk_core.proofs.Proceeding.{none-asked, none-left}
 use Rattle.fk_core.proofs.Settles.{busy}

@@ -1,5 +1,5 @@
 use Rattle.std.proofs.Common.{◌∙◌, refl, ap}
-use Rattle.fk_store.specs.World.{world}
+use Rattle.fk_rounds.specs.Kernels.{world_of as world}
 use Rattle.fk_jobs.specs.Jobs.{Queue, unmoved_of}
 use Rattle.fk_core.specs.Cores.{run_core}
 use Rattle.fk_core.proofs.Settles.{fewer, none_of, one_idle, stays}

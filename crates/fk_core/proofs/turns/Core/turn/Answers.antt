@@ -1,4 +1,4 @@
-use Rattle.fk_store.specs.World.{world}
+use Rattle.fk_rounds.specs.Kernels.{world_of as world}
 use Rattle.fk_core.specs.Cores.{run_core}
 use Rattle.fk_core.proofs.Cutting.{keeps_cuts, leaves_strangers, of-ready}
 use Rattle.fk_core.proofs.Leaving.{leaves_the_rest}

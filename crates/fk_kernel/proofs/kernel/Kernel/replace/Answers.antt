@@ -1,18 +1,70 @@
-use Rattle.std.proofs.Common.{ℕ, All, sym, subst}
+use Rattle.std.proofs.Common.{◌≡◌, ℕ, true, All, sym, ap, subst, ◌∙◌}
+use Rattle.fk_model.specs.Objects.Mode.{Running}
 use Rattle.fk_model.specs.Places.{Path}
 use Rattle.fk_model.specs.Valid.{IsValid}
-use Rattle.fk_store.specs.Paths.{path}
+use Rattle.fk_model.specs.World.{World, apply}
+use Rattle.fk_model.specs.World.Change.{Alter}
+use Rattle.fk_model.specs.World.Edit.{Proceed}
+use Rattle.fk_store.specs.Contents.{Contents}
+use Rattle.fk_store.specs.Paths.{path, place}
 use Rattle.fk_store.specs.World.{world}
-use Rattle.fk_kernel.specs.Kernels.{world_of}
-use Rattle.fk_kernel.specs.Replaced.{IsPageThere}
+use Rattle.fk_steps.specs.Kept.{is_user_at}
+use Rattle.fk_steps.specs.Told.{IsStored}
+use Rattle.laws_users.specs.Stood.{is_users_at}
+use Rattle.fk_kernel.specs.Replaced.{rewritten, IsPageThere}
 use Rattle.fk_kernel.proofs.Replacing.{valid-proceeded, valid-rewritten}
+use Rattle.fk_kernel.proofs.Rewrote.{moved_rewritten, others_stay, room_rewritten, user_running, user_stays}
 use Rattle.fk_kernel.proofs.kernel.Kernel.replace.Goals as goal
+
+pub moved-requires : goal.moved-requires
+moved-requires c =
+    let m = c.self.inside.store in
+    let was = c.self.inside.turns in
+    let n = c.proceed.new.self in
+    let thread = c.args.thread in
+    let stored : IsStored m = record {
+      valid = c.self.invariant.valid;
+      born = rw (sym c.self.view_is) at c.names.ensures.born;
+      few = rw (sym c.self.view_is) at c.names.ensures.few;
+    } in
+    let paths : path n ≡ path m = c.proceed.ensures.paths ∙ c.rewrite.ensures.paths in
+    let is : world n ≡ apply (Alter (place (path m) thread) (Proceed (Running c.args.regs.now) c.args.pc)) (rewritten (path m) c.args.pages.now (world m)) =
+    c.proceed.ensures.world
+    ∙ (λ i. apply (Alter (place (c.rewrite.ensures.paths i) thread) (Proceed (Running c.args.regs.now) c.args.pc)) (c.rewrite.ensures.world i)) in
+    let others = others_stay (world m) (world n) (path m) c.args.pages.now (place (path m) thread) c.args.regs.now c.args.pc is in
+    let user : is_user_at m thread ≡ true = user_running m thread stored.born (rw (sym c.self.view_is) at c.requires.running) in
+    let still : is_user_at n thread ≡ true = ap (λ (p : ℕ → Path). is_users_at (world n) (place p thread)) paths
+    ∙ user_stays (world m) (world n) (path m) c.args.pages.now (place (path m) thread) c.args.regs.now c.args.pc is user in
+    record {
+      sound = c.self.invariant.kept.sound;
+      room = room_rewritten m n thread stored paths others user still was.waits was.marks c.self.invariant.kept;
+    }
 
 pub invariant_of-self : goal.invariant_of-self
 invariant_of-self c =
     let m = c.self.inside.store in
-    let all : All (IsPageThere (path m) (world m)) c.args.pages.now = rw c.self.view_is
-    (subst (λ (p : ℕ → Path). All (IsPageThere p (world_of c.args.self.now)) c.args.pages.now) (sym c.names.ensures.born) c.requires) in
-    let rewritten : IsValid (world c.rewrite.new.store) = subst IsValid (sym c.rewrite.ensures.world)
-    (valid-rewritten (path m) c.args.pages.now (world m) all c.self.invariant) in
-    subst IsValid (sym c.proceed.ensures.world) (valid-proceeded (world c.rewrite.new.store) _ _ _ rewritten)
+    let was = c.self.inside.turns in
+    let n = c.proceed.new.self in
+    let thread = c.args.thread in
+    let stored : IsStored m = record {
+      valid = c.self.invariant.valid;
+      born = rw (sym c.self.view_is) at c.names.ensures.born;
+      few = rw (sym c.self.view_is) at c.names.ensures.few;
+    } in
+    let paths : path n ≡ path m = c.proceed.ensures.paths ∙ c.rewrite.ensures.paths in
+    let is : world n ≡ apply (Alter (place (path m) thread) (Proceed (Running c.args.regs.now) c.args.pc)) (rewritten (path m) c.args.pages.now (world m)) =
+    c.proceed.ensures.world
+    ∙ (λ i. apply (Alter (place (c.rewrite.ensures.paths i) thread) (Proceed (Running c.args.regs.now) c.args.pc)) (c.rewrite.ensures.world i)) in
+    let others = others_stay (world m) (world n) (path m) c.args.pages.now (place (path m) thread) c.args.regs.now c.args.pc is in
+    let user : is_user_at m thread ≡ true = user_running m thread stored.born (rw (sym c.self.view_is) at c.requires.running) in
+    let still : is_user_at n thread ≡ true = ap (λ (p : ℕ → Path). is_users_at (world n) (place p thread)) paths
+    ∙ user_stays (world m) (world n) (path m) c.args.pages.now (place (path m) thread) c.args.regs.now c.args.pc is user in
+    let there = rw (sym c.self.view_is) at c.requires.pages in
+    let all : All (IsPageThere (path m) (world m)) c.args.pages.now =
+    subst (λ (p : ℕ → Path). All (IsPageThere p (world m)) c.args.pages.now) (sym stored.born) there in
+    let valid : IsValid (world c.rewrite.new.store) = subst IsValid (sym c.rewrite.ensures.world)
+    (valid-rewritten (path m) c.args.pages.now (world m) all c.self.invariant.valid) in
+    record {
+      valid = subst IsValid (sym c.proceed.ensures.world) (valid-proceeded (world c.rewrite.new.store) _ _ _ valid);
+      kept = c.moved.ensures.kept m c.self.invariant.kept (moved_rewritten m n thread stored paths others user still);
+    }

@@ -1,5 +1,5 @@
 use Rattle.std.proofs.Common.{subst}
-use Rattle.fk_store.specs.World.{world}
+use Rattle.fk_served.specs.Kernels.{world_of as world}
 use Rattle.fk_moment.specs.Moments.{seen, HaveNoActs}
 use Rattle.fk_moment.proofs.Acting.{over, if-none}
 use Rattle.fk_moment.proofs.moment.Moment.find_other.Goals as goal

@@ -1,5 +1,5 @@
 use Rattle.std.proofs.Common.{◌∙◌, sym}
-use Rattle.fk_store.specs.World.{world}
+use Rattle.fk_served.specs.Kernels.{world_of as world}
 use Rattle.fk_moment.proofs.Asking.{asked_ready, ready_asked}
 use Rattle.fk_moment.proofs.moment.Moment.ready.Goals as goal
 

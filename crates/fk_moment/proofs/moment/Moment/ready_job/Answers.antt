@@ -1,4 +1,4 @@
-use Rattle.fk_store.specs.World.{world}
+use Rattle.fk_served.specs.Kernels.{world_of as world}
 use Rattle.fk_moment.proofs.Asking.{called_ready, ready_called, ready_due}
 use Rattle.fk_moment.proofs.moment.Moment.ready_job.Goals as goal
 

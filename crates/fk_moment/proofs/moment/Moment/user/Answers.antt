@@ -1,4 +1,4 @@
-use Rattle.fk_store.specs.World.{world}
+use Rattle.fk_served.specs.Kernels.{world_of as world}
 use Rattle.fk_served.specs.Events.{IsReadyBesides}
 use Rattle.fk_moment.specs.Moments.{seen, IsOthersMove, IsReadyNow}
 use Rattle.fk_moment.proofs.Acting.{runs-other, if-some, if-none}
@@ -8,18 +8,18 @@ use Rattle.fk_moment.proofs.moment.Moment.user.Goals as goal
 pub returns-clause-other : goal.returns-clause-other
 returns-clause-other g c =
     let self = c.args.self.now in
-    if-some c.next_besides.result (λ m. IsReadyBesides (world self.kernel.now) c.porter.result m) (λ m. IsOthersMove self.jobs.now.jobs (seen self) m)
+    if-some c.any_besides.result (λ m. IsReadyBesides (world self.kernel.now) c.porter.result m) (λ m. IsOthersMove self.jobs.now.jobs (seen self) m)
     (λ m ready. runs-other self.jobs.now (world self.kernel.now) self.services.now.list self.events m (rw c.porter.ensures at ready.0) ready.1)
-    c.next_besides.ensures.ready
+    c.any_besides.ensures.ready
 
 pub returns-clause-ready : goal.returns-clause-ready
 returns-clause-ready g c =
     let self = c.args.self.now in
-    if-some c.next_besides.result (λ m. IsReadyBesides (world self.kernel.now) c.porter.result m) (λ m. IsReadyNow self m)
+    if-some c.any_besides.result (λ m. IsReadyBesides (world self.kernel.now) c.porter.result m) (λ m. IsReadyNow self m)
     (λ m ready. others_ready self.jobs.now (world self.kernel.now) self.services.now.list self.events m
     (runs-other self.jobs.now (world self.kernel.now) self.services.now.list self.events m (rw c.porter.ensures at ready.0) ready.1))
-    c.next_besides.ensures.ready
+    c.any_besides.ensures.ready
 
 pub returns-clause-none : goal.returns-clause-none
 returns-clause-none g c =
-    if-none c.next_besides.result _ _ (λ none m other ready. none m (rw c.porter.ensures other, ready)) c.next_besides.ensures.none
+    if-none c.any_besides.result _ _ (λ none m other ready. none m (rw c.porter.ensures other, ready)) c.any_besides.ensures.none

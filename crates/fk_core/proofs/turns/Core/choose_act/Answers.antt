@@ -1,13 +1,13 @@
 use Rattle.std.proofs.Common.{◌<◌, IfSome}
-use Rattle.fk_moment.specs.Moments.{seen}
+use Rattle.fk_rounds.specs.Moments.{seen}
 use Rattle.fk_core.specs.Cores.{run_core, IsReadyMove}
 use Rattle.fk_core.proofs.Trying.{there_by}
-use Rattle.fk_core.proofs.turns.Core.choose_few.Goals as goal
+use Rattle.fk_core.proofs.turns.Core.choose_act.Goals as goal
 
 pub returns-clause-ready : goal.returns-clause-ready
 returns-clause-ready g c =
     let self = c.args.self.now in
     let moment = c.of-moment.result in
-    there_by (λ q budget core. IfSome c.choose_few.result (λ m. (core.events < budget) × IsReadyMove q.jobs core m))
+    there_by (λ q budget core. IfSome c.choose_act.result (λ m. (core.events < budget) × IsReadyMove q.jobs core m))
     self.jobs moment.jobs.now self.budget moment.budget (run_core self) (seen moment) c.of-moment.ensures.jobs c.of-moment.ensures.budget
-    c.of-moment.ensures.seen c.choose_few.ensures
+    c.of-moment.ensures.seen c.choose_act.ensures
