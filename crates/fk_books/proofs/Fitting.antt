@@ -12,8 +12,8 @@ use Rattle.laws_runs.specs.Cores.{IsRun, Settles, Asker, asker, moved_by, job_mo
 use Rattle.laws_runs.specs.Cores.Asker.{Nobody, Others, Job as OfJob}
 use Rattle.laws_runs.specs.Cores.IsRun.{Begins, Goes}
 use Rattle.laws_runs.specs.Cores.Settles.{Stays, Ends}
-use Rattle.fk_served.specs.Served.{Services, AllFit, hears_of}
-use Rattle.fk_served.proofs.Hearing.{fit-after}
+use Rattle.fk_core.specs.Served.{Services, AllFit, hears_of}
+use Rattle.fk_core.proofs.Hearing.{fit-after}
 use Rattle.fk_core.specs.Cores.{RunCore, house}
 
 fits-hears : (rules : List Rule) (w : World) (e : Event) (services : Services) → AllFit rules services → AllFit rules (map (hears_of w e) services)

@@ -8,7 +8,7 @@ use Rattle.laws_house.specs.Laws.{NameUsersSlots}
 use Rattle.laws_runs.specs.Cores.{IsRun}
 use Rattle.laws_runs.specs.Cores.IsRun.{Begins, Goes}
 use Rattle.fk_core.specs.Cores.{house, IsReadyMove, IsTurned}
-use Rattle.fk_served.specs.Served.{AllFit}
+use Rattle.fk_core.specs.Served.{AllFit}
 use Rattle.fk_books.specs.Shown.{Shown, IsSound, Moves, HasRun, HasComeTo, IsFirstDue}
 use Rattle.fk_books.specs.Told.{Told, GoesOn, IsKept, HasOneMore, TakesDue}
 use Rattle.fk_books.proofs.Fitting.{fits_along}

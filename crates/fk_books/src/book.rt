@@ -1,7 +1,7 @@
 //! The book of a run.
 ghost use Rattle.std.specs.Prelude.{◌≡◌, ◌≤◌, ◌+◌, ◌++◌, [], length, map, replicate, vec_capacity, IfOk, OnOk, OnErr};
 ghost use Rattle.std.specs.Bool.{OnTrue, OnFalse};
-ghost use Rattle.fk_served.specs.Served.{AllFit};
+ghost use Rattle.fk_core.specs.Served.{AllFit};
 ghost use Rattle.fk_books.specs.Shown.{IsSound, MayMove, MayBurst, moves_of, HasEnded};
 ghost use Rattle.fk_books.specs.Told.{Told, IsKept, IsSame, IsOneMore, HasMore, HasOneMore, TakesDue, GoesOn};
 

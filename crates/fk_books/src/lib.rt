@@ -14,6 +14,7 @@ mod playable;
 mod plays;
 
 pub use book::{Book, Gone};
+pub use fk_burst::{Leased, count, run};
 pub use fk_model::NoMemory;
 pub use playable::Playable;
 pub use plays::{PlayFail, play_all};

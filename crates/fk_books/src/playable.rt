@@ -1,7 +1,7 @@
 //! What a book asks of its core.
 ghost use Rattle.std.specs.Prelude.{◌≡◌, ◌≤◌, map, IfOk, OnErr, IfNone};
 ghost use Rattle.std.specs.Bool.{OnTrue, OnFalse};
-ghost use Rattle.fk_served.specs.Served.{AllFit};
+ghost use Rattle.fk_core.specs.Served.{AllFit};
 ghost use Rattle.fk_books.specs.Shown.{Shown, MayMove, MayBurst, HasEnded, Moves, MovesSo, moves_of, Comes, IsFirstDue, HasComeTo};
 
 use fk_burst::Leased;

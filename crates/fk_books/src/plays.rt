@@ -1,7 +1,7 @@
 //! Books of traces: each move is made as its line is read.
 ghost use Rattle.std.specs.Prelude.{◌≡◌, List, map, IfOk, IfErr, IfSome, IfNone};
 ghost use Rattle.fk_model.specs.declared.moves.Move as moves_of;
-ghost use Rattle.fk_served.specs.Served.{AllFit};
+ghost use Rattle.fk_core.specs.Served.{AllFit};
 ghost use Rattle.fk_trace_text.specs.Trace.{BeginsWith, BeginsWithNone, Spells};
 ghost use Rattle.fk_books.specs.Shown.{IsSound, MayMove};
 ghost use Rattle.fk_books.specs.Told.{IsKept, IsOneMore};

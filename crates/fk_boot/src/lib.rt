@@ -21,3 +21,4 @@ mod words;
 
 pub use entries::first_store;
 pub use first::{First, boot};
+pub use fk_kernel::Kernel;

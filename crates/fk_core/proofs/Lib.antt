@@ -1,3 +1,4 @@
+pub use Rattle.fk_rounds.proofs.Hearing
 pub mod Turning
 pub mod Histories
 pub mod Cutting

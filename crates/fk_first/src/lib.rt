@@ -9,4 +9,6 @@ mod first;
 mod plans;
 
 pub use first::first_core;
+pub use fk_boot::Kernel;
+pub use fk_core::Core;
 pub use plans::{maker_of, plans_of};

@@ -2,7 +2,7 @@
 use Rattle.std.proofs.Common.{◌≡◌, ℕ, ◌≤◌, List, length, subst, arith}
 use Rattle.fk_commands.specs.declared.prepared.Prepared.{Prepared}
 use Rattle.fk_commands.specs.declared.outcome.Report.{Report}
-use Rattle.fk_core.specs.Cores.{RunCore}
+use Rattle.fk_first.specs.Cores.{RunCore}
 use Rattle.fk_model.specs.declared.job.JobSpec.{JobSpec}
 use Rattle.fk_model.specs.declared.moves.Move.{Move}
 use Rattle.fk_run_reports.specs.Made.{Images, IsMade}

@@ -4,7 +4,7 @@ use Rattle.fk_commands.specs.declared.prepared.Prepared.{Prepared}
 use Rattle.fk_commands.specs.declared.status.Status.{Status}
 use Rattle.fk_commands.specs.Prepared.{ComesTo}
 use Rattle.fk_commands.proofs.Comes.{comes-also}
-use Rattle.fk_core.specs.Cores.{RunCore}
+use Rattle.fk_first.specs.Cores.{RunCore}
 use Rattle.fk_first.specs.First.{IsFirst}
 use Rattle.fk_run_reports.specs.Made.{IsText, IsLine, Images}
 use Rattle.fk_runs.specs.Runs.{IsPlayed, IsAlone, IsPlayedFrom, IsRunFrom, IsSoakFrom}

@@ -2,7 +2,7 @@
 use Rattle.std.proofs.Common.{◌≡◌, ℕ, List, length, Some, ap, ◌∙◌}
 use Rattle.std.specs.List.{slice_get}
 use Rattle.fk_commands.specs.declared.outcome.Report.{Report}
-use Rattle.fk_core.specs.Cores.{RunCore}
+use Rattle.fk_first.specs.Cores.{RunCore}
 use Rattle.fk_workers.specs.Served.{servers}
 use Rattle.fk_image.specs.declared.image.Image.{Image}
 use Rattle.fk_report.specs.declared.job_end.JobEnd.TheVariants as told

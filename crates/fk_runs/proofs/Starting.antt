@@ -3,8 +3,8 @@ use Rattle.std.proofs.Common.{◌≡◌, ℕ, ◌+◌, ◌≤◌, List, refl, sy
 use Rattle.fk_model.specs.declared.moves.Move.{Move}
 use Rattle.fk_model.specs.Runs.{Event}
 use Rattle.fk_model.specs.Searches.{depth}
-use Rattle.fk_core.specs.Cores.{RunCore, house}
-use Rattle.fk_core.specs.Goings.{HasCome}
+use Rattle.fk_first.specs.Cores.{RunCore, house}
+use Rattle.fk_first.specs.Goings.{HasCome}
 use Rattle.fk_workers.specs.Shown.{IsSound}
 use Rattle.laws_house.specs.Houses as houses
 use Rattle.laws_house.specs.Houses.{Job}

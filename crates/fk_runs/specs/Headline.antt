@@ -2,7 +2,7 @@
 use Rattle.std.specs.Prelude.{◌≡◌, ℕ, ◌+◌, ◌<◌, true, List, take, Some}
 use Rattle.std.specs.List.{slice_get}
 use Rattle.fk_commands.specs.declared.outcome.Report.{Report}
-use Rattle.fk_core.specs.Cores.{RunCore}
+use Rattle.fk_first.specs.Cores.{RunCore}
 use Rattle.fk_first.specs.First.{IsFirst}
 use Rattle.fk_image.specs.declared.image.Image.{Image}
 use Rattle.fk_image.specs.Picture.{picture}

@@ -7,7 +7,7 @@ use Rattle.fk_commands.specs.declared.status.Status.{Status}
 use Rattle.fk_commands.specs.declared.status.Status.TheVariants.{BadTrace}
 use Rattle.fk_commands.specs.declared.outcome.Outcome.{Outcome}
 use Rattle.fk_commands.specs.declared.outcome.Report.{Report}
-use Rattle.fk_core.specs.Cores.{RunCore, house}
+use Rattle.fk_first.specs.Cores.{RunCore, house}
 use Rattle.fk_report.specs.declared.end.End.TheVariants as ends
 use Rattle.fk_first.specs.First.{IsFirst}
 use Rattle.fk_job_ends.specs.Ends.{told_in, image_of}

@@ -1,8 +1,8 @@
 //! Whole runs, from their first core to what is written of them.
 ghost use Rattle.std.specs.Prelude.{◌≡◌, ◌≤◌, [], map, IfOk, IfErr};
 ghost use Rattle.fk_commands.specs.Prepared.{ComesTo, IsRefusal};
-ghost use Rattle.fk_core.specs.Cores.{run_core};
-ghost use Rattle.fk_core.specs.Goings.{IsGoing};
+ghost use Rattle.fk_first.specs.Cores.{run_core};
+ghost use Rattle.fk_first.specs.Goings.{IsGoing};
 ghost use Rattle.fk_run_reports.specs.Made.{IsMade, IsText, IsLine};
 ghost use Rattle.fk_runs.specs.Runs.{IsPlayed, IsAlone};
 ghost use Rattle.fk_workers.specs.Served.{AllFit};
@@ -10,8 +10,8 @@ ghost use Rattle.laws_house.specs.Houses.{jobs_of};
 
 use fk_causes::Gate;
 use fk_commands::{Prepared, Status};
-use fk_core::Core;
 use fk_finish::ValidImage;
+use fk_first::Core;
 use fk_model::{JobSpec, NoMemory};
 use fk_natives::Service;
 use fk_porters::Porter;

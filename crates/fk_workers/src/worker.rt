@@ -5,8 +5,7 @@ ghost use Rattle.fk_books.specs.Served.{AllFit};
 ghost use Rattle.fk_books.specs.Shown.{HasEnded};
 ghost use Rattle.fk_books.specs.Told.{Told, IsKept, IsSame, GoesOn};
 
-use fk_books::{Book, Gone, Playable};
-use fk_burst::{Leased, count, run};
+use fk_books::{Book, Gone, Leased, Playable, count, run};
 use fk_causes::Gate;
 use fk_model::NoMemory;
 use fk_responders::Table;

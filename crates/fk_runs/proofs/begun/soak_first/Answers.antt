@@ -1,5 +1,5 @@
 use Rattle.std.proofs.Common.{map}
-use Rattle.fk_core.specs.Cores.{run_core}
+use Rattle.fk_first.specs.Cores.{run_core}
 use Rattle.fk_runs.proofs.From.{soak-from}
 use Rattle.fk_runs.proofs.begun.soak_first.Goals as goal
 

@@ -1,5 +1,5 @@
 use Rattle.std.proofs.Common.{refl}
-use Rattle.fk_core.specs.Cores.{run_core}
+use Rattle.fk_first.specs.Cores.{run_core}
 use Rattle.fk_runs.specs.Runs.{begun}
 use Rattle.fk_runs.proofs.Starting.{may_begin}
 use Rattle.fk_runs.proofs.Made.{played}

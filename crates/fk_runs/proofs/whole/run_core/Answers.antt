@@ -1,4 +1,4 @@
-use Rattle.fk_core.specs.Cores.{run_core}
+use Rattle.fk_first.specs.Cores.{run_core}
 use Rattle.fk_run_reports.specs.Made.{IsText}
 use Rattle.fk_runs.proofs.Starting.{may_begin}
 use Rattle.fk_runs.proofs.Made.{alone}

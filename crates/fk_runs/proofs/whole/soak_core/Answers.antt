@@ -1,5 +1,5 @@
 use Rattle.std.proofs.Common.{[]}
-use Rattle.fk_core.specs.Cores.{run_core}
+use Rattle.fk_first.specs.Cores.{run_core}
 use Rattle.fk_run_reports.specs.Made.{IsLine}
 use Rattle.fk_runs.proofs.Starting.{may_begin}
 use Rattle.fk_runs.proofs.Made.{alone}

@@ -1,5 +1,5 @@
 use Rattle.std.proofs.Common.{[], ◌≤◌, length, sym, ap, subst, ◌∙◌}
-use Rattle.fk_core.specs.Cores.{run_core}
+use Rattle.fk_first.specs.Cores.{run_core}
 use Rattle.fk_run_reports.specs.Made.{IsLine}
 use Rattle.fk_runs.proofs.Books.{counted, few, made_of}
 use Rattle.fk_runs.proofs.whole.soaked_of.Goals as goal
