@@ -4,7 +4,7 @@
 //! and one slot keeps all that is promised here. Whoever takes a turn meets a value that was begun from
 //! what the pass knows (`Counted::Boot`), and that counts at least what the pass has seen; so what was done
 //! in one turn isn't undone for another, and a closed lock gives back the value that all turns left. Those
-//! who wait are served in the order in which they came. That a turn comes at all isn't promised.
+//! who wait with a ticket are served in the order in which they drew it. That a turn comes at all isn't promised.
 #![tactic(auto)]
 
 mod counted;

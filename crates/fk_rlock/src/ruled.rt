@@ -10,6 +10,7 @@ use crate::view::{About, View};
 use atomic_table::{Refused, Seat, Table};
 use fk_model::NoMemory;
 use std::alloc::Global;
+use std::hint::spin_loop;
 use std::marker::Model;
 use std::snapshot::Snapshot;
 use std::sync::Wait;
@@ -24,7 +25,30 @@ const SERVING: usize = 1;
 // The count of the value at home.
 const FRONT: usize = 2;
 
-/// A lock round a value whose count never falls. Those who wait are served in the order in which they came.
+// So many looks are made at most before a ticket is drawn, the first ones without letting other threads run.
+const LOOKS: u32 = 4096;
+
+const FIRST_LOOKS: u32 = 64;
+
+// Between two of these.
+const PAUSE: u32 = 16;
+
+// So many looks for its turn are made without letting other threads run.
+const NEAR_LOOKS: u32 = 256;
+
+// Waits between two looks: on the processor at first, since a turn is short, and then while other threads run.
+fn rest(look: u32) {
+    if look < FIRST_LOOKS {
+        for _ in 0..PAUSE {
+            spin_loop();
+        }
+    } else {
+        yield_now();
+    }
+}
+
+/// A lock round a value whose count never falls. Those who wait with a ticket are served in the order in which they drew it; who comes while
+/// another is served waits a while before it draws one.
 /// It is cut into at most nine parts, of which each pass has some; where they all are in one pass, the lock can be closed.
 #[derive(Drop)]
 pub struct Ruled<T: Counted> {
@@ -73,13 +97,40 @@ impl<T: Counted> Ruled<T> {
         self.table.shared.fetch_add::<Draw>(seat, TICKET, 1)
     }
 
-    // Waits until the ticket is served, and lets other threads run between two looks.
+    // Whether nobody has a turn or waits for one.
+    fn is_free(&self) -> bool {
+        self.table.shared.peek(SERVING) == self.table.shared.peek(TICKET)
+    }
+
+    // Waits a while until nobody has a turn. A ticket holds up all that are drawn behind it, also while its thread doesn't run; so who comes while
+    // another has its turn draws none yet.
+    fn await_free(&self) {
+        for look in 0..LOOKS {
+            if self.is_free() {
+                return;
+            }
+            rest(look);
+        }
+    }
+
+    // Waits a while for a ticket's turn without letting other threads run.
+    fn linger(&self, ticket: u64) {
+        for _ in 0..NEAR_LOOKS {
+            if self.table.shared.peek(SERVING) == ticket {
+                return;
+            }
+            spin_loop();
+        }
+    }
+
+    // Waits until the ticket is served: for a while on the processor, and then other threads run between two looks.
     fn await_turn<R: Wait>(&self, rt: &R, seat: &mut Seat<T, View<T::Boot>>, ticket: u64)
         requires lock { seat.old.table_id ≡ self.now.id }
         requires drawn { (t : ℕ) × (t % 2 ^ 64 ≡ ticket) × (seat.old.me ≡ (queued t seat.old.me.0.seen seat.old.me.0.parts seat.old.me.0.boot, [])) }
         ensures lock { seat.new.table_id ≡ seat.old.table_id }
         ensures called { (t : ℕ) × (seat.new.me ≡ (called t seat.old.me.0.seen seat.old.me.0.parts seat.old.me.0.boot, [])) }
     {
+        self.linger(ticket);
         for _ in rt.forever() {
             if self.table.shared.load::<Look>(seat, SERVING) == ticket {
                 return;
@@ -96,6 +147,7 @@ impl<T: Counted> Ruled<T> {
         ensures lock { seat.new.table_id ≡ seat.old.table_id }
         ensures entered { Entered T.boot T.counted seat.old.me.0 seat.new.me }
     {
+        self.await_free();
         let ticket = self.draw(seat);
         self.await_turn(rt, seat, ticket);
         self.table.shared.load::<Learn>(seat, FRONT);
