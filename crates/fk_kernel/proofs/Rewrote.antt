@@ -15,7 +15,6 @@ use Rattle.fk_model.specs.World.Change.{Alter, PutPage}
 use Rattle.fk_model.specs.World.Edit.{Proceed}
 use Rattle.fk_model.proofs.walks.PlaceLaws.{same_path_eq, same_path_refl}
 use Rattle.fk_store.specs.Contents.{Contents}
-use Rattle.fk_store.specs.Names.{at}
 use Rattle.fk_store.specs.Paths.{path}
 use Rattle.fk_store.specs.World.{world, place_of}
 use Rattle.fk_steps.specs.Kept.{is_user_at, AreKept}
@@ -30,9 +29,9 @@ use Rattle.fk_wakes.specs.declared.touching.Touched.{Touched}
 use Rattle.fk_wakes.specs.declared.touching.Touched.TheVariants.{Few}
 use Rattle.fk_whys.specs.declared.whys.Why.{Why}
 use Rattle.fk_whys.specs.declared.whys.Why.TheVariants as whys
-use Rattle.fk_whys.specs.Whys.{reason_by}
+use Rattle.fk_whys.specs.Whys.{IsAt, IsStill, IsWhy}
+use Rattle.fk_whys.proofs.Apart.{at_after, still_after}
 use Rattle.laws_users.specs.Stood.{is_users_at}
-use Rattle.laws_waits.specs.Stuck.{IsStuck}
 use Rattle.fk_kernel.specs.declared.replace.BurstPage.{BurstPage}
 use Rattle.fk_kernel.specs.Replaced.{rewritten}
 
@@ -43,6 +42,24 @@ rewritten_bodies : (p : ℕ → Path) (ps : List BurstPage) (w : World) → (rew
 unfolding rewritten apply
 rewritten_bodies p [] w = refl
 rewritten_bodies p (page ∷ ps) w = rewritten_bodies p ps (apply (PutPage (p page.space) page.page page.words) w)
+
+-- and the reasons of all threads
+rewritten_still : (p : ℕ → Path) (ps : List BurstPage) (w : World) (x : Path) → IsStill w x → IsStill (rewritten p ps w) x
+unfolding rewritten
+rewritten_still p [] w x why = why
+rewritten_still p (page ∷ ps) w x why =
+    let put = PutPage (p page.space) page.page page.words in rewritten_still p ps (apply put w) x (still_after w put x why tt refl)
+
+rewritten_at : (p : ℕ → Path) (ps : List BurstPage) (w : World) (x key : Path) → IsAt w x key → IsAt (rewritten p ps w) x key
+unfolding rewritten
+rewritten_at p [] w x key why = why
+rewritten_at p (page ∷ ps) w x key why =
+    let put = PutPage (p page.space) page.page page.words in rewritten_at p ps (apply put w) x key (at_after w put x key why tt refl refl)
+
+-- what is left of reasons where what stands at one place has changed
+record LeavesWhys (w v : World) (place : Path) : Type 0 where
+  own : (x : Path) → same_path x place ≡ false → IsStill w x → IsStill v x
+  other : (x key : Path) → same_path x place ≡ false → same_path key place ≡ false → IsAt w x key → IsAt v x key
 
 abbrev user_in : Option Body → Bool
 user_in o = holds (λ (t : Thread). not (is_porter t.mode)) (and_then thread_of o)
@@ -67,6 +84,16 @@ module _ (w v : World) (p : ℕ → Path) (ps : List BurstPage) (place : Path) (
       ap (λ (u : World). u.body x) is
       ∙ ap (λ (b : Bool). if b then option_map (edited (Proceed (Running registers) counter)) ((rewritten p ps w).body x) else (rewritten p ps w).body x) off
       ∙ ap (λ (bodies : Path → Option Body). bodies x) (rewritten_bodies p ps w)
+
+  -- and so do the reasons of the others
+  pub leaves_whys : LeavesWhys w v place
+  leaves_whys =
+      let goes = Alter place (Proceed (Running registers) counter) in
+      record {
+        own = λ x off why. subst (λ (u : World). IsStill u x) (sym is) (still_after (rewritten p ps w) goes x (rewritten_still p ps w x why) tt off);
+        other = λ x key off apart why. subst (λ (u : World). IsAt u x key) (sym is)
+            (at_after (rewritten p ps w) goes x key (rewritten_at p ps w x key why) tt off apart);
+      }
 
   -- the thread is a user's still
   pub user_stays : is_users_at w place ≡ true → is_users_at v place ≡ true
@@ -110,7 +137,7 @@ nobody = Few None None None
 
 module _ (m n : Contents) (thread : Who) (stored : IsStored m) (paths : path n ≡ path m)
     (others : (x : Path) → same_path x (place_of m thread) ≡ false → (world n).body x ≡ (world m).body x) (was : is_user_at m thread ≡ true)
-    (user : is_user_at n thread ≡ true) where
+    (user : is_user_at n thread ≡ true) (left : LeavesWhys (world m) (world n) (place_of m thread)) where
   at_same : (who : Who) → place_of n who ≡ place_of m who
   at_same who = ap (λ (p : ℕ → Path). who.slot ∷ p who.space) paths
 
@@ -141,19 +168,23 @@ module _ (m n : Contents) (thread : Who) (stored : IsStored m) (paths : path n �
       by true e = subst (λ (w : Who). is_user_at m w ≡ true) (same_who thread who e) was
       by false e = sym (users_same who e) ∙ is
 
-  still : (who : Who) (why : Why) → is_told thread nobody who ≡ false → IsAside thread nobody who why → IsStuck (world m) (place_of m who) (reason_by why) →
-      IsStuck (world n) (place_of n who) (reason_by why)
-  still who whys.Resting off aside stuck = rw (body_same who (untold who off)) stuck
-  still who (whys.Locking mutex) off aside stuck =
-      rw (body_same who (untold who off), body_same (at who.space mutex) (untold (at who.space mutex) aside)) stuck
-  still who whys.Barred off aside stuck = absurd aside
+  still : (who : Who) (why : Why) → is_told thread nobody who ≡ false → IsAside thread nobody why → IsWhy (world m) (path m) (place_of m who) why →
+      IsWhy (world n) (path n) (place_of n who) why
+  still who whys.Still off aside is =
+      subst (λ (x : Path). IsStill (world n) x) (sym (at_same who)) (left.own (place_of m who) (apart who (untold who off)) is)
+  still who (whys.At key) off aside is =
+      subst (λ (x : Path). IsAt (world n) x (place_of n key)) (sym (at_same who))
+      (subst (λ (x : Path). IsAt (world n) (place_of m who) x) (sym (at_same key))
+      (left.other (place_of m who) (place_of m key) (apart who (untold who off)) (apart key (untold key aside)) is))
+  still who whys.Loud off aside is = absurd aside
+  still who whys.Barred off aside is = absurd aside
 
   pub moved_rewritten : IsMoved m n thread nobody
   moved_rewritten = record {
     users = λ who off. users_same who (untold who off);
     grown = λ who is off. grown who is;
     left = tt;
-    stays = λ few who why off aside stuck. still who why off aside stuck;
+    stays = λ few who why off aside user is. still who why off aside is;
   }
 
   pub room_rewritten : (waits marks : Lists) → AreKept m waits marks → HasRoom n thread nobody waits marks

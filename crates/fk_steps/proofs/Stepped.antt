@@ -19,22 +19,25 @@ use Rattle.fk_turns_next.specs.Tellings.{Told}
 use Rattle.fk_turns_next.specs.Judgements.{is_fit_move, may_lack, IsReadyMove, IsStepTo, TellsTouched}
 use Rattle.fk_turns_next.specs.Tried.{IsLacking, IsMade, IsUnready, TellsOf}
 use Rattle.fk_turns.specs.Turns.{waits_at}
-use Rattle.fk_turns_told.specs.Kept.{is_user_at, AreKept, IsFiled, IsFiledAs}
+use Rattle.fk_turns_told.specs.Kept.{is_user_at, AreKept}
 use Rattle.fk_turns_told.specs.Moved.{now_named, HasPlaceFor, HasRoom, IsLeft, IsMoved}
 use Rattle.fk_turns_next.specs.Waiting.{standing, ComesAfter, IsPlaced}
-use Rattle.fk_turns_told.specs.Told.{IsMadeTo, IsStored, IsToldOf}
+use Rattle.fk_turns_told.specs.Told.{IsMadeTo, IsRunning, IsStored, IsToldOf}
+use Rattle.fk_turns_told.proofs.After.{refiled}
+use Rattle.fk_turns_told.proofs.Quiet.{told_quiet}
 use Rattle.fk_turns_told.proofs.Told.{told_moves_leave, told_names}
 use Rattle.fk_waits.specs.Lists.{is_in, is_queued, Lists}
 use Rattle.fk_waits_causes.proofs.Numbers.{clash}
 use Rattle.fk_wakes.specs.declared.touching.Touched.{Touched}
 use Rattle.fk_wakes.specs.declared.touching.Touched.TheVariants.{Any, Dies, Few, Makes, Moves}
 use Rattle.fk_wakes.specs.Touches.{is_making}
-use Rattle.fk_whys.specs.declared.whys.Why.{Why}
-use Rattle.fk_whys.specs.declared.whys.Why.TheVariants as whys
-use Rattle.fk_whys.specs.Whys.{reason_by}
 use Rattle.laws_machine.proofs.validity.Steps.{step_keeps_valid_lem}
-use Rattle.laws_waits.specs.Stuck.{IsStuck}
-use Rattle.fk_steps.specs.Steps.{was_made, HasSeat, IsPut, IsWider}
+use Rattle.fk_steps.specs.Steps.{was_made, HasSeat, IsPut, IsWider, MayBeQuiet}
+
+-- what is no instruction
+pub never_quiet : (n : Contents) (mover : Who) (made : Bool) (touched : Touched) (waits marks : Lists) → OnTrue made (MayBeQuiet n mover false touched waits marks)
+never_quiet n mover true touched waits marks = λ never alone on. absurd (cc)
+never_quiet n mover false touched waits marks = tt
 
 -- ---- room
 
@@ -43,16 +46,9 @@ pub kept_wider : (m : Contents) (waits marks now then_marks : Lists) → AreKept
 kept_wider m waits marks now then_marks kept wider = record {
   each = λ who. (λ i. is_in who (wider.ready i) || is_queued who (wider.queued i)) ∙ kept.each who;
   sound = wider.sound;
-  filed = λ cause who here. filed cause who (kept.filed cause who (ap (waits_at cause who) (sym wider.queued) ∙ here));
+  filed = λ who here. refiled m marks then_marks who (kept.filed who (ap (is_queued who) (sym wider.queued) ∙ here)) (λ is. ap (is_in who) wider.marked ∙ is)
+      (λ key is. ap (waits_at key who) wider.keyed ∙ is);
 }
-  where
-    filed : (cause who : Who) → IsFiled m marks cause who → IsFiled m then_marks cause who
-    filed cause who was = by was.why was.stuck was.filed
-      where
-        by : (y : Why) → IsStuck (world m) (place_of m who) (reason_by y) → IsFiledAs marks cause who y → IsFiled m then_marks cause who
-        by whys.Resting s f = record { why = whys.Resting; stuck = s; filed = tt }
-        by (whys.Locking mutex) s f = record { why = whys.Locking mutex; stuck = s; filed = f }
-        by whys.Barred s f = record { why = whys.Barred; stuck = s; filed = ap (is_in who) wider.marked ∙ f }
 
 -- what is told stands, or has room
 has_room : (m n : Contents) (mover : Who) (touched : Touched) (waits marks : Lists) → AreKept m waits marks → IsMoved m n mover touched →
@@ -159,6 +155,26 @@ module _ (m n : Contents) (move : Move) (ask : Ask) (valid : IsValid (world m)) 
         OnTrue b (ComesAfter n move.who touched waits marks)
     comes_true waits marks said true kept room made tells = comes waits marks kept (seat_by waits marks room tells) said made.0 made.1 tells
     comes_true waits marks said false kept room made tells = tt
+
+    pub quiet_true : (waits marks : Lists) (said : Said) (b ran : Bool) → AreKept m waits marks → (may_lack m move ask ≡ true → HasSeat waits marks) →
+        ask ≡ asks.Run → OnTrue ran (IsRunning m move.who) → OnTrue b (IsReadyMove m move ask × IsStepTo m move ask n said) →
+        OnTrue b (TellsTouched m move ask touched) → OnTrue b (MayBeQuiet n move.who ran touched waits marks)
+    quiet_true waits marks said false ran kept room runs running made tells = tt
+    quiet_true waits marks said true false kept room runs running made tells = λ never alone on. absurd (cc)
+    quiet_true waits marks said true true kept room runs running made tells = λ so alone on.
+        let new : IsStored n = record { valid = kept_valid said made.1; born = born_new; few = few_new } in
+        let was : IsMadeTo m n move.who (picked_by (path m) move.pick) ask =
+        record { fit = fit; ready = made.0; step = ap (λ (s : Step). s.world) (sym made.1) } in
+        let told : IsToldOf m move.who (picked_by (path m) move.pick) ask (Few None None None) =
+        subst (IsToldOf m move.who (picked_by (path m) move.pick) ask) alone (told_of tells) in
+        record {
+          before = m;
+          kept = kept;
+          moved = told_moves_leave m n move.who (picked_by (path m) move.pick) ask (Few None None None) old new was told;
+          quiet = told_quiet m n move.who (picked_by (path m) move.pick) old new
+              (subst (IsMadeTo m n move.who (picked_by (path m) move.pick)) runs was)
+              (subst (λ (a : Ask). IsToldOf m move.who (picked_by (path m) move.pick) a (Few None None None)) runs told) running on;
+        }
 
     pub put_true : (waits : Lists) (said : Said) (b : Bool) → OnTrue b (IsReadyMove m move ask × IsStepTo m move ask n said) →
         OnTrue b (TellsTouched m move ask touched) →

@@ -1,29 +1,28 @@
 -- Went: the lists after a move of a thread that runs on and touches nobody else.
-use Rattle.std.proofs.Common.{◌≡◌, ◌&&◌, ◌||◌, ◌==◌, ℕ, Bool, true, false, not, [], Option, Some, None, is_none, option_map, refl, sym, ap}
+use Rattle.std.proofs.Common.{◌≡◌, ◌&&◌, ◌||◌, ◌==◌, ℕ, Bool, true, false, not, [], ◌⊎◌, Option, Some, None, is_none, option_map, inl, inr, refl, sym, ap}
 use Rattle.std.proofs.Common.{subst, ◌∙◌}
-use Rattle.std.proofs.lemmas.Bool.{and_parts, or_from}
+use Rattle.std.proofs.lemmas.Bool.{and_parts, or_from, or_right}
 use Rattle.std.specs.Bool.{OnTrue, OnFalse}
 use Rattle.fk_model.specs.declared.names.Who.{Who}
 use Rattle.fk_model.specs.declared.thread.Mode as modes_of
 use Rattle.fk_model.specs.declared.thread.Mode.TheVariants as modes
 use Rattle.fk_model.specs.declared.thread.Thread as threads_of
 use Rattle.fk_model.specs.Holds.{decider, is_free, is_porter}
-use Rattle.fk_model.specs.Objects.{Body, Thread, and_then, holds, mutex_of, thread_of}
-use Rattle.fk_model.specs.Objects.Body.{Cond, Mapping, Mutex, Port, Portset, Reference, Region, Space, Thread_of}
+use Rattle.fk_model.specs.Objects.{Thread, holds}
 use Rattle.fk_model.specs.Places.{Path, parent}
 use Rattle.fk_model.specs.Searches.{thread_at}
 use Rattle.fk_model.specs.World.{World}
 use Rattle.fk_store.specs.Bodies.{fault_by, thread_by}
 use Rattle.fk_store.specs.Contents.{Contents}
-use Rattle.fk_store.specs.Names.{at}
+use Rattle.fk_store.specs.Paths.{path}
 use Rattle.fk_store.specs.World.{world, place_of}
-use Rattle.fk_turns.specs.Turns.{waits_at, IsSound}
-use Rattle.fk_turns.proofs.Woken.{queued_off, stands_woken, waits_less}
+use Rattle.fk_turns.specs.Turns.{loud_cause, waits_at, IsSound}
+use Rattle.fk_turns.proofs.Woken.{queued_less, queued_off, stands_woken, waits_cause}
 use Rattle.fk_turns_told.specs.Kept.{is_user_at, AreKept, IsFiled, IsFiledAs}
 use Rattle.fk_turns_told.specs.Moved.{is_named, is_told, IsMoved}
-use Rattle.fk_turns_told.proofs.After.{waits_queued}
-use Rattle.fk_turns_next.specs.Waiting.{IsMoveReady}
-use Rattle.fk_waits.specs.Lists.{is_in, is_queued, stands, without_queued, woken, Lists}
+use Rattle.fk_turns_told.specs.Told.{is_going, runs_on_at, IsQuietTo, IsRunning}
+use Rattle.fk_turns_next.specs.Waiting.{ComesAfter, IsMoveReady}
+use Rattle.fk_waits.specs.Lists.{is_cause, is_in, is_queued, stands, without_queued, woken, Lists}
 use Rattle.fk_waits_causes.proofs.Numbers.{clash}
 use Rattle.fk_waits_names.specs.Names.{is_same}
 use Rattle.fk_waits_names.proofs.Order.{same_who}
@@ -31,10 +30,10 @@ use Rattle.fk_wakes.specs.declared.touching.Touched.{Touched}
 use Rattle.fk_wakes.specs.declared.touching.Touched.TheVariants.{Any, Dies, Few, Makes, Moves}
 use Rattle.fk_whys.specs.declared.whys.Why.{Why}
 use Rattle.fk_whys.specs.declared.whys.Why.TheVariants as whys
-use Rattle.fk_whys.specs.Whys.{reason_by}
+use Rattle.fk_whys.specs.Whys.{IsWhy}
+use Rattle.fk_whys.proofs.Apart.{key_lone}
 use Rattle.laws_waits.proofs.Complete.{free_runners_are_ready}
-use Rattle.laws_waits.specs.Stuck.{IsStuck}
-use Rattle.fk_steps.specs.Steps.{is_running, runs_on, touches_nobody, IsTurned}
+use Rattle.fk_steps.specs.Steps.{is_running, runs_on, touches_nobody, IsTurned, MayBeQuiet}
 
 -- ---- who runs on
 
@@ -51,15 +50,20 @@ module _ (w : World) (x : Path) (p : ℕ → Path) (t : threads_of.Thread) (ther
   pub runs_user : holds (λ (t : Thread). not (is_porter t.mode)) (thread_at w x) ≡ true
   runs_user = rw (there, mode_is) refl
 
+  no_fault : (o : Option _) → is_none o ≡ true → is_none (option_map (fault_by p) o) ≡ true
+  no_fault None is = refl
+  no_fault (Some fault) is = absurd (cc)
+
+  pub runs_going : holds (λ (t : Thread). is_going t.mode && is_none t.fault) (thread_at w x) ≡ true
+  runs_going =
+      let rest = (and_parts (is_running t.mode) (t.stops == 0 && is_none t.fault) runs).1 in
+      rw (there, mode_is) (no_fault t.fault (and_parts (t.stops == 0) (is_none t.fault) rest).1)
+
   pub runs_up : ((q : Path) → decider w q ≡ None) → IsMoveReady w x
   runs_up unheld = (None, free_runners_are_ready w x (thread_by p t) t.regs unheld there free (rw mode_is refl))
     where
       rest : (t.stops == 0 && is_none t.fault) ≡ true
       rest = (and_parts (is_running t.mode) (t.stops == 0 && is_none t.fault) runs).1
-
-      no_fault : (o : Option _) → is_none o ≡ true → is_none (option_map (fault_by p) o) ≡ true
-      no_fault None is = refl
-      no_fault (Some fault) is = absurd (cc)
 
       free : is_free w (parent x) (thread_by p t) ≡ true
       free = rw (
@@ -69,9 +73,25 @@ module _ (w : World) (x : Path) (p : ℕ → Path) (t : threads_of.Thread) (ther
         no_fault t.fault (and_parts (t.stops == 0) (is_none t.fault) rest).1,
       ) refl
 
+-- a thread that runs, in a store
+pub running : (m : Contents) (who : Who) (t : threads_of.Thread) (b : Bool) → Some (thread_by (path m) t) ≡ thread_at (world m) (place_of m who) →
+    b ≡ is_running t.mode → OnTrue b (IsRunning m who)
+running m who t false there is = tt
+running m who t true there is = by t.mode refl (sym is)
+  where
+    by : (k : modes_of.Mode) → t.mode ≡ k → is_running t.mode ≡ true → IsRunning m who
+    by modes.Running e h = record { thread = thread_by (path m) t; registers = t.regs; there = sym there; mode = rw e refl }
+    by modes.Calling e h = let off : false ≡ true = rw e at h in absurd (cc)
+    by (modes.Halted code) e h = let off : false ≡ true = rw e at h in absurd (cc)
+    by modes.Native e h = let off : false ≡ true = rw e at h in absurd (cc)
+
 pub on_going : {P : Type 0} (b g : Bool) → b ≡ g → (g ≡ true → P) → OnTrue b P
 on_going true g e f = f (sym e)
 on_going false g e f = tt
+
+pub on_right : {P Q : Type 0} (b : Bool) → OnTrue b Q → OnTrue b (P ⊎ Q)
+on_right true q = inr q
+on_right false q = tt
 
 pub anyway : {P : Type 0} (b : Bool) → P → OnTrue b P
 anyway true p = p
@@ -98,24 +118,44 @@ turned_if false who waits marks now then_marks turned stood none same = tt
 
 -- ---- the lists
 
--- no body is both a mutex and a thread
-not_both : (f : Thread → Bool) (o : Option Body) → and_then mutex_of o ≡ Some true → holds f (and_then thread_of o) ≡ true → ⊥
-not_both f None locked is = absurd (cc)
-not_both f (Some (Mutex b)) locked is = absurd (cc)
-not_both f (Some Cond) locked is = absurd (cc)
-not_both f (Some (Mapping window)) locked is = absurd (cc)
-not_both f (Some (Region extent)) locked is = absurd (cc)
-not_both f (Some (Port set served)) locked is = absurd (cc)
-not_both f (Some Portset) locked is = absurd (cc)
-not_both f (Some (Space birth holder)) locked is = absurd (cc)
-not_both f (Some (Thread_of t)) locked is = absurd (cc)
-not_both f (Some (Reference to)) locked is = absurd (cc)
-
 abbrev nobody : Touched
 nobody = Few None None None
 
+-- a move leaves the reasons of all others that are queued, but of whom any change may free
+abbrev Leaves : Contents → Contents → Who → Lists → Type 0
+Leaves m n mover marks = (x : Who) (why : Why) → is_same mover x ≡ false → is_user_at m x ≡ true → IsFiledAs marks x why →
+    IsWhy (world m) (path m) (place_of m x) why → (why ≡ whys.Barred → ⊥) → IsWhy (world n) (path n) (place_of n x) why
+
+-- so does an instruction
+left_quiet : (m n : Contents) (mover : Who) (marks : Lists) → IsQuietTo m n mover → Leaves m n mover marks
+left_quiet m n mover marks quiet x why other user filed is some = quiet.quiet x why other user some is
+
+-- and so does any move that touches nobody else, where nobody is queued whom any move may free
+module _ (m n : Contents) (mover : Who) (marks : Lists) (moved : IsMoved m n mover nobody) (own : is_user_at m mover ≡ true)
+    (hushed : is_cause loud_cause marks.queued ≡ false) where
+  apart : (x : Who) → is_same mover x ≡ false → is_told mover nobody x ≡ false
+  apart x e = or_from (is_same mover x) (is_named nobody x) e refl
+
+  -- who moved is nothing that a reason reads
+  aside : (key : Who) → thread_at (world m) (place_of m key) ≡ None → is_same mover key ≡ false
+  aside key lone = unlike (is_same mover key) refl
+    where
+      unlike : (t : Bool) → is_same mover key ≡ t → is_same mover key ≡ false
+      unlike false e = e
+      unlike true e =
+          clash (is_user_at m key) (subst (λ (w : Who). is_user_at m w ≡ true) (same_who mover key e) own)
+          (ap (holds (λ (t : Thread). not (is_porter t.mode))) lone)
+
+  left_hushed : Leaves m n mover marks
+  left_hushed x whys.Still other user filed is some = moved.stays refl x whys.Still (apart x other) tt user is
+  left_hushed x (whys.At key) other user filed is some =
+      moved.stays refl x (whys.At key) (apart x other) (apart key (aside key (key_lone (world m) (place_of m x) (place_of m key) is))) user is
+  left_hushed x whys.Loud other user filed is some =
+      clash (is_cause loud_cause marks.queued) (waits_cause loud_cause x marks.queued filed) hushed
+  left_hushed x whys.Barred other user filed is some = absurd (some refl)
+
 module _ (m n : Contents) (mover : Who) (waits marks now then_marks : Lists) (kept : AreKept m waits marks) (moved : IsMoved m n mover nobody)
-    (turned : IsTurned mover waits marks now then_marks) (user : is_user_at n mover ≡ true) where
+    (left : Leaves m n mover marks) (turned : IsTurned mover waits marks now then_marks) (user : is_user_at n mover ≡ true) where
   untold : (x : Who) → is_same mover x ≡ false → is_told mover nobody x ≡ false
   untold x e = or_from (is_same mover x) (is_named nobody x) e refl
 
@@ -126,14 +166,14 @@ module _ (m n : Contents) (mover : Who) (waits marks now then_marks : Lists) (ke
       by true e = sym user ∙ ap (is_user_at n) (same_who mover x e)
       by false e = kept.each x ∙ sym (moved.users x (untold x e))
 
-  filed_went : (cause x : Who) → waits_at cause x now.queued ≡ true → IsFiled n then_marks cause x
-  filed_went cause x here = by was.why was.stuck was.filed
+  filed_went : (x : Who) → is_queued x now.queued ≡ true → IsFiled n then_marks x
+  filed_went x here = by was.why was.stuck was.filed
     where
-      there : waits_at cause x (without_queued mover waits.queued) ≡ true
-      there = ap (λ (l : Lists). waits_at cause x l.queued) (sym turned.turned) ∙ here
+      there : is_queued x (without_queued mover waits.queued) ≡ true
+      there = ap (λ (l : Lists). is_queued x l.queued) (sym turned.turned) ∙ here
 
-      was : IsFiled m marks cause x
-      was = kept.filed cause x (waits_less cause x mover waits.queued there)
+      was : IsFiled m marks x
+      was = kept.filed x (queued_less x mover waits.queued there)
 
       other : is_same mover x ≡ false
       other = apart (is_same mover x) refl
@@ -141,28 +181,37 @@ module _ (m n : Contents) (mover : Who) (waits marks now then_marks : Lists) (ke
           apart : (t : Bool) → is_same mover x ≡ t → is_same mover x ≡ false
           apart true e =
               clash (is_queued mover (without_queued mover waits.queued))
-              (subst (λ (w : Who). is_queued w (without_queued mover waits.queued) ≡ true) (sym (same_who mover x e))
-              (waits_queued cause x (without_queued mover waits.queued) there)) (queued_off mover waits.queued)
+              (subst (λ (w : Who). is_queued w (without_queued mover waits.queued) ≡ true) (sym (same_who mover x e)) there) (queued_off mover waits.queued)
           apart false e = e
 
-      -- who moved is no mutex
-      aside : (mutex : ℕ) → and_then mutex_of ((world m).body (place_of m (at x.space mutex))) ≡ Some true → is_same mover (at x.space mutex) ≡ false
-      aside mutex locked = unlike (is_same mover (at x.space mutex)) refl
-        where
-          unlike : (t : Bool) → is_same mover (at x.space mutex) ≡ t → is_same mover (at x.space mutex) ≡ false
-          unlike false e = e
-          unlike true e = absurd (not_both (λ (t : Thread). not (is_porter t.mode)) ((world m).body (place_of m mover))
-              (subst (λ (w : Who). and_then mutex_of ((world m).body (place_of m w)) ≡ Some true) (sym (same_who mover (at x.space mutex) e)) locked)
-              (sym (kept.each mover) ∙ turned.stood))
+      was_user : is_user_at m x ≡ true
+      was_user = sym (kept.each x) ∙ or_right (is_in x waits.ready) (is_queued x waits.queued) (queued_less x mover waits.queued there)
 
-      by : (y : Why) → IsStuck (world m) (place_of m x) (reason_by y) → IsFiledAs marks cause x y → IsFiled n then_marks cause x
-      by whys.Resting s f = record { why = whys.Resting; stuck = moved.stays refl x whys.Resting (untold x other) tt s; filed = tt }
-      by (whys.Locking mutex) s f = record {
-        why = whys.Locking mutex;
-        stuck = moved.stays refl x (whys.Locking mutex) (untold x other) (untold (at x.space mutex) (aside mutex s.2)) s;
-        filed = f;
+      by : (y : Why) → IsWhy (world m) (path m) (place_of m x) y → IsFiledAs marks x y → IsFiled n then_marks x
+      by whys.Still s f = record { why = whys.Still; stuck = left x whys.Still other was_user f s (λ e. cc); filed = tt }
+      by (whys.At key) s f = record {
+        why = whys.At key;
+        stuck = left x (whys.At key) other was_user f s (λ e. cc);
+        filed = (f.0, ap (λ (l : Lists). waits_at key x l.queued) turned.same ∙ f.1);
+      }
+      by whys.Loud s f = record {
+        why = whys.Loud;
+        stuck = left x whys.Loud other was_user f s (λ e. cc);
+        filed = ap (λ (l : Lists). waits_at loud_cause x l.queued) turned.same ∙ f;
       }
       by whys.Barred s f = clash (is_in x marks.ready) f (ap (is_in x) turned.none)
 
   pub kept_went : IsSound now then_marks → AreKept n now then_marks
   kept_went sound = record { each = each_went; sound = sound; filed = filed_went }
+
+-- whichever it was
+pub kept_quick : (n : Contents) (mover : Who) (ran : Bool) (touched : Touched) (waits marks now then_marks : Lists) → ComesAfter n mover touched waits marks →
+    MayBeQuiet n mover ran touched waits marks → touched ≡ nobody → (ran ≡ true) ⊎ (is_cause loud_cause marks.queued ≡ false) →
+    runs_on_at n mover ≡ true → IsTurned mover waits marks now then_marks → is_user_at n mover ≡ true → IsSound now then_marks → AreKept n now then_marks
+kept_quick n mover ran touched waits marks now then_marks comes quiet alone (inl so) on turned user sound =
+    let from = quiet so alone on in
+    kept_went from.before n mover waits marks now then_marks from.kept from.moved (left_quiet from.before n mover marks from.quiet) turned user sound
+kept_quick n mover ran touched waits marks now then_marks comes quiet alone (inr hushed) on turned user sound =
+    let moved = subst (λ (t : Touched). IsMoved comes.before n mover t) alone comes.moved in
+    kept_went comes.before n mover waits marks now then_marks comes.kept moved
+    (left_hushed comes.before n mover marks moved (sym (comes.kept.each mover) ∙ turned.stood) hushed) turned user sound

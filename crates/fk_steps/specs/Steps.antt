@@ -11,9 +11,10 @@ use Rattle.fk_store.specs.Contents.{Contents}
 use Rattle.fk_store.specs.Moves.{picked_by}
 use Rattle.fk_store.specs.Paths.{path}
 use Rattle.fk_turns.specs.Turns.{IsSound}
-use Rattle.fk_turns_told.specs.Kept.{is_user_at}
+use Rattle.fk_turns_told.specs.Kept.{is_user_at, AreKept}
 use Rattle.fk_turns_next.specs.Waiting.{IsPlaced, Standing}
-use Rattle.fk_turns_told.specs.Told.{name_after}
+use Rattle.fk_turns_told.specs.Moved.{IsMoved}
+use Rattle.fk_turns_told.specs.Told.{name_after, runs_on_at, IsQuietTo}
 use Rattle.fk_waits.specs.Lists.{stands, woken, Lists}
 use Rattle.fk_wakes.specs.declared.touching.Touched.{Touched}
 use Rattle.fk_wakes.specs.declared.touching.Touched.TheVariants.{Few}
@@ -31,6 +32,7 @@ pub record IsWider (waits marks now then_marks : Lists) : Type 0 where
   pub ready : now.ready ≡ waits.ready
   pub queued : now.queued ≡ waits.queued
   pub marked : then_marks.ready ≡ marks.ready
+  pub keyed : then_marks.queued ≡ marks.queued
   pub sound : IsSound now then_marks
 
 -- a move that was tried was made
@@ -54,6 +56,17 @@ runs_on t = is_running t.mode && (t.stops == 0 && is_none t.fault)
 abbrev pub touches_nobody : Touched → Bool
 touches_nobody (Few first second third) = is_none first && (is_none second && is_none third)
 touches_nobody other = false
+
+-- a move of a thread that touched nobody else left the reasons of all others, but of whom any change may free
+pub record IsQuietFrom (n : Contents) (mover : Who) (waits marks : Lists) : Type 0 where
+  pub before : Contents
+  pub kept : AreKept before waits marks
+  pub moved : IsMoved before n mover (Few None None None)
+  pub quiet : IsQuietTo before n mover
+
+-- so it is where it was an instruction after which the thread runs on
+abbrev pub MayBeQuiet : Contents → Who → Bool → Touched → Lists → Lists → Type 0
+MayBeQuiet n mover ran touched waits marks = ran ≡ true → touched ≡ Few None None None → runs_on_at n mover ≡ true → IsQuietFrom n mover waits marks
 
 -- it stood, went last, and no change may free any other
 pub record IsTurned (who : Who) (waits marks now then_marks : Lists) : Type 0 where

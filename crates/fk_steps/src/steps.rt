@@ -13,9 +13,9 @@ ghost use Rattle.fk_turns_next.specs.Tried.{tried_of, IsMade, HasEnded, IsTold, 
 ghost use Rattle.fk_turns_told.specs.Kept.{is_user_at, AreKept};
 ghost use Rattle.fk_turns_told.specs.Moved.{now_named};
 ghost use Rattle.fk_turns_next.specs.Waiting.{standing, ComesAfter, IsPlaced};
-ghost use Rattle.fk_steps.specs.Steps.{was_made, IsPut};
+ghost use Rattle.fk_steps.specs.Steps.{was_made, IsPut, MayBeQuiet};
 
-use crate::plain::after_plain;
+use crate::plain::{after_plain, is_running};
 use crate::room::{reserve_for, reserve_for_stage, seat_for};
 use fk_model::{Ask, Move, NoMemory, Said, Stage, Who};
 use fk_store::Store;
@@ -55,7 +55,7 @@ pub fn attempt(
     let tried = fk_turns_next::attempt(store, m, ask, &mut touched);
     // And so they do in the world that the move leaves.
     store.names();
-    after_plain_if(turns, store, is_made(&tried), m.who, &touched);
+    after_plain_if(turns, store, is_made(&tried), m.who, &touched, false);
     tried
 }
 
@@ -110,9 +110,17 @@ fn after_if(turns: &mut Turns, store: &Store, made: bool, mover: Who, touched: &
 }
 
 /// The same after a move that most often touches nobody but who moved.
-fn after_plain_if(turns: &mut Turns, store: &Store, made: bool, mover: Who, touched: &Touched)
+fn after_plain_if(
+    turns: &mut Turns,
+    store: &Store,
+    made: bool,
+    mover: Who,
+    touched: &Touched,
+    ran: bool,
+)
     requires valid { IsValid (world store.now) }
     requires comes { OnTrue made (ComesAfter store.now mover touched.now turns.old.waits turns.old.marks) }
+    requires quiet { OnTrue made (MayBeQuiet store.now mover ran touched.now turns.old.waits turns.old.marks) }
     requires kept { OnFalse made (AreKept store.now turns.old.waits turns.old.marks) }
     ensures kept { AreKept store.now turns.new.waits turns.new.marks }
     ensures placed { OnTrue made (is_user_at store.now (now_named mover touched.now) ≡ true
@@ -120,7 +128,7 @@ fn after_plain_if(turns: &mut Turns, store: &Store, made: bool, mover: Who, touc
     ensures still { OnFalse made (standing turns.new.waits ≡ standing turns.old.waits) }
 {
     if made {
-        after_plain(turns, store, mover, touched);
+        after_plain(turns, store, mover, touched, ran);
     }
 }
 
@@ -188,6 +196,7 @@ pub fn proceed(store: &mut Store, turns: &mut Turns, who: Who) -> bool
     if !seat_for(turns, store, who) {
         return false;
     }
+    let ran = is_running(store, who);
     store.names();
     let mut touched = Touched::Few {
         first: None,
@@ -197,7 +206,7 @@ pub fn proceed(store: &mut Store, turns: &mut Turns, who: Who) -> bool
     let made = fk_turns_next::proceed(store, who, &mut touched);
     // And so they do in the world that the move leaves.
     store.names();
-    after_plain_if(turns, store, made, who, &touched);
+    after_plain_if(turns, store, made, who, &touched, ran);
     made
 }
 
@@ -221,6 +230,6 @@ pub fn say(store: &mut Store, turns: &mut Turns, who: Who, room: &mut [u64; 64])
     let sent = fk_turns_next::say(store, who, room, &mut touched);
     // And so they do in the world that the move leaves.
     store.names();
-    after_plain_if(turns, store, sent.is_some(), who, &touched);
+    after_plain_if(turns, store, sent.is_some(), who, &touched, false);
     sent
 }

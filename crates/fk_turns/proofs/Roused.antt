@@ -1,17 +1,18 @@
 -- Roused: threads that are woken one after another.
-use Rattle.std.proofs.Common.{◌≡◌, ◌≤◌, ◌<◌, ◌||◌, ◌⊎◌, Bool, true, false, List, [], ◌∷◌, length, Option, Some, None, if◌then◌else◌, inl, inr, refl, sym}
+use Rattle.std.proofs.Common.{◌≡◌, ◌≤◌, ◌<◌, ◌||◌, ◌⊎◌, Bool, true, false, List, [], ◌∷◌, ◌++◌, length, Option, Some, None, if◌then◌else◌, inl, inr, refl, sym}
 use Rattle.std.proofs.Common.{ap, subst, ◌∙◌, arith}
 use Rattle.std.proofs.lemmas.Bool.{or_from, or_left, or_right}
 use Rattle.fk_model.specs.declared.names.Who.{Who}
 use Rattle.fk_waits_names.specs.Names.{is_same}
 use Rattle.fk_waits_names.proofs.Order.{same_who}
-use Rattle.fk_waits.specs.Lists.{first_queued, first_ready, is_cause, is_in, is_queued, Lists, parked, stands, without, without_queued, woken}
+use Rattle.fk_waits.specs.Lists.{first_queued, first_ready, is_cause, is_in, is_queued, left, parked, stands, without, without_queued, woken, Lists, StandOnce}
 use Rattle.fk_waits.proofs.Listed.{front_stands}
 use Rattle.fk_waits_causes.proofs.Numbers.{clash}
-use Rattle.fk_waits_causes.proofs.Placed.{same_by, same_self}
-use Rattle.fk_turns.specs.Turns.{free_cause, waits_at, AreMet, IsLess, IsRoused, IsSound}
-use Rattle.fk_waits_woken.proofs.Wakes.{first_stands}
-use Rattle.fk_turns.proofs.Woken.{cause_less, queued_less, queued_off, room_woken, stands_woken, waits_less}
+use Rattle.fk_waits_causes.proofs.Placed.{same_by}
+use Rattle.fk_turns.specs.Turns.{waits_at, AreMet, IsFreed, IsLess, IsRoused, IsSound}
+use Rattle.fk_waits_woken.specs.Wakes.{those_at}
+use Rattle.fk_waits_woken.proofs.Wakes.{first_goes, first_stands}
+use Rattle.fk_turns.proofs.Woken.{cause_less, queued_less, queued_off, room_woken, stands_woken, waits_cause, waits_less, waits_more, waits_other}
 
 pub less_none : (l : Lists) → IsLess l l
 less_none l = record { waiting = λ cause x is. is; queued = λ x is. is; causes = λ cause is. is }
@@ -76,7 +77,11 @@ none_ready (x ∷ l) is = absurd (cc)
 -- ---- marks
 
 pub met_none : (marks waits : Lists) → AreMet marks marks waits
-met_none marks waits = record { met = λ x is. inl is }
+met_none marks waits = record { met = λ x is. inl is; keyed = λ key x is. inl is }
+
+-- where nobody is queued
+pub met_nobody : (marks now waits : Lists) → waits.queued ≡ [] → AreMet marks now waits
+met_nobody marks now waits none = record { met = λ x is. inr (ap (is_queued x) none); keyed = λ key x is. inr (ap (is_queued x) none) }
 
 false_unless : (b c : Bool) → (b ≡ true → c ≡ true) → c ≡ false → b ≡ false
 false_unless true c then_so off = clash c (then_so refl) off
@@ -84,8 +89,12 @@ false_unless false c then_so off = refl
 
 -- one is woken, or goes
 pub met_more : (marks now waits after woke : Lists) (n : Who) → AreMet marks now waits → after.ready ≡ without n now.ready →
+    ((key x : Who) → is_same n x ≡ false → waits_at key x now.queued ≡ true → waits_at key x after.queued ≡ true) →
     woke.queued ≡ without_queued n waits.queued → AreMet marks after woke
-met_more marks now waits after woke n before first second = record { met = λ x is. by x (before.met x is) (is_same n x) refl }
+met_more marks now waits after woke n before first others second = record {
+  met = λ x is. by x (before.met x is) (is_same n x) refl;
+  keyed = λ key x is. at key x (before.keyed key x is) (is_same n x) refl;
+}
   where
     off : (x : Who) → is_same n x ≡ true → is_queued x woke.queued ≡ false
     off x e =
@@ -112,6 +121,82 @@ met_more marks now waits after woke n before first second = record { met = λ x 
     by x (inr gone) false e =
         inr (false_unless (is_queued x woke.queued) (is_queued x waits.queued)
         (λ is. queued_less x n waits.queued (ap (is_queued x) (sym second) ∙ is)) gone)
+
+    at : (key x : Who) → (waits_at key x now.queued ≡ true) ⊎ (is_queued x waits.queued ≡ false) → (t : Bool) → is_same n x ≡ t →
+        (waits_at key x after.queued ≡ true) ⊎ (is_queued x woke.queued ≡ false)
+    at key x was true e = inr (off x e)
+    at key x (inl there) false e = inl (others key x e there)
+    at key x (inr gone) false e =
+        inr (false_unless (is_queued x woke.queued) (is_queued x waits.queued)
+        (λ is. queued_less x n waits.queued (ap (is_queued x) (sym second) ∙ is)) gone)
+
+-- others are where they were once one is parked among the marks, or goes
+pub others_parked : (n cause : Who) (marks now : Lists) → now ≡ parked n cause marks → (key x : Who) → is_same n x ≡ false →
+    waits_at key x marks.queued ≡ true → waits_at key x now.queued ≡ true
+others_parked n cause marks now is key x off there =
+    ap (λ (l : Lists). waits_at key x l.queued) is
+    ∙ waits_more key x (without_queued n marks.queued) ((cause, n) ∷ []) (waits_other key x n marks.queued off there)
+
+pub others_left : (n : Who) (marks now : Lists) → now ≡ left n marks → (key x : Who) → is_same n x ≡ false →
+    waits_at key x marks.queued ≡ true → waits_at key x now.queued ≡ true
+others_left n marks now is key x off there = ap (λ (l : Lists). waits_at key x l.queued) is ∙ waits_other key x n marks.queued off there
+
+-- nobody stands at an object, so who stood there isn't queued
+pub freed_at : (key : Who) (marks now waits : Lists) → AreMet marks now waits → is_cause key now.queued ≡ false → IsFreed key marks waits
+freed_at key marks now waits met none named x there = by (met.keyed key x there)
+  where
+    by : (waits_at key x now.queued ≡ true) ⊎ (is_queued x waits.queued ≡ false) → is_queued x waits.queued ≡ false
+    by (inl here) = clash (is_cause key now.queued) (waits_cause key x now.queued here) none
+    by (inr gone) = gone
+
+-- each time one less stands there
+at_last : (key cause n : Who) (l : List (Who × Who)) → is_same cause key ≡ false → those_at key (l ++ (cause, n) ∷ []) ≡ those_at key l
+at_last key cause n [] off = rw off refl
+at_last key cause n (q ∷ l) off = by (is_same q.0 key) (at_last key cause n l off)
+  where
+    by : (t : Bool) → those_at key (l ++ (cause, n) ∷ []) ≡ those_at key l →
+        (if t then q.1 ∷ those_at key (l ++ (cause, n) ∷ []) else those_at key (l ++ (cause, n) ∷ []))
+        ≡ (if t then q.1 ∷ those_at key l else those_at key l)
+    by true rest = ap (λ (k : List Who). q.1 ∷ k) rest
+    by false rest = rest
+
+pub fewer_parked : (key cause n : Who) (marks now : Lists) → is_same cause key ≡ false → StandOnce marks → Some n ≡ first_queued key marks.queued →
+    now ≡ parked n cause marks → length (those_at key now.queued) < length (those_at key marks.queued)
+fewer_parked key cause n marks now off once first is =
+    let rest = ap (λ (k : List Who). length k) (first_goes key n marks.queued once.queued first).0 in
+    let here : length (those_at key now.queued) ≡ length (those_at key (without_queued n marks.queued)) =
+    ap (λ (l : Lists). length (those_at key l.queued)) is
+    ∙ ap (λ (k : List Who). length k) (at_last key cause n (without_queued n marks.queued) off) in
+    omega (arith, rest, here)
+
+pub met_then : (a b c w v : Lists) → AreMet a b w → AreMet b c v → IsLess w v → AreMet a c v
+met_then a b c w v first second less = record {
+  met = λ x is. by x (first.met x is);
+  keyed = λ key x is. at key x (first.keyed key x is);
+}
+  where
+    later : (x : Who) → is_queued x w.queued ≡ false → is_queued x v.queued ≡ false
+    later x gone = false_unless (is_queued x v.queued) (is_queued x w.queued) (less.queued x) gone
+
+    by : (x : Who) → (is_in x b.ready ≡ true) ⊎ (is_queued x w.queued ≡ false) → (is_in x c.ready ≡ true) ⊎ (is_queued x v.queued ≡ false)
+    by x (inl is) = second.met x is
+    by x (inr gone) = inr (later x gone)
+
+    at : (key x : Who) → (waits_at key x b.queued ≡ true) ⊎ (is_queued x w.queued ≡ false) →
+        (waits_at key x c.queued ≡ true) ⊎ (is_queued x v.queued ≡ false)
+    at key x (inl is) = second.keyed key x is
+    at key x (inr gone) = inr (later x gone)
+
+pub gone_later : (w v : Lists) (x : Who) → IsLess w v → is_queued x w.queued ≡ false → is_queued x v.queued ≡ false
+gone_later w v x less gone = false_unless (is_queued x v.queued) (is_queued x w.queued) (less.queued x) gone
+
+-- who stood at an object stands there still, and is freed then
+pub freed_later : (key : Who) (marks now w v : Lists) → AreMet marks now w → IsFreed key now v → IsLess w v → IsFreed key marks v
+freed_later key marks now w v met freed less named x there = by (met.keyed key x there)
+  where
+    by : (waits_at key x now.queued ≡ true) ⊎ (is_queued x w.queued ≡ false) → is_queued x v.queued ≡ false
+    by (inl here) = freed named x here
+    by (inr gone) = gone_later w v x less gone
 
 pub met_all : (marks now waits : Lists) → AreMet marks now waits → now.ready ≡ [] → (x : Who) → is_in x marks.ready ≡ true → is_queued x waits.queued ≡ false
 met_all marks now waits all none x is = by (all.met x is)
@@ -148,43 +233,3 @@ marked_stands n waits marks sound first = sym (sound.both n) ∙ front_stands n 
 -- who is first at a cause stands
 pub at_stands : (cause n : Who) (lists : Lists) → Some n ≡ first_queued cause lists.queued → stands n lists ≡ true
 at_stands cause n lists first = or_right (is_in n lists.ready) (is_queued n lists.queued) (first_stands cause n lists.queued first)
-
--- ---- all are marked, and woken
-
-pub sound_also : (n : Who) (waits marks : Lists) → IsSound waits marks → stands n marks ≡ true → IsSound waits (woken n marks)
-sound_also n waits marks sound there = record {
-  both = λ x. (roused_one n marks there).stays x ∙ sound.both x;
-  free = λ c is. sound.free c (cause_less c n marks.queued is);
-}
-
--- nobody is left where nobody stands at the one cause
-pub none_unmarked : (waits marks : Lists) → IsSound waits marks → is_cause free_cause marks.queued ≡ false → marks.queued ≡ []
-none_unmarked waits marks sound none = by marks.queued sound.free none
-  where
-    by : (l : List (Who × Who)) → ((c : Who) → is_cause c l ≡ true → is_same free_cause c ≡ true) → is_cause free_cause l ≡ false → l ≡ []
-    by [] free off = refl
-    by (q ∷ l) free off =
-        let here : is_cause q.0 (q ∷ l) ≡ true = or_left (is_same q.0 q.0) (is_cause q.0 l) (same_self q.0) in
-        let at : is_same q.0 free_cause ≡ true = same_by q.0 free_cause (sym (same_who free_cause q.0 (free q.0 here))) in
-        clash (is_cause free_cause (q ∷ l)) (or_left (is_same q.0 free_cause) (is_cause free_cause l) at) off
-
-nobody_queued : (l : List (Who × Who)) → ((x : Who) → is_queued x l ≡ false) → l ≡ []
-nobody_queued [] off = refl
-nobody_queued (q ∷ l) off = clash (is_queued q.1 (q ∷ l)) (or_left (is_same q.1 q.1) (is_queued q.1 l) (same_self q.1)) (off q.1)
-
-pub all_roused : (waits marks after : Lists) → IsSound waits marks → marks.queued ≡ [] → IsRoused waits after →
-    ((x : Who) → is_in x marks.ready ≡ true → is_queued x after.queued ≡ false) → after.queued ≡ []
-all_roused waits marks after sound none roused gone = nobody_queued after.queued (λ x. by x (is_queued x after.queued) refl)
-  where
-    by : (x : Who) (t : Bool) → is_queued x after.queued ≡ t → is_queued x after.queued ≡ false
-    by x true e =
-        let there = or_right (is_in x waits.ready) (is_queued x waits.queued) (roused.less.queued x e) in
-        gone x (marked (sound.both x ∙ there))
-      where
-        marked : stands x marks ≡ true → is_in x marks.ready ≡ true
-        marked is = of (is_in x marks.ready) refl (ap (λ (l : List (Who × Who)). is_in x marks.ready || is_queued x l) (sym none) ∙ is)
-          where
-            of : (b : Bool) → is_in x marks.ready ≡ b → (is_in x marks.ready || false) ≡ true → is_in x marks.ready ≡ true
-            of true f here = f
-            of false f here = clash false (rw f at here) refl
-    by x false e = e

@@ -1,14 +1,16 @@
 -- Woken: who stands where once a thread is woken, parked or gone.
 use Rattle.std.proofs.Common.{◌≡◌, ◌≤◌, ◌+◌, ◌-◌, ◌&&◌, ◌||◌, Bool, true, false, List, [], ◌∷◌, ◌++◌, Option, Some, None, is_some, if◌then◌else◌, refl, sym}
 use Rattle.std.proofs.Common.{ap, subst, ◌∙◌, arith}
-use Rattle.std.proofs.lemmas.Bool.{or_from, or_right}
+use Rattle.std.proofs.lemmas.Bool.{or_from, or_left, or_right}
 use Rattle.std.specs.Bool.{OnTrue}
 use Rattle.fk_model.specs.declared.names.Who.{Who}
 use Rattle.fk_waits_names.specs.Names.{is_same}
 use Rattle.fk_waits_names.proofs.Order.{same_who}
 use Rattle.fk_waits.proofs.Last.{last_stands, last_woken}
 use Rattle.fk_waits.specs.Lists.{first_ready, is_cause, is_in, is_queued, left, Lists, parked, stands, without, without_queued, woken, IsLast, StandOnce}
-use Rattle.fk_turns.specs.Turns.{free_cause, is_front, waits_at, IsSound}
+use Rattle.fk_turns.specs.declared.turns.Mark.{Mark}
+use Rattle.fk_turns.specs.declared.turns.Mark.TheVariants as marks_of
+use Rattle.fk_turns.specs.Turns.{free_cause, is_front, loud_cause, marked_by, waits_at, IsSound}
 
 -- ---- one list
 
@@ -40,7 +42,7 @@ in_off n (y ∷ l) = by (is_same y n) refl (in_off n l)
     by true e rest = rw e rest
     by false e rest = rw e (or_from (is_same y n) (is_in n (without n l)) e rest)
 
-queued_last : (x n cause : Who) (l : List (Who × Who)) → is_queued x (l ++ (cause, n) ∷ []) ≡ (is_same n x || is_queued x l)
+pub queued_last : (x n cause : Who) (l : List (Who × Who)) → is_queued x (l ++ (cause, n) ∷ []) ≡ (is_same n x || is_queued x l)
 queued_last x n cause [] = refl
 queued_last x n cause (q ∷ l) = ap (λ (t : Bool). is_same q.1 x || t) (queued_last x n cause l) ∙ swap (is_same q.1 x) (is_same n x) (is_queued x l)
   where
@@ -104,6 +106,49 @@ waits_less cause x n (q ∷ l) is = by (is_same q.1 n) refl (λ rest. waits_less
     by false e rest here =
         more (is_same q.0 cause && is_same q.1 x) (waits_at cause x (without_queued n l)) (waits_at cause x l) rest (rw e at here)
 
+-- and what is another's is left
+pub waits_other : (key x n : Who) (l : List (Who × Who)) → is_same n x ≡ false → waits_at key x l ≡ true → waits_at key x (without_queued n l) ≡ true
+waits_other key x n [] off is = absurd (cc)
+waits_other key x n (q ∷ l) off is = by (is_same q.1 n) refl (λ rest. waits_other key x n l off rest) is
+  where
+    none : (a b : Bool) → b ≡ false → (a && b) ≡ false
+    none true b e = e
+    none false b e = refl
+
+    by : (t : Bool) → is_same q.1 n ≡ t → (waits_at key x l ≡ true → waits_at key x (without_queued n l) ≡ true) →
+        ((is_same q.0 key && is_same q.1 x) || waits_at key x l) ≡ true →
+        waits_at key x (if is_same q.1 n then without_queued n l else q ∷ without_queued n l) ≡ true
+    by true e rest here =
+        let not_so : is_same q.1 x ≡ false = subst (λ (w : Who). is_same w x ≡ false) (sym (same_who q.1 n e)) off in
+        rw e (rest (ap (λ (t : Bool). t || waits_at key x l) (sym (none (is_same q.0 key) (is_same q.1 x) not_so)) ∙ here))
+    by false e rest here =
+        rw e (more (is_same q.0 key && is_same q.1 x) (waits_at key x l) (waits_at key x (without_queued n l)) rest here)
+
+pub waits_more : (key x : Who) (l k : List (Who × Who)) → waits_at key x l ≡ true → waits_at key x (l ++ k) ≡ true
+waits_more key x [] k is = absurd (cc)
+waits_more key x (q ∷ l) k is = more (is_same q.0 key && is_same q.1 x) (waits_at key x l) (waits_at key x (l ++ k)) (λ rest. waits_more key x l k rest) is
+
+-- who waits at something is queued, and that is a cause
+pub waits_queued : (cause x : Who) (l : List (Who × Who)) → waits_at cause x l ≡ true → is_queued x l ≡ true
+waits_queued cause x [] is = is
+waits_queued cause x (q ∷ l) is = by (is_same q.0 cause) (is_same q.1 x) refl refl is (waits_queued cause x l)
+  where
+    by : (s t : Bool) → is_same q.0 cause ≡ s → is_same q.1 x ≡ t → ((s && t) || waits_at cause x l) ≡ true →
+        (waits_at cause x l ≡ true → is_queued x l ≡ true) → (is_same q.1 x || is_queued x l) ≡ true
+    by s true e f here rest = or_left (is_same q.1 x) (is_queued x l) f
+    by true false e f here rest = or_right (is_same q.1 x) (is_queued x l) (rest here)
+    by false false e f here rest = or_right (is_same q.1 x) (is_queued x l) (rest here)
+
+pub waits_cause : (cause x : Who) (l : List (Who × Who)) → waits_at cause x l ≡ true → is_cause cause l ≡ true
+waits_cause cause x [] is = is
+waits_cause cause x (q ∷ l) is = by (is_same q.0 cause) (is_same q.1 x) refl is (waits_cause cause x l)
+  where
+    by : (s t : Bool) → is_same q.0 cause ≡ s → ((s && t) || waits_at cause x l) ≡ true →
+        (waits_at cause x l ≡ true → is_cause cause l ≡ true) → (is_same q.0 cause || is_cause cause l) ≡ true
+    by true t e here rest = or_left (is_same q.0 cause) (is_cause cause l) e
+    by false true e here rest = or_right (is_same q.0 cause) (is_cause cause l) (rest here)
+    by false false e here rest = or_right (is_same q.0 cause) (is_cause cause l) (rest here)
+
 -- ---- who stands
 
 or_first : (a b c : Bool) → ((a || b) || c) ≡ (a || (b || c))
@@ -152,40 +197,29 @@ stands_left n x l = by (is_same n x) refl
 
 -- ---- the marks are of the same threads still
 
-cause_last : (c n cause : Who) (l : List (Who × Who)) → is_cause c (l ++ (cause, n) ∷ []) ≡ (is_same cause c || is_cause c l)
-cause_last c n cause [] = refl
-cause_last c n cause (q ∷ l) = ap (λ (t : Bool). is_same q.0 c || t) (cause_last c n cause l) ∙ or_second (is_same cause c) (is_same q.0 c) (is_cause c l)
-
-free_parked : (n : Who) (marks : Lists) → ((c : Who) → is_cause c marks.queued ≡ true → is_same free_cause c ≡ true) →
-    (c : Who) → is_cause c (without_queued n marks.queued ++ (free_cause, n) ∷ []) ≡ true → is_same free_cause c ≡ true
-free_parked n marks free c is = by (is_same free_cause c) refl (sym (cause_last c n free_cause (without_queued n marks.queued)) ∙ is)
-  where
-    by : (t : Bool) → is_same free_cause c ≡ t → (is_same free_cause c || is_cause c (without_queued n marks.queued)) ≡ true → is_same free_cause c ≡ true
-    by true e here = e
-    by false e here = free c (cause_less c n marks.queued (rw e at here))
-
 pub sound_woken : (n : Who) (waits marks : Lists) → IsSound waits marks → IsSound (woken n waits) (parked n free_cause marks)
 sound_woken n waits marks sound = record {
   both = λ x. stands_parked n x free_cause marks ∙ ap (λ (t : Bool). is_same n x || t) (sound.both x) ∙ sym (stands_woken n x waits);
-  free = free_parked n marks sound.free;
 }
 
-pub sound_parked : (n cause : Who) (waits marks : Lists) → IsSound waits marks → IsSound (parked n cause waits) (parked n free_cause marks)
-sound_parked n cause waits marks sound = record {
-  both = λ x. stands_parked n x free_cause marks ∙ ap (λ (t : Bool). is_same n x || t) (sound.both x) ∙ sym (stands_parked n x cause waits);
-  free = free_parked n marks sound.free;
-}
+stands_marked : (mark : Mark) (n x : Who) (marks : Lists) → stands x (marked_by mark n marks) ≡ (is_same n x || stands x marks)
+stands_marked marks_of.Own n x marks = stands_parked n x free_cause marks
+stands_marked (marks_of.At key) n x marks = by (is_same free_cause key)
+  where
+    by : (t : Bool) → stands x (if t then woken n marks else parked n key marks) ≡ (is_same n x || stands x marks)
+    by true = stands_woken n x marks
+    by false = stands_parked n x key marks
+stands_marked marks_of.Loud n x marks = stands_parked n x loud_cause marks
+stands_marked marks_of.Any n x marks = stands_woken n x marks
 
-pub sound_marked : (n cause : Who) (waits marks : Lists) → IsSound waits marks → IsSound (parked n cause waits) (woken n marks)
-sound_marked n cause waits marks sound = record {
-  both = λ x. stands_woken n x marks ∙ ap (λ (t : Bool). is_same n x || t) (sound.both x) ∙ sym (stands_parked n x cause waits);
-  free = λ c is. sound.free c (cause_less c n marks.queued is);
+pub sound_parked : (mark : Mark) (n cause : Who) (waits marks : Lists) → IsSound waits marks → IsSound (parked n cause waits) (marked_by mark n marks)
+sound_parked mark n cause waits marks sound = record {
+  both = λ x. stands_marked mark n x marks ∙ ap (λ (t : Bool). is_same n x || t) (sound.both x) ∙ sym (stands_parked n x cause waits);
 }
 
 pub sound_left : (n : Who) (waits marks : Lists) → IsSound waits marks → IsSound (left n waits) (left n marks)
 sound_left n waits marks sound = record {
   both = λ x. stands_left n x marks ∙ ap (λ (t : Bool). if is_same n x then false else t) (sound.both x) ∙ sym (stands_left n x waits);
-  free = λ c is. sound.free c (cause_less c n marks.queued is);
 }
 
 -- by what each call makes of them
@@ -194,15 +228,18 @@ sound_by waits marks now then_marks first second sound = subst (λ (l : Lists). 
 
 -- of nobody
 pub sound_none : IsSound (record { ready = []; queued = []; spare = 0 }) (record { ready = []; queued = []; spare = 0 })
-sound_none = record { both = λ x. refl; free = λ c is. absurd (cc) }
+sound_none = record { both = λ x. refl }
 
 -- with more room
 pub sound_wider : (waits marks now wide : Lists) → now.ready ≡ waits.ready → now.queued ≡ waits.queued → wide.ready ≡ marks.ready →
     wide.queued ≡ marks.queued → IsSound waits marks → IsSound now wide
 sound_wider waits marks now wide a b c d sound = record {
   both = λ x. (λ i. is_in x (c i) || is_queued x (d i)) ∙ sound.both x ∙ (λ i. is_in x (sym a i) || is_queued x (sym b i));
-  free = λ e is. sound.free e (ap (is_cause e) (sym d) ∙ is);
 }
+
+-- where who stands is the same
+pub sound_stays : (waits marks now : Lists) → IsSound waits marks → ((x : Who) → stands x now ≡ stands x waits) → IsSound now marks
+sound_stays waits marks now sound stays = record { both = λ x. sound.both x ∙ sym (stays x) }
 
 -- who stands takes no room
 pub room_woken : (n : Who) (l now : Lists) → stands n l ≡ true → now ≡ woken n l → now.spare ≡ l.spare
@@ -224,7 +261,7 @@ front_first who [] is = absurd (cc)
 front_first who (x ∷ l) is = ap (λ (w : Who). Some w) (sym (same_who x who is))
 
 pub sound_turned : (n : Who) (waits marks : Lists) → IsSound waits marks → stands n waits ≡ true → IsSound (woken n waits) marks
-sound_turned n waits marks sound there = record { both = λ x. sound.both x ∙ sym (stands_woken n x waits ∙ by x (is_same n x) refl); free = sound.free }
+sound_turned n waits marks sound there = record { both = λ x. sound.both x ∙ sym (stands_woken n x waits ∙ by x (is_same n x) refl) }
   where
     by : (x : Who) (t : Bool) → is_same n x ≡ t → (t || stands x waits) ≡ stands x waits
     by x true e = sym (subst (λ (w : Who). stands w waits ≡ true) (same_who n x e) there)

@@ -1,12 +1,14 @@
 -- Turns: lists of threads, and marks of those whom any change may free.
-use Rattle.std.specs.Prelude.{◌≡◌, Bool, true, false, ◌&&◌, ◌||◌, ◌⊎◌, List, [], ◌∷◌}
+use Rattle.std.specs.Prelude.{◌≡◌, Bool, true, false, ◌&&◌, ◌||◌, ◌⊎◌, List, [], ◌∷◌, if◌then◌else◌}
 use Rattle.fk_model.specs.declared.names.Who.{Who}
 use Rattle.fk_waits_names.specs.Names.{is_same}
-use Rattle.fk_waits.specs.Lists.{is_cause, is_in, is_queued, stands, Lists}
+use Rattle.fk_waits.specs.Lists.{is_cause, is_in, is_queued, parked, stands, woken, Lists}
+use Rattle.fk_turns.specs.declared.turns.Mark.{Mark}
+use Rattle.fk_turns.specs.declared.turns.Mark.TheVariants as marks_of
 
--- where those stand among the marks whom not every change may free
+-- where those stand among the marks who wait for no object. No space has this birth number
 abbrev pub free_cause : Who
-free_cause = record { space = 0; slot = 0 }
+free_cause = record { space = 4294967295; slot = 255 }
 
 -- a thread is the first of these
 abbrev pub is_front : Who → List Who → Bool
@@ -18,10 +20,20 @@ abbrev pub waits_at : Who → Who → List (Who × Who) → Bool
 waits_at cause who [] = false
 waits_at cause who (q ∷ l) = (is_same q.0 cause && is_same q.1 who) || waits_at cause who l
 
--- the marks are of the same threads; those that aren't marked stand at one cause
+-- and where those do whom any move of another may free but an instruction
+abbrev pub loud_cause : Who
+loud_cause = record { space = 4294967295; slot = 254 }
+
+-- the marks are of the same threads
 pub record IsSound (waits marks : Lists) : Type 0 where
   pub both : (who : Who) → stands who marks ≡ stands who waits
-  pub free : (cause : Who) → is_cause cause marks.queued ≡ true → is_same free_cause cause ≡ true
+
+-- the marks once a thread that is queued is marked
+abbrev pub marked_by : Mark → Who → Lists → Lists
+marked_by marks_of.Own who marks = parked who free_cause marks
+marked_by (marks_of.At key) who marks = if is_same free_cause key then woken who marks else parked who key marks
+marked_by marks_of.Loud who marks = parked who loud_cause marks
+marked_by marks_of.Any who marks = woken who marks
 
 -- who is queued still, is where he was
 pub record IsLess (old new : Lists) : Type 0 where
@@ -38,3 +50,9 @@ pub record IsRoused (old new : Lists) : Type 0 where
 -- who was marked is marked still, or isn't queued
 pub record AreMet (old new waits : Lists) : Type 0 where
   pub met : (who : Who) → is_in who old.ready ≡ true → (is_in who new.ready ≡ true) ⊎ (is_queued who waits.queued ≡ false)
+  pub keyed : (key who : Who) → waits_at key who old.queued ≡ true → (waits_at key who new.queued ≡ true) ⊎ (is_queued who waits.queued ≡ false)
+
+-- who was marked at an object isn't queued
+abbrev pub IsFreed : Who → Lists → Lists → Type 0
+IsFreed key marks waits =
+    is_same free_cause key ≡ false → (who : Who) → waits_at key who marks.queued ≡ true → is_queued who waits.queued ≡ false

@@ -5,16 +5,47 @@ ghost use Rattle.fk_model.specs.declared.names.Who as names_of;
 ghost use Rattle.fk_waits_names.specs.Names.{is_same};
 ghost use Rattle.fk_waits.specs.Lists.{first_ready, is_cause, is_in, is_queued, left, parked, stands, woken};
 ghost use Rattle.fk_turns.specs.Turns as turns_of;
-ghost use Rattle.fk_turns.specs.Turns.{free_cause, AreMet, IsLess, IsRoused, IsSound};
+ghost use Rattle.fk_turns.specs.declared.turns.Mark.TheVariants as marks_of;
+ghost use Rattle.fk_turns.specs.Turns.{free_cause, loud_cause, marked_by, AreMet, IsFreed, IsLess, IsRoused, IsSound};
 
 use fk_model::{NoMemory, Who};
 use fk_waits::Waits;
 use std::alloc::Global;
 
-/// The one cause at which those stand among the marks whom not every change may free.
-const FREE: Who = Who { space: 0, slot: 0 };
+/// Where those stand among the marks who wait for no object. No space has this birth number.
+const FREE: Who = Who {
+    space: u32::MAX,
+    slot: 255,
+};
 
-/// The threads that are ready and those that are queued, each behind its cause; and marks: the same threads, first those whom any change may free.
+/// Where those stand whom any move of another may free but an instruction.
+const LOUD: Who = Who {
+    space: u32::MAX,
+    slot: 254,
+};
+
+/// What may free a thread that is queued, besides what touches itself.
+#[derive(Clone, Copy)]
+pub enum Mark {
+    /// Nothing.
+    Own,
+    /// What touches this object.
+    At { key: Who },
+    /// Any move of another but an instruction.
+    Loud,
+    /// Anything.
+    Any,
+}
+
+/// A name is that of no object.
+fn is_free(key: Who) -> bool
+    ensures { result ≡ is_same free_cause key }
+{
+    FREE == key
+}
+
+/// The threads that are ready and those that are queued, each behind its cause; and marks: the same threads, first those whom any change may free, then
+/// each behind the object that may.
 #[derive(Drop)]
 pub struct Turns {
     waits: Waits,
@@ -56,6 +87,7 @@ impl Turns {
         ensures ready { self.new.waits.ready ≡ self.old.waits.ready }
         ensures queued { self.new.waits.queued ≡ self.old.waits.queued }
         ensures marked { self.new.marks.ready ≡ self.old.marks.ready }
+        ensures keyed { self.new.marks.queued ≡ self.old.marks.queued }
     {
         self.waits.reserve(1)?;
         self.marks.reserve(1)
@@ -88,19 +120,33 @@ impl Turns {
         self.marks.park(who, FREE);
     }
 
-    /// A thread is queued at a cause, last of all. It stands. Whether any change may free it is marked.
-    pub fn park(&mut self, who: Who, cause: Who, any: bool)
+    /// A thread is queued at a cause, last of all. It stands. What may free it is marked.
+    pub fn park(&mut self, who: Who, cause: Who, mark: Mark)
         requires sound { IsSound self.old.waits self.old.marks }
         requires stands { stands who self.old.waits ≡ true }
         ensures sound { IsSound self.new.waits self.new.marks }
         ensures waits { self.new.waits ≡ parked who cause self.old.waits }
-        ensures marks { self.new.marks ≡ if any then woken who self.old.marks else parked who free_cause self.old.marks }
+        ensures marks { self.new.marks ≡ marked_by mark who self.old.marks }
     {
         self.waits.park(who, cause);
-        if any {
+        match mark {
+            Mark::Own => self.marks.park(who, FREE),
+            Mark::At { key } => self.mark_at(who, key),
+            Mark::Loud => self.marks.park(who, LOUD),
+            Mark::Any => self.marks.wake(who),
+        }
+    }
+
+    /// An object may free a thread.
+    fn mark_at(&mut self, who: Who, key: Who)
+        requires { stands who self.old.marks ≡ true }
+        ensures waits { self.new.waits ≡ self.old.waits }
+        ensures marks { self.new.marks ≡ marked_by (marks_of.At key) who self.old.marks }
+    {
+        if is_free(key) {
             self.marks.wake(who);
         } else {
-            self.marks.park(who, FREE);
+            self.marks.park(who, key);
         }
     }
 
@@ -130,27 +176,58 @@ impl Turns {
         self.wake(to);
     }
 
-    /// All that are queued at a cause are ready.
-    pub fn rouse_at(&mut self, cause: Who)
+    /// All that an object may free are ready.
+    pub fn rouse_at(&mut self, key: Who)
         requires sound { IsSound self.old.waits self.old.marks }
         ensures sound { IsSound self.new.waits self.new.marks }
         ensures roused { IsRoused self.old.waits self.new.waits }
         ensures met { AreMet self.old.marks self.new.marks self.new.waits }
-        ensures gone { is_cause cause self.new.waits.queued ≡ false }
+        ensures freed { IsFreed key self.old.marks self.new.waits }
+        ensures room { self.new.marks.spare ≡ self.old.marks.spare }
     {
-        while let Some(who) = self.waits.first(cause) {
-            self.waits.once();
+        if is_free(key) {
+            return;
+        }
+        self.rouse_marked_at(key);
+    }
+
+    /// The same of an object that has a name.
+    fn rouse_marked_at(&mut self, key: Who)
+        requires sound { IsSound self.old.waits self.old.marks }
+        requires named { is_same free_cause key ≡ false }
+        ensures sound { IsSound self.new.waits self.new.marks }
+        ensures roused { IsRoused self.old.waits self.new.waits }
+        ensures met { AreMet self.old.marks self.new.marks self.new.waits }
+        ensures freed { IsFreed key self.old.marks self.new.waits }
+        ensures room { self.new.marks.spare ≡ self.old.marks.spare }
+    {
+        while let Some(who) = self.marks.first(key) {
+            self.marks.once();
             self.wake(who);
         }
     }
 
-    /// All whom any change may free are ready.
+    /// All whom a move of another may free that is no instruction are ready.
     pub fn rouse_marked(&mut self)
         requires sound { IsSound self.old.waits self.old.marks }
         ensures sound { IsSound self.new.waits self.new.marks }
         ensures roused { IsRoused self.old.waits self.new.waits }
-        ensures marks { self.new.marks.ready ≡ [] }
         ensures room { self.new.marks.spare ≡ self.old.marks.spare }
+        ensures met { AreMet self.old.marks self.new.marks self.new.waits }
+        ensures gone { (who : names_of.Who) → is_in who self.old.marks.ready ≡ true → is_queued who self.new.waits.queued ≡ false }
+        ensures loud { IsFreed loud_cause self.old.marks self.new.waits }
+    {
+        self.rouse_any();
+        self.rouse_at(LOUD);
+    }
+
+    /// All whom any change may free are ready.
+    fn rouse_any(&mut self)
+        requires sound { IsSound self.old.waits self.old.marks }
+        ensures sound { IsSound self.new.waits self.new.marks }
+        ensures roused { IsRoused self.old.waits self.new.waits }
+        ensures room { self.new.marks.spare ≡ self.old.marks.spare }
+        ensures met { AreMet self.old.marks self.new.marks self.new.waits }
         ensures gone { (who : names_of.Who) → is_in who self.old.marks.ready ≡ true → is_queued who self.new.waits.queued ≡ false }
     {
         while let Some(who) = self.marks.next() {
@@ -166,20 +243,17 @@ impl Turns {
         ensures stays { (who : names_of.Who) → stands who self.new.waits ≡ stands who self.old.waits }
         ensures queued { self.new.waits.queued ≡ [] }
     {
-        self.mark_all();
         self.rouse_marked();
+        self.waits.wake_all();
     }
 
-    /// All are marked.
-    fn mark_all(&mut self)
-        requires sound { IsSound self.old.waits self.old.marks }
-        ensures sound { IsSound self.new.waits self.new.marks }
-        ensures waits { self.new.waits ≡ self.old.waits }
-        ensures none { is_cause free_cause self.new.marks.queued ≡ false }
+    /// Nobody is queued whom any move of another may free but an instruction.
+    pub fn is_hushed(&self) -> bool
+        ensures { OnTrue result (is_cause loud_cause self.now.marks.queued ≡ false) }
     {
-        while let Some(who) = self.marks.first(FREE) {
-            self.marks.once();
-            self.marks.wake(who);
+        match self.marks.first(LOUD) {
+            Some(_) => false,
+            None => true,
         }
     }
 

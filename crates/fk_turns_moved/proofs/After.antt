@@ -1,11 +1,12 @@
 -- After: the lists after a move.
-use Rattle.std.proofs.Common.{◌≡◌, ◌&&◌, ◌||◌, Bool, true, false, [], List, ◌∷◌, if◌then◌else◌, refl, sym, ap, subst, ◌∙◌}
+use Rattle.std.proofs.Common.{◌≡◌, ◌&&◌, ◌||◌, ◌⊎◌, inl, inr, Bool, true, false, [], List, ◌∷◌, if◌then◌else◌, refl, sym, ap, subst, ◌∙◌}
 use Rattle.std.proofs.lemmas.Bool.{or_from, or_left, or_right}
 use Rattle.fk_model.specs.declared.names.Who.{Who}
 use Rattle.fk_store.specs.Contents.{Contents}
-use Rattle.fk_store.specs.Names.{at}
+use Rattle.fk_store.specs.Paths.{path}
 use Rattle.fk_store.specs.World.{world, place_of}
-use Rattle.fk_turns.specs.Turns.{waits_at, IsLess, IsRoused, IsSound}
+use Rattle.fk_turns.specs.Turns.{free_cause, loud_cause, waits_at, AreMet, IsFreed, IsLess, IsRoused, IsSound}
+use Rattle.fk_turns.proofs.Roused.{met_nobody}
 use Rattle.fk_waits.specs.Lists.{is_cause, is_in, is_queued, stands, Lists}
 use Rattle.fk_waits_causes.proofs.Numbers.{clash}
 use Rattle.fk_waits_names.specs.Names.{is_same}
@@ -13,35 +14,39 @@ use Rattle.fk_waits_names.proofs.Order.{same_who}
 use Rattle.fk_wakes.specs.declared.touching.Touched.{Touched}
 use Rattle.fk_whys.specs.declared.whys.Why.{Why}
 use Rattle.fk_whys.specs.declared.whys.Why.TheVariants as whys
-use Rattle.fk_whys.specs.Whys.{reason_by}
-use Rattle.laws_waits.specs.Stuck.{IsStuck}
+use Rattle.fk_whys.specs.Whys.{IsWhy}
 use Rattle.fk_turns_moved.specs.Kept.{is_user_at, AreKept, IsFiled, IsFiledAs}
-use Rattle.fk_turns_moved.specs.Moved.{is_named, is_told, is_wide, AreRoused, IsMoved, IsTouched}
+use Rattle.fk_turns_moved.specs.Moved.{is_named, is_told, is_wide, AreFreed, AreRoused, IsMoved, IsTouched}
 
--- who waits at a cause is queued, and the cause is one
-pub waits_queued : (cause x : Who) (l : List (Who × Who)) → waits_at cause x l ≡ true → is_queued x l ≡ true
-waits_queued cause x [] is = is
-waits_queued cause x (q ∷ l) is = by (is_same q.0 cause) (is_same q.1 x) refl refl is (waits_queued cause x l)
+-- a thread that is marked still is filed as before
+pub refiled : (m : Contents) (marks now : Lists) (x : Who) → IsFiled m marks x → (is_in x marks.ready ≡ true → is_in x now.ready ≡ true) →
+    ((key : Who) → waits_at key x marks.queued ≡ true → waits_at key x now.queued ≡ true) → IsFiled m now x
+refiled m marks now x filed still at = by filed.why filed.stuck filed.filed
   where
-    by : (s t : Bool) → is_same q.0 cause ≡ s → is_same q.1 x ≡ t → ((s && t) || waits_at cause x l) ≡ true →
-        (waits_at cause x l ≡ true → is_queued x l ≡ true) → (is_same q.1 x || is_queued x l) ≡ true
-    by s true e f here rest = or_left (is_same q.1 x) (is_queued x l) f
-    by true false e f here rest = or_right (is_same q.1 x) (is_queued x l) (rest here)
-    by false false e f here rest = or_right (is_same q.1 x) (is_queued x l) (rest here)
+    by : (y : Why) → IsWhy (world m) (path m) (place_of m x) y → IsFiledAs marks x y → IsFiled m now x
+    by whys.Still s f = record { why = whys.Still; stuck = s; filed = tt }
+    by (whys.At key) s f = record { why = whys.At key; stuck = s; filed = (f.0, at key f.1) }
+    by whys.Loud s f = record { why = whys.Loud; stuck = s; filed = at loud_cause f }
+    by whys.Barred s f = record { why = whys.Barred; stuck = s; filed = still f }
 
-pub waits_cause : (cause x : Who) (l : List (Who × Who)) → waits_at cause x l ≡ true → is_cause cause l ≡ true
-waits_cause cause x [] is = is
-waits_cause cause x (q ∷ l) is = by (is_same q.0 cause) (is_same q.1 x) refl is (waits_cause cause x l)
+-- as it is where who is queued is marked still
+pub refiled_met : (m : Contents) (marks now waits : Lists) (x : Who) → IsFiled m marks x → AreMet marks now waits → is_queued x waits.queued ≡ true →
+    IsFiled m now x
+refiled_met m marks now waits x filed met here = refiled m marks now x filed (λ is. by (met.met x is)) (λ key is. at key (met.keyed key x is))
   where
-    by : (s t : Bool) → is_same q.0 cause ≡ s → ((s && t) || waits_at cause x l) ≡ true →
-        (waits_at cause x l ≡ true → is_cause cause l ≡ true) → (is_same q.0 cause || is_cause cause l) ≡ true
-    by true t e here rest = or_left (is_same q.0 cause) (is_cause cause l) e
-    by false true e here rest = or_right (is_same q.0 cause) (is_cause cause l) (rest here)
-    by false false e here rest = or_right (is_same q.0 cause) (is_cause cause l) (rest here)
+    by : (is_in x now.ready ≡ true) ⊎ (is_queued x waits.queued ≡ false) → is_in x now.ready ≡ true
+    by (inl is) = is
+    by (inr gone) = clash (is_queued x waits.queued) here gone
 
-module _ (m n : Contents) (mover : Who) (touched : Touched) (waits marks roused roused_marks told now then_marks : Lists)
+    at : (key : Who) → (waits_at key x now.queued ≡ true) ⊎ (is_queued x waits.queued ≡ false) → waits_at key x now.queued ≡ true
+    at key (inl is) = is
+    at key (inr gone) = clash (is_queued x waits.queued) here gone
+
+module _ (m n : Contents) (mover : Who) (touched : Touched) (waits marks roused roused_marks told told_marks now then_marks : Lists)
     (kept : AreKept m waits marks) (move : IsMoved m n mover touched) (free : AreRoused touched waits marks roused roused_marks)
-    (named : IsTouched n (is_named touched) roused told) (own : IsTouched n (is_same mover) told now) (sound : IsSound now then_marks) where
+    (named : IsTouched n (is_named touched) roused told) (own : IsTouched n (is_same mover) told now)
+    (named_freed : AreFreed (is_named touched) roused_marks told_marks told) (own_freed : AreFreed (is_same mover) told_marks then_marks now)
+    (sound : IsSound now then_marks) where
   each_after : (x : Who) → stands x now ≡ is_user_at n x
   each_after x = own.placed x ∙ by (is_same mover x) (is_named touched x) refl refl
     where
@@ -61,28 +66,53 @@ module _ (m n : Contents) (mover : Who) (touched : Touched) (waits marks roused 
       by true off = clash here is (off refl)
       by false off = refl
 
-  filed_after : (cause x : Who) → waits_at cause x now.queued ≡ true → IsFiled n then_marks cause x
-  filed_after cause x here =
-      let before = own.less.waiting cause x here in
-      let first = named.less.waiting cause x before in
-      let was = kept.filed cause x (free.less.waiting cause x first) in
-      let it = untold x (is_queued x told.queued) (λ e. clash (is_queued x now.queued) (waits_queued cause x now.queued here) (own.away x e))
-      (named.away x) (waits_queued cause x told.queued before) in
-      let its = untold cause (is_cause cause told.queued) (λ e. clash (is_cause cause now.queued) (waits_cause cause x now.queued here) (own.gone cause e))
-      (named.gone cause) (waits_cause cause x told.queued before) in
-      by first it its (is_wide touched) refl was.why was.stuck was.filed
+  filed_after : (x : Who) → is_queued x now.queued ≡ true → IsFiled n then_marks x
+  filed_after x here = by (is_wide touched) refl was.why was.stuck was.filed
     where
-      by : waits_at cause x roused.queued ≡ true → is_told mover touched x ≡ false → is_told mover touched cause ≡ false → (wide : Bool) →
-          is_wide touched ≡ wide → (why : Why) → IsStuck (world m) (place_of m x) (reason_by why) → IsFiledAs marks cause x why → IsFiled n then_marks cause x
-      by first it its true e why stuck filed = let none : false ≡ true = ap (waits_at cause x) (sym (free.none e)) ∙ first in absurd (cc)
-      by first it its false e whys.Resting stuck filed =
-          record { why = whys.Resting; stuck = move.stays e x whys.Resting it tt stuck; filed = tt }
-      by first it its false e (whys.Locking mutex) stuck filed =
-          let aside : is_told mover touched (at x.space mutex) ≡ false =
-          subst (λ (w : Who). is_told mover touched w ≡ false) (sym (same_who (at x.space mutex) cause filed)) its in
-          record { why = whys.Locking mutex; stuck = move.stays e x (whys.Locking mutex) it aside stuck; filed = filed }
-      by first it its false e whys.Barred stuck filed =
-          clash (is_queued x roused.queued) (waits_queued cause x roused.queued first) (free.unmarked x filed)
+      in_told : is_queued x told.queued ≡ true
+      in_told = own.less.queued x here
+
+      in_roused : is_queued x roused.queued ≡ true
+      in_roused = named.less.queued x in_told
+
+      in_waits : is_queued x waits.queued ≡ true
+      in_waits = free.less.queued x in_roused
+
+      was : IsFiled m marks x
+      was = kept.filed x in_waits
+
+      user : is_user_at m x ≡ true
+      user = sym (kept.each x) ∙ or_right (is_in x waits.ready) (is_queued x waits.queued) in_waits
+
+      it : is_told mover touched x ≡ false
+      it = untold x (is_queued x told.queued) (λ e. clash (is_queued x now.queued) here (own.away x e)) (named.away x) in_told
+
+      -- what may free it isn't told
+      key_untold : (key : Who) → is_same free_cause key ≡ false → waits_at key x roused_marks.queued ≡ true → waits_at key x told_marks.queued ≡ true →
+          is_told mover touched key ≡ false
+      key_untold key some first second =
+          untold key (is_queued x told.queued) (λ e. clash (is_queued x now.queued) here (own_freed.freed key e some x second))
+          (λ e. named_freed.freed key e some x first) in_told
+
+      still : (key : Who) (l : Lists) (queued : Bool) → queued ≡ true → (waits_at key x l.queued ≡ true) ⊎ (queued ≡ false) → waits_at key x l.queued ≡ true
+      still key l queued is (inl there) = there
+      still key l queued is (inr gone) = clash queued is gone
+
+      at : is_wide touched ≡ false → (key : Who) → IsWhy (world m) (path m) (place_of m x) (whys.At key) → is_same free_cause key ≡ false →
+          waits_at key x marks.queued ≡ true → IsFiled n then_marks x
+      at e key stuck some there =
+          let first = still key roused_marks (is_queued x roused.queued) in_roused (free.met.keyed key x there) in
+          let second = still key told_marks (is_queued x told.queued) in_told (named_freed.met.keyed key x first) in
+          let third = still key then_marks (is_queued x now.queued) here (own_freed.met.keyed key x second) in
+          record { why = whys.At key; stuck = move.stays e x (whys.At key) it (key_untold key some first second) user stuck; filed = (some, third) }
+
+      by : (wide : Bool) → is_wide touched ≡ wide → (why : Why) → IsWhy (world m) (path m) (place_of m x) why → IsFiledAs marks x why →
+          IsFiled n then_marks x
+      by true e why stuck filed = let none : false ≡ true = ap (is_queued x) (sym (free.none e)) ∙ in_roused in absurd (cc)
+      by false e whys.Still stuck filed = record { why = whys.Still; stuck = move.stays e x whys.Still it tt user stuck; filed = tt }
+      by false e (whys.At key) stuck filed = at e key stuck filed.0 filed.1
+      by false e whys.Loud stuck filed = clash (is_queued x roused.queued) in_roused (free.hushed x filed)
+      by false e whys.Barred stuck filed = clash (is_queued x roused.queued) in_roused (free.unmarked x filed)
 
   pub kept_after : AreKept n now then_marks
   kept_after = record { each = each_after; sound = sound; filed = filed_after }
@@ -98,11 +128,13 @@ nobody_waits waits now none = record {
 
 pub roused_few : (touched : Touched) (waits marks now then_marks : Lists) → is_wide touched ≡ false → IsRoused waits now →
     ((x : Who) → is_in x marks.ready ≡ true → is_queued x now.queued ≡ false) → then_marks.spare ≡ marks.spare →
-    AreRoused touched waits marks now then_marks
-roused_few touched waits marks now then_marks few roused gone room = record {
+    AreMet marks then_marks now → IsFreed loud_cause marks now → AreRoused touched waits marks now then_marks
+roused_few touched waits marks now then_marks few roused gone room met loud = record {
   stays = roused.stays;
   less = roused.less;
   unmarked = gone;
+  hushed = λ x is. loud refl x is;
+  met = met;
   none = λ wide. clash (is_wide touched) wide few;
   room = λ off. (roused.room, room);
 }
@@ -113,6 +145,8 @@ roused_wide touched waits marks now then_marks wide stays none = record {
   stays = stays;
   less = nobody_waits waits now none;
   unmarked = λ x is. ap (is_queued x) none;
+  hushed = λ x is. ap (is_queued x) none;
+  met = met_nobody marks then_marks now none;
   none = λ e. none;
   room = λ off. clash (is_wide touched) wide off;
 }

@@ -7,7 +7,7 @@ use Rattle.fk_store.specs.Contents.{Contents}
 use Rattle.fk_store.specs.Names.{who_cmp}
 use Rattle.fk_store.specs.Orders.{IsFirstAfter}
 use Rattle.fk_store.specs.World.{IsLive}
-use Rattle.fk_turns.specs.Turns.{waits_at, IsSound}
+use Rattle.fk_turns.specs.Turns.{IsSound}
 use Rattle.fk_turns.proofs.Woken.{stands_woken}
 use Rattle.fk_waits.specs.Lists.{is_in, is_queued, stands, woken, Lists}
 use Rattle.fk_waits_causes.proofs.Placed.{same_self}
@@ -74,7 +74,7 @@ pub kept_filled : (m : Contents) (waits marks : Lists) → AreFilled m waits mar
 kept_filled m waits marks filled = record {
   each = λ x. by x (stands x waits) (is_user_at m x) refl refl;
   sound = filled.sound;
-  filed = λ c x is. let off : false ≡ true = ap (waits_at c x) (sym filled.none) ∙ is in absurd (cc);
+  filed = λ x is. let off : false ≡ true = ap (is_queued x) (sym filled.none) ∙ is in absurd (cc);
 }
   where
     by : (x : Who) (s u : Bool) → stands x waits ≡ s → is_user_at m x ≡ u → stands x waits ≡ is_user_at m x

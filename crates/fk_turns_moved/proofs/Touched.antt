@@ -1,26 +1,30 @@
 -- Touched: the lists once some objects are touched, one after another.
-use Rattle.std.proofs.Common.{◌≡◌, ◌≤◌, ℕ, ◌||◌, Bool, true, false, [], if◌then◌else◌, refl, sym, ap, subst, ◌∙◌}
-use Rattle.std.proofs.lemmas.Bool.{or_right}
+use Rattle.std.proofs.Common.{◌≡◌, ◌≤◌, ℕ, ◌||◌, ◌⊎◌, Bool, true, false, List, [], ◌∷◌, if◌then◌else◌, inl, inr, refl, sym, ap, subst, ◌∙◌}
+use Rattle.std.proofs.lemmas.Bool.{or_left, or_right}
 use Rattle.fk_model.specs.declared.names.Who.{Who}
 use Rattle.fk_store.specs.Contents.{Contents}
 use Rattle.fk_store.specs.Names.{at}
-use Rattle.fk_turns.specs.Turns.{IsLess, IsRoused}
-use Rattle.fk_turns.proofs.Roused.{less_none, less_then}
+use Rattle.fk_turns.specs.Turns.{free_cause, waits_at, AreMet, IsFreed, IsLess, IsRoused}
+use Rattle.fk_turns.proofs.Roused.{less_none, less_then, met_nobody, met_none, met_then}
 use Rattle.fk_turns.proofs.Woken.{stands_left, stands_woken}
-use Rattle.fk_waits.specs.Lists.{is_cause, is_queued, left, stands, woken, Lists}
+use Rattle.fk_waits.specs.Lists.{is_queued, left, stands, woken, Lists}
 use Rattle.fk_waits_causes.proofs.Numbers.{clash}
+use Rattle.fk_waits_causes.proofs.Placed.{same_self}
 use Rattle.fk_waits_names.specs.Names.{is_same}
 use Rattle.fk_waits_names.proofs.Order.{same_who}
 use Rattle.fk_wakes.specs.declared.touching.Touched.{Touched}
 use Rattle.fk_wakes.specs.declared.touching.Touched.TheVariants.{Any, Dies, Few, Makes, Moves}
 use Rattle.fk_turns_moved.specs.Kept.{is_user_at}
-use Rattle.fk_turns_moved.specs.Moved.{is_named, is_put, is_wide, AreRoused, HasPlace, HasPlaceFor, HasRoom, HasRoomFor, IsTouched}
+use Rattle.fk_turns_moved.specs.Moved.{is_named, is_put, is_wide, AreFreed, AreRoused, HasPlace, HasPlaceFor, HasRoom, HasRoomFor, IsTouched}
 
 -- ---- one after another
 
 -- nothing is touched
 pub touched_none : (n : Contents) (l : Lists) → IsTouched n (λ x. false) l l
-touched_none n l = record { placed = λ x. refl; less = less_none l; away = λ x is. absurd (cc); gone = λ c is. absurd (cc) }
+touched_none n l = record { placed = λ x. refl; less = less_none l; away = λ x is. absurd (cc) }
+
+pub freed_none : (marks waits : Lists) → AreFreed (λ x. false) marks marks waits
+freed_none marks waits = record { met = met_none marks waits; freed = λ key is. absurd (cc) }
 
 off_by : (a b : Bool) → (b ≡ true → a ≡ true) → a ≡ false → b ≡ false
 off_by true b then_so off = absurd (cc)
@@ -34,7 +38,6 @@ module _ (n : Contents) (p q r : Who → Bool) (a b c : Lists) (all : (x : Who) 
     placed = λ x. second.placed x ∙ placed_by x (p x) (q x) (first.placed x) ∙ ap (λ (t : Bool). if t then is_user_at n x else stands x a) (sym (all x));
     less = less_then a b c first.less second.less;
     away = λ x is. away_by x (p x) (q x) refl refl (sym (all x) ∙ is);
-    gone = λ x is. gone_by x (p x) (q x) refl refl (sym (all x) ∙ is);
   }
     where
       placed_by : (x : Who) (s t : Bool) → stands x b ≡ (if s then is_user_at n x else stands x a) →
@@ -49,10 +52,49 @@ module _ (n : Contents) (p q r : Who → Bool) (a b c : Lists) (all : (x : Who) 
       away_by x true false e f is = off_by (is_queued x b.queued) (is_queued x c.queued) (second.less.queued x) (first.away x e)
       away_by x false false e f is = absurd (cc)
 
-      gone_by : (x : Who) (s t : Bool) → p x ≡ s → q x ≡ t → (s || t) ≡ true → is_cause x c.queued ≡ false
-      gone_by x s true e f is = second.gone x f
-      gone_by x true false e f is = off_by (is_cause x b.queued) (is_cause x c.queued) (second.less.causes x) (first.gone x e)
-      gone_by x false false e f is = absurd (cc)
+module _ (p q r : Who → Bool) (marks then_marks after_marks b c : Lists) (all : (x : Who) → r x ≡ (p x || q x)) where
+  pub freed_then : AreFreed p marks then_marks b → AreFreed q then_marks after_marks c → IsLess b c → AreFreed r marks after_marks c
+  freed_then first second less = record {
+    met = met_then marks then_marks after_marks b c first.met second.met less;
+    freed = λ key is named x there. by key x named there (p key) (q key) refl refl (sym (all key) ∙ is);
+  }
+    where
+      later : (x : Who) → is_queued x b.queued ≡ false → is_queued x c.queued ≡ false
+      later x off = off_by (is_queued x b.queued) (is_queued x c.queued) (less.queued x) off
+
+      then_by : (key x : Who) → is_same free_cause key ≡ false → q key ≡ true →
+          (waits_at key x then_marks.queued ≡ true) ⊎ (is_queued x b.queued ≡ false) → is_queued x c.queued ≡ false
+      then_by key x named f (inl there) = second.freed key f named x there
+      then_by key x named f (inr gone) = later x gone
+
+      by : (key x : Who) → is_same free_cause key ≡ false → waits_at key x marks.queued ≡ true → (s t : Bool) → p key ≡ s → q key ≡ t →
+          (s || t) ≡ true → is_queued x c.queued ≡ false
+      by key x named there true t e f is = later x (first.freed key e named x there)
+      by key x named there false true e f is = then_by key x named f (first.met.keyed key x there)
+      by key x named there false false e f is = absurd (cc)
+
+-- one is put in its place, and whom it may free is ready
+pub freed_one : (x : Who) (marks then_marks after_marks b c : Lists) → AreMet marks then_marks b → AreMet then_marks after_marks c →
+    IsFreed x then_marks c → IsLess b c → AreFreed (is_same x) marks after_marks c
+freed_one x marks then_marks after_marks b c first second freed less =
+    freed_then (λ y. false) (is_same x) (is_same x) marks then_marks after_marks b c (λ y. refl)
+    (record { met = first; freed = λ key is. absurd (cc) })
+    (record { met = second; freed = λ key is. subst (λ (w : Who). IsFreed w then_marks c) (same_who x key is) freed }) less
+
+-- where nobody is queued
+pub freed_nobody : (told : Who → Bool) (marks then_marks waits : Lists) → waits.queued ≡ [] → AreFreed told marks then_marks waits
+freed_nobody told marks then_marks waits none = record {
+  met = met_nobody marks then_marks waits none;
+  freed = λ key is named x there. ap (is_queued x) none;
+}
+
+-- nor is anybody then
+pub still_nobody : (old new : Lists) → IsLess old new → old.queued ≡ [] → new.queued ≡ []
+still_nobody old new less none = by new.queued (λ x any. off_by (is_queued x old.queued) (is_queued x new.queued) (less.queued x) (ap (is_queued x) none))
+  where
+    by : (l : List (Who × Who)) → ((x : Who) → Bool → is_queued x l ≡ false) → l ≡ []
+    by [] off = refl
+    by (q ∷ l) off = clash (is_queued q.1 (q ∷ l)) (or_left (is_same q.1 q.1) (is_queued q.1 l) (same_self q.1)) (off q.1 true)
 
 -- a user's thread that stood stands still
 pub still_stands : (n : Contents) (p : Who → Bool) (a b : Lists) (x : Who) → IsTouched n p a b → is_user_at n x ≡ true → stands x a ≡ true → stands x b ≡ true
@@ -85,13 +127,12 @@ placed_other n x old new user is y = ap (stands y) is ∙ stands_left x y old �
 -- and who is queued at it is ready
 pub touched_one : (n : Contents) (x : Who) (old placed new : Lists) →
     ((y : Who) → stands y placed ≡ (if is_same x y then is_user_at n x else stands y old)) → IsLess old placed → is_queued x placed.queued ≡ false →
-    IsRoused placed new → is_cause x new.queued ≡ false → IsTouched n (is_same x) old new
-touched_one n x old placed new put less away roused gone = record {
+    IsRoused placed new → IsTouched n (is_same x) old new
+touched_one n x old placed new put less away roused = record {
   placed = λ y. roused.stays y ∙ put y ∙ by y (is_same x y) refl;
   less = less_then old placed new less roused.less;
   away = λ y is. subst (λ (w : Who). is_queued w new.queued ≡ false) (same_who x y is)
       (off_by (is_queued x placed.queued) (is_queued x new.queued) (roused.less.queued x) away);
-  gone = λ y is. subst (λ (w : Who). is_cause w new.queued ≡ false) (same_who x y is) gone;
 }
   where
     by : (y : Who) (t : Bool) → is_same x y ≡ t → (if t then is_user_at n x else stands y old) ≡ (if t then is_user_at n y else stands y old)
@@ -102,9 +143,6 @@ touched_one n x old placed new put less away roused gone = record {
 
 nobody_less : (old new : Lists) (x : Who) → IsLess old new → old.queued ≡ [] → is_queued x new.queued ≡ false
 nobody_less old new x less none = off_by (is_queued x old.queued) (is_queued x new.queued) (less.queued x) (ap (is_queued x) none)
-
-no_cause_less : (old new : Lists) (x : Who) → IsLess old new → old.queued ≡ [] → is_cause x new.queued ≡ false
-no_cause_less old new x less none = off_by (is_cause x old.queued) (is_cause x new.queued) (less.causes x) (ap (is_cause x) none)
 
 -- (where a name is the one or the other)
 by_either : (n : Contents) (from to y : Who) (old : Lists) → is_user_at n from ≡ false → (user : Bool) → is_user_at n to ≡ user → (s t : Bool) →
@@ -122,7 +160,6 @@ shifted_user n from to old new none user gone is less = record {
       ∙ by_either n from to y old gone true user (is_same from y) (is_same to y) refl refl;
   less = less;
   away = λ y is. nobody_less old new y less none;
-  gone = λ y is. no_cause_less old new y less none;
 }
   where
     or_if : (s t : Bool) → (s || t) ≡ (if s then true else t)
@@ -137,7 +174,6 @@ shifted_other n from to old first new none user gone is then_is less more = reco
       ∙ by_either n from to y old gone false user (is_same from y) (is_same to y) refl refl;
   less = less_then old first new less more;
   away = λ y is. nobody_less old new y (less_then old first new less more) none;
-  gone = λ y is. no_cause_less old new y (less_then old first new less more) none;
 }
 
 -- ---- what is told

@@ -4,16 +4,16 @@ use Rattle.fk_model.specs.declared.names.Who.{Who}
 use Rattle.fk_model.specs.Objects.{holds}
 use Rattle.fk_store.specs.Contents.{Contents}
 use Rattle.fk_store.specs.Names.{at}
+use Rattle.fk_store.specs.Paths.{path}
 use Rattle.fk_store.specs.World.{world, place_of}
-use Rattle.fk_turns.specs.Turns.{IsLess}
-use Rattle.fk_waits.specs.Lists.{is_cause, is_in, is_queued, stands, Lists}
+use Rattle.fk_turns.specs.Turns.{loud_cause, waits_at, AreMet, IsFreed, IsLess}
+use Rattle.fk_waits.specs.Lists.{is_in, is_queued, stands, Lists}
 use Rattle.fk_waits_names.specs.Names.{is_same}
 use Rattle.fk_wakes.specs.declared.touching.Touched.{Touched}
 use Rattle.fk_wakes.specs.declared.touching.Touched.TheVariants.{Any, Dies, Few, Makes, Moves}
 use Rattle.fk_whys.specs.declared.whys.Why.{Why}
 use Rattle.fk_whys.specs.declared.whys.Why.TheVariants as whys
-use Rattle.fk_whys.specs.Whys.{reason_by}
-use Rattle.laws_waits.specs.Stuck.{IsStuck}
+use Rattle.fk_whys.specs.Whys.{IsWhy}
 use Rattle.fk_turns_moved.specs.Kept.{is_user_at}
 
 -- ---- what is told of a move
@@ -52,11 +52,12 @@ now_named mover other = mover
 
 -- ---- what a move leaves
 
--- what a reason speaks of isn't told
-abbrev pub IsAside : Who → Touched → Who → Why → Type 0
-IsAside mover touched who whys.Resting = ⊤
-IsAside mover touched who (whys.Locking mutex) = is_told mover touched (at who.space mutex) ≡ false
-IsAside mover touched who whys.Barred = ⊥
+-- what a reason reads besides the thread isn't told
+abbrev pub IsAside : Who → Touched → Why → Type 0
+IsAside mover touched whys.Still = ⊤
+IsAside mover touched (whys.At key) = is_told mover touched key ≡ false
+IsAside mover touched whys.Loud = ⊥
+IsAside mover touched whys.Barred = ⊥
 
 -- what gets another slot was a user's thread where it is one there, and leaves its own
 abbrev pub IsLeft : Contents → Contents → Touched → Type 0
@@ -68,8 +69,8 @@ pub record IsMoved (m n : Contents) (mover : Who) (touched : Touched) : Type 0 w
   pub users : (who : Who) → is_told mover touched who ≡ false → is_user_at n who ≡ is_user_at m who
   pub grown : (who : Who) → is_user_at n who ≡ true → is_put touched who ≡ false → is_user_at m who ≡ true
   pub left : IsLeft m n touched
-  pub stays : is_wide touched ≡ false → (who : Who) (why : Why) → is_told mover touched who ≡ false → IsAside mover touched who why →
-      IsStuck (world m) (place_of m who) (reason_by why) → IsStuck (world n) (place_of n who) (reason_by why)
+  pub stays : is_wide touched ≡ false → (who : Who) (why : Why) → is_told mover touched who ≡ false → IsAside mover touched why →
+      is_user_at m who ≡ true → IsWhy (world m) (path m) (place_of m who) why → IsWhy (world n) (path n) (place_of n who) why
 
 -- ---- what is done
 
@@ -98,12 +99,18 @@ pub record AreRoused (touched : Touched) (waits marks now then_marks : Lists) : 
   pub stays : (who : Who) → stands who now ≡ stands who waits
   pub less : IsLess waits now
   pub unmarked : (who : Who) → is_in who marks.ready ≡ true → is_queued who now.queued ≡ false
+  pub hushed : (who : Who) → waits_at loud_cause who marks.queued ≡ true → is_queued who now.queued ≡ false
+  pub met : AreMet marks then_marks now
   pub none : is_wide touched ≡ true → now.queued ≡ []
   pub room : is_wide touched ≡ false → (now.spare ≡ waits.spare) × (then_marks.spare ≡ marks.spare)
 
--- of those that are told a user's thread stands, and what is none doesn't; none of them is queued, and nobody is at one of them
+-- of those that are told a user's thread stands, and what is none doesn't; none of them is queued
 pub record IsTouched (n : Contents) (told : Who → Bool) (old new : Lists) : Type 0 where
   pub placed : (who : Who) → stands who new ≡ (if told who then is_user_at n who else stands who old)
   pub less : IsLess old new
   pub away : (who : Who) → told who ≡ true → is_queued who new.queued ≡ false
-  pub gone : (cause : Who) → told cause ≡ true → is_cause cause new.queued ≡ false
+
+-- and nobody is whom one of them may free; the others are marked as they were
+pub record AreFreed (told : Who → Bool) (marks then_marks waits : Lists) : Type 0 where
+  pub met : AreMet marks then_marks waits
+  pub freed : (key : Who) → told key ≡ true → IsFreed key marks waits

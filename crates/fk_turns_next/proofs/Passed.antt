@@ -9,41 +9,25 @@ use Rattle.fk_model.specs.Places.{Path}
 use Rattle.fk_model.specs.Searches.{depth}
 use Rattle.fk_model.specs.Valid.{IsValid}
 use Rattle.fk_store.specs.Contents.{Contents}
+use Rattle.fk_store.specs.Paths.{path}
 use Rattle.fk_store.specs.World.{world, place_of}
-use Rattle.fk_turns.specs.Turns.{waits_at}
 use Rattle.fk_waits.specs.Lists.{first_ready, is_in, is_queued, parked, stands, without, without_queued, Lists, StandOnce}
 use Rattle.fk_waits.proofs.Listed.{without_none, without_none_queued}
 use Rattle.fk_waits_causes.proofs.Placed.{same_self}
 use Rattle.fk_waits_names.specs.Names.{is_same}
-use Rattle.fk_whys.specs.Whys.{reason_by}
-use Rattle.laws_waits.proofs.Unready.{stuck_is_unready_lem}
+use Rattle.fk_whys.proofs.Apart.{why_unready}
 use Rattle.fk_turns_moved.specs.Kept.{AreKept}
 use Rattle.fk_turns_moved.specs.Settled.{IsSettled}
 use Rattle.fk_turns_next.specs.Waiting.{standing, AreParked, ArePassed, AreWaiting, IsMoveReady, IsParked}
 
 -- ---- who is queued
 
--- whoever is queued waits at something
-queued_waits : (x : Who) (l : List (Who × Who)) → is_queued x l ≡ true → (cause : Who) × (waits_at cause x l ≡ true)
-queued_waits x [] is = absurd (cc)
-queued_waits x (q ∷ l) is = by (is_same q.1 x) refl is (queued_waits x l)
-  where
-    by : (t : Bool) → is_same q.1 x ≡ t → (t || is_queued x l) ≡ true → (is_queued x l ≡ true → (cause : Who) × (waits_at cause x l ≡ true)) →
-        (cause : Who) × (waits_at cause x (q ∷ l) ≡ true)
-    by true e here rest = (q.0, ap (λ (b : Bool). b || waits_at q.0 x l) (ap (λ (b : Bool). b && is_same q.1 x) (same_self q.0) ∙ e))
-    by false e here rest = let there = rest here in (there.0, more (is_same q.0 there.0 && is_same q.1 x) (waits_at there.0 x l) there.1)
-      where
-        more : (a b : Bool) → b ≡ true → (a || b) ≡ true
-        more true b is = refl
-        more false b is = is
-
--- and can't move
+-- can't move
 pub queued_unready : (m : Contents) (waits marks : Lists) → IsValid (world m) → (world m).next ≤ depth → AreKept m waits marks → (who : Who) →
     is_queued who waits.queued ≡ true → (pick : Option Path) → IsReady (world m) (place_of m who) pick asks.Run → ⊥
 queued_unready m waits marks valid few kept who is pick ready =
-    let there = queued_waits who waits.queued is in
-    let filed = kept.filed there.0 who there.1 in
-    stuck_is_unready_lem (world m) (place_of m who) (reason_by filed.why) valid few filed.stuck pick ready
+    let filed = kept.filed who is in
+    why_unready (world m) (path m) (place_of m who) filed.why valid few filed.stuck pick ready
 
 pub are_waiting : (m : Contents) (waits marks : Lists) → IsValid (world m) → (world m).next ≤ depth → AreKept m waits marks → StandOnce waits →
     AreWaiting m waits

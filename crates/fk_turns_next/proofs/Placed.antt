@@ -1,21 +1,16 @@
 -- Placed: the lists once a thread that can move is woken again.
-use Rattle.std.proofs.Common.{◌≡◌, ◌||◌, ◌⊎◌, Bool, true, false, inl, inr, refl, sym, ap, ◌∙◌}
+use Rattle.std.proofs.Common.{◌≡◌, ◌||◌, Bool, true, false, refl, sym, ap, ◌∙◌}
 use Rattle.fk_model.specs.declared.names.Who.{Who}
 use Rattle.fk_store.specs.Contents.{Contents}
 use Rattle.fk_store.specs.World.{world, place_of}
-use Rattle.fk_turns.specs.Turns.{waits_at, AreMet, IsLess, IsSound}
+use Rattle.fk_turns.specs.Turns.{AreMet, IsLess, IsSound}
 use Rattle.fk_turns.proofs.Woken.{stands_woken}
-use Rattle.fk_waits.specs.Lists.{is_in, is_queued, stands, without, without_queued, woken, Lists}
-use Rattle.fk_waits_causes.proofs.Numbers.{clash}
+use Rattle.fk_waits.specs.Lists.{is_queued, stands, without, without_queued, woken, Lists}
 use Rattle.fk_waits_names.specs.Names.{is_same}
 use Rattle.fk_waits_names.proofs.Order.{same_who}
-use Rattle.fk_whys.specs.declared.whys.Why.{Why}
-use Rattle.fk_whys.specs.declared.whys.Why.TheVariants as whys
-use Rattle.fk_whys.specs.Whys.{reason_by}
-use Rattle.laws_waits.specs.Stuck.{IsStuck}
-use Rattle.fk_turns_moved.specs.Kept.{is_user_at, AreKept, IsFiled, IsFiledAs}
+use Rattle.fk_turns_moved.specs.Kept.{is_user_at, AreKept, IsFiled}
 use Rattle.fk_turns_moved.specs.Settled.{IsSettled}
-use Rattle.fk_turns_moved.proofs.After.{waits_queued}
+use Rattle.fk_turns_moved.proofs.After.{refiled_met}
 use Rattle.fk_turns_next.specs.Waiting.{standing, IsMoveReady, IsPlaced}
 
 module _ (m : Contents) (who : Who) (waits marks now then_marks : Lists) (kept : AreKept m waits marks) (user : is_user_at m who ≡ true)
@@ -27,17 +22,8 @@ module _ (m : Contents) (who : Who) (waits marks now then_marks : Lists) (kept :
       by true e = sym user ∙ ap (is_user_at m) (same_who who x e)
       by false e = kept.each x
 
-  filed_woken : (cause x : Who) → waits_at cause x now.queued ≡ true → IsFiled m then_marks cause x
-  filed_woken cause x here = let was = kept.filed cause x (less.waiting cause x here) in by was.why was.stuck was.filed
-    where
-      still : (is_in x then_marks.ready ≡ true) ⊎ (is_queued x now.queued ≡ false) → is_in x then_marks.ready ≡ true
-      still (inl is) = is
-      still (inr off) = clash (is_queued x now.queued) (waits_queued cause x now.queued here) off
-
-      by : (y : Why) → IsStuck (world m) (place_of m x) (reason_by y) → IsFiledAs marks cause x y → IsFiled m then_marks cause x
-      by whys.Resting s f = record { why = whys.Resting; stuck = s; filed = tt }
-      by (whys.Locking mutex) s f = record { why = whys.Locking mutex; stuck = s; filed = f }
-      by whys.Barred s f = record { why = whys.Barred; stuck = s; filed = still (met.met x f) }
+  filed_woken : (x : Who) → is_queued x now.queued ≡ true → IsFiled m then_marks x
+  filed_woken x here = refiled_met m marks then_marks now x (kept.filed x (less.queued x here)) met here
 
   pub kept_woken : IsSound now then_marks → AreKept m now then_marks
   kept_woken sound = record { each = each_woken; sound = sound; filed = filed_woken }

@@ -1,12 +1,10 @@
 -- Told: what is told of a move is enough for the lists.
 use Rattle.std.proofs.Common.{◌≡◌, ◌≤◌, ℕ, Bool, true, false, ◌&&◌, ◌||◌, ◌==◌, IsSome}
-use Rattle.std.proofs.Common.{List, [], ◌∷◌, length, Option, Some, None, option_map, unwrap_or, if◌then◌else◌}
+use Rattle.std.proofs.Common.{List, [], ◌∷◌, length, Option, Some, None, is_some, option_map, unwrap_or, if◌then◌else◌}
 use Rattle.std.proofs.Common.{refl, sym, ap, subst, ◌∙◌, arith, eqb-true}
 use Rattle.std.proofs.lemmas.Bool.{and_parts, or_left, or_parts, or_right}
 use Rattle.fk_model.specs.declared.moves.Ask.{Ask}
 use Rattle.fk_model.specs.declared.names.Who.{Who}
-use Rattle.fk_model.specs.declared.stage.Stage.{Stage}
-use Rattle.fk_model.specs.declared.stage.Stage.TheVariants.{MutexLock}
 use Rattle.fk_model.specs.Moves.{outcome, step, stepped, GoesAllowed}
 use Rattle.fk_model.specs.Objects.{Body, Thread, and_then, holds, mutex_of}
 use Rattle.fk_model.specs.Outcomes.{Outcome, listed}
@@ -31,19 +29,18 @@ use Rattle.fk_waits_names.specs.Names.{is_same}
 use Rattle.fk_waits_names.proofs.Order.{same_who}
 use Rattle.fk_wakes.specs.declared.touching.Touched.{Touched}
 use Rattle.fk_wakes.specs.declared.touching.Touched.TheVariants.{Any, Dies, Few, Makes, Moves}
-use Rattle.fk_wakes.specs.Touches.{are_done, is_at, is_touched, leave, moves, MovesFirst}
+use Rattle.fk_wakes.specs.Touches.{are_done, is_at, is_touched, leave, leaves, moves, MovesFirst}
 use Rattle.fk_whys.specs.declared.whys.Why.{Why}
 use Rattle.fk_whys.specs.declared.whys.Why.TheVariants as whys
-use Rattle.fk_whys.specs.Whys.{reason_by}
-use Rattle.fk_whys.specs.Staying.{AreApart}
-use Rattle.fk_whys.proofs.Apart.{reasons_stay_lem}
+use Rattle.fk_whys.specs.Staying.{AreMild, IsMild}
+use Rattle.fk_whys.specs.Whys.{IsAt, IsStill, IsWhy}
+use Rattle.fk_whys.proofs.Apart.{key_there, reasons_stay_lem}
 use Rattle.laws_frozen.proofs.Edited.{same-native}
 use Rattle.laws_machine.specs.Frame.{name_body}
-use Rattle.laws_machine.proofs.safety.Safe.{AreSafe, IsSafeMove}
+use Rattle.laws_machine.proofs.safety.Safe.{AreSafe, IsSafe, IsSafeMove}
 use Rattle.laws_users.specs.Stood.{is_users_at, put, taken}
 use Rattle.laws_users.proofs.Named.{are_safe, named_found, named_there, names_stay, names_stood, none_nowhere, spaces_stay}
 use Rattle.laws_users.proofs.Stood.{same-users, users_in, users-through, users_stay, users_stood}
-use Rattle.laws_waits.specs.Stuck.{is_resting, IsAtStage, IsStuck}
 use Rattle.fk_turns_told.specs.Told.{comes_to, moved_name, IsMadeTo, IsStored, ToldMovesLeave, ToldNames}
 use Rattle.fk_turns_told.proofs.Places.{is_put_place, is_taken_place, put_told, taken_told}
 
@@ -87,26 +84,38 @@ same_name m stored a b live same =
     named_by a b (ap slot_of here) (same_born (world m) (path m a.space) a.space b.space first
     (ap (λ (x : Path). birth_at (world m) (parent x)) here ∙ second))
 
-thread_there : (w : World) (x : Path) (f : Thread → Bool) → holds f (thread_at w x) ≡ true → IsSome (w.body x)
-thread_there w x f is = by (w.body x) refl is
-  where
-    by : (o : Option Body) → w.body x ≡ o → holds f (thread_at w x) ≡ true → IsSome (w.body x)
-    by (Some b) e is = rw e refl
-    by None e is = let off = rw e at is in absurd (cc)
+-- ---- what a move that touches few leaves where it is
 
-stage_there : (w : World) (x : Path) (stage : Stage) → IsAtStage w x stage → IsSome (w.body x)
-stage_there w x stage is = by (w.body x) refl is
+mild_one : (p : ℕ → Path) (t : Touched) → is_wide t ≡ false → (w : World) (c : Change) → IsSafe w c → leaves p t c ≡ true → IsMild w c
+mild_one p t few w (Alter x edit) safe told = tt
+mild_one p t few w (Make [] body) safe told = absurd safe
+mild_one p t few w (Make (k ∷ s) body) safe told = ap is_some safe.place.empty
+mild_one p t few w (MakeSpace [] holder) safe told = absurd safe
+mild_one p t few w (MakeSpace (k ∷ s) holder) safe told = ap is_some safe.place.empty
+mild_one p t few w (Kill x) safe told = absurd (by t few told)
   where
-    by : (o : Option Body) → w.body x ≡ o → IsAtStage w x stage → IsSome (w.body x)
-    by (Some b) e is = rw e refl
-    by None e is = let off = rw e at is in absurd (cc)
+    by : (t : Touched) → is_wide t ≡ false → leaves p t (Kill x) ≡ true → ⊥
+    by (Few first second third) few told = cc
+    by (Makes object) few told = cc
+    by Any few told = cc
+    by (Dies object) few told = cc
+    by (Moves object slot) few told = cc
+mild_one p t few w (Move x slot) safe told = absurd (by t few told)
+  where
+    by : (t : Touched) → is_wide t ≡ false → leaves p t (Move x slot) ≡ true → ⊥
+    by (Few first second third) few told = cc
+    by (Makes object) few told = cc
+    by Any few told = cc
+    by (Dies object) few told = cc
+    by (Moves object to) few told = cc
+mild_one p t few w (PutPage space page words) safe told = tt
+mild_one p t few w (DropPage space page) safe told = tt
 
-mutex_there : (w : World) (x : Path) → and_then mutex_of (w.body x) ≡ Some true → IsSome (w.body x)
-mutex_there w x is = by (w.body x) refl is
-  where
-    by : (o : Option Body) → w.body x ≡ o → and_then mutex_of (w.body x) ≡ Some true → IsSome (w.body x)
-    by (Some b) e is = rw e refl
-    by None e is = let off = rw e at is in absurd (cc)
+mild_by : (p : ℕ → Path) (t : Touched) → is_wide t ≡ false → (w : World) (cs : List Change) → AreSafe w cs → leave p t cs ≡ true → AreMild w cs
+mild_by p t few w [] safe told = tt
+mild_by p t few w (c ∷ cs) safe told =
+    let both = and_parts (leaves p t c) (leave p t cs) told in
+    (mild_one p t few w c safe.0 both.0, mild_by p t few (apply c w) cs safe.1 both.1)
 
 -- ---- what gets another slot
 
@@ -175,7 +184,7 @@ module _ (m n : Contents) (mover : Who) (pick : Option Path) (ask : Ask) (old : 
   at_new : (who : Who) → place_of n who ≡ named (step (world m) (place_of m mover) pick ask).world who
   at_new who = ap (λ (p : ℕ → Path). who.slot ∷ p who.space) new.born ∙ ap (λ (u : World). named u who) made.step
 
-  stays : (who : Who) → IsSome ((world m).body (place_of m who)) → taken cs (place_of m who) ≡ false → place_of n who ≡ place_of m who
+  pub stays : (who : Who) → IsSome ((world m).body (place_of m who)) → taken cs (place_of m who) ≡ false → place_of n who ≡ place_of m who
   stays who live off =
       at_new who ∙ names_stay (world m) (place_of m mover) pick ask old.valid old.few made.fit then_few who
       (subst (λ (x : Path). IsSome ((world m).body x)) (at_old who) live) (ap (taken cs) (sym (at_old who)) ∙ off) ∙ sym (at_old who)
@@ -254,7 +263,7 @@ module _ (m n : Contents) (mover : Who) (pick : Option Path) (ask : Ask) (old : 
       by Any leaves off is = absurd (cc)
       by (Dies object) leaves off is = absurd (cc)
 
-  taken_off : (t : Touched) → leave (path m) t cs ≡ true → (who : Who) → is_named t who ≡ false → IsSome ((world m).body (place_of m who)) →
+  pub taken_off : (t : Touched) → leave (path m) t cs ≡ true → (who : Who) → is_named t who ≡ false → IsSome ((world m).body (place_of m who)) →
       taken cs (place_of m who) ≡ false
   taken_off t leaves who off live = untaken t leaves (place_of m who) (unless (is_taken_place (path m) t (place_of m who)) (by t off))
     where
@@ -342,27 +351,37 @@ module _ (m n : Contents) (mover : Who) (pick : Option Path) (ask : Ask) (old : 
         told = or_map (same_path (place_of m who) (place_of m mover)) (is_touched (path m) t (place_of m who)) (is_same mover who) (is_named t who)
             (λ is. same_name m old who mover live is) (touched_named t few who live)
 
-    still : (who : Who) (why : Why) → is_told mover t who ≡ false → IsAside mover t who why → IsStuck (world m) (place_of m who) (reason_by why) →
-        IsStuck (world n) (place_of n who) (reason_by why)
-    still who why off aside stuck =
-        let live = there why aside stuck in
-        let gone = taken_off t leaves who (or_parts (is_same mover who) (is_named t who) off).1 live in
-        subst (λ (x : Path). IsStuck (world n) x (reason_by why)) (sym (stays who live gone))
-        (subst (λ (u : World). IsStuck u (place_of m who) (reason_by why)) (sym made.step)
-        (reasons_stay_lem (world m) (place_of m mover) pick ask (place_of m who) why stuck (apart why aside stuck)))
-      where
-        there : (why : Why) → IsAside mover t who why → IsStuck (world m) (place_of m who) (reason_by why) → IsSome ((world m).body (place_of m who))
-        there whys.Resting aside stuck = thread_there (world m) (place_of m who) is_resting stuck
-        there (whys.Locking mutex) aside stuck = stage_there (world m) (place_of m who) (MutexLock mutex) stuck.0
-        there whys.Barred aside stuck = absurd aside
+    mild : AreMild (world m) cs
+    mild = mild_by (path m) t few (world m) cs (are_safe (world m) (place_of m mover) pick ask old.valid old.few made.fit) leaves
 
-        apart : (why : Why) → IsAside mover t who why → IsStuck (world m) (place_of m who) (reason_by why) → AreApart (world m) cs (place_of m who) why
-        apart whys.Resting aside stuck = unnamed who off (there whys.Resting aside stuck)
-        apart (whys.Locking mutex) aside stuck = (
-          unnamed who off (there (whys.Locking mutex) aside stuck),
-          unnamed (at who.space mutex) aside (mutex_there (world m) (place_of m (at who.space mutex)) stuck.2),
-        )
-        apart whys.Barred aside stuck = absurd aside
+    -- a name of what is there and isn't told leads where it led
+    stays_there : (who : Who) → is_told mover t who ≡ false → IsSome ((world m).body (place_of m who)) → place_of n who ≡ place_of m who
+    stays_there who off live = stays who live (taken_off t leaves who (or_parts (is_same mover who) (is_named t who) off).1 live)
+
+    still : (who : Who) (why : Why) → is_told mover t who ≡ false → IsAside mover t why → is_user_at m who ≡ true →
+        IsWhy (world m) (path m) (place_of m who) why → IsWhy (world n) (path n) (place_of n who) why
+    still who why off aside user is = by why aside is
+      where
+        live : IsSome ((world m).body (place_of m who))
+        live = user_there (world m) (place_of m who) user
+
+        here : place_of n who ≡ place_of m who
+        here = stays_there who off live
+
+        by : (why : Why) → IsAside mover t why → IsWhy (world m) (path m) (place_of m who) why → IsWhy (world n) (path n) (place_of n who) why
+        by whys.Still aside is =
+            subst (λ (x : Path). IsStill (world n) x) (sym here)
+            (subst (λ (u : World). IsStill u (place_of m who)) (sym made.step)
+            (reasons_stay_lem (world m) (place_of m mover) pick ask (path m) (place_of m who) whys.Still is mild (unnamed who off live)))
+        by (whys.At key) aside is =
+            let there = key_there (world m) (place_of m who) (place_of m key) is in
+            subst (λ (x : Path). IsAt (world n) (place_of n who) x) (sym (stays_there key aside there))
+            (subst (λ (x : Path). IsAt (world n) x (place_of m key)) (sym here)
+            (subst (λ (u : World). IsAt u (place_of m who) (place_of m key)) (sym made.step)
+            (reasons_stay_lem (world m) (place_of m mover) pick ask (path m) (place_of m who) (whys.At key) is mild
+            (unnamed who off live, unnamed key aside there))))
+        by whys.Loud aside is = absurd aside
+        by whys.Barred aside is = absurd aside
 
   -- ---- what gets another slot
 
@@ -420,7 +439,7 @@ told_moves_leave m n mover pick ask touched old new made told = record {
   users = λ who off. users m n mover pick ask old new made touched told.leaves who off;
   grown = λ who user off. grown m n mover pick ask old new made touched told.leaves who user off;
   left = left_by m n mover pick ask old new made touched (comes_to m mover pick ask) refl told.leaves told.moves made.ready;
-  stays = λ few who why off aside stuck. still m n mover pick ask old new made touched few told.leaves told.names who why off aside stuck;
+  stays = λ few who why off aside user is. still m n mover pick ask old new made touched few told.leaves told.names who why off aside user is;
 }
 
 -- ---- the name of who moved

@@ -1,11 +1,14 @@
 -- Told: what is told of a move of the machine, and what it leaves of a store's user threads.
-use Rattle.std.specs.Prelude.{◌≡◌, ◌≤◌, ◌||◌, ℕ, true, List, ◌∷◌, Option, if◌then◌else◌}
+use Rattle.std.specs.Prelude.{◌≡◌, ◌≤◌, ◌||◌, ◌&&◌, ℕ, Bool, true, false, List, ◌∷◌, Option, Some, None, is_none, if◌then◌else◌}
 use Rattle.fk_model.specs.declared.moves.Ask.{Ask}
+use Rattle.fk_model.specs.declared.moves.Ask.TheVariants as asks
 use Rattle.fk_model.specs.declared.names.Who.{Who}
 use Rattle.fk_model.specs.Moves.{outcome, step, IsReady}
+use Rattle.fk_model.specs.Objects.{Mode, Thread, holds}
+use Rattle.fk_model.specs.Objects.Mode.{Calling, Halted, Native, Running}
 use Rattle.fk_model.specs.Outcomes.{Outcome, listed}
 use Rattle.fk_model.specs.Places.{Path, same_path}
-use Rattle.fk_model.specs.Searches.{depth}
+use Rattle.fk_model.specs.Searches.{depth, thread_at}
 use Rattle.fk_model.specs.Valid.{is_fit, IsValid}
 use Rattle.fk_model.specs.Who.{space_born}
 use Rattle.fk_model.specs.World.{Change}
@@ -14,9 +17,15 @@ use Rattle.fk_store.specs.Contents.{Contents}
 use Rattle.fk_store.specs.Names.{at}
 use Rattle.fk_store.specs.Paths.{path, place}
 use Rattle.fk_store.specs.World.{world, place_of}
+use Rattle.fk_turns_moved.specs.Kept.{is_user_at}
 use Rattle.fk_turns_moved.specs.Moved.{now_named, IsMoved}
+use Rattle.fk_waits_names.specs.Names.{is_same}
 use Rattle.fk_wakes.specs.declared.touching.Touched.{Touched}
+use Rattle.fk_wakes.specs.declared.touching.Touched.TheVariants.{Few}
 use Rattle.fk_wakes.specs.Touches.{is_touched, leave, MovesFirst}
+use Rattle.fk_whys.specs.declared.whys.Why.{Why}
+use Rattle.fk_whys.specs.declared.whys.Why.TheVariants as whys
+use Rattle.fk_whys.specs.Whys.{IsWhy}
 use Rattle.laws_machine.specs.Frame.{name_body}
 
 -- what a store holds, as its type keeps it
@@ -46,6 +55,37 @@ pub record IsToldOf (m : Contents) (mover : Who) (pick : Option Path) (ask : Ask
 abbrev pub ToldMovesLeave : Type 0
 ToldMovesLeave = (m n : Contents) (mover : Who) (pick : Option Path) (ask : Ask) (touched : Touched) → IsStored m → IsStored n →
     IsMadeTo m n mover pick ask → IsToldOf m mover pick ask touched → IsMoved m n mover touched
+
+-- ---- an instruction
+
+-- a thread runs
+pub record IsRunning (m : Contents) (who : Who) : Type 0 where
+  pub thread : Thread
+  pub registers : List ℕ
+  pub there : thread_at (world m) (place_of m who) ≡ Some thread
+  pub mode : thread.mode ≡ Running registers
+
+abbrev pub is_going : Mode → Bool
+is_going (Running registers) = true
+is_going (Calling todo rest) = false
+is_going (Halted registers code) = false
+is_going (Native registers) = false
+
+-- it runs on, without a fault
+abbrev pub runs_on_at : Contents → Who → Bool
+runs_on_at n who = holds (λ (t : Thread). is_going t.mode && is_none t.fault) (thread_at (world n) (place_of n who))
+
+-- a move of one leaves the reason of every other, but of whom any change may free
+pub record IsQuietTo (m n : Contents) (mover : Who) : Type 0 where
+  pub quiet : (who : Who) (why : Why) → is_same mover who ≡ false → is_user_at m who ≡ true → (why ≡ whys.Barred → ⊥) →
+      IsWhy (world m) (path m) (place_of m who) why → IsWhy (world n) (path n) (place_of n who) why
+
+-- so does an instruction after which the thread runs on
+abbrev pub ToldQuiet : Type 0
+ToldQuiet = (m n : Contents) (mover : Who) (pick : Option Path) → IsStored m → IsStored n → IsMadeTo m n mover pick asks.Run →
+    IsToldOf m mover pick asks.Run (Few None None None) → IsRunning m mover → runs_on_at n mover ≡ true → IsQuietTo m n mover
+
+-- ---- names
 
 -- the name of who moved, after the move: another slot of its space where the move gives it one
 abbrev pub moved_name : (ℕ → Path) → Who → List Change → Who

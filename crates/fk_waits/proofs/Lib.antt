@@ -3,3 +3,4 @@ pub mod Renamed
 pub mod Settled
 pub mod Listed
 pub mod Last
+pub mod AllWoken

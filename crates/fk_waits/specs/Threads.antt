@@ -35,6 +35,15 @@ abbrev pub first_for : Option Who → List (Who × Option Who) → Option Who
 first_for cause [] = None
 first_for cause (x ∷ l) = if is_same_cause x.1 cause then Some x.0 else first_for cause l
 
+-- the first of all
+abbrev pub front_for : List (Who × Option Who) → Option Who
+front_for [] = None
+front_for (x ∷ l) = Some x.0
+
+-- the same, but that none of them waits
+abbrev pub all_ready : List (Who × Option Who) → List (Who × Option Who)
+all_ready l = map (λ (x : Who × Option Who). (x.0, None)) l
+
 -- a thread waits
 abbrev pub is_waiting : Who → Pairs → Bool
 is_waiting thread [] = false

@@ -1,6 +1,6 @@
 //! Threads by their names.
-ghost use Rattle.std.specs.Prelude.{◌≡◌, ◌+◌, ◌≤◌, ◌<◌, ◌^◌, [], ◌∷◌, ◌++◌, length, map, IfOk, OnErr, OnOk};
-ghost use Rattle.fk_waits.specs.Threads.{besides, first_for, is_waiting, with_cause, with_name, AreThere, Fits, IsNobody, IsUnused, Pairs, Stand};
+ghost use Rattle.std.specs.Prelude.{◌≡◌, ◌+◌, ◌≤◌, ◌<◌, ◌^◌, [], ◌∷◌, ◌++◌, length, map, Option, None, IfOk, OnErr, OnOk};
+ghost use Rattle.fk_waits.specs.Threads.{all_ready, besides, first_for, front_for, is_waiting, with_cause, with_name, AreThere, Fits, IsNobody, IsUnused, Pairs, Stand};
 
 use fk_model::{NoMemory, Who};
 use fk_waits_causes::Causes;
@@ -67,6 +67,35 @@ impl Threads {
                 false
             }
         }
+    }
+
+    /// All are ready, in the order in which they stand.
+    pub fn wake_all(&mut self)
+        requires { Stand self.old }
+        ensures there { (l : Pairs) → AreThere self.old l → AreThere self.new (all_ready l) }
+        ensures seats { self.new.causes.seats ≡ self.old.causes.seats }
+    {
+        for _at in 0..self.names.len() {
+            self.wake_front();
+        }
+    }
+
+    /// Who stands first is ready, and goes last of all.
+    fn wake_front(&mut self)
+        requires { Stand self.old }
+        ensures there { (x : Who × Option Who) (l : Pairs) → AreThere self.old (x ∷ l) → AreThere self.new (l ++ (x.0, None) ∷ []) }
+        ensures seats { self.new.causes.seats ≡ self.old.causes.seats }
+    {
+        if let Some(who) = self.front() {
+            self.settle(who, None);
+        }
+    }
+
+    /// Who stands first of all.
+    fn front(&self) -> Option<Who>
+        ensures { (l : Pairs) → AreThere self.now l → result ≡ front_for l }
+    {
+        self.causes.front()
     }
 
     /// A thread goes, if it stands. Tells whether it waited.

@@ -5,6 +5,7 @@ ghost use Rattle.fk_waits_causes.specs.Causes.{is_same_cause};
 ghost use Rattle.fk_waits.specs.Lists as lists;
 ghost use Rattle.fk_waits.specs.Lists.{Lists, first_queued, first_ready, is_cause, left, parked, passed, renamed, settled, stands, woken, IsLast};
 ghost use Rattle.fk_waits.specs.Lists.{IsLastFor, StandOnce};
+ghost use Rattle.fk_model.specs.declared.names.Who as names_of;
 
 use crate::threads::Threads;
 use fk_model::{NoMemory, Who};
@@ -100,6 +101,17 @@ impl Waits {
         ensures { self.new ≡ woken thread self.old }
     {
         self.settle(thread, None);
+    }
+
+    /// All are ready.
+    pub fn wake_all(&mut self)
+        ensures queued { self.new.queued ≡ [] }
+        ensures stands { (thread : names_of.Who) → stands thread self.new ≡ stands thread self.old }
+        ensures spare { self.new.spare ≡ self.old.spare }
+    {
+        self.last = None;
+        self.threads.wake_all();
+        self.queued = 0;
     }
 
     /// A thread is taken out. Where it was in a list, there is room for one more.

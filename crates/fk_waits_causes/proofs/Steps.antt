@@ -6,13 +6,13 @@ use Rattle.fk_model.specs.declared.names.Who.{Who}
 use Rattle.fk_waits_lists.specs.Nodes.{shown_at}
 use Rattle.fk_waits_names.specs.Names.{is_same, key_at, HasRoom}
 use Rattle.fk_waits_names.specs.declared.names.Name.{Name}
-use Rattle.fk_waits_queues.specs.Places.{first_at, in_queue, place_at, who_shown, AreFiled, IsHead, Place, SameHeads, SameRoom}
+use Rattle.fk_waits_queues.specs.Places.{first_at, front_of as front_at, in_queue, place_at, who_shown, AreFiled, IsHead, Place, SameHeads, SameRoom}
 use Rattle.fk_waits_queues.specs.declared.queues.Queues.{Queues}
 use Rattle.fk_waits_queues.proofs.Places.{filed_middle}
 use Rattle.fk_waits_queues.proofs.Turned.{all_without}
 use Rattle.fk_waits_queues.proofs.Heads.{all_before, all_behind}
 use Rattle.fk_waits_queues.proofs.Walk.{head_is}
-use Rattle.fk_waits_causes.specs.Causes.{cause_of, first_of, recaused, standing_of, ArePlaced, AreStanding, HasSeat, IsRoomy, Stand, Standing}
+use Rattle.fk_waits_causes.specs.Causes.{cause_of, first_of, front_of, recaused, standing_of, ArePlaced, AreStanding, HasSeat, IsRoomy, Stand, Standing}
 use Rattle.fk_waits_causes.specs.declared.causes.Causes.{Causes}
 use Rattle.fk_waits_causes.proofs.Numbers.{kinds_besides, unlike}
 use Rattle.fk_waits_causes.proofs.Placed.{alike, alike_but, closed, freed, names_few, names_fewer, none_first, opened, settled, some_first, vacant_heads}
@@ -20,6 +20,11 @@ use Rattle.fk_waits_causes.proofs.Placed.{with_both, with_queues}
 use Rattle.fk_waits_causes.proofs.Moved.{at_head, come, gone, moved, named, with_name}
 use Rattle.fk_waits_causes.proofs.Named.{cause_named, causes_named, causes_same}
 use Rattle.fk_waits_causes.proofs.Shown.{first_is, none_waits, parts, shown_long, shown_split, Parts}
+
+-- who stands first of all, by the queues
+pub front_shown : (c : Causes) (l : List Place) → front_at l ≡ front_of (map (standing_of c) l)
+front_shown c [] = refl
+front_shown c (p ∷ l) = refl
 
 -- ---- room
 

@@ -91,6 +91,11 @@ abbrev pub first_of : Option Who → List Standing → Option Who
 first_of cause [] = None
 first_of cause (s ∷ l) = if is_same_cause s.cause cause then Some s.who else first_of cause l
 
+-- the first of all
+abbrev pub front_of : List Standing → Option Who
+front_of [] = None
+front_of (s ∷ l) = Some s.who
+
 -- a cause has another name
 abbrev pub new_cause : Who → Who → Option Who → Option Who
 new_cause from to None = None

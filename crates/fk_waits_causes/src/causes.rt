@@ -2,7 +2,7 @@
 ghost use Rattle.std.specs.Prelude.{◌≡◌, ◌≢◌, ◌+◌, ◌≤◌, ◌<◌, ◌^◌, ◌==◌, ℕ, List, [], ◌∷◌, ◌++◌, length, map, not, is_some, None, Some, IfOk, OnErr, OnOk};
 ghost use Rattle.fk_waits_names.specs.Names.{key_at};
 ghost use Rattle.fk_waits_queues.specs.Places.{first_at, AreFiled, Place};
-ghost use Rattle.fk_waits_causes.specs.Causes.{cause_of, first_of, recaused, AreStanding, HasSeat, HasStanding, Stand, Standing};
+ghost use Rattle.fk_waits_causes.specs.Causes.{cause_of, first_of, front_of, recaused, AreStanding, HasSeat, HasStanding, Stand, Standing};
 
 use fk_model::{NoMemory, Who};
 use fk_waits_names::Names;
@@ -137,6 +137,13 @@ impl Causes {
     /// Who waits for the same behind the thread with a node in the order, or is ready as it is. It is a hint: nothing is said of it.
     pub fn behind(&self, key: usize) -> Option<Who> {
         self.queues.behind(key)
+    }
+
+    /// Who stands first of all.
+    pub fn front(&self) -> Option<Who>
+        ensures { (l : List Standing) → AreStanding self.now self.now.ready l → result ≡ front_of l }
+    {
+        self.queues.front()
     }
 
     /// The first that waits for a cause.

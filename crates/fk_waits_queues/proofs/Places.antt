@@ -7,7 +7,7 @@ use Rattle.fk_model.specs.declared.names.Who.{Who}
 use Rattle.fk_waits_lists.specs.Chains.{AllAre, IsNoneOf}
 use Rattle.fk_waits_lists.specs.Nodes.{first_of, shown_at, AreDisjoint, IsListed}
 use Rattle.fk_waits_lists.specs.declared.lists.Node.{Node}
-use Rattle.fk_waits_queues.specs.Places.{first_at, in_queue, who_shown, AllFiled, AreLines, IsFiled, IsHead, Place}
+use Rattle.fk_waits_queues.specs.Places.{first_at, front_of, in_queue, who_shown, AllFiled, AreLines, IsFiled, IsHead, Place}
 
 -- ---- lists of places in two parts
 
@@ -168,6 +168,10 @@ lines_joined order s t l p filed head at lines none apart shown joins others h i
 abbrev pub first_shown : Slab Node → Option ℕ → Option Who
 first_shown lines None = None
 first_shown lines (Some n) = who_shown (shown_at lines n)
+
+pub front_who : (order lines : Slab Node) (l : List Place) → AllFiled order lines l → first_shown order (first_of (map (λ (p : Place). p.key) l)) ≡ front_of l
+front_who order lines [] filed = refl
+front_who order lines (p ∷ l) filed = ap who_shown filed.0.first
 
 pub first_who : (order lines : Slab Node) (h : ℕ) (l : List Place) → AllFiled order lines l → first_shown lines (first_of (in_queue h l)) ≡ first_at h l
 first_who order lines h [] filed = refl

@@ -24,6 +24,11 @@ abbrev pub first_at : ℕ → List Place → Option Who
 first_at h [] = None
 first_at h (p ∷ l) = if p.head == h then Some p.who else first_at h l
 
+-- and of all
+abbrev pub front_of : List Place → Option Who
+front_of [] = None
+front_of (p ∷ l) = Some p.who
+
 -- whom a node shows
 abbrev pub who_shown : Option (Who × ℕ) → Option Who
 who_shown None = None

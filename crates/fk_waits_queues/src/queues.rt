@@ -4,7 +4,7 @@ ghost use Rattle.std.specs.Prelude.{◌≢◌, Some, None, IfOk, OnOk};
 ghost use Rattle.slab.specs.Slab.{slab_len, HasRoomFor};
 ghost use Rattle.fk_waits_lists.specs.Chains.{IsNoneOf};
 ghost use Rattle.fk_waits_lists.specs.Nodes.{shown_at, IsListed, ShowsAs};
-ghost use Rattle.fk_waits_queues.specs.Places.{first_at, in_queue, place_at, AllFiled, AreFiled, AreLines, HasLine};
+ghost use Rattle.fk_waits_queues.specs.Places.{first_at, front_of, in_queue, place_at, AllFiled, AreFiled, AreLines, HasLine};
 ghost use Rattle.fk_waits_queues.specs.Places.{HasPlace, IsHead, IsKept, Place, SameHeads, SameRoom, StandsIn, node_in, who_shown};
 
 use fk_model::{NoMemory, Who};
@@ -224,6 +224,16 @@ impl Queues {
             None
         } else {
             Some(place.who)
+        }
+    }
+
+    /// Who is first of all.
+    pub fn front(&self) -> Option<Who>
+        ensures { (l : List Place) → AreFiled self.now l → result ≡ front_of l }
+    {
+        match first(&self.order, self.first) {
+            Some(node) => who_at(&self.order, node),
+            None => None,
         }
     }
 

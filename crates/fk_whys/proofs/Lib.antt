@@ -1,3 +1,4 @@
 pub mod Reasons
 pub mod Waited
 pub mod Apart
+pub mod Calmly

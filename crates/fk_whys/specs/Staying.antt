@@ -1,23 +1,38 @@
 -- Staying: which moves leave a reason.
-use Rattle.std.specs.Prelude.{◌≡◌, false, List, ◌∷◌, Option}
+use Rattle.std.specs.Prelude.{◌≡◌, ℕ, false, is_some, List, [], ◌∷◌, Option, ⊤}
 use Rattle.fk_model.specs.declared.moves.Ask.{Ask}
 use Rattle.fk_model.specs.Moves.{outcome, step}
 use Rattle.fk_model.specs.Outcomes.{listed}
-use Rattle.fk_model.specs.Places.{Path, parent}
-use Rattle.fk_model.specs.World.{World, Change}
+use Rattle.fk_model.specs.Places.{Path}
+use Rattle.fk_model.specs.World.{World, Change, apply}
+use Rattle.fk_model.specs.World.Change.{Alter, Kill, Make, MakeSpace, Move}
+use Rattle.fk_store.specs.Paths.{place}
 use Rattle.laws_machine.specs.Frame.{name_body}
-use Rattle.laws_waits.specs.Stuck.{IsStuck}
 use Rattle.fk_whys.specs.declared.whys.Why.{Why}
 use Rattle.fk_whys.specs.declared.whys.Why.TheVariants as whys
-use Rattle.fk_whys.specs.Whys.{reason_by}
+use Rattle.fk_whys.specs.Whys.{IsWhy}
 
--- changes that name neither a thread nor the mutex that it waits for. What may be any reason no change leaves
-abbrev pub AreApart : World → List Change → Path → Why → Type 0
-AreApart w cs x whys.Resting = name_body w cs x ≡ false
-AreApart w cs x (whys.Locking mutex) = (name_body w cs x ≡ false) × (name_body w cs (mutex ∷ parent x) ≡ false)
-AreApart w cs x whys.Barred = ⊥
+-- a change takes no object from its place, and makes none where something stands
+abbrev pub IsMild : World → Change → Type 0
+IsMild w (Alter x edit) = ⊤
+IsMild w (Make x body) = is_some (w.body x) ≡ false
+IsMild w (MakeSpace x holder) = is_some (w.body x) ≡ false
+IsMild w (Kill x) = ⊥
+IsMild w (Move x slot) = ⊥
+IsMild w other = ⊤
 
--- what holds of a thread holds after a move whose changes are apart from it
+abbrev pub AreMild : World → List Change → Type 0
+AreMild w [] = ⊤
+AreMild w (c ∷ cs) = IsMild w c × AreMild (apply c w) cs
+
+-- changes that name neither a thread nor what its reason reads. What may be any reason no change leaves
+abbrev pub AreApart : World → List Change → (ℕ → Path) → Path → Why → Type 0
+AreApart w cs p x whys.Still = name_body w cs x ≡ false
+AreApart w cs p x (whys.At key) = (name_body w cs x ≡ false) × (name_body w cs (place p key) ≡ false)
+AreApart w cs p x whys.Loud = ⊥
+AreApart w cs p x whys.Barred = ⊥
+
+-- what holds of a thread holds after a move whose changes are mild and apart from it
 abbrev pub ReasonsStay : Type 0
-ReasonsStay = (w : World) (mover : Path) (pick : Option Path) (ask : Ask) (x : Path) (why : Why) → IsStuck w x (reason_by why) →
-    AreApart w (listed (outcome w mover pick ask)) x why → IsStuck (step w mover pick ask).world x (reason_by why)
+ReasonsStay = (w : World) (mover : Path) (pick : Option Path) (ask : Ask) (p : ℕ → Path) (x : Path) (why : Why) → IsWhy w p x why →
+    AreMild w (listed (outcome w mover pick ask)) → AreApart w (listed (outcome w mover pick ask)) p x why → IsWhy (step w mover pick ask).world p x why

@@ -58,7 +58,7 @@ fn cause_there(store: &Store, who: Who) -> Option<Who>
 }
 
 /// The space of the outermost hold above an object.
-fn outermost(store: &Store, who: Who) -> Option<Who>
+pub fn outermost(store: &Store, who: Who) -> Option<Who>
     requires live { IsLive store.now who }
     ensures { option_map (place_of store.now) result ≡ causes.outermost (world store.now) (path store.now who.space) }
 {
@@ -171,7 +171,7 @@ fn stage_cause(store: &Store, who: Who, thread: &Thread, stage: Stage) -> Option
 }
 
 /// What stands in a slot that a user can name.
-fn named(space: u32, slot: u64) -> Option<Who>
+pub fn named(space: u32, slot: u64) -> Option<Who>
     ensures { (p : ℕ → Path) → option_map (place p) result ≡ causes.named (p space) slot }
 {
     if slot > LAST_USER_SLOT {

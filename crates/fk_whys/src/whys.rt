@@ -1,38 +1,45 @@
 //! Reasons.
-ghost use Rattle.std.specs.Prelude.{◌≡◌, ℕ, Option, Some, IfSome, is_some};
+ghost use Rattle.std.specs.Prelude.{◌≡◌, ℕ, Option, None, Some, IfSome, IsSome, is_some};
+ghost use Rattle.std.specs.Bool.{OnTrue};
 ghost use Rattle.fk_model.specs.declared.moves.Ask.TheVariants as asks;
+ghost use Rattle.fk_model.specs.declared.names.Kind.TheVariants as kinds;
 ghost use Rattle.fk_model.specs.Moves.{IsReady};
 ghost use Rattle.fk_model.specs.Places.{Path};
-ghost use Rattle.fk_model.specs.Searches.{thread_at};
+ghost use Rattle.fk_model.specs.Searches.{talk_at, thread_at};
 ghost use Rattle.fk_model.specs.Talks as talks;
+ghost use Rattle.fk_model.specs.Valid.{IsValid};
 ghost use Rattle.fk_store.specs.Bodies.{thread_by};
 ghost use Rattle.fk_store.specs.Paths.{path, place};
 ghost use Rattle.fk_store.specs.World.{world};
 ghost use Rattle.laws_waits.specs.Stuck as stuck;
-ghost use Rattle.laws_waits.specs.Stuck.{IsStuck};
-ghost use Rattle.laws_waits.specs.Stuck.Reason.{Locking};
-ghost use Rattle.fk_whys.specs.Whys.{reason_by, IsLocked};
+ghost use Rattle.laws_waits.specs.Stuck.{IsAtStage};
+ghost use Rattle.fk_whys.specs.Whys.{IsKnown, IsLocked, IsThere, IsWhy};
 
+use crate::causes::{named, outermost};
 use crate::stages::{first_stage, is_user};
 use fk_model::limits::LAST_USER_SLOT;
-use fk_model::{Stage, Thread, Who};
+use fk_model::{Body, Kind, Stage, Thread, Who};
+use fk_readers::{Caller, handle};
 use fk_store::Store;
 
-/// Why no move of a user thread is ready.
+/// Why no move of a user thread is ready: what may end that.
 #[derive(Clone, Copy)]
 pub enum Why {
-    /// It is stopped, or has a fault, or neither runs nor is in a call.
-    Resting,
-    /// It waits for the mutex in this slot of its space, which is locked.
-    Locking { mutex: u8 },
-    /// Anything else, which any change may end.
+    /// A change of its own body, or one that takes an object from its place.
+    Still,
+    /// Or a change of the body of this object.
+    At { key: Who },
+    /// Any move of another but an instruction after which that one runs on.
+    Loud,
+    /// Any change.
     Barred,
 }
 
 /// Why no move of the thread in a slot is ready, whatever it picks. It holds where none is.
 pub fn reason(store: &Store, who: Who) -> Why
+    requires { IsValid (world store.now) }
     ensures { ((pick : Option Path) → IsReady (world store.now) (place (path store.now) who) pick asks.Run → ⊥)
-        → IsStuck (world store.now) (place (path store.now) who) (reason_by result) }
+        → IsWhy (world store.now) (path store.now) (place (path store.now) who) result }
 {
     match store.thread(who) {
         Some(thread) => why_not(store, who, thread),
@@ -40,18 +47,18 @@ pub fn reason(store: &Store, who: Who) -> Why
     }
 }
 
-/// The same of this thread.
+/// The same of this thread: it rests, it lies beneath a hold, or it waits in a call.
 fn why_not(store: &Store, who: Who, thread: &Thread) -> Why
+    requires valid { IsValid (world store.now) }
     requires there { Some (thread_by (path store.now) thread.now) ≡ thread_at (world store.now) (place (path store.now) who) }
-    ensures { ((pick : Option Path) → IsReady (world store.now) (place (path store.now) who) pick asks.Run → ⊥)
-        → IsStuck (world store.now) (place (path store.now) who) (reason_by result) }
+    ensures { IsKnown (world store.now) (path store.now) (place (path store.now) who) result }
 {
     if is_resting(thread) {
-        return Why::Resting;
+        return Why::Still;
     }
-    match locking(store, who, thread) {
-        Some(mutex) => Why::Locking { mutex },
-        None => Why::Barred,
+    match outermost(store, who) {
+        Some(space) => Why::At { key: space },
+        None => in_call(store, who, thread),
     }
 }
 
@@ -72,34 +79,65 @@ fn has_fault(thread: &Thread) -> bool
     }
 }
 
-/// The mutex that the thread is about to lock, where it is locked.
-fn locking(store: &Store, who: Who, thread: &Thread) -> Option<u8>
+/// What it waits for in a call, as far as that is known.
+fn in_call(store: &Store, who: Who, thread: &Thread) -> Why
+    requires valid { IsValid (world store.now) }
     requires there { Some (thread_by (path store.now) thread.now) ≡ thread_at (world store.now) (place (path store.now) who) }
-    ensures { IfSome result (λ mutex. IsStuck (world store.now) (place (path store.now) who) (Locking mutex)) }
-{
-    match mutex_next(thread) {
-        Some(mutex) => locked(store, who.space, mutex),
-        None => None,
-    }
-}
-
-/// The mutex that a thread is about to lock.
-fn mutex_next(thread: &Thread) -> Option<u64>
-    ensures { (p : ℕ → Path) → IfSome result (λ mutex. talks.first_stage (thread_by p thread.now).mode ≡ Some (Stage.MutexLock mutex)) }
+    ensures { IsKnown (world store.now) (path store.now) (place (path store.now) who) result }
 {
     match first_stage(thread) {
-        Some(stage) => mutex_of(stage),
-        None => None,
+        Some(stage) => known_or(store, who, thread, at_stage(store, who, thread, stage)),
+        None => Why::Barred,
     }
 }
 
-/// The mutex that a stage locks.
-fn mutex_of(stage: Stage) -> Option<u64>
-    ensures { IfSome result (λ mutex. stage ≡ Stage.MutexLock mutex) }
+/// Where that isn't known, and nothing is held, there is a reason that no instruction of another ends.
+fn known_or(store: &Store, who: Who, thread: &Thread, why: Why) -> Why
+    requires valid { IsValid (world store.now) }
+    requires there { Some (thread_by (path store.now) thread.now) ≡ thread_at (world store.now) (place (path store.now) who) }
+    requires busy { IsSome (talks.first_stage (thread_by (path store.now) thread.now).mode) }
+    requires known { IsKnown (world store.now) (path store.now) (place (path store.now) who) why }
+    ensures { IsKnown (world store.now) (path store.now) (place (path store.now) who) result }
+{
+    match why {
+        Why::Barred => {
+            if store.is_any_held() {
+                return Why::Barred;
+            }
+            store.names();
+            Why::Loud
+        }
+        Why::Still | Why::At { .. } | Why::Loud => why,
+    }
+}
+
+/// The same at this stage of it.
+fn at_stage(store: &Store, who: Who, thread: &Thread, stage: Stage) -> Why
+    requires there { Some (thread_by (path store.now) thread.now) ≡ thread_at (world store.now) (place (path store.now) who) }
+    requires stage { IsAtStage (world store.now) (place (path store.now) who) stage }
+    ensures { IsKnown (world store.now) (path store.now) (place (path store.now) who) result }
 {
     match stage {
-        Stage::MutexLock { m } => Some(m),
-        _ => None,
+        Stage::MutexLock { m } => locking(store, who, m),
+        Stage::CondAsleep { c, m } => sleeping(store, who, c, m),
+        Stage::Connect { h } => connecting(store, who, thread, h),
+        _ => Why::Barred,
+    }
+}
+
+/// It is about to lock a mutex, which is locked.
+fn locking(store: &Store, who: Who, mutex: u64) -> Why
+    requires { IsAtStage (world store.now) (place (path store.now) who) (Stage.MutexLock mutex) }
+    ensures { IsKnown (world store.now) (path store.now) (place (path store.now) who) result }
+{
+    match locked(store, who.space, mutex) {
+        Some(slot) => Why::At {
+            key: Who {
+                space: who.space,
+                slot,
+            },
+        },
+        None => Why::Barred,
     }
 }
 
@@ -114,5 +152,75 @@ fn locked(store: &Store, space: u32, mutex: u64) -> Option<u8>
     match store.mutex(Who { space, slot }) {
         Some(true) => Some(slot),
         Some(false) | None => None,
+    }
+}
+
+/// It sleeps on a condition until it is signalled.
+fn sleeping(store: &Store, who: Who, cond: u64, mutex: u64) -> Why
+    requires { IsAtStage (world store.now) (place (path store.now) who) (Stage.CondAsleep cond mutex) }
+    ensures { IsKnown (world store.now) (path store.now) (place (path store.now) who) result }
+{
+    if is_cond(store, who.space, cond) && is_mutex(store, who.space, mutex) {
+        return Why::Still;
+    }
+    Why::Barred
+}
+
+/// A condition is in a slot that a user can name.
+fn is_cond(store: &Store, space: u32, cond: u64) -> bool
+    ensures { OnTrue result (IsThere (world store.now) (path store.now space) cond kinds.Cond) }
+{
+    if cond > LAST_USER_SLOT {
+        return false;
+    }
+    let slot = cond as u8;
+    match store.at(Who { space, slot }) {
+        Some(Body::Cond) => true,
+        _ => false,
+    }
+}
+
+/// A mutex is in a slot that a user can name.
+fn is_mutex(store: &Store, space: u32, mutex: u64) -> bool
+    ensures { OnTrue result (IsThere (world store.now) (path store.now space) mutex kinds.Mutex) }
+{
+    if mutex > LAST_USER_SLOT {
+        return false;
+    }
+    let slot = mutex as u8;
+    match store.at(Who { space, slot }) {
+        Some(Body::Mutex { .. }) => true,
+        _ => false,
+    }
+}
+
+/// It connects to a port, and nobody has taken it yet.
+fn connecting(store: &Store, who: Who, thread: &Thread, h: u64) -> Why
+    requires there { Some (thread_by (path store.now) thread.now) ≡ thread_at (world store.now) (place (path store.now) who) }
+    requires stage { IsAtStage (world store.now) (place (path store.now) who) (Stage.Connect h) }
+    ensures { IsKnown (world store.now) (path store.now) (place (path store.now) who) result }
+{
+    match thread.talk {
+        Some(_) => Why::Barred,
+        None => connecting_by(store, who, h),
+    }
+}
+
+/// The same without a talk, by a handle that leads to a port.
+fn connecting_by(store: &Store, who: Who, h: u64) -> Why
+    requires alone { talk_at (world store.now) (place (path store.now) who) ≡ None }
+    requires stage { IsAtStage (world store.now) (place (path store.now) who) (Stage.Connect h) }
+    ensures { IsKnown (world store.now) (path store.now) (place (path store.now) who) result }
+{
+    let Some(key) = named(who.space, h) else {
+        return Why::Barred;
+    };
+    let caller = Caller {
+        who,
+        is_porter: false,
+    };
+    match handle(store, caller, Kind::Port, h) {
+        Ok(_) => Why::At { key },
+        Err(_) => Why::Barred,
     }
 }

@@ -21,3 +21,9 @@ returns-clause-user c = let user = rw c.if-not-goes_on.false at c.goes_on.ensure
 
 pub returns-clause-marks : goal.returns-clause-marks
 returns-clause-marks c = off_anyway c.turn.result c.turn.ensures.marks
+
+pub returns-clause-ran : goal.returns-clause-ran
+returns-clause-ran c = let gentle = rw c.if-not-is_gentle.false at c.is_gentle.ensures in anyway c.turn.result gentle
+
+pub returns-clause-on : goal.returns-clause-on
+returns-clause-on c = let on = rw c.if-not-goes_on.false at c.goes_on.ensures.on in anyway c.turn.result on

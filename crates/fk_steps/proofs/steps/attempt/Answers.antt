@@ -1,4 +1,4 @@
-use Rattle.fk_steps.proofs.Stepped.{comes_tried, kept_wider, put_tried, same_wider, still_then, still_tried, valid_tried}
+use Rattle.fk_steps.proofs.Stepped.{comes_tried, kept_wider, never_quiet, put_tried, same_wider, still_then, still_tried, valid_tried}
 use Rattle.fk_steps.proofs.steps.attempt.Goals as goal
 
 pub after_plain_if-requires : goal.after_plain_if-requires
@@ -17,6 +17,7 @@ after_plain_if-requires c =
       comes = rw c.is_made.ensures (comes_tried m n move ask c.requires.valid c.names.ensures.few c.requires.fit c.names.ensures.born c.names-2.ensures.born
           c.names-2.ensures.few c.attempt-tried.new.touched now.waits now.marks tried kept c.in_ok-reserve_for.ensures.room c.attempt-tried.ensures.made
           c.attempt-tried.ensures.touched);
+      quiet = never_quiet n c.args.m.now.who c.is_made.result c.attempt-tried.new.touched now.waits now.marks;
       kept = rw c.is_made.ensures (still_tried m n move ask c.requires.valid c.names.ensures.few c.requires.fit now.waits now.marks tried kept
           c.attempt-tried.ensures.unready c.attempt-tried.ensures.lacking);
     }

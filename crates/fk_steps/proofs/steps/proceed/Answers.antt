@@ -1,8 +1,8 @@
-use Rattle.std.proofs.Common.{None}
+use Rattle.std.proofs.Common.{None, refl}
 use Rattle.fk_model.specs.declared.moves.Ask.TheVariants as asks
 use Rattle.fk_model.specs.declared.moves.Move.{Move}
 use Rattle.fk_model.specs.declared.moves.Said.TheVariants as says
-use Rattle.fk_steps.proofs.Stepped.{comes_true, kept_wider, put_true, run_fit, same_wider, still_then, still_true, valid_true}
+use Rattle.fk_steps.proofs.Stepped.{comes_true, kept_wider, put_true, quiet_true, run_fit, same_wider, still_then, still_true, valid_true}
 use Rattle.fk_steps.proofs.steps.proceed.Goals as goal
 
 pub after_plain_if-requires : goal.after_plain_if-requires
@@ -20,6 +20,9 @@ after_plain_if-requires c =
       comes = comes_true m n run asks.Run c.requires.valid c.names.ensures.few (run_fit m run) c.names.ensures.born c.names-2.ensures.born
           c.names-2.ensures.few c.proceed-made.new.touched now.waits now.marks says.Nothing c.proceed-made.result kept room c.proceed-made.ensures.made
           c.proceed-made.ensures.touched;
+      quiet = quiet_true m n run asks.Run c.requires.valid c.names.ensures.few (run_fit m run) c.names.ensures.born c.names-2.ensures.born
+          c.names-2.ensures.few c.proceed-made.new.touched now.waits now.marks says.Nothing c.proceed-made.result c.is_running-ran.result kept room refl
+          c.is_running-ran.ensures c.proceed-made.ensures.made c.proceed-made.ensures.touched;
       kept = still_true m n run asks.Run c.requires.valid c.names.ensures.few (run_fit m run) now.waits now.marks c.proceed-made.result kept
           c.proceed-made.ensures.same;
     }

@@ -3,7 +3,7 @@ use Rattle.fk_model.specs.declared.moves.Ask.TheVariants as asks
 use Rattle.fk_model.specs.declared.moves.Move.{Move}
 use Rattle.fk_turns_next.specs.Tellings.{Sent}
 use Rattle.fk_turns_next.specs.Sayings.{told_by}
-use Rattle.fk_steps.proofs.Stepped.{comes_some, none_same, put_some, run_fit, still_some, valid_some}
+use Rattle.fk_steps.proofs.Stepped.{comes_some, never_quiet, none_same, put_some, run_fit, still_some, valid_some}
 use Rattle.fk_steps.proofs.steps.say.Goals as goal
 
 pub after_plain_if-requires : goal.after_plain_if-requires
@@ -19,6 +19,7 @@ after_plain_if-requires c =
       comes = rw c.is_some.ensures (comes_some m n run c.requires.valid c.names.ensures.few (run_fit m run) c.names.ensures.born c.names-2.ensures.born
           c.names-2.ensures.few c.say-sent.new.touched was.waits was.marks said c.say-sent.result c.requires.kept c.say-sent.ensures.few
           c.say-sent.ensures.made c.say-sent.ensures.touched);
+      quiet = never_quiet n c.args.who c.is_some.result c.say-sent.new.touched was.waits was.marks;
       kept = rw c.is_some.ensures (still_some m n run c.requires.valid c.names.ensures.few (run_fit m run) c.names.ensures.born c.names-2.ensures.born
           c.names-2.ensures.few c.say-sent.new.touched was.waits was.marks c.say-sent.result c.requires.kept c.say-sent.ensures.same);
     }

@@ -25,5 +25,5 @@ pub returns-clause-kept : goal.returns-clause-kept
 returns-clause-kept c m kept move =
     let was = c.args.turns.now in
     kept_after m c.args.store.now c.args.mover c.args.touched.now was.waits was.marks c.rouse.new.turns.waits c.rouse.new.turns.marks
-    c.touch_told.new.turns.waits c.touch.new.turns.waits c.touch.new.turns.marks kept move c.rouse.ensures.roused c.touch_told.ensures.touched
-    c.touch.ensures.touched c.touch.ensures.sound
+    c.touch_told.new.turns.waits c.touch_told.new.turns.marks c.touch.new.turns.waits c.touch.new.turns.marks kept move c.rouse.ensures.roused
+    c.touch_told.ensures.touched c.touch.ensures.touched c.touch_told.ensures.freed c.touch.ensures.freed c.touch.ensures.sound

@@ -13,3 +13,4 @@ returns-else-touches_more-clause-roused c =
     let was = c.args.turns.now in
     roused_few c.args.touched.now was.waits was.marks c.rouse_marked.new.self.waits c.rouse_marked.new.self.marks
     (sym c.touches_more.ensures ∙ c.if-touches_more.false) c.rouse_marked.ensures.roused c.rouse_marked.ensures.gone c.rouse_marked.ensures.room
+    c.rouse_marked.ensures.met c.rouse_marked.ensures.loud

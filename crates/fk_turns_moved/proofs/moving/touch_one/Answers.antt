@@ -1,8 +1,8 @@
 use Rattle.std.proofs.Common.{Option, sym, ap, subst, ◌∙◌}
 use Rattle.fk_model.specs.declared.names.Who.{Who}
 use Rattle.fk_waits_causes.proofs.Placed.{same_self}
-use Rattle.fk_turns_moved.specs.Moved.{is_it, IsTouched}
-use Rattle.fk_turns_moved.proofs.Touched.{place_known, touched_none}
+use Rattle.fk_turns_moved.specs.Moved.{is_it, AreFreed, IsTouched}
+use Rattle.fk_turns_moved.proofs.Touched.{freed_none, place_known, touched_none}
 use Rattle.fk_turns_moved.proofs.moving.touch_one.Goals as goal
 
 pub touch-requires : goal.touch-requires
@@ -22,3 +22,14 @@ pub returns-in-None-clause-touched : goal.returns-in-None-clause-touched
 returns-in-None-clause-touched c =
     subst (λ (o : Option Who). IsTouched c.args.store.now (is_it o) c.args.turns.now.waits c.args.turns.now.waits) (sym c.in-None.is)
     (touched_none c.args.store.now c.args.turns.now.waits)
+
+pub returns-in-Some-clause-freed : goal.returns-in-Some-clause-freed
+returns-in-Some-clause-freed c =
+    let was = c.args.turns.now in
+    let now = c.touch.new.turns in
+    subst (λ (o : Option Who). AreFreed (is_it o) was.marks now.marks now.waits) (sym c.in-Some.is) c.touch.ensures.freed
+
+pub returns-in-None-clause-freed : goal.returns-in-None-clause-freed
+returns-in-None-clause-freed c =
+    let was = c.args.turns.now in
+    subst (λ (o : Option Who). AreFreed (is_it o) was.marks was.marks was.waits) (sym c.in-None.is) (freed_none was.marks was.waits)

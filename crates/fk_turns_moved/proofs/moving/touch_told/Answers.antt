@@ -1,8 +1,8 @@
 use Rattle.std.proofs.Common.{refl, sym, ap, subst}
 use Rattle.fk_waits_causes.proofs.Placed.{same_self}
 use Rattle.fk_wakes.specs.declared.touching.Touched.{Touched}
-use Rattle.fk_turns_moved.specs.Moved.{is_named, is_wide, HasRoomFor, IsTouched}
-use Rattle.fk_turns_moved.proofs.Touched.{place_known, touched_none}
+use Rattle.fk_turns_moved.specs.Moved.{is_named, is_wide, AreFreed, HasRoomFor, IsTouched}
+use Rattle.fk_turns_moved.proofs.Touched.{freed_none, place_known, touched_none}
 use Rattle.fk_turns_moved.proofs.moving.touch_told.Goals as goal
 
 pub touch_few-requires : goal.touch_few-requires
@@ -53,3 +53,28 @@ pub returns-in-Moves-clause-touched : goal.returns-in-Moves-clause-touched
 returns-in-Moves-clause-touched c =
     subst (λ (t : Touched). IsTouched c.args.store.now (is_named t) c.args.turns.now.waits c.shift.new.turns.waits) (sym c.in-Moves.is)
     c.shift.ensures.touched
+
+pub returns-in-Few-clause-freed : goal.returns-in-Few-clause-freed
+returns-in-Few-clause-freed c =
+    let now = c.touch_few.new.turns in
+    subst (λ (t : Touched). AreFreed (is_named t) c.args.turns.now.marks now.marks now.waits) (sym c.in-Few.is) c.touch_few.ensures.freed
+
+pub returns-in-Makes-clause-freed : goal.returns-in-Makes-clause-freed
+returns-in-Makes-clause-freed c =
+    let now = c.touch.new.turns in
+    subst (λ (t : Touched). AreFreed (is_named t) c.args.turns.now.marks now.marks now.waits) (sym c.in-Makes.is) c.touch.ensures.freed
+
+pub returns-in-Dies-clause-freed : goal.returns-in-Dies-clause-freed
+returns-in-Dies-clause-freed c =
+    let now = c.touch-in-Dies.new.turns in
+    subst (λ (t : Touched). AreFreed (is_named t) c.args.turns.now.marks now.marks now.waits) (sym c.in-Dies.is) c.touch-in-Dies.ensures.freed
+
+pub returns-in-Moves-clause-freed : goal.returns-in-Moves-clause-freed
+returns-in-Moves-clause-freed c =
+    let now = c.shift.new.turns in
+    subst (λ (t : Touched). AreFreed (is_named t) c.args.turns.now.marks now.marks now.waits) (sym c.in-Moves.is) c.shift.ensures.freed
+
+pub returns-in-Any-clause-freed : goal.returns-in-Any-clause-freed
+returns-in-Any-clause-freed c =
+    let was = c.args.turns.now in
+    subst (λ (t : Touched). AreFreed (is_named t) was.marks was.marks was.waits) (sym c.in-Any.is) (freed_none was.marks was.waits)

@@ -12,7 +12,7 @@ pub settle-requires : goal.settle-requires
 settle-requires c =
     let now = c.loop-who.turns in
     record {
-      consistent = c.requires.valid.consistent;
+      valid = c.requires.valid;
       kept = c.loop-who.invariant.kept;
       user = sym (c.loop-who.invariant.kept.each c.in-Some.who) ∙ front_stands c.in-Some.who now.waits c.in-Some.ensures;
       unready = λ pick ready. c.in_default-ready_move.ensures.none (pick, ready);

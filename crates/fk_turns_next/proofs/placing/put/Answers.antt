@@ -15,7 +15,7 @@ wake-requires c =
 
 pub settle-requires : goal.settle-requires
 settle-requires c = record {
-  consistent = c.requires.valid.consistent;
+  valid = c.requires.valid;
   kept = c.requires.kept;
   user = sym c.is_user.ensures ∙ c.if-not-is_user.false;
   unready = λ pick ready. c.in-None.ensures.none (pick, ready);

@@ -1,4 +1,3 @@
-use Rattle.fk_store.specs.Bodies.{thread_by}
 use Rattle.fk_store.specs.Paths.{path, place}
 use Rattle.fk_store.specs.World.{world}
 use Rattle.fk_whys.proofs.Reasons.{locks}
@@ -6,6 +5,4 @@ use Rattle.fk_whys.proofs.whys.locking.Goals as goal
 
 pub returns-in-Some : goal.returns-in-Some
 returns-in-Some c =
-    let m = c.args.store.now in
-    locks (world m) (place (path m) c.args.who) (thread_by (path m) c.args.thread.now) c.in-Some.mutex c.requires.there (c.in-Some.ensures (path m))
-    c.locked.result c.locked.ensures
+    let m = c.args.store.now in locks (world m) (place (path m) c.args.who) c.args.mutex c.in-Some.slot c.requires c.in-Some.ensures

@@ -13,7 +13,7 @@ use Rattle.fk_steps.specs.Told.{IsStored}
 use Rattle.laws_users.specs.Stood.{is_users_at}
 use Rattle.fk_kernel.specs.Replaced.{rewritten, IsPageThere}
 use Rattle.fk_kernel.proofs.Replacing.{valid-proceeded, valid-rewritten}
-use Rattle.fk_kernel.proofs.Rewrote.{moved_rewritten, others_stay, room_rewritten, user_running, user_stays}
+use Rattle.fk_kernel.proofs.Rewrote.{leaves_whys, moved_rewritten, others_stay, room_rewritten, user_running, user_stays}
 use Rattle.fk_kernel.proofs.kernel.Kernel.replace.Goals as goal
 
 pub moved-requires : goal.moved-requires
@@ -35,9 +35,10 @@ moved-requires c =
     let user : is_user_at m thread ≡ true = user_running m thread stored.born (rw (sym c.self.view_is) at c.requires.running) in
     let still : is_user_at n thread ≡ true = ap (λ (p : ℕ → Path). is_users_at (world n) (place p thread)) paths
     ∙ user_stays (world m) (world n) (path m) c.args.pages.now (place (path m) thread) c.args.regs.now c.args.pc is user in
+    let left = leaves_whys (world m) (world n) (path m) c.args.pages.now (place (path m) thread) c.args.regs.now c.args.pc is in
     record {
       sound = c.self.invariant.kept.sound;
-      room = room_rewritten m n thread stored paths others user still was.waits was.marks c.self.invariant.kept;
+      room = room_rewritten m n thread stored paths others user still left was.waits was.marks c.self.invariant.kept;
     }
 
 pub invariant_of-self : goal.invariant_of-self
@@ -59,6 +60,7 @@ invariant_of-self c =
     let user : is_user_at m thread ≡ true = user_running m thread stored.born (rw (sym c.self.view_is) at c.requires.running) in
     let still : is_user_at n thread ≡ true = ap (λ (p : ℕ → Path). is_users_at (world n) (place p thread)) paths
     ∙ user_stays (world m) (world n) (path m) c.args.pages.now (place (path m) thread) c.args.regs.now c.args.pc is user in
+    let left = leaves_whys (world m) (world n) (path m) c.args.pages.now (place (path m) thread) c.args.regs.now c.args.pc is in
     let there = rw (sym c.self.view_is) at c.requires.pages in
     let all : All (IsPageThere (path m) (world m)) c.args.pages.now =
     subst (λ (p : ℕ → Path). All (IsPageThere p (world m)) c.args.pages.now) (sym stored.born) there in
@@ -66,5 +68,5 @@ invariant_of-self c =
     (valid-rewritten (path m) c.args.pages.now (world m) all c.self.invariant.valid) in
     record {
       valid = subst IsValid (sym c.proceed.ensures.world) (valid-proceeded (world c.rewrite.new.store) _ _ _ valid);
-      kept = c.moved.ensures.kept m c.self.invariant.kept (moved_rewritten m n thread stored paths others user still);
+      kept = c.moved.ensures.kept m c.self.invariant.kept (moved_rewritten m n thread stored paths others user still left);
     }

@@ -1,6 +1,6 @@
 use Rattle.std.proofs.Common.{ap}
 use Rattle.fk_waits.specs.Lists.{left, Lists}
-use Rattle.fk_turns.proofs.Roused.{less_one, met_more, met_none, off_one}
+use Rattle.fk_turns.proofs.Roused.{less_one, met_more, met_none, off_one, others_left}
 use Rattle.fk_turns.proofs.Woken.{sound_by, sound_left}
 use Rattle.fk_turns.proofs.turns.Turns.forget.Goals as goal
 
@@ -14,7 +14,8 @@ pub returns-clause-met : goal.returns-clause-met
 returns-clause-met c =
     let was = c.args.self.now in
     met_more was.marks was.marks was.waits c.leave-2.new.self c.leave.new.self c.args.who (met_none was.marks was.waits)
-    (ap (λ (l : Lists). l.ready) c.leave-2.ensures) (ap (λ (l : Lists). l.queued) c.leave.ensures)
+    (ap (λ (l : Lists). l.ready) c.leave-2.ensures) (others_left c.args.who was.marks c.leave-2.new.self c.leave-2.ensures)
+    (ap (λ (l : Lists). l.queued) c.leave.ensures)
 
 pub returns-clause-less : goal.returns-clause-less
 returns-clause-less c = less_one c.args.who c.args.self.now.waits c.leave.new.self (ap (λ (l : Lists). l.queued) c.leave.ensures)

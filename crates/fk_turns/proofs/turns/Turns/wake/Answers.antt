@@ -1,7 +1,7 @@
 use Rattle.std.proofs.Common.{sym, ap, ◌∙◌}
 use Rattle.fk_waits.specs.Lists.{parked, woken, Lists}
 use Rattle.fk_turns.specs.Turns.{free_cause}
-use Rattle.fk_turns.proofs.Roused.{less_one, met_more, met_none, off_one}
+use Rattle.fk_turns.proofs.Roused.{less_one, met_more, met_none, off_one, others_parked}
 use Rattle.fk_turns.proofs.Woken.{sound_by, sound_woken}
 use Rattle.fk_turns.proofs.turns.Turns.wake.Goals as goal
 
@@ -18,7 +18,8 @@ pub returns-clause-met : goal.returns-clause-met
 returns-clause-met c =
     let was = c.args.self.now in
     met_more was.marks was.marks was.waits c.park.new.self c.wake.new.self c.args.who (met_none was.marks was.waits)
-    (ap (λ (l : Lists). l.ready) c.park.ensures) (ap (λ (l : Lists). l.queued) c.wake.ensures)
+    (ap (λ (l : Lists). l.ready) c.park.ensures) (others_parked c.args.who free_cause was.marks c.park.new.self c.park.ensures)
+    (ap (λ (l : Lists). l.queued) c.wake.ensures)
 
 pub returns-clause-less : goal.returns-clause-less
 returns-clause-less c = less_one c.args.who c.args.self.now.waits c.wake.new.self (ap (λ (l : Lists). l.queued) c.wake.ensures)

@@ -1,14 +1,15 @@
-use Rattle.std.proofs.Common.{length}
+use Rattle.std.proofs.Common.{◌≡◌, length}
 use Rattle.fk_waits_woken.specs.Wakes.{those_at}
 use Rattle.fk_turns.specs.Turns.{AreMet, IsRoused, IsSound}
-use Rattle.fk_turns.proofs.turns.Turns.rouse_at.Given as goal
+use Rattle.fk_turns.proofs.turns.Turns.rouse_marked_at.Given as goal
 
 abbrev pub invariant-loop-who : goal.invariant-loop-who
 invariant-loop-who l = record {
   sound : IsSound l.self.waits l.self.marks;
   roused : IsRoused l.fn.self.waits l.self.waits;
   met : AreMet l.fn.self.marks l.self.marks l.self.waits;
+  room : l.self.marks.spare ≡ l.fn.self.marks.spare;
 }
 
 abbrev pub decreases-loop-who : goal.decreases-loop-who
-decreases-loop-who l = length (those_at l.cause l.self.waits.queued)
+decreases-loop-who l = length (those_at l.key l.self.marks.queued)

@@ -1,6 +1,6 @@
 use Rattle.std.proofs.Common.{◌≡◌, length}
 use Rattle.fk_turns.specs.Turns.{AreMet, IsRoused, IsSound}
-use Rattle.fk_turns.proofs.turns.Turns.rouse_marked.Given as goal
+use Rattle.fk_turns.proofs.turns.Turns.rouse_any.Given as goal
 
 abbrev pub invariant-loop-who : goal.invariant-loop-who
 invariant-loop-who l = record {
