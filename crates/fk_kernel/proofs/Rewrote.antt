@@ -20,7 +20,7 @@ use Rattle.fk_store.specs.World.{world, place_of}
 use Rattle.fk_steps.specs.Kept.{is_user_at, AreKept}
 use Rattle.fk_steps.specs.Moved.{is_named, is_told, HasRoom, IsAside, IsMoved}
 use Rattle.fk_steps.specs.Told.{IsStored}
-use Rattle.fk_steps.proofs.Told.{same_name, user_there}
+use Rattle.fk_steps.proofs.Known.{same_name, user_there}
 use Rattle.fk_waits.specs.Lists.{Lists}
 use Rattle.fk_waits_causes.proofs.Numbers.{clash}
 use Rattle.fk_waits_names.specs.Names.{is_same}

@@ -89,9 +89,9 @@ pub on_going : {P : Type 0} (b g : Bool) → b ≡ g → (g ≡ true → P) → 
 on_going true g e f = f (sym e)
 on_going false g e f = tt
 
-pub on_right : {P Q : Type 0} (b : Bool) → OnTrue b Q → OnTrue b (P ⊎ Q)
-on_right true q = inr q
-on_right false q = tt
+pub on_right : (P Q : Type 0) (b : Bool) → OnTrue b Q → OnTrue b (P ⊎ Q)
+on_right P Q true q = inr q
+on_right P Q false q = tt
 
 pub anyway : {P : Type 0} (b : Bool) → P → OnTrue b P
 anyway true p = p
