@@ -4,3 +4,4 @@ mod Endings
 mod Replacing
 pub mod Promises
 mod Rewrote
+mod Quietly

@@ -19,7 +19,7 @@ use Rattle.fk_store.specs.Paths.{path}
 use Rattle.fk_store.specs.World.{world, place_of}
 use Rattle.fk_steps.specs.Kept.{is_user_at, AreKept}
 use Rattle.fk_steps.specs.Moved.{is_named, is_told, HasRoom, IsAside, IsMoved}
-use Rattle.fk_steps.specs.Told.{IsStored}
+use Rattle.fk_steps.specs.Told.{IsQuietTo, IsStored}
 use Rattle.fk_steps.proofs.Known.{same_name, user_there}
 use Rattle.fk_waits.specs.Lists.{Lists}
 use Rattle.fk_waits_causes.proofs.Numbers.{clash}
@@ -29,7 +29,10 @@ use Rattle.fk_wakes.specs.declared.touching.Touched.{Touched}
 use Rattle.fk_wakes.specs.declared.touching.Touched.TheVariants.{Few}
 use Rattle.fk_whys.specs.declared.whys.Why.{Why}
 use Rattle.fk_whys.specs.declared.whys.Why.TheVariants as whys
-use Rattle.fk_whys.specs.Whys.{IsAt, IsStill, IsWhy}
+use Rattle.fk_whys.specs.Whys.{IsAt, IsOwn, IsReadAt, IsStill, IsWhy}
+use Rattle.laws_waits.specs.Complete.{is_barred, HasReason}
+use Rattle.laws_waits.specs.Stuck.{IsStuck, Reason}
+use Rattle.laws_waits.specs.Stuck.Reason.{Barred, Beneath, Connecting, Locking, Resting, Sleeping}
 use Rattle.fk_whys.proofs.Apart.{at_after, still_after}
 use Rattle.laws_users.specs.Stood.{is_users_at}
 use Rattle.fk_kernel.specs.declared.replace.BurstPage.{BurstPage}
@@ -38,7 +41,7 @@ use Rattle.fk_kernel.specs.Replaced.{rewritten}
 -- ---- the world
 
 -- pages that get other words leave all bodies
-rewritten_bodies : (p : ℕ → Path) (ps : List BurstPage) (w : World) → (rewritten p ps w).body ≡ w.body
+pub rewritten_bodies : (p : ℕ → Path) (ps : List BurstPage) (w : World) → (rewritten p ps w).body ≡ w.body
 unfolding rewritten apply
 rewritten_bodies p [] w = refl
 rewritten_bodies p (page ∷ ps) w = rewritten_bodies p ps (apply (PutPage (p page.space) page.page page.words) w)
@@ -130,6 +133,21 @@ user_running m who born runs =
     by None is = absurd (cc)
     by (Some t) is = mode_user t.mode is
 
+-- ---- reasons
+
+own_named : (r : Reason) → IsOwn r → is_barred r ≡ false
+own_named Resting own = refl
+own_named (Sleeping c m) own = refl
+own_named Barred own = absurd own
+own_named r own = absurd own
+
+read_named : (x key : Path) (r : Reason) → IsReadAt x key r → is_barred r ≡ false
+read_named x key (Beneath space) read = refl
+read_named x key (Locking m) read = refl
+read_named x key (Connecting h port) read = refl
+read_named x key Barred read = absurd read
+read_named x key r read = absurd read
+
 -- ---- the lists
 
 abbrev nobody : Touched
@@ -192,3 +210,31 @@ module _ (m n : Contents) (thread : Who) (stored : IsStored m) (paths : path n �
     named = record { known = λ who is off user. absurd (cc); put = tt };
     own = λ off user. kept.each thread ∙ was;
   }
+
+  -- where it leaves the reasons of all others the lists may leave them too
+  pub quiet_rewritten : ((x : Path) → same_path x (place_of m thread) ≡ false → (r : Reason) → IsStuck (world m) x r → is_barred r ≡ false →
+      IsStuck (world n) x r) → IsQuietTo m n thread
+  quiet_rewritten reasons = record { quiet = λ who why off user some is. by who why off some is }
+    where
+      by : (who : Who) (why : Why) → is_same thread who ≡ false → (why ≡ whys.Barred → ⊥) → IsWhy (world m) (path m) (place_of m who) why →
+          IsWhy (world n) (path n) (place_of n who) why
+      by who whys.Still off some is =
+          subst (λ (x : Path). IsStill (world n) x) (sym (at_same who)) (record {
+            reason = is.reason;
+            stuck = reasons (place_of m who) (apart who off) is.reason is.stuck (own_named is.reason is.own);
+            own = is.own;
+          })
+      by who (whys.At key) off some is =
+          subst (λ (x : Path). IsAt (world n) x (place_of n key)) (sym (at_same who))
+          (subst (λ (x : Path). IsAt (world n) (place_of m who) x) (sym (at_same key)) (record {
+            reason = is.reason;
+            stuck = reasons (place_of m who) (apart who off) is.reason is.stuck (read_named (place_of m who) (place_of m key) is.reason is.read);
+            read = is.read;
+          }))
+      by who whys.Loud off some is =
+          subst (λ (x : Path). HasReason (world n) x) (sym (at_same who)) (record {
+            reason = is.reason;
+            stuck = reasons (place_of m who) (apart who off) is.reason is.stuck is.named;
+            named = is.named;
+          })
+      by who whys.Barred off some is = absurd (some refl)

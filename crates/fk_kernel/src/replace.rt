@@ -12,7 +12,7 @@ ghost use Rattle.fk_kernel.specs.Replaced.{IsPageThere, replaced, rewritten};
 
 use crate::Kernel;
 use fk_model::{Mode, Who};
-use fk_steps::moved;
+use fk_steps::after_plain;
 use fk_store::Store;
 use fk_wakes::Touched;
 
@@ -63,6 +63,6 @@ impl Kernel {
             second: None,
             third: None,
         };
-        moved(&mut self.turns, &self.store, thread, &alone);
+        after_plain(&mut self.turns, &self.store, thread, &alone, true);
     }
 }

@@ -10,5 +10,6 @@ mod room;
 mod steps;
 
 pub use fk_turns_next::{Sent, Told, is_fit, next, ready, ready_accept, ready_move, waiting};
-pub use fk_turns_told::{moved, of};
+pub use fk_turns_told::of;
+pub use plain::after_plain;
 pub use steps::{attempt, call, proceed, say, take};

@@ -12,37 +12,13 @@ use Rattle.fk_steps.specs.Kept.{is_user_at}
 use Rattle.fk_steps.specs.Told.{IsStored}
 use Rattle.laws_users.specs.Stood.{is_users_at}
 use Rattle.fk_kernel.specs.Replaced.{rewritten, IsPageThere}
+use Rattle.fk_kernel.proofs.Quietly.{replaced_stays, runs_at}
 use Rattle.fk_kernel.proofs.Replacing.{valid-proceeded, valid-rewritten}
-use Rattle.fk_kernel.proofs.Rewrote.{leaves_whys, moved_rewritten, others_stay, room_rewritten, user_running, user_stays}
+use Rattle.fk_kernel.proofs.Rewrote.{leaves_whys, moved_rewritten, others_stay, quiet_rewritten, room_rewritten, user_running, user_stays}
 use Rattle.fk_kernel.proofs.kernel.Kernel.replace.Goals as goal
 
-pub moved-requires : goal.moved-requires
-moved-requires c =
-    let m = c.self.inside.store in
-    let was = c.self.inside.turns in
-    let n = c.proceed.new.self in
-    let thread = c.args.thread in
-    let stored : IsStored m = record {
-      valid = c.self.invariant.valid;
-      born = rw (sym c.self.view_is) at c.names.ensures.born;
-      few = rw (sym c.self.view_is) at c.names.ensures.few;
-    } in
-    let paths : path n ≡ path m = c.proceed.ensures.paths ∙ c.rewrite.ensures.paths in
-    let is : world n ≡ apply (Alter (place (path m) thread) (Proceed (Running c.args.regs.now) c.args.pc)) (rewritten (path m) c.args.pages.now (world m)) =
-    c.proceed.ensures.world
-    ∙ (λ i. apply (Alter (place (c.rewrite.ensures.paths i) thread) (Proceed (Running c.args.regs.now) c.args.pc)) (c.rewrite.ensures.world i)) in
-    let others = others_stay (world m) (world n) (path m) c.args.pages.now (place (path m) thread) c.args.regs.now c.args.pc is in
-    let user : is_user_at m thread ≡ true = user_running m thread stored.born (rw (sym c.self.view_is) at c.requires.running) in
-    let still : is_user_at n thread ≡ true = ap (λ (p : ℕ → Path). is_users_at (world n) (place p thread)) paths
-    ∙ user_stays (world m) (world n) (path m) c.args.pages.now (place (path m) thread) c.args.regs.now c.args.pc is user in
-    let left = leaves_whys (world m) (world n) (path m) c.args.pages.now (place (path m) thread) c.args.regs.now c.args.pc is in
-    record {
-      sound = c.self.invariant.kept.sound;
-      room = room_rewritten m n thread stored paths others user still left was.waits was.marks c.self.invariant.kept;
-    }
-
-pub invariant_of-self : goal.invariant_of-self
-invariant_of-self c =
+pub after_plain-requires : goal.after_plain-requires
+after_plain-requires c =
     let m = c.self.inside.store in
     let was = c.self.inside.turns in
     let n = c.proceed.new.self in
@@ -64,9 +40,42 @@ invariant_of-self c =
     let there = rw (sym c.self.view_is) at c.requires.pages in
     let all : All (IsPageThere (path m) (world m)) c.args.pages.now =
     subst (λ (p : ℕ → Path). All (IsPageThere p (world m)) c.args.pages.now) (sym stored.born) there in
+    let rewrites : IsValid (world c.rewrite.new.store) = subst IsValid (sym c.rewrite.ensures.world)
+    (valid-rewritten (path m) c.args.pages.now (world m) all c.self.invariant.valid) in
+    let runs = runs_at m thread stored.born (rw (sym c.self.view_is) at c.requires.running) in
+    let reasons = replaced_stays (world m) (world n) (path m) c.args.pages.now (place (path m) thread) c.args.regs.now c.args.pc is runs all in
+    let goes = moved_rewritten m n thread stored paths others user still left in
+    record {
+      valid = subst IsValid (sym c.proceed.ensures.world) (valid-proceeded (world c.rewrite.new.store) _ _ _ rewrites);
+      quiet = λ so alone on. record {
+        before = m;
+        kept = c.self.invariant.kept;
+        moved = goes;
+        quiet = quiet_rewritten m n thread stored paths others user still left reasons;
+      };
+      comes = record {
+        before = m;
+        kept = c.self.invariant.kept;
+        moved = goes;
+        room = room_rewritten m n thread stored paths others user still left was.waits was.marks c.self.invariant.kept;
+      };
+    }
+
+pub invariant_of-self : goal.invariant_of-self
+invariant_of-self c =
+    let m = c.self.inside.store in
+    let n = c.proceed.new.self in
+    let stored : IsStored m = record {
+      valid = c.self.invariant.valid;
+      born = rw (sym c.self.view_is) at c.names.ensures.born;
+      few = rw (sym c.self.view_is) at c.names.ensures.few;
+    } in
+    let there = rw (sym c.self.view_is) at c.requires.pages in
+    let all : All (IsPageThere (path m) (world m)) c.args.pages.now =
+    subst (λ (p : ℕ → Path). All (IsPageThere p (world m)) c.args.pages.now) (sym stored.born) there in
     let valid : IsValid (world c.rewrite.new.store) = subst IsValid (sym c.rewrite.ensures.world)
     (valid-rewritten (path m) c.args.pages.now (world m) all c.self.invariant.valid) in
     record {
       valid = subst IsValid (sym c.proceed.ensures.world) (valid-proceeded (world c.rewrite.new.store) _ _ _ valid);
-      kept = c.moved.ensures.kept m c.self.invariant.kept (moved_rewritten m n thread stored paths others user still left);
+      kept = c.after_plain.ensures.kept;
     }
