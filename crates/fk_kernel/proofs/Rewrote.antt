@@ -60,7 +60,7 @@ rewritten_at p (page ∷ ps) w x key why =
     let put = PutPage (p page.space) page.page page.words in rewritten_at p ps (apply put w) x key (at_after w put x key why tt refl refl)
 
 -- what is left of reasons where what stands at one place has changed
-record LeavesWhys (w v : World) (place : Path) : Type 0 where
+pub record LeavesWhys (w v : World) (place : Path) : Type 0 where
   own : (x : Path) → same_path x place ≡ false → IsStill w x → IsStill v x
   other : (x key : Path) → same_path x place ≡ false → same_path key place ≡ false → IsAt w x key → IsAt v x key
 
