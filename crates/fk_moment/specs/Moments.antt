@@ -8,6 +8,7 @@ use Rattle.fk_model.specs.declared.moves.Ask.TheVariants as asks
 use Rattle.fk_model.specs.declared.moves.Move.{Move}
 use Rattle.fk_model.specs.declared.names.Who.{Who}
 use Rattle.fk_model.specs.Who.{event_of}
+use Rattle.fk_model.specs.World.{World}
 use Rattle.fk_jobs.specs.Jobs.{Queue, current, asked_by, state_of}
 use Rattle.fk_jobs.specs.Turns.{core_of}
 use Rattle.fk_served.specs.Events.{is_who}
