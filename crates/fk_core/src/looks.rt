@@ -239,7 +239,7 @@ impl<S: Service + Drop, W: Worker + Drop> Core<S, W> {
 
     /// A ready act of a server, or else the due job's move, where no thread's is ready.
     fn choose_besides(&self) -> Option<Move>
-        requires idle { AreUsersIdle self.now.jobs (world self.now.kernel) }
+        requires { AreUsersIdle self.now.jobs (world self.now.kernel) }
         ensures ready { IfSome result (λ m. IsReadyMove self.now.jobs.jobs (run_core self.now) m) }
         ensures none { IfNone result (IsAnyMove self.now.jobs.jobs (run_core self.now) → ⊥) }
     {

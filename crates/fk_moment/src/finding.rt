@@ -69,7 +69,7 @@ impl<'a, S: Service + Drop, W: Worker + Drop> Moment<'a, S, W> {
 
     /// A move that is ready, where no thread's is: a server's act, or else the due job's.
     pub fn find_besides(&self) -> Option<Move>
-        requires idle { AreUsersIdle self.now.jobs.now (world self.now.kernel.now) }
+        requires { AreUsersIdle self.now.jobs.now (world self.now.kernel.now) }
         ensures ready { IfSome result (λ m. IsReadyNow self.now m) }
         ensures none { IfNone result (IsAnyMove self.now.jobs.now.jobs (seen self.now) → ⊥) }
     {
