@@ -1,7 +1,7 @@
 -- Stepped: the lists are kept by a move.
 use Rattle.std.proofs.Common.{◌≡◌, ◌≤◌, ◌||◌, Bool, true, false, Option, Some, None, IsSome, is_some, Result, Ok, Err, IfOk, IfSome, IfNone, OnErr}
 use Rattle.std.proofs.Common.{refl, sym, ap, subst, ◌∙◌}
-use Rattle.std.specs.Bool.{OnTrue, OnFalse}
+use Rattle.std.specs.Bool.{⊤, OnTrue, OnFalse}
 use Rattle.fk_model.specs.declared.moves.Ask.{Ask}
 use Rattle.fk_model.specs.declared.moves.Ask.TheVariants as asks
 use Rattle.fk_model.specs.declared.moves.Move.{Move}
@@ -26,13 +26,14 @@ use Rattle.fk_turns_told.specs.Told.{IsMadeTo, IsRunning, IsStored, IsToldOf}
 use Rattle.fk_turns_told.proofs.After.{refiled}
 use Rattle.fk_turns_told.proofs.Quiet.{told_quiet}
 use Rattle.fk_turns_told.proofs.Told.{told_moves_leave, told_names}
-use Rattle.fk_waits.specs.Lists.{is_in, is_queued, Lists}
+use Rattle.fk_waits.specs.Lists.{is_in, is_queued, stands, Lists}
 use Rattle.fk_waits_causes.proofs.Numbers.{clash}
 use Rattle.fk_wakes.specs.declared.touching.Touched.{Touched}
 use Rattle.fk_wakes.specs.declared.touching.Touched.TheVariants.{Any, Dies, Few, Makes, Moves}
 use Rattle.fk_wakes.specs.Touches.{is_making}
 use Rattle.laws_machine.proofs.validity.Steps.{step_keeps_valid_lem}
-use Rattle.fk_steps.specs.Steps.{was_made, HasSeat, IsPut, IsWider, MayBeQuiet}
+use Rattle.fk_steps.specs.Steps.{may_make, was_made, HasSeat, IsPut, IsWider, MayBeQuiet}
+use Rattle.fk_steps.proofs.Giving.{lacks_gives, stood_before}
 
 -- what is no instruction
 pub never_quiet : (n : Contents) (mover : Who) (made : Bool) (touched : Touched) (waits marks : Lists) → OnTrue made (MayBeQuiet n mover false touched waits marks)
@@ -50,16 +51,21 @@ kept_wider m waits marks now then_marks kept wider = record {
       (λ key is. ap (waits_at key who) wider.keyed ∙ is);
 }
 
+-- a thread that is made has a seat
+abbrev HasSeatFor : Contents → Touched → Lists → Lists → Type 0
+HasSeatFor n (Makes object) waits marks = is_user_at n object ≡ true → stands object waits ≡ false → HasSeat waits marks
+HasSeatFor n other waits marks = ⊤
+
 -- what is told stands, or has room
 has_room : (m n : Contents) (mover : Who) (touched : Touched) (waits marks : Lists) → AreKept m waits marks → IsMoved m n mover touched →
-    (is_making touched ≡ true → HasSeat waits marks) → HasRoom n mover touched waits marks
+    HasSeatFor n touched waits marks → HasRoom n mover touched waits marks
 has_room m n mover touched waits marks kept moved seat = record {
   named = record { known = λ who is off user. kept.each who ∙ moved.grown who user off; put = by touched moved.left seat };
   own = λ off user. kept.each mover ∙ moved.grown mover user off;
 }
   where
-    by : (t : Touched) → IsLeft m n t → (is_making t ≡ true → HasSeat waits marks) → HasPlaceFor n waits marks t
-    by (Makes object) left seat = λ user off. seat refl
+    by : (t : Touched) → IsLeft m n t → HasSeatFor n t waits marks → HasPlaceFor n waits marks t
+    by (Makes object) left seat = seat
     by (Moves object slot) left seat = (λ user. kept.each object ∙ left.0 user, left.1)
     by (Few first second third) left seat = tt
     by Any left seat = tt
@@ -109,7 +115,7 @@ module _ (m n : Contents) (move : Move) (ask : Ask) (valid : IsValid (world m)) 
     told_of : TellsTouched m move ask touched → IsToldOf m move.who (picked_by (path m) move.pick) ask touched
     told_of told = record { names = told.names; leaves = told.leaves; moves = told.moves }
 
-    comes : (waits marks : Lists) → AreKept m waits marks → (is_making touched ≡ true → HasSeat waits marks) → (said : Said) → IsReadyMove m move ask →
+    comes : (waits marks : Lists) → AreKept m waits marks → HasSeatFor n touched waits marks → (said : Said) → IsReadyMove m move ask →
         IsStepTo m move ask n said → TellsTouched m move ask touched → ComesAfter n move.who touched waits marks
     comes waits marks kept seat said ready is told =
         let new : IsStored n = record { valid = kept_valid said is; born = born_new; few = few_new } in
@@ -126,20 +132,38 @@ module _ (m n : Contents) (move : Move) (ask : Ask) (valid : IsValid (world m)) 
         subst (λ (w : Who). is_user_at n w ≡ true → IsPlaced n (standing waits) w)
         (told_names m move.who (picked_by (path m) move.pick) ask touched old fit ready (told_of told)) placed
 
-    -- what makes something may lack memory
-    seat_by : (waits marks : Lists) → (may_lack m move ask ≡ true → HasSeat waits marks) → TellsTouched m move ask touched → is_making touched ≡ true →
-        HasSeat waits marks
-    seat_by waits marks room told making = by (may_lack m move ask) refl
+    -- what makes something has a seat: an object was made, or nothing was put anywhere
+    seat_by : (waits marks : Lists) → AreKept m waits marks → (may_make m move ask ≡ true → HasSeat waits marks) → (said : Said) →
+        IsStepTo m move ask n said → TellsTouched m move ask touched → HasSeatFor n touched waits marks
+    seat_by waits marks kept room said is told = by touched refl
       where
-        by : (b : Bool) → may_lack m move ask ≡ b → HasSeat waits marks
-        by true e = room e
-        by false e = clash (is_making touched) making (told.makes e)
+        made : (t : Touched) → touched ≡ t → is_making t ≡ true → may_lack m move ask ≡ true
+        made t e making = by_lack (may_lack m move ask) refl
+          where
+            by_lack : (b : Bool) → may_lack m move ask ≡ b → may_lack m move ask ≡ true
+            by_lack true f = f
+            by_lack false f = clash (is_making touched) (ap is_making e ∙ making) (told.makes f)
+
+        by_make : (object : Who) → may_lack m move ask ≡ true → (b : Bool) → may_make m move ask ≡ b → is_user_at n object ≡ true →
+            stands object waits ≡ false → HasSeat waits marks
+        by_make object lack true f user off = room f
+        by_make object lack false f user off =
+            clash (stands object waits)
+            (kept.each object ∙ stood_before m n (place (path m) move.who) (picked_by (path m) move.pick) ask valid few born born_new few_new fit
+            (ap (λ (s : Step). s.world) (sym is)) (lacks_gives m move ask lack f) object user) off
+
+        by : (t : Touched) → touched ≡ t → HasSeatFor n t waits marks
+        by (Makes object) e = λ user off. by_make object (made (Makes object) e refl) (may_make m move ask) refl user off
+        by (Moves object slot) e = tt
+        by (Few first second third) e = tt
+        by Any e = tt
+        by (Dies object) e = tt
 
     pub comes_tried : {E : Type 0} (waits marks : Lists) (r : Result (Option Told) E) → AreKept m waits marks →
-        (may_lack m move ask ≡ true → HasSeat waits marks) → IfOk r (IsMade m move ask n) → IfOk r (TellsOf m move ask touched) →
+        (may_make m move ask ≡ true → HasSeat waits marks) → IfOk r (IsMade m move ask n) → IfOk r (TellsOf m move ask touched) →
         OnTrue (was_made r) (ComesAfter n move.who touched waits marks)
     comes_tried waits marks (Ok (Some told)) kept room made tells =
-        comes waits marks kept (seat_by waits marks room tells) told.said made.0 made.1 tells
+        comes waits marks kept (seat_by waits marks kept room told.said made.1 tells) told.said made.0 made.1 tells
     comes_tried waits marks (Ok None) kept room made tells = tt
     comes_tried waits marks (Err e) kept room made tells = tt
 
@@ -150,13 +174,13 @@ module _ (m n : Contents) (move : Move) (ask : Ask) (valid : IsValid (world m)) 
     put_tried waits (Ok None) made tells placed = tt
     put_tried waits (Err e) made tells placed = tt
 
-    pub comes_true : (waits marks : Lists) (said : Said) (b : Bool) → AreKept m waits marks → (may_lack m move ask ≡ true → HasSeat waits marks) →
+    pub comes_true : (waits marks : Lists) (said : Said) (b : Bool) → AreKept m waits marks → (may_make m move ask ≡ true → HasSeat waits marks) →
         OnTrue b (IsReadyMove m move ask × IsStepTo m move ask n said) → OnTrue b (TellsTouched m move ask touched) →
         OnTrue b (ComesAfter n move.who touched waits marks)
-    comes_true waits marks said true kept room made tells = comes waits marks kept (seat_by waits marks room tells) said made.0 made.1 tells
+    comes_true waits marks said true kept room made tells = comes waits marks kept (seat_by waits marks kept room said made.1 tells) said made.0 made.1 tells
     comes_true waits marks said false kept room made tells = tt
 
-    pub quiet_true : (waits marks : Lists) (said : Said) (b ran : Bool) → AreKept m waits marks → (may_lack m move ask ≡ true → HasSeat waits marks) →
+    pub quiet_true : (waits marks : Lists) (said : Said) (b ran : Bool) → AreKept m waits marks → (may_make m move ask ≡ true → HasSeat waits marks) →
         ask ≡ asks.Run → OnTrue ran (IsRunning m move.who) → OnTrue b (IsReadyMove m move ask × IsStepTo m move ask n said) →
         OnTrue b (TellsTouched m move ask touched) → OnTrue b (MayBeQuiet n move.who ran touched waits marks)
     quiet_true waits marks said false ran kept room runs running made tells = tt
@@ -183,6 +207,14 @@ module _ (m n : Contents) (move : Move) (ask : Ask) (valid : IsValid (world m)) 
     put_true waits said true made tells placed = put_by waits made.0 tells placed
     put_true waits said false made tells placed = tt
 
+-- what makes nothing wants no seat
+no_seat : (n : Contents) (touched : Touched) (waits marks : Lists) → is_making touched ≡ false → HasSeatFor n touched waits marks
+no_seat n (Makes object) waits marks none = absurd (cc)
+no_seat n (Moves object slot) waits marks none = tt
+no_seat n (Few first second third) waits marks none = tt
+no_seat n Any waits marks none = tt
+no_seat n (Dies object) waits marks none = tt
+
 -- ---- words for a native server
 
 module _ (m n : Contents) (move : Move) (valid : IsValid (world m)) (few : (world m).next ≤ depth) (fit : is_fit_move m move asks.Run ≡ true)
@@ -191,7 +223,7 @@ module _ (m n : Contents) (move : Move) (valid : IsValid (world m)) (few : (worl
       IfSome o (λ a. IsReadyMove m move asks.Run × IsStepTo m move asks.Run n (said a)) → (IsSome o → TellsTouched m move asks.Run touched) →
       OnTrue (is_some o) (ComesAfter n move.who touched waits marks)
   comes_some waits marks said (Some a) kept none made tells =
-      comes m n move asks.Run valid few fit born born_new few_new touched waits marks kept (λ making. clash (is_making touched) making (none refl)) (said a)
+      comes m n move asks.Run valid few fit born born_new few_new touched waits marks kept (no_seat n touched waits marks (none refl)) (said a)
       made.0 made.1 (tells refl)
   comes_some waits marks said None kept none made tells = tt
 

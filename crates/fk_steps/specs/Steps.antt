@@ -1,5 +1,5 @@
 -- Steps: what a move leaves of where threads stand.
-use Rattle.std.specs.Prelude.{◌≡◌, ◌≤◌, ◌&&◌, ◌==◌, Bool, true, false, [], Option, Some, None, is_none, Result, Ok, Err}
+use Rattle.std.specs.Prelude.{◌≡◌, ◌≤◌, ◌&&◌, ◌==◌, Bool, true, false, List, [], ◌∷◌, Option, Some, None, is_none, Result, Ok, Err}
 use Rattle.fk_model.specs.declared.moves.Ask.{Ask}
 use Rattle.fk_model.specs.declared.moves.Move.{Move}
 use Rattle.fk_model.specs.declared.names.Who.{Who}
@@ -7,9 +7,14 @@ use Rattle.fk_model.specs.declared.thread.Mode as modes_of
 use Rattle.fk_model.specs.declared.thread.Mode.TheVariants as modes
 use Rattle.fk_model.specs.declared.thread.Thread as threads_of
 use Rattle.fk_turns_next.specs.Tellings.{Told}
+use Rattle.fk_model.specs.declared.moves.Ask.TheVariants as asks
+use Rattle.fk_model.specs.declared.stage.Stage.{Stage}
+use Rattle.fk_model.specs.declared.stage.Stage.TheVariants.{Create, SpaceMakeHeld}
 use Rattle.fk_store.specs.Contents.{Contents}
 use Rattle.fk_store.specs.Moves.{picked_by}
-use Rattle.fk_store.specs.Paths.{path}
+use Rattle.fk_store.specs.Paths.{path, place}
+use Rattle.fk_store.specs.Threads.{todo_at}
+use Rattle.fk_store.specs.World.{world}
 use Rattle.fk_turns.specs.Turns.{IsSound}
 use Rattle.fk_turns_told.specs.Kept.{is_user_at, AreKept}
 use Rattle.fk_turns_next.specs.Waiting.{IsPlaced, Standing}
@@ -74,3 +79,21 @@ pub record IsTurned (who : Who) (waits marks now then_marks : Lists) : Type 0 wh
   pub stood : stands who waits ≡ true
   pub none : marks.ready ≡ []
   pub same : then_marks ≡ marks
+
+-- ---- what makes an object
+
+-- a stage makes one. Porters alone make spaces that are held
+abbrev pub makes_object : Bool → Stage → Bool
+makes_object is_porter (Create s x kind) = true
+makes_object is_porter (SpaceMakeHeld x) = is_porter
+makes_object is_porter other = false
+
+abbrev pub first_makes : List Stage → Bool
+first_makes [] = false
+first_makes (stage ∷ later) = makes_object false stage
+
+-- so may a move
+abbrev pub may_make : Contents → Move → Ask → Bool
+may_make m move asks.Run = first_makes (todo_at (world m) (place (path m) move.who))
+may_make m move (asks.Call stage words) = makes_object true stage
+may_make m move other = false

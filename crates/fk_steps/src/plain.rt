@@ -20,6 +20,7 @@ use fk_wakes::Touched;
 
 /// The lists after a move. Where that touched nobody else, the thread runs on and nothing is held, and it was an instruction, or nobody is queued whom any
 /// move may free, who moved goes from first to last, and nobody is looked at.
+#[inline(always)]
 pub fn after_plain(turns: &mut Turns, store: &Store, mover: Who, touched: &Touched, ran: bool)
     requires valid { IsValid (world store.now) }
     requires quiet { MayBeQuiet store.now mover ran touched.now turns.old.waits turns.old.marks }
@@ -35,6 +36,7 @@ pub fn after_plain(turns: &mut Turns, store: &Store, mover: Who, touched: &Touch
 }
 
 /// Who moved and runs on went from first to last, and nobody else need be looked at; or all is as it was.
+#[inline(always)]
 fn is_quick(turns: &mut Turns, store: &Store, mover: Who, touched: &Touched, ran: bool) -> bool
     requires sound { IsSound turns.old.waits turns.old.marks }
     ensures sound { IsSound turns.new.waits turns.new.marks }

@@ -11,10 +11,9 @@ ghost use Rattle.fk_store.specs.Threads.{todo_at};
 ghost use Rattle.fk_store.specs.World.{world};
 ghost use Rattle.fk_turns_next.specs.Doings.{first_of};
 ghost use Rattle.fk_turns_next.specs.Judgements.{may_lack};
-ghost use Rattle.fk_turns_next.specs.Rows as stages;
-ghost use Rattle.fk_turns_next.specs.Rows.{first_takes_memory};
 ghost use Rattle.fk_turns.specs.Turns.{IsSound};
-ghost use Rattle.fk_steps.specs.Steps.{HasSeat, IsWider};
+ghost use Rattle.fk_steps.specs.Steps as steps_of;
+ghost use Rattle.fk_steps.specs.Steps.{first_makes, may_make, HasSeat, IsWider};
 
 use fk_model::{Ask, Mode, Move, NoMemory, Stage, Thread, Todo, Who};
 use fk_stages::todo;
@@ -25,7 +24,7 @@ use fk_turns::Turns;
 pub fn reserve_for(turns: &mut Turns, store: &Store, m: &Move, ask: &Ask) -> Result<(), NoMemory>
     requires sound { IsSound turns.old.waits turns.old.marks }
     ensures wider { IsWider turns.old.waits turns.old.marks turns.new.waits turns.new.marks }
-    ensures room { OnOk result (may_lack store.now m.now ask.now ≡ true → HasSeat turns.new.waits turns.new.marks) }
+    ensures room { OnOk result (may_make store.now m.now ask.now ≡ true → HasSeat turns.new.waits turns.new.marks) }
     ensures lacking { OnErr result (may_lack store.now m.now ask.now ≡ true) }
 {
     reserve_where(turns, may_want(store, m, ask))
@@ -35,17 +34,17 @@ pub fn reserve_for(turns: &mut Turns, store: &Store, m: &Move, ask: &Ask) -> Res
 pub fn reserve_for_stage(turns: &mut Turns, stage: &Stage) -> Result<(), NoMemory>
     requires sound { IsSound turns.old.waits turns.old.marks }
     ensures wider { IsWider turns.old.waits turns.old.marks turns.new.waits turns.new.marks }
-    ensures room { OnOk result (stages.takes_memory true stage.now ≡ true → HasSeat turns.new.waits turns.new.marks) }
-    ensures lacking { OnErr result (stages.takes_memory true stage.now ≡ true) }
+    ensures room { OnOk result (steps_of.makes_object true stage.now ≡ true → HasSeat turns.new.waits turns.new.marks) }
+    ensures lacking { OnErr result (steps_of.makes_object true stage.now ≡ true) }
 {
-    reserve_where(turns, takes_memory(true, stage))
+    reserve_where(turns, makes_object(true, stage))
 }
 
 /// The same before the next move of the user in a slot, and whether there is room.
 pub fn seat_for(turns: &mut Turns, store: &Store, who: Who) -> bool
     requires sound { IsSound turns.old.waits turns.old.marks }
     ensures wider { IsWider turns.old.waits turns.old.marks turns.new.waits turns.new.marks }
-    ensures room { OnTrue result (first_takes_memory (todo_at (world store.now) (place (path store.now) who)) ≡ true
+    ensures room { OnTrue result (first_makes (todo_at (world store.now) (place (path store.now) who)) ≡ true
         → HasSeat turns.new.waits turns.new.marks) }
 {
     // Mostly there is, and then nobody is looked at.
@@ -68,13 +67,13 @@ fn reserve_where(turns: &mut Turns, wants: bool) -> Result<(), NoMemory>
     Ok(())
 }
 
-/// A move may make an object or a page.
+/// A move may make an object.
 fn may_want(store: &Store, m: &Move, ask: &Ask) -> bool
-    ensures { result ≡ may_lack store.now m.now ask.now }
+    ensures { result ≡ may_make store.now m.now ask.now }
 {
     match ask {
         Ask::Run => user_wants(store, m.who),
-        Ask::Call { stage, .. } => takes_memory(true, stage),
+        Ask::Call { stage, .. } => makes_object(true, stage),
         Ask::Accept | Ask::Give { .. } | Ask::Over => false,
     }
 }
@@ -82,7 +81,7 @@ fn may_want(store: &Store, m: &Move, ask: &Ask) -> bool
 /// So may the next move of the user in a slot.
 #[tactic(auto, unfolding(fk_store::specs::Threads::todo_at))]
 fn user_wants(store: &Store, who: Who) -> bool
-    ensures { result ≡ first_takes_memory (todo_at (world store.now) (place (path store.now) who)) }
+    ensures { result ≡ first_makes (todo_at (world store.now) (place (path store.now) who)) }
 {
     match store.thread(who) {
         Some(thread) => thread_wants(thread),
@@ -92,7 +91,7 @@ fn user_wants(store: &Store, who: Who) -> bool
 
 /// So may the next stage of a thread.
 fn thread_wants(thread: &Thread) -> bool
-    ensures { (w : World) (x : Path) (p : ℕ → Path) → Some (thread_by p thread.now) ≡ thread_at w x → result ≡ first_takes_memory (todo_at w x) }
+    ensures { (w : World) (x : Path) (p : ℕ → Path) → Some (thread_by p thread.now) ≡ thread_at w x → result ≡ first_makes (todo_at w x) }
 {
     match thread.mode {
         Mode::Calling => call_wants(&thread.regs),
@@ -104,10 +103,10 @@ fn thread_wants(thread: &Thread) -> bool
 
 /// So may the first stage of the call that the registers name.
 fn call_wants(registers: &[u64; 16]) -> bool
-    ensures { result ≡ first_takes_memory (unwrap_or (todo_of registers.now) []) }
+    ensures { result ≡ first_makes (unwrap_or (todo_of registers.now) []) }
 {
     match first_stage(registers) {
-        Some(stage) => takes_memory(false, &stage),
+        Some(stage) => makes_object(false, &stage),
         None => false,
     }
 }
@@ -124,12 +123,12 @@ fn first_stage(registers: &[u64; 16]) -> Option<Stage>
     }
 }
 
-/// A stage makes an object or a page.
-fn takes_memory(is_porter: bool, stage: &Stage) -> bool
-    ensures { result ≡ stages.takes_memory is_porter stage.now }
+/// A stage makes an object.
+fn makes_object(is_porter: bool, stage: &Stage) -> bool
+    ensures { result ≡ steps_of.makes_object is_porter stage.now }
 {
     match stage {
-        Stage::Create { .. } | Stage::PageGive { .. } => true,
+        Stage::Create { .. } => true,
         Stage::SpaceMakeHeld { .. } => is_porter,
         _ => false,
     }

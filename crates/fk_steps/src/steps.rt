@@ -110,6 +110,7 @@ fn after_if(turns: &mut Turns, store: &Store, made: bool, mover: Who, touched: &
 }
 
 /// The same after a move that most often touches nobody but who moved.
+#[inline(always)]
 fn after_plain_if(
     turns: &mut Turns,
     store: &Store,
