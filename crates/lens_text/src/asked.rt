@@ -105,18 +105,6 @@ fn wrong(line: Result<String, AllocError>) -> Problem {
     }
 }
 
-/// That a word too many, or one too few, is behind the verb whose word has this place.
-fn wrong_number(alloc: Global, place: usize) -> Problem {
-    let word = WORDS.get(place).copied().unwrap_or("");
-    let behind = BEHIND.get(place).copied().unwrap_or("");
-    wrong(format!(in alloc; "after {word}: expected {behind}"))
-}
-
-/// The number of moves that a word is.
-fn count_in(word: &String) -> Option<u64> {
-    plain_number_up_to(MOST, word.as_bytes())
-}
-
 /// What is wrong with a word behind a verb, which has to be a name or a number of moves.
 fn fault_of(alloc: Global, word: &String, is_name_wanted: bool) -> Option<Problem> {
     if is_name_wanted {
@@ -127,7 +115,7 @@ fn fault_of(alloc: Global, word: &String, is_name_wanted: bool) -> Option<Proble
             "{word:?}: expected a name, 1 to 32 of a to z, 0 to 9 and _"
         )));
     }
-    match count_in(word) {
+    match plain_number_up_to(MOST, word.as_bytes()) {
         Some(_) => None,
         None => Some(wrong(format!(in alloc;
             "{word:?}: expected a number of moves, 0 to 1000000"
@@ -135,8 +123,12 @@ fn fault_of(alloc: Global, word: &String, is_name_wanted: bool) -> Option<Proble
     }
 }
 
-/// What is wrong with the first word behind a verb that isn't what is wanted there: names, so many, and then numbers of moves.
-fn first_fault(alloc: Global, words: &[String], names: usize) -> Option<Problem> {
+/// What is wrong with the first word behind a verb that isn't what is wanted there: a name, or two, and then numbers of moves.
+fn first_fault(alloc: Global, words: &[String], verb: Verb) -> Option<Problem> {
+    let names = match verb {
+        Verb::Differences => 2,
+        _ => 1,
+    };
     for (place, word) in words.iter().enumerate() {
         let fault = fault_of(alloc, word, place < names);
         if fault.is_some() {
@@ -156,7 +148,7 @@ fn name_at<'a>(words: &'a [String], place: usize) -> &'a str {
 
 /// A word behind a verb as a number of moves, where it is one.
 fn count_at(words: &[String], place: usize) -> Option<u64> {
-    count_in(words.get(place)?)
+    plain_number_up_to(MOST, words.get(place)?.as_bytes())
 }
 
 /// What a verb with these words behind it asks for.
@@ -176,21 +168,6 @@ fn asked_of<'a>(verb: Verb, words: &'a [String]) -> Asked<'a> {
     }
 }
 
-/// What a verb asks for whose word has this place, with these words behind it.
-fn asked_by<'a>(alloc: Global, place: usize, words: &'a [String]) -> Result<Asked<'a>, Problem> {
-    let Some(verb) = verb_with(place, words.len()) else {
-        return Err(wrong_number(alloc, place));
-    };
-    let names = match verb {
-        Verb::Differences => 2,
-        _ => 1,
-    };
-    match first_fault(alloc, words, names) {
-        Some(problem) => Err(problem),
-        None => Ok(asked_of(verb, words)),
-    }
-}
-
 /// What words ask for.
 ///
 /// # Errors
@@ -201,8 +178,15 @@ pub fn asked_in<'a>(alloc: Global, words: &'a [String]) -> Result<Asked<'a>, Pro
     let Some((word, rest)) = words.split_first() else {
         return Err(wrong(format!(in alloc; "expected one of {verbs}")));
     };
-    match place_of(word.as_str()) {
-        Some(place) => asked_by(alloc, place, rest),
-        None => Err(wrong(format!(in alloc; "{word:?}: expected one of {verbs}"))),
+    let Some(place) = place_of(word.as_str()) else {
+        return Err(wrong(format!(in alloc; "{word:?}: expected one of {verbs}")));
+    };
+    let Some(verb) = verb_with(place, rest.len()) else {
+        let behind = BEHIND.get(place).copied().unwrap_or("");
+        return Err(wrong(format!(in alloc; "after {word}: expected {behind}")));
+    };
+    match first_fault(alloc, rest, verb) {
+        Some(problem) => Err(problem),
+        None => Ok(asked_of(verb, rest)),
     }
 }

@@ -67,38 +67,29 @@ fn arguments(stage: u64, registers: &[u64; 16]) -> &[u64] {
     }
 }
 
-/// Adds the first stage of the call with this code.
-fn push_first(sheet: &mut Sheet, code: u64, registers: &[u64; 16]) {
+/// Adds the first stage of the call with this code: its name, and each argument with its register.
+pub fn push_stage(sheet: &mut Sheet, code: u64, registers: &[u64; 16]) {
     let stage = first_stage(code);
     let form = form_of(stage);
     if form.is_empty() {
-        sheet.put("no call, ");
-        sheet.number(stage);
-        return;
+        return sheet.put_between("no call, ", stage, "");
     }
-    push_form(sheet, form, arguments(stage, registers));
-}
-
-/// A text up to its first blank, and what is behind that.
-fn first_word(text: &str) -> (&str, &str) {
-    match text.split_once(' ') {
-        Some(parts) => parts,
-        None => (text, ""),
-    }
-}
-
-/// Adds a stage: its name, and each argument with its register.
-fn push_form(sheet: &mut Sheet, form: &str, registers: &[u64]) {
-    let (name, mut arguments) = first_word(form);
+    let (name, names) = form.split_once(' ').unwrap_or((form, ""));
     sheet.put(name);
+    push_arguments(sheet, names, arguments(stage, registers));
+}
+
+/// Adds arguments by their names, each with its register.
+fn push_arguments(sheet: &mut Sheet, names: &str, registers: &[u64]) {
+    let mut later = names;
     for register in registers {
-        if arguments.is_empty() {
+        if later.is_empty() {
             break;
         }
-        let (argument, later) = first_word(arguments);
-        sheet.puts(&[" ", argument, "="]);
-        sheet.number(*register);
-        arguments = later;
+        let (name, behind) = later.split_once(' ').unwrap_or((later, ""));
+        sheet.puts(&[" ", name]);
+        sheet.put_between("=", *register, "");
+        later = behind;
     }
 }
 
@@ -128,22 +119,17 @@ fn later_stages(code: u64) -> Option<u64> {
     }
 }
 
-/// Adds the stage that is next of the call that registers hold.
-pub fn push_stage(sheet: &mut Sheet, registers: &[u64; 16]) {
-    push_first(sheet, registers[0], registers);
-}
-
 /// Adds all stages that are left of the call that registers hold.
 pub fn push_call(sheet: &mut Sheet, registers: &[u64; 16]) {
-    push_stage(sheet, registers);
     let mut code = registers[0];
+    push_stage(sheet, code, registers);
     // A call has four stages at most.
     for _ in 0..3 {
         let Some(later) = later_stages(code) else {
             break;
         };
         sheet.put(", ");
-        push_first(sheet, later, registers);
+        push_stage(sheet, later, registers);
         code = later;
     }
 }

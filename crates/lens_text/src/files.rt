@@ -1,15 +1,7 @@
 //! The source, and the files of the shelf.
 use crate::problem::{Problem, given};
 use fk_causes::{ReadError, Shelf, ShelfFail, Source, read_all};
-use std::alloc::{AllocError, Global};
-
-/// That something couldn't be read.
-fn unreadable(line: Result<String, AllocError>) -> Problem {
-    match line {
-        Ok(line) => Problem::Outside(line),
-        Err(_) => Problem::NoMemory,
-    }
-}
+use std::alloc::Global;
 
 /// The bytes of a file.
 ///
@@ -22,7 +14,9 @@ pub fn file_of<H: Shelf>(alloc: Global, shelf: &mut H, file: &str) -> Result<Vec
         Ok(None) => Err(given(format!(in alloc;
             "{file}: expected a file of this name in the current folder"
         ))),
-        Err(ShelfFail::Failed) => Err(unreadable(format!(in alloc; "{file} can't be read"))),
+        Err(ShelfFail::Failed) => {
+            Err(Problem::Outside(format!(in alloc; "{file} can't be read")?))
+        }
         Err(ShelfFail::NoMemory) => Err(Problem::NoMemory),
     }
 }
@@ -40,7 +34,8 @@ pub fn source_text<R: Source>(alloc: Global, source: &mut R) -> Result<Vec<u8>, 
             "standard input: expected no more than 1048576 bytes",
         ))),
         Err(ReadError::ReadFault) => {
-            Err(unreadable(String::from_str(alloc, "standard input can't be read")))
+            let line = String::from_str(alloc, "standard input can't be read")?;
+            Err(Problem::Outside(line))
         }
         Err(ReadError::NoMemory) => Err(Problem::NoMemory),
     }

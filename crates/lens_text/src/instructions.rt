@@ -3,7 +3,6 @@ use crate::sheet::Sheet;
 use fk_isa::decode;
 use fk_model::Instr;
 use fk_model::operation::{ADD, ADDI, CALL, HALT, JMP, JNZ, JZ, MOV, REM, SET};
-use std::alloc::{AllocError, Global};
 
 /// Which operands follow an operation's name.
 #[derive(Clone, Copy)]
@@ -33,36 +32,26 @@ fn shape_of(op: u8) -> Shape {
     }
 }
 
-/// Whether what its operands leave out is 0, as the assembler makes it.
-fn is_plain(instr: Instr) -> bool {
+/// The instruction in a word that the assembler can make: what its operands leave out is 0.
+pub fn plain_instruction(word: u64) -> Option<Instr> {
+    let instr = decode(word)?;
     let Instr { op, a, b, c, n } = instr;
-    match shape_of(op) {
+    let is_plain = match shape_of(op) {
         Shape::Bare => a == 0 && b == 0 && c == 0 && n == 0,
         Shape::Number => a == 0 && b == 0 && c == 0,
         Shape::RegisterNumber => b == 0 && c == 0,
         Shape::TwoRegisters => c == 0 && n == 0,
         Shape::ThreeRegisters => n == 0,
         Shape::TwoRegistersNumber => c == 0,
-    }
-}
-
-/// The instruction in a word that the assembler can make.
-fn plain_instruction(word: u64) -> Option<Instr> {
-    let instr = decode(word)?;
-    if is_plain(instr) { Some(instr) } else { None }
-}
-
-/// Whether a word is one that the assembler makes of an instruction's line.
-pub fn is_instruction(word: u64) -> bool {
-    plain_instruction(word).is_some()
+    };
+    if is_plain { Some(instr) } else { None }
 }
 
 /// Adds registers behind a name.
 fn push_registers(sheet: &mut Sheet, registers: &[u8]) {
     let mut gap = " r";
     for register in registers {
-        sheet.put(gap);
-        sheet.number(*register as u64);
+        sheet.put_between(gap, *register as u64, "");
         gap = ", r";
     }
 }
@@ -71,16 +60,17 @@ fn push_registers(sheet: &mut Sheet, registers: &[u8]) {
 fn push_number(sheet: &mut Sheet, gap: &str, op: u8, number: u32) {
     sheet.put(gap);
     if op == ADDI && number >= 0x8000_0000 {
-        sheet.put("-");
-        sheet.number(0u32.wrapping_sub(number) as u64);
+        sheet.put_between("-", 0u32.wrapping_sub(number) as u64, "");
     } else {
         sheet.number(number as u64);
     }
 }
 
-/// Adds an instruction as a line of a program's text has it.
-fn push_plain(sheet: &mut Sheet, instr: Instr) {
-    let Instr { op, a, b, c, n } = instr;
+/// Adds the instruction that a word holds, as a line of a program's text has it; of any other word `word` and its number.
+pub fn push_instruction(sheet: &mut Sheet, word: u64) {
+    let Some(Instr { op, a, b, c, n }) = plain_instruction(word) else {
+        return sheet.put_between("word ", word, "");
+    };
     sheet.put(NAMES.get(op as usize).copied().unwrap_or("call"));
     match shape_of(op) {
         Shape::Bare => {}
@@ -96,26 +86,4 @@ fn push_plain(sheet: &mut Sheet, instr: Instr) {
             push_number(sheet, ", ", op, n);
         }
     }
-}
-
-/// Adds the instruction that a word holds, as a line of a program's text has it; of any other word `word` and its number.
-pub fn push_instruction(sheet: &mut Sheet, word: u64) {
-    match plain_instruction(word) {
-        Some(instr) => push_plain(sheet, instr),
-        None => {
-            sheet.put("word ");
-            sheet.number(word);
-        }
-    }
-}
-
-/// The instruction that a word holds, as a line of a program's text has it; of any other word `word` and its number.
-///
-/// # Errors
-///
-/// For want of memory.
-pub fn instruction_text(alloc: Global, word: u64) -> Result<String, AllocError> {
-    let mut sheet = Sheet::new(alloc);
-    push_instruction(&mut sheet, word);
-    sheet.done()
 }

@@ -1,24 +1,38 @@
-//! What the verbs of `lens` have in common: what the words of the command line ask for (`asked`), why something isn't shown, the files of the
-//! shelf, a text that is written piece by piece (`Sheet`), and instructions, calls and statuses as text.
+//! What `lens` shows but for runs: programs, images and what stands in a store, as text; and what its verbs have in common: what the words of
+//! the command line ask for (`asked`), why something isn't shown, the files of the shelf, a text that is written piece by piece (`Sheet`), and
+//! instructions, calls and statuses in words.
 //!
-//! It stands on `fk_causes` for the shelf, on `fk_isa` for the instruction in a word, on `fk_stages` for porters' calls,
-//! and on `fk_model` for names, numbers and want of memory. It promises no more than that each function ends.
+//! An image is shown one thing a line (`images`), a program so that what is written assembles to the same words (`words`), and a store as the
+//! tree of its spaces (`store`). `Seen` is what is seen of a run at a moment.
+//!
+//! It stands on `fk_causes` for the shelf, on `fk_isa` for the instruction in a word, on `fk_stages` for porters' calls, on `fk_asm` for
+//! programs, on `fk_codec` and `fk_image` for images, on `fk_store` for what stands there, and on `fk_natives` for native servers. It promises
+//! no more than that each function ends, whatever bytes it is given.
 #![tactic(auto)]
 
 mod asked;
 mod calls;
 mod files;
+mod images;
 mod instructions;
 mod problem;
 mod refusal;
 mod sheet;
 mod statuses;
+mod store;
+mod words;
 
 pub use asked::{Asked, Verb, asked_in};
-pub use calls::{first_stage, push_asked, push_call, push_stage};
+pub use calls::{first_stage, push_asked, push_stage};
 pub use files::{file_of, source_text};
-pub use instructions::{instruction_text, is_instruction, push_instruction};
+pub use images::{show_differences, show_image};
+pub use instructions::push_instruction;
 pub use problem::{Problem, given};
 pub use refusal::refused_scenario;
 pub use sheet::Sheet;
 pub use statuses::{halt_text, status_text};
+pub use store::{
+    Job, Ready, Seen, Stop, handled, names_of, object_named, object_text, path_text, push_at,
+    push_path, push_thread, root_text, tree_text, word_at,
+};
+pub use words::words_text;

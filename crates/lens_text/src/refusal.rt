@@ -32,22 +32,14 @@ fn heading(section: u8) -> &'static str {
     }
 }
 
-/// Whether a line of a text is this heading, and a comment behind it at most.
-fn is_heading(line: &str, heading: &str) -> bool {
-    let text = match line.split_once('#') {
-        Some((text, _)) => text,
-        None => line,
-    };
-    text.trim() == heading
-}
-
-/// The number of the line that begins an entry, where the text has it under a heading of its own.
+/// The number of the line that begins an entry, where the text has it under a heading of its own, with a comment behind that at most.
 fn line_of(text: &str, heading: &str, index: u32) -> Option<u64> {
     let mut number = 0u64;
     let mut passed = 0u32;
     for line in text.lines() {
         number = number.saturating_add(1);
-        if is_heading(line, heading) {
+        let (head, _) = line.split_once('#').unwrap_or((line, ""));
+        if head.trim() == heading {
             if passed == index {
                 return Some(number);
             }

@@ -41,7 +41,13 @@ impl Sheet {
 
     /// Adds a number.
     pub fn number(&mut self, number: u64) {
-        if write!(self.text, "{number}").is_err() {
+        self.put_between("", number, "");
+    }
+
+    /// Adds a number between two texts.
+    pub fn put_between(&mut self, before: &str, number: u64, behind: &str) {
+        self.put(before);
+        if write!(self.text, "{number}{behind}").is_err() {
             self.is_short = true;
         }
     }
@@ -75,11 +81,6 @@ impl Sheet {
         } else {
             Ok(())
         }
-    }
-
-    /// What stands there.
-    pub fn into_text(self) -> String {
-        self.text
     }
 
     /// The whole.

@@ -1,10 +1,9 @@
 //! Which threads have a ready move.
-use fk_core::Core;
-use fk_kernel::Kernel;
+use fk_first::{Core, Kernel};
 use fk_model::Move;
 use fk_natives::Native;
 use fk_porters::Porter;
-use lens_world::{Job, Ready};
+use lens_text::{Job, Ready};
 use std::alloc::{AllocError, Global};
 use std::collections::BTreeMap;
 

@@ -2,8 +2,9 @@
 use crate::help::{HELP, VERSION};
 use crate::responders::show;
 use fk_causes::{Shelf, Source};
-use lens_image::{show_differences, show_image, words_text};
-use lens_text::{Asked, Problem, Verb, asked_in, source_text};
+use lens_text::{
+    Asked, Problem, Verb, asked_in, show_differences, show_image, source_text, words_text,
+};
 use std::alloc::Global;
 
 /// Shows what is asked for of the source: a program, or a scenario's run.

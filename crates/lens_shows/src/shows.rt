@@ -1,0 +1,100 @@
+//! What is shown of a run, by what is asked for.
+use crate::page::Page;
+use crate::steps::Steps;
+use crate::why::Why;
+use fk_model::Move;
+use lens_text::{Asked, Problem, Ready, Seen, Stop, Verb, given, tree_text};
+use std::alloc::{AllocError, Global};
+
+/// What is shown of a run.
+#[derive(Drop)]
+pub enum Show {
+    /// What stands where it stops.
+    Tree(Global, String),
+    Steps(Steps),
+    Why(Why),
+    Page(Page),
+}
+
+impl Show {
+    /// It sees what stands before a move, of which it isn't known yet whether it is ready.
+    ///
+    /// # Errors
+    ///
+    /// It has no memory.
+    pub fn before(&mut self, seen: Seen<'_>, one: &Move) -> Result<(), AllocError> {
+        match self {
+            Show::Tree(_, _) => {}
+            Show::Steps(steps) => steps.before(seen, one)?,
+            Show::Why(why) => why.before(seen, one),
+            Show::Page(page) => page.before(seen, one)?,
+        }
+        Ok(())
+    }
+
+    /// It sees what stands after that move, which was made.
+    ///
+    /// # Errors
+    ///
+    /// It has no memory.
+    pub fn after(&mut self, seen: Seen<'_>, one: &Move) -> Result<(), AllocError> {
+        match self {
+            Show::Tree(_, _) => Ok(()),
+            Show::Steps(steps) => steps.after(seen, one),
+            Show::Why(why) => why.after(seen, one),
+            Show::Page(page) => page.after(seen, one),
+        }
+    }
+
+    /// It sees what stands where the run stops, and who could go on.
+    ///
+    /// # Errors
+    ///
+    /// It has no memory.
+    pub fn stops(&mut self, seen: Seen<'_>, ready: &Ready, stop: Stop) -> Result<(), AllocError> {
+        match self {
+            Show::Tree(alloc, text) => *text = tree_text(*alloc, seen.store)?,
+            Show::Steps(_) => {}
+            Show::Why(why) => why.stops(seen, ready, stop)?,
+            Show::Page(page) => page.stops(seen, stop)?,
+        }
+        Ok(())
+    }
+}
+
+/// What is asked for, of which nothing is shown yet.
+pub fn show_of(alloc: Global, asked: Asked<'_>) -> Show {
+    match asked.verb {
+        Verb::Steps => Show::Steps(Steps::new(alloc, asked.first, asked.end)),
+        Verb::Why => Show::Why(Why::new(alloc)),
+        Verb::Page => Show::Page(Page::new(alloc)),
+        _ => Show::Tree(alloc, String::new(alloc)),
+    }
+}
+
+/// What was shown, of a page under this name.
+///
+/// # Errors
+///
+/// For want of memory.
+pub fn text_of(show: Show, name: &str) -> Result<String, AllocError> {
+    match show {
+        Show::Tree(_, text) => Ok(text),
+        Show::Steps(steps) => steps.done(),
+        Show::Why(why) => why.done(),
+        Show::Page(page) => page.text(name),
+    }
+}
+
+/// What is wrong where a run by the trace in a file stopped, by what is asked for.
+pub fn stop_fault(alloc: Global, asked: Asked<'_>, file: &str, stop: Stop) -> Option<Problem> {
+    let end = asked.end;
+    match (asked.verb, stop) {
+        (Verb::Page, Stop::Unready { .. } | Stop::Budget { .. }) => None,
+        (Verb::Why, Stop::Unready { index, .. }) if index == end => None,
+        (Verb::Tree | Verb::Why, Stop::Ended) => {
+            Some(given(format!(in alloc; "{file}: expected {end} moves or more")))
+        }
+        _ => stop.problem(alloc, file),
+    }
+}

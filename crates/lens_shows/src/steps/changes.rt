@@ -1,0 +1,55 @@
+//! What a move has changed of threads.
+use fk_model::{Mode, Thread, Who};
+use fk_store::Store;
+use lens_text::{Sheet, halt_text, push_path, status_text};
+
+/// Adds the registers that differ, as `r1=5 r2=0`.
+fn push_registers(sheet: &mut Sheet, before: &[u64; 16], after: &[u64; 16]) {
+    let mut gap = "r";
+    for number in 0..16usize {
+        if before[number] != after[number] {
+            sheet.put_between(gap, number as u64, "=");
+            sheet.number(after[number]);
+            gap = " r";
+        }
+    }
+}
+
+/// Adds the registers of a thread that have changed, behind its path where it isn't the mover.
+pub fn push_changed(sheet: &mut Sheet, store: &Store, mover: Who, who: Who, before: &Thread) {
+    let Some(after) = store.thread(who) else {
+        return;
+    };
+    if before.regs == after.regs {
+        return;
+    }
+    if !sheet.is_empty() {
+        sheet.put("; ");
+    }
+    if who != mover {
+        push_path(sheet, store, "", who, " ");
+    }
+    push_registers(sheet, &before.regs, &after.regs);
+}
+
+/// Adds what has come of a mover's move besides its registers: how its call ended, how it halted, which fault it
+/// raised; or that it is gone.
+pub fn push_ending(sheet: &mut Sheet, store: &Store, who: Who, before: &Thread) {
+    let Some(after) = store.thread(who) else {
+        return sheet.put("; it is gone from there");
+    };
+    match (before.mode, after.mode) {
+        (Mode::Calling, Mode::Running) => {
+            sheet.puts(&["; the call ends, ", status_text(after.regs[0])]);
+        }
+        (Mode::Running, Mode::Halted(code)) => {
+            sheet.put_between("; it halts ", code as u64, ", ");
+            sheet.put(halt_text(code));
+        }
+        _ => {}
+    }
+    if let (None, Some(fault)) = (before.fault, after.fault) {
+        sheet.put_between("; it misses page ", fault.page as u64, "");
+        push_path(sheet, store, ", a fault at ", fault.port, "");
+    }
+}

@@ -1,0 +1,49 @@
+//! All lines of an image.
+use crate::images::objects::push_object;
+use crate::images::pages::push_page;
+use crate::images::paths::{paths_of, push_pointer};
+use crate::sheet::Sheet;
+use fk_image::{Image, Link, SpaceRec};
+use std::alloc::{AllocError, Global};
+
+/// Adds the lines of a space: its own, that of its holder where it is held, those of its objects, those of its pages. The root's path is empty.
+fn push_space(
+    sheet: &mut Sheet,
+    path: &str,
+    paths: &[String],
+    space: &SpaceRec,
+) -> Result<(), AllocError> {
+    let shown = if path.is_empty() { "/" } else { path };
+    sheet.puts(&["space ", shown, "\n"]);
+    match space.holder {
+        Link::Null => {}
+        holder => push_pointer(sheet, shown, "held by", paths, holder),
+    }
+    for object in space.objects.as_slice() {
+        push_object(sheet, path, paths, object)?;
+    }
+    for page in space.pages.as_slice() {
+        push_page(sheet, shown, page);
+    }
+    Ok(())
+}
+
+/// An image, space by space in its order.
+///
+/// # Errors
+///
+/// For want of memory.
+pub fn text_of(alloc: Global, image: &Image) -> Result<String, AllocError> {
+    let spaces = image.spaces.as_slice();
+    let paths = paths_of(alloc, spaces)?;
+    let mut sheet = Sheet::new(alloc);
+    let mut later = spaces;
+    for path in &paths {
+        let Some((space, rest)) = later.split_first() else {
+            break;
+        };
+        push_space(&mut sheet, path.as_str(), &paths, space)?;
+        later = rest;
+    }
+    sheet.done()
+}

@@ -1,0 +1,45 @@
+//! The lines of a page.
+use crate::instructions::{plain_instruction, push_instruction};
+use crate::sheet::Sheet;
+use fk_image::PageRec;
+
+/// How many words of a page there are up to its last one that isn't 0, and whether the page has an instruction: a word that isn't 0 and that the
+/// assembler makes of an instruction's line. In such a page the words are shown as instructions.
+fn filled(words: &[u64; 64]) -> (usize, bool) {
+    let mut count = 0;
+    let mut is_program = false;
+    for at in 0..64usize {
+        if words[at] != 0 {
+            count = at + 1;
+            is_program = is_program || plain_instruction(words[at]).is_some();
+        }
+    }
+    (count, is_program)
+}
+
+/// Adds the line of a word.
+fn push_word(sheet: &mut Sheet, path: &str, address: u64, word: u64, is_program: bool) {
+    sheet.puts(&["word ", path]);
+    sheet.put_between(" ", address, " ");
+    if is_program {
+        push_instruction(sheet, word);
+    } else {
+        sheet.number(word);
+    }
+    sheet.put("\n");
+}
+
+/// Adds the lines of a page of the space that is shown by this path: how many of its words there are up to the last one that
+/// isn't 0, and then each of these.
+pub fn push_page(sheet: &mut Sheet, path: &str, page: &PageRec) {
+    let (count, is_program) = filled(&page.words);
+    sheet.puts(&["page ", path]);
+    sheet.put_between(" ", page.page as u64, ", words ");
+    sheet.put_between("", count as u64, " and then 0\n");
+    for at in 0..64usize {
+        if at < count {
+            let address = page.page as u64 * 64 + at as u64;
+            push_word(sheet, path, address, page.words[at], is_program);
+        }
+    }
+}

@@ -1,0 +1,89 @@
+//! Threads in words.
+use crate::calls::push_call;
+use crate::instructions::push_instruction;
+use crate::sheet::Sheet;
+use crate::statuses::halt_text;
+use crate::store::names::push_path;
+use fk_model::{Fault, Mode, Peer, Thread, Turn, Who};
+use fk_store::{Reach, Store};
+
+/// The word at an address of a space, if its page is there.
+pub fn word_at(store: &Store, space: u32, address: u64) -> Option<u64> {
+    let Reach::Home { space, page } = store.reach_word(space, address, false) else {
+        return None;
+    };
+    let words = store.page(space, page)?;
+    Some(words[(address % 64) as usize])
+}
+
+/// Adds what a thread does next: the instruction, or what is left of its call.
+pub fn push_at(sheet: &mut Sheet, store: &Store, who: Who, thread: &Thread) {
+    match thread.mode {
+        Mode::Running => {
+            sheet.put_between("running at ", thread.pc, ": ");
+            match word_at(store, who.space, thread.pc) {
+                Some(word) => push_instruction(sheet, word),
+                None => sheet.put("no page is there"),
+            }
+        }
+        Mode::Calling => {
+            sheet.put_between("calling at ", thread.pc, ": ");
+            push_call(sheet, &thread.regs);
+        }
+        Mode::Halted(code) => {
+            sheet.put_between("halted ", code as u64, "");
+            sheet.put_between(" at ", thread.pc, ": ");
+            sheet.put(halt_text(code));
+        }
+        Mode::Native => sheet.put("a porter"),
+    }
+}
+
+/// Adds who serves a talk, or has taken a fault, behind a text.
+fn push_peer(sheet: &mut Sheet, store: &Store, before: &str, peer: Peer) {
+    match peer {
+        Peer::Thread(who) => push_path(sheet, store, before, who, ""),
+        Peer::Service => sheet.puts(&[before, "the port's native server"]),
+        Peer::Parked => sheet.puts(&[before, "nobody yet (parked)"]),
+    }
+}
+
+/// Adds a fault.
+fn push_fault(sheet: &mut Sheet, store: &Store, fault: &Fault) {
+    let what = if fault.write {
+        "; fault, write of page "
+    } else {
+        "; fault, read of page "
+    };
+    sheet.put_between(what, fault.page as u64, "");
+    match fault.taker {
+        None => push_path(sheet, store, ", raised at ", fault.port, ""),
+        Some(taker) => {
+            push_path(sheet, store, ", at ", fault.port, "");
+            push_peer(sheet, store, ", taken by ", taker);
+        }
+    }
+}
+
+/// Adds a thread behind a text: what it does next, how often it is stopped, its talk as a client, its fault.
+pub fn push_thread(sheet: &mut Sheet, store: &Store, before: &str, who: Who, thread: &Thread) {
+    sheet.put(before);
+    push_at(sheet, store, who, thread);
+    match thread.stops {
+        0 => {}
+        1 => sheet.put("; stopped once"),
+        stops => sheet.put_between("; stopped ", stops as u64, " times"),
+    }
+    if let Some(talk) = &thread.talk {
+        let turn = match talk.turn {
+            Turn::Client => ", client's turn, words moved ",
+            Turn::Server => ", server's turn, words moved ",
+        };
+        push_path(sheet, store, "; talk at ", talk.port, "");
+        push_peer(sheet, store, " with ", talk.peer);
+        sheet.put_between(turn, talk.moved as u64, "");
+    }
+    if let Some(fault) = &thread.fault {
+        push_fault(sheet, store, fault);
+    }
+}
