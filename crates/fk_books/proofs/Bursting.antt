@@ -1,6 +1,7 @@
 -- Bursting: a lease that is committed is so many moves of a run, and a book goes on by them.
-use Rattle.std.proofs.Common.{◌≡◌, ℕ, suc, zero, ◌+◌, ◌-◌, ◌<◌, ◌≤◌, Bool, true, false, List, [], ◌∷◌, ◌++◌, length, replicate, None}
+use Rattle.std.proofs.Common.{◌≡◌, ℕ, suc, zero, ◌+◌, ◌-◌, ◌<◌, ◌≤◌, Bool, true, false, List, [], ◌∷◌, ◌++◌, length, replicate, take, None}
 use Rattle.std.proofs.Common.{length-append, append-nil, append_assoc, refl, sym, ap, subst, ◌∙◌, arith}
+use Rattle.std.proofs.lemmas.List.{take-replicate}
 use Rattle.std.specs.Bool.{OnTrue, OnFalse}
 use Rattle.fk_model.specs.declared.moves.Move.{Move}
 use Rattle.fk_model.specs.declared.names.Who.{Who}
@@ -135,3 +136,7 @@ room_more old now k count room capacity x so_far less few wide =
     let long : length now ≡ length old + length (replicate k x) = ap length so_far ∙ length-append old (replicate k x) in
     let made : length (replicate k x) ≡ k = long_replicate k x in
     omega (arith, long, made, less, few, wide)
+
+-- the first of so many that are the same
+pub front_same : {X : Type 0} (all front : List X) (n count : ℕ) (x : X) → all ≡ replicate n x → count ≤ n → front ≡ take count all → front ≡ replicate count x
+front_same all front n count x same few is = is ∙ ap (λ l. take count l) same ∙ take-replicate count n x few

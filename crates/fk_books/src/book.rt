@@ -1,11 +1,12 @@
 //! The book of a run.
-ghost use Rattle.std.specs.Prelude.{◌≡◌, ◌≤◌, ◌+◌, ◌++◌, [], length, map, replicate, vec_capacity, IfOk, OnOk, OnErr};
+ghost use Rattle.std.specs.Prelude.{◌≡◌, ◌≤◌, [], length, map, IfOk, OnOk, OnErr};
 ghost use Rattle.std.specs.Bool.{OnTrue, OnFalse};
 ghost use Rattle.fk_core.specs.Served.{AllFit};
 ghost use Rattle.fk_books.specs.Shown.{IsSound, MayMove, MayBurst, moves_of, HasEnded};
 ghost use Rattle.fk_books.specs.Told.{Told, IsKept, IsSame, IsOneMore, HasMore, HasOneMore, TakesDue, GoesOn};
 
 use crate::playable::Playable;
+use crate::stretches::{Stretch, push_all};
 use fk_burst::{Leased, count};
 use fk_model::{List as Items, Move, NoMemory, Who};
 use fk_responders::Table;
@@ -32,17 +33,6 @@ pub struct Book<C: Playable + Drop> {
 pub struct Gone {
     pub moves: u64,
     pub more: bool,
-}
-
-/// So many times a move, for which there is room.
-fn push_all(history: &mut Vec<Move>, m: Move, count: u64)
-    requires { length history.old.items + count ≤ vec_capacity history.old }
-    ensures items { history.new.items ≡ history.old.items ++ replicate count m }
-    ensures capacity { vec_capacity history.new ≡ vec_capacity history.old }
-{
-    for _k in 0..count {
-        history.push_reserved(m);
-    }
 }
 
 impl<C: Playable + Drop> Model for Book<C> {
@@ -189,12 +179,13 @@ impl<C: Playable + Drop> Book<C> {
         ensures may_not { OnFalse result (MayBurst (C.shown self.old.core) lease → ⊥) }
         ensures same { OnFalse result (IsSame C.shown self.old self.new) }
     {
-        self.burst_held(&lease)
+        let laid = Stretch::of(lease.thread());
+        self.burst_held(&lease, &laid)
     }
 
-    /// The same of a lease that stays where it is.
+    /// The same of a lease that stays where it is, whose moves may be laid out.
     #[tactic(auto, using(crate::proofs::Runs::come, crate::proofs::Runs::same_run, crate::proofs::Runs::goes_not, crate::proofs::Bursting::within_now, crate::proofs::Bursting::goes_so))]
-    fn burst_held(&mut self, lease: &Leased) -> bool
+    fn burst_held(&mut self, lease: &Leased, laid: &Stretch) -> bool
         ensures kept { IsKept C.shown self.old × IsKept C.shown self.new }
         ensures goes { GoesOn self.old self.new }
         ensures more { OnTrue result (HasMore C.shown self.old (moves_of lease.now) self.new) }
@@ -205,7 +196,7 @@ impl<C: Playable + Drop> Book<C> {
         let who = lease.thread();
         let made = count(lease);
         if self.core.burst(lease) {
-            push_all(&mut self.history, Move { who, pick: None }, made);
+            push_all(&mut self.history, who, made, laid);
             true
         } else {
             false
@@ -228,18 +219,23 @@ impl<C: Playable + Drop> Book<C> {
     }
 
     /// The moves of one turn at the lock by which a lease comes back: those of the lease, where it may be committed, and one more, while any is
-    /// left.
+    /// left. It takes less time where moves of the lease's thread are laid out.
     ///
     /// # Errors
     ///
     /// There is no memory for what the move makes.
     #[tactic(auto, using(crate::proofs::Runs::goes_further))]
-    pub fn go_burst(&mut self, table: &Table, lease: &Leased) -> Result<Gone, NoMemory>
+    pub fn go_burst(
+        &mut self,
+        table: &Table,
+        lease: &Leased,
+        laid: &Stretch,
+    ) -> Result<Gone, NoMemory>
         requires fits { AllFit (map (λ r. r.rule) table.now.list.items) (C.shown self.old.boot).core.servers }
         ensures goes { GoesOn self.old self.new }
         ensures ended { IfOk result (λ gone. OnFalse gone.more (HasEnded (C.shown self.new.core))) }
     {
-        let moves = if self.burst_held(lease) {
+        let moves = if self.burst_held(lease, laid) {
             count(lease)
         } else {
             0

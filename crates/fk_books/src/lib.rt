@@ -12,9 +12,11 @@ mod book;
 mod cores;
 mod playable;
 mod plays;
+mod stretches;
 
 pub use book::{Book, Gone};
 pub use fk_burst::{Leased, count, run};
 pub use fk_model::NoMemory;
 pub use playable::Playable;
 pub use plays::{PlayFail, play_all};
+pub use stretches::Stretch;

@@ -5,9 +5,9 @@ ghost use Rattle.fk_books.specs.Served.{AllFit};
 ghost use Rattle.fk_books.specs.Shown.{HasEnded};
 ghost use Rattle.fk_books.specs.Told.{Told, IsKept, IsSame, GoesOn};
 
-use fk_books::{Book, Gone, Leased, Playable, count, run};
+use fk_books::{Book, Gone, Leased, Playable, Stretch, count, run};
 use fk_causes::Gate;
-use fk_model::NoMemory;
+use fk_model::{NoMemory, Who};
 use fk_responders::Table;
 use fk_rlock::{Pass, Ruled};
 use std::sync::Wait;
@@ -38,6 +38,7 @@ pub fn work<R: Wait, G: Gate, C: Playable + Drop>(
     let mut turn = 0u64;
     // It is large, so it stays where it is.
     let mut lease = Leased::blank();
+    let mut laid = Stretch::of(lease.thread());
     let mut plan = Plan::new();
     for _ in rt.forever() {
         gate.pass(worker, turn);
@@ -48,7 +49,7 @@ pub fn work<R: Wait, G: Gate, C: Playable + Drop>(
                 requires { AllFit (map (λ r. r.rule) table.now.list.items) (C.shown book.old.boot).core.servers }
                 ensures { IsKept C.shown book.new × (book.new.boot ≡ book.old.boot) × (length book.old.history ≤ length book.new.history)
                     × IfOk result (λ done. done.more ≡ false → HasEnded (C.shown book.new.core)) }
-            { take_turn(book, table, worker, &mut lease, &plan) },
+            { take_turn(book, table, worker, &mut lease, &laid, &plan) },
         )?;
         if done.moves > 0 {
             gate.committed(worker, done.moves);
@@ -56,7 +57,7 @@ pub fn work<R: Wait, G: Gate, C: Playable + Drop>(
         if !done.more {
             return Ok(());
         }
-        make(&mut lease, done.leased, &mut plan);
+        make(&mut lease, done.leased, &mut laid, &mut plan);
         turn = turn.wrapping_add(1);
     }
     unreachable!()
@@ -76,6 +77,7 @@ fn take_turn<C: Playable + Drop>(
     table: &Table,
     worker: u32,
     lease: &mut Leased,
+    laid: &Stretch,
     plan: &Plan,
 ) -> Result<Done, NoMemory>
     requires fits { AllFit (map (λ r. r.rule) table.now.list.items) (C.shown book.old.boot).core.servers }
@@ -83,7 +85,7 @@ fn take_turn<C: Playable + Drop>(
     ensures goes { GoesOn book.old book.new }
     ensures ended { IfOk result (λ done. done.more ≡ false → HasEnded (C.shown book.new.core)) }
 {
-    let gone = go(book, table, lease, plan.held)?;
+    let gone = go(book, table, lease, laid, plan.held)?;
     let leased = next_lease(book, worker, lease, gone.more, plan);
     book.keeps();
     Ok(Done {
@@ -98,6 +100,7 @@ fn go<C: Playable + Drop>(
     book: &mut Book<C>,
     table: &Table,
     lease: &Leased,
+    laid: &Stretch,
     held: bool,
 ) -> Result<Gone, NoMemory>
     requires fits { AllFit (map (λ r. r.rule) table.now.list.items) (C.shown book.old.boot).core.servers }
@@ -106,7 +109,7 @@ fn go<C: Playable + Drop>(
     ensures ended { IfOk result (λ gone. OnFalse gone.more (HasEnded (C.shown book.new.core))) }
 {
     if held {
-        let gone = book.go_burst(table, lease);
+        let gone = book.go_burst(table, lease, laid);
         book.keeps();
         gone
     } else {
@@ -130,17 +133,18 @@ fn next_lease<C: Playable + Drop>(
     ensures same { IsSame C.shown book.old book.new }
 {
     if more && plan.rest == 0 {
-        book.lease(worker, plan.stays < STAYS, lease)
+        book.lease(worker, plan.stays < plan.most, lease)
     } else {
         false
     }
 }
 
-/// The instructions of a lease, without the lock, where there is one.
-fn make(lease: &mut Leased, leased: bool, plan: &mut Plan) {
+/// The instructions of a lease, without the lock, where there is one, and the moves that they are.
+fn make(lease: &mut Leased, leased: bool, laid: &mut Stretch, plan: &mut Plan) {
     if leased {
         run(lease);
-        plan.made(count(lease));
+        laid.renew(lease.thread());
+        plan.made(lease.thread(), count(lease));
     } else {
         plan.pass();
     }
@@ -152,8 +156,11 @@ const SHORT: u64 = 16;
 /// The most turns that go by without a lease.
 const REST: u32 = 16;
 
-/// So many bursts in a row may be of the thread that moved last; the next one is of another.
+/// So many bursts in a row may be of the thread that moved last; the next one is of another, if one is found that no other worker has.
 const STAYS: u32 = 8;
+
+/// Where none was found, twice as many, up to so many: who looks has to read what the other workers are writing.
+const MOST_STAYS: u32 = 512;
 
 /// Which turns are with a lease. After a short burst 1, 2, 4 .. 16 turns go by without, after a long one none: so a run of messages pays little
 /// for leases.
@@ -167,6 +174,10 @@ struct Plan {
     next: u32,
     /// So many bursts were made since another thread was sought.
     stays: u32,
+    /// So many may be made.
+    most: u32,
+    /// Whose the last one was.
+    last: Option<Who>,
 }
 
 impl Plan {
@@ -176,6 +187,8 @@ impl Plan {
             rest: 0,
             next: 1,
             stays: 0,
+            most: STAYS,
+            last: None,
         }
     }
 
@@ -189,18 +202,28 @@ impl Plan {
         }
     }
 
-    /// A burst of so many instructions was made.
-    fn made(&mut self, count: u64) {
+    /// A burst of so many instructions of a thread was made.
+    fn made(&mut self, thread: Who, count: u64) {
         self.held = true;
-        self.stays = if self.stays < STAYS {
-            self.stays + 1
-        } else {
-            0
-        };
+        self.stay(thread);
         if count < SHORT {
             self.begin();
         } else {
             self.next = 1;
+        }
+    }
+
+    /// The thread of a burst: another one is sought later where the last look has come back to the same.
+    fn stay(&mut self, thread: Who) {
+        if self.last != Some(thread) {
+            self.last = Some(thread);
+            self.stays = 0;
+            self.most = STAYS;
+        } else if self.stays < self.most {
+            self.stays += 1;
+        } else {
+            self.stays = 0;
+            self.most = self.most.saturating_mul(2).min(MOST_STAYS);
         }
     }
 

@@ -1,6 +1,6 @@
 use Rattle.std.proofs.Common.{rules, ◌≡◌, ◌<◌, ◌++◌, length, vec_capacity, replicate, append-nil, refl, sym, subst, ◌∙◌, arith}
 use Rattle.fk_books.proofs.Bursting.{pushed_more, room_more}
-use Rattle.fk_books.proofs.book.push_all.Goals as goal
+use Rattle.fk_books.proofs.stretches.push_each.Goals as goal
 
 pub loop-k-init : goal.loop-k-init
 loop-k-init c = record { items = sym (append-nil c.args.history.now.items); capacity = refl }

@@ -1,5 +1,5 @@
 use Rattle.std.proofs.Common.{◌≡◌, ◌++◌, replicate, vec_capacity}
-use Rattle.fk_books.proofs.book.push_all.Given as goal
+use Rattle.fk_books.proofs.stretches.push_each.Given as goal
 
 -- so many are pushed, and the room stays
 abbrev pub invariant-loop-k : goal.invariant-loop-k
