@@ -5,7 +5,7 @@ use Rattle.lens_verbs.proofs.watching.play.Given as goal
 
 -- the table fits the servers still, and the core was come to by a run
 abbrev pub invariant-loop-index : goal.invariant-loop-index
-invariant-loop-index l = record {
+invariant-loop-index g l = record {
   fits : AllFit (map (λ r. r.rule) l.table.list.items) l.core.services.list;
   come : IsGoing l.core;
 }
