@@ -7,16 +7,23 @@ use fk_model::JobSpec;
 use lens_text::{Problem, file_of, given};
 use std::alloc::Global;
 
+/// Why the bytes of a file are no image.
+fn no_image(alloc: Global, file: &str, name: &str, status: &Status) -> Problem {
+    match status {
+        Status::BadImage { offset, .. } => given(format!(in alloc;
+            "{file}, offset {offset}: expected an image; lens image {name} says more"
+        )),
+        _ => Problem::NoMemory,
+    }
+}
+
 /// The image that the shelf has under a name.
 fn image_in<H: Shelf>(alloc: Global, shelf: &mut H, name: &str) -> Result<ValidImage, Problem> {
     let file = format!(in alloc; "{name}.img")?;
     let bytes = file_of(alloc, shelf, file.as_str())?;
     match image_of(alloc, name, &bytes) {
         Ok(image) => Ok(ValidImage::new(alloc, image)?),
-        Err(Status::BadImage { offset, .. }) => Err(given(format!(in alloc;
-            "{file}, offset {offset}: expected an image; lens image {name} says more"
-        ))),
-        Err(_) => Err(Problem::NoMemory),
+        Err(status) => Err(no_image(alloc, file.as_str(), name, &status)),
     }
 }
 

@@ -2,11 +2,29 @@
 use crate::watching::watch;
 use fk_causes::Shelf;
 use fk_responders::Table;
-use lens_shows::{show_of, stop_fault, text_of};
+use lens_shows::{Show, show_of, stop_fault, text_of};
 use lens_text::{Asked, Problem, Verb, file_of};
 use std::alloc::Global;
 
-/// Shows what is asked for of a run of a scenario's text by the trace in a file, which has these bytes.
+/// Watches the run of a scenario's text by the trace in a file, which has these bytes, as far as is asked for.
+fn watch_asked<H: Shelf>(
+    alloc: Global,
+    asked: Asked<'_>,
+    table: &Table,
+    text: &[u8],
+    shelf: &mut H,
+    file: &str,
+    trace: &[u8],
+    show: &mut Show,
+) -> Result<(), Problem> {
+    let stop = watch(alloc, asked, table, text, shelf, trace, show)?;
+    match stop_fault(alloc, asked, file, stop) {
+        Some(problem) => Err(problem),
+        None => Ok(()),
+    }
+}
+
+/// Shows what is asked for of that run.
 fn shown<H: Shelf>(
     alloc: Global,
     asked: Asked<'_>,
@@ -17,10 +35,9 @@ fn shown<H: Shelf>(
     trace: &[u8],
 ) -> Result<String, Problem> {
     let mut show = show_of(alloc, asked);
-    let stop = watch(alloc, asked, table, text, shelf, trace, &mut show)?;
-    match stop_fault(alloc, asked, file, stop) {
-        Some(problem) => Err(problem),
-        None => Ok(text_of(show, asked.name)?),
+    match watch_asked(alloc, asked, table, text, shelf, file, trace, &mut show) {
+        Ok(()) => Ok(text_of(show, asked.name)?),
+        Err(problem) => Err(problem),
     }
 }
 
