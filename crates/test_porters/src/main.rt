@@ -73,6 +73,19 @@ fn take_line<R: Files + Print + AllocGlobal>(
     try_step(rt, tally, world, text)
 }
 
+/// Takes all lines of a text.
+fn take_lines<R: Files + Print + AllocGlobal>(
+    rt: &R,
+    tally: &mut Tally,
+    world: &mut Option<World>,
+    text: &str,
+) -> anyhow::Result<()> {
+    for line in text.lines() {
+        take_line(rt, tally, world, line).context(format_args!("at {line}"))?;
+    }
+    Ok(())
+}
+
 /// Makes all steps of a file.
 fn try_file<R: Files + Print + AllocGlobal>(
     rt: &R,
@@ -80,11 +93,9 @@ fn try_file<R: Files + Print + AllocGlobal>(
     path: &str,
 ) -> anyhow::Result<()> {
     let text = fs::read_to_string(rt, path)?;
+    // A world is large: it is dropped at one place alone.
     let mut world = None;
-    for line in text.as_str().lines() {
-        take_line(rt, tally, &mut world, line).context(format_args!("at {line}"))?;
-    }
-    Ok(())
+    take_lines(rt, tally, &mut world, text.as_str())
 }
 
 /// The files of steps in the folder, in the order of their names.

@@ -17,6 +17,10 @@
 //!
 //! `leases SLOT = COUNT`: a lease of a thread of the root is taken and run, and has made so many instructions. `unleased
 //! SLOT`: there is none. `commits LEFT`: that lease is committed where so many moves are left; `refused LEFT`: it isn't.
+//!
+//! `each FIRST LAST COUNT`: the threads in these slots of the root and between them make so many moves each, one thread after another.
+//! `queued = COUNT`: so many user threads are queued. `first SLOT = SPACE SLOT`: who is queued first at what stands in a slot of the
+//! root, if anybody. `next = SPACE SLOT`: whose move comes next, if anybody's.
 use crate::bursts::Held;
 use crate::line::Line;
 use crate::porter::put_porter;
@@ -319,6 +323,35 @@ impl World {
         })
     }
 
+    /// The threads in some slots of the root make so many moves each.
+    fn each(&mut self, first: u64, last: u64, count: u64) -> anyhow::Result<bool> {
+        for slot in first..last.saturating_add(1) {
+            let who = name_of(0, slot).context("no thread")?;
+            if !self.runs(who, count)? {
+                return Ok(false);
+            }
+        }
+        Ok(true)
+    }
+
+    /// Where the user threads stand is as a line says.
+    fn stands(&mut self, line: &Line) -> anyhow::Result<bool> {
+        let wanted = line.wanted.as_slice();
+        Ok(match (line.verb, line.subject.as_slice()) {
+            ("each", [first, last, count]) => self.each(*first, *last, *count)?,
+            ("queued", []) => wanted == [self.kernel.waits().len()].as_slice(),
+            ("first", [slot]) => {
+                let cause = name_of(0, *slot).context("no object")?;
+                self.kernel.waits().first(cause) == named(wanted)
+            }
+            ("next", []) => match self.kernel.next() {
+                Some(m) => Some(m.who) == named(wanted),
+                None => wanted.is_empty(),
+            },
+            _ => bail!("no step"),
+        })
+    }
+
     /// The lease that was taken last is committed or not, as a line says.
     fn commits(&mut self, line: &Line) -> anyhow::Result<bool> {
         let left = *line.subject.first().context("how many are left")?;
@@ -344,6 +377,7 @@ impl World {
             "meets" | "lost" | "kept" => self.servers(line),
             "leases" | "unleased" => self.leases(line),
             "commits" | "refused" => self.commits(line),
+            "each" | "queued" | "first" | "next" => self.stands(line),
             _ => self.thread_steps(line),
         }
     }
