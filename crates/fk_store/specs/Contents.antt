@@ -7,8 +7,8 @@ use Rattle.fk_model.specs.declared.body.Body.{Body}
 use Rattle.fk_model.specs.contracts.body.Body as body
 use Rattle.fk_model.specs.Objects.{and_then}
 use Rattle.fk_store.specs.Names.{who_cmp, page_cmp, coded_who}
-pub use Rattle.fk_store_leads.specs.Births.{stored_birth, is_number}
-unfoldable pub use Rattle.fk_store_leads.specs.Births.{home_in}
+pub use Rattle.fk_store_freezing.specs.Births.{stored_birth, is_number}
+unfoldable pub use Rattle.fk_store_freezing.specs.Births.{home_in}
 
 -- the bodies of all objects, the words of all pages, and the next birth number
 pub record Contents : Type 0 where

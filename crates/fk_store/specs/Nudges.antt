@@ -1,8 +1,8 @@
 -- Nudges: the edit that a small change of a thread is.
 use Rattle.fk_model.specs.World.{Edit}
 use Rattle.fk_model.specs.World.Edit.{CountMoved, PassTurn, SetStops}
-use Rattle.fk_store_leads.specs.declared.nudges.Nudge.{Nudge}
-use Rattle.fk_store_leads.specs.declared.nudges.Nudge.TheVariants.{Counts, Passes, Stops}
+use Rattle.fk_store_freezing.specs.Shapes.{Nudge}
+use Rattle.fk_store_freezing.specs.Shapes.{Counts, Passes, Stops}
 
 abbrev pub edit_of : Nudge → Edit
 edit_of (Counts count) = CountMoved count

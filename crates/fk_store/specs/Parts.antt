@@ -6,8 +6,8 @@ use Rattle.fk_model.specs.Objects.{and_then, holds}
 use Rattle.fk_model.specs.Places.{Path, leads_to}
 use Rattle.fk_model.specs.Searches as searches
 use Rattle.fk_model.specs.World.{serves}
-use Rattle.fk_store_leads.specs.declared.parts.Part.{Part}
-use Rattle.fk_store_leads.specs.declared.parts.Part.TheVariants.{Client, Faulter, Guest, Parked}
+use Rattle.fk_store_freezing.specs.Shapes.{Part}
+use Rattle.fk_store_freezing.specs.Shapes.{Client, Faulter, Guest, Parked}
 use Rattle.fk_store.specs.Contents.{Contents}
 use Rattle.fk_store.specs.Paths.{path, place}
 use Rattle.fk_store.specs.World.{world}

@@ -5,17 +5,17 @@ use Rattle.std.specs.FinMap.{get, get-empty}
 use Rattle.fk_model.specs.Objects.{and_then}
 use Rattle.fk_model.specs.declared.names.Who.{Who}
 use Rattle.fk_model.specs.declared.body.Body.{Body}
-use Rattle.fk_store_slots.specs.Cells.{cell}
-use Rattle.fk_store_links.specs.Links.{AreRings}
-use Rattle.fk_store_links.proofs.NodeLaws.{rings_along}
-use Rattle.fk_store_objects.specs.declared.entry.Entry.{Entry}
-use Rattle.fk_store_objects.specs.Filed.{Filed, entry_under, key_of}
-use Rattle.fk_store_leads.specs.Births.{stored_birth}
+use Rattle.fk_store_linked.specs.Cells.{cell}
+use Rattle.fk_store_linked.specs.Links.{AreRings}
+use Rattle.fk_store_linked.proofs.NodeLaws.{rings_along}
+use Rattle.fk_store_linked.specs.Shapes.{Entry}
+use Rattle.fk_store_linked.specs.Filed.{Filed, entry_under, key_of}
+use Rattle.fk_store_linked.specs.Births.{stored_birth}
 use Rattle.fk_store_linked.specs.Bodied.{body_under, bodies, head_by, owner, AreBodies}
-use Rattle.fk_store_leads.specs.Leading.{target}
-use Rattle.fk_store_leads.specs.Held.{held_in}
+use Rattle.fk_store_linked.specs.Leading.{target}
+use Rattle.fk_store_linked.specs.Held.{held_in}
 use Rattle.fk_store_linked.specs.Homes.{home_at}
-use Rattle.fk_store_leads.specs.Names.{who_cmp}
+use Rattle.fk_store_linked.specs.Names.{who_cmp}
 use Rattle.fk_store_linked.proofs.BodyLaws.{get-bodies, is-bodies}
 use Rattle.fk_store_linked.proofs.HomeLaws.{home_none}
 use Rattle.fk_store_linked.proofs.CountLaws.{none-empty}

@@ -7,36 +7,36 @@ use Rattle.std.specs.FinMap.{get}
 use Rattle.fk_model.specs.Objects.{and_then, holds}
 use Rattle.fk_model.specs.declared.names.Who.{Who}
 use Rattle.fk_model.specs.declared.body.Body.{Body}
-use Rattle.fk_store_hints.specs.declared.lead.Lead.{Lead}
-use Rattle.fk_store_hints.specs.Leads.{led}
-use Rattle.fk_store_keys.specs.Tables.{mark_at}
-use Rattle.fk_store_slots.specs.Cells.{cell}
-use Rattle.fk_store_slots.specs.Tabled.{of_cell}
-use Rattle.fk_store_links.specs.declared.links.Link.{Link}
-use Rattle.fk_store_links.specs.Links.{AreRings}
-use Rattle.fk_store_links.specs.Nodes.{is_head, node_of}
-use Rattle.fk_store_links.proofs.NodeLaws.{rings_along}
-use Rattle.fk_store_objects.specs.declared.entry.Entry.{Entry}
-use Rattle.fk_store_objects.specs.Filed.{Filed, IsFiled, entry_under, key_of, name_under}
-use Rattle.fk_store_objects.specs.Edits.{Removes}
-use Rattle.fk_store_leads.specs.Births.{stored_birth, is_number, birth_in}
+use Rattle.fk_store_linked.specs.Shapes.{Lead}
+use Rattle.fk_store_linked.specs.Leads.{led}
+use Rattle.fk_store_linked.specs.Tables.{mark_at}
+use Rattle.fk_store_linked.specs.Cells.{cell}
+use Rattle.fk_store_linked.specs.Tabled.{of_cell}
+use Rattle.fk_store_linked.specs.Shapes.{Link}
+use Rattle.fk_store_linked.specs.Links.{AreRings}
+use Rattle.fk_store_linked.specs.Nodes.{is_head, node_of}
+use Rattle.fk_store_linked.proofs.NodeLaws.{rings_along}
+use Rattle.fk_store_linked.specs.Shapes.{Entry}
+use Rattle.fk_store_linked.specs.Filed.{Filed, IsFiled, entry_under, key_of, name_under}
+use Rattle.fk_store_linked.specs.Edits.{Removes}
+use Rattle.fk_store_linked.specs.Births.{stored_birth, is_number, birth_in}
 use Rattle.fk_store_linked.specs.Bodied.{body_under, bodies, head_by, head_led, owner, unled_with, Tells, told_by, AreAlike, AreBodies, Maps}
 use Rattle.fk_store_linked.specs.Bodied.{space_of, space_under, swept_under}
-use Rattle.fk_store_leads.specs.Leading.{target}
-use Rattle.fk_store_leads.specs.Held.{is_held, one_if, held_in, IsCount}
+use Rattle.fk_store_linked.specs.Leading.{target}
+use Rattle.fk_store_linked.specs.Held.{is_held, one_if, held_in, IsCount}
 use Rattle.fk_store_linked.specs.Homes.{home_at, home_word, nowhere}
-use Rattle.fk_store_leads.specs.Marks.{is_of_pages, is_member, page_mark, member_mark}
-use Rattle.fk_store_leads.specs.Names.{at, same_who}
-use Rattle.fk_store_leads.specs.Sweeps.{body_after}
-use Rattle.fk_store_leads.specs.declared.sweeps.Sweep.{Sweep}
+use Rattle.fk_store_linked.specs.Marks.{is_of_pages, is_member, page_mark, member_mark}
+use Rattle.fk_store_linked.specs.Names.{at, same_who}
+use Rattle.fk_store_linked.specs.Sweeps.{body_after}
+use Rattle.fk_store_linked.specs.Shapes.{Sweep}
 use Rattle.fk_store_linked.proofs.AlikeLaws.{hints_were, alike_filed}
 use Rattle.fk_store_linked.proofs.BodyLaws.{get-bodies, is-bodies, bodies-removed, keys_apart, body-of, name-of, get_at, entry_there}
-use Rattle.fk_store_leads.proofs.HeldLaws.{Counts, holds_one, held-remove}
-use Rattle.fk_store_leads.proofs.HintLaws.{led-came}
-use Rattle.fk_store_leads.proofs.BirthLaws.{number_of, numbered, not_number}
+use Rattle.fk_store_linked.proofs.HeldLaws.{Counts, holds_one, held-remove}
+use Rattle.fk_store_linked.proofs.HintLaws.{led-came}
+use Rattle.fk_store_linked.proofs.BirthLaws.{number_of, numbered, not_number}
 use Rattle.fk_store_bodies.proofs.MakeLaws.{not_keyed_there}
-use Rattle.fk_store_leads.proofs.LedLaws.{came-gone, swept-birth, swept-pages, swept-members}
-use Rattle.fk_store_leads.proofs.NameLaws.{same_who_eq, same_who_refl}
+use Rattle.fk_store_linked.proofs.LedLaws.{came-gone, swept-birth, swept-pages, swept-members}
+use Rattle.fk_store_linked.proofs.NameLaws.{same_who_eq, same_who_refl}
 
 same_some : {A : Type 0} (o : Option A) (a b : A) → o ≡ Some a → o ≡ Some b → a ≡ b
 same_some o a b h k = cc

@@ -19,22 +19,22 @@ use Rattle.fk_model.specs.declared.body.Body.{Body}
 use Rattle.fk_model.specs.declared.body.Body.TheVariants.{Mutex, Cond, Mapping, Region, Port, Portset, Space, Thread, Reference}
 use Rattle.fk_model.specs.Objects.{and_then}
 use Rattle.fk_model.proofs.walks.Members.{IsIn, in_left, in_right, in_either, in_filter, of_filter}
-use Rattle.fk_store_slots.specs.Tabled.{of_cell}
-use Rattle.fk_store_hints.specs.declared.lead.Sort.TheVariants.{Pointer}
-use Rattle.fk_store_hints.specs.Leads.{lead_by, pointer, peer, led, of_talk, of_fault, of_thread}
-use Rattle.fk_store_links.specs.Nodes.{is_head, node_of}
-use Rattle.fk_store_links.specs.Walks.{AreLeaders}
-use Rattle.fk_store_objects.specs.Filed.{Filed, IsFiled, key_of, name_under}
+use Rattle.fk_store_linked.specs.Tabled.{of_cell}
+use Rattle.fk_store_linked.specs.Shapes.{Pointer}
+use Rattle.fk_store_linked.specs.Leads.{lead_by, pointer, peer, led, of_talk, of_fault, of_thread}
+use Rattle.fk_store_linked.specs.Nodes.{is_head, node_of}
+use Rattle.fk_store_linked.specs.Walks.{AreLeaders}
+use Rattle.fk_store_linked.specs.Filed.{Filed, IsFiled, key_of, name_under}
 use Rattle.fk_store_linked.specs.Bodied.{body_under, bodies, head_by, head_led, owner, AreThere, names_of, LeadersOf, AreLeadersOf}
-use Rattle.fk_store_leads.specs.Leading.{leading, pointed, target}
-use Rattle.fk_store_leads.specs.Names.{same_who, who_cmp}
-use Rattle.fk_store_leads.specs.Pointers.{hit, hits_in, pointer_hits, peer_hits, talk_hits, fault_hits, body_hits}
+use Rattle.fk_store_linked.specs.Leading.{leading, pointed, target}
+use Rattle.fk_store_linked.specs.Names.{same_who, who_cmp}
+use Rattle.fk_store_linked.specs.Pointers.{hit, hits_in, pointer_hits, peer_hits, talk_hits, fault_hits, body_hits}
 use Rattle.fk_store_linked.proofs.AlikeLaws.{own_nodes}
 use Rattle.fk_store_linked.proofs.BodyLaws.{get_at, get_under, keys_apart, name_there}
-use Rattle.fk_store_leads.proofs.Found.{found-member, member-found, first_apart, second}
+use Rattle.fk_store_linked.proofs.Found.{found-member, member-found, first_apart, second}
 use Rattle.fk_store_bodies.proofs.Lists.{Differ, same_sum, differ-append, differ-filter, sum_filtered, sum_same, sum_none}
-use Rattle.fk_store_leads.proofs.NameLaws.{who_total, who_tied, same_who_eq, same_who_refl}
-use Rattle.fk_store_leads.proofs.PointerLaws.{hits-led, not_nonzero}
+use Rattle.fk_store_linked.proofs.NameLaws.{who_total, who_tied, same_who_eq, same_who_refl}
+use Rattle.fk_store_linked.proofs.PointerLaws.{hits-led, not_nonzero}
 use Rattle.fk_store_linked.proofs.SweepLaws.{leads_there, leads_by}
 
 -- ---- the pointers of one body

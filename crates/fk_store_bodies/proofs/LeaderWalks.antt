@@ -5,12 +5,12 @@ use Rattle.fk_model.specs.declared.names.Who.{Who}
 use Rattle.fk_model.specs.declared.body.Body.{Body}
 use Rattle.fk_model.specs.Objects.{and_then}
 use Rattle.fk_model.proofs.walks.Members.{IsIn}
-use Rattle.fk_store_links.specs.Nodes.{node_of}
-use Rattle.fk_store_links.specs.Walks.{AreLeaders}
-use Rattle.fk_store_objects.specs.declared.entry.Entry.{Entry}
-use Rattle.fk_store_objects.specs.Filed.{Filed, entry_under, name_under}
+use Rattle.fk_store_linked.specs.Nodes.{node_of}
+use Rattle.fk_store_linked.specs.Walks.{AreLeaders}
+use Rattle.fk_store_linked.specs.Shapes.{Entry}
+use Rattle.fk_store_linked.specs.Filed.{Filed, entry_under, name_under}
 use Rattle.fk_store_linked.specs.Bodied.{body_under, head_by, owner, names_of, AreNodes}
-use Rattle.fk_store_leads.specs.Leading.{target}
+use Rattle.fk_store_linked.specs.Leading.{target}
 use Rattle.fk_store_linked.proofs.BodyLaws.{name-of, no-name}
 
 -- what leads anywhere is there

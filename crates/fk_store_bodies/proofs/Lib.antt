@@ -1,3 +1,8 @@
+pub use Rattle.fk_store_linked.proofs.Found
+pub use Rattle.fk_store_linked.proofs.ProceedLaws
+pub use Rattle.fk_store_linked.proofs.NameLaws
+pub use Rattle.fk_store_linked.proofs.LedLaws
+pub use Rattle.fk_store_linked.proofs.BirthLaws
 pub mod ScanLaws
 pub mod Lists
 pub mod Results

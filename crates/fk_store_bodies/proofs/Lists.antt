@@ -4,7 +4,7 @@ use Rattle.std.proofs.Common.{sym, ap, subst, ◌∙◌, arith}
 use Rattle.std.specs.List.{sum_by}
 use Rattle.std.proofs.lemmas.List.Sums.{sum_by-cons, sum_by-append}
 use Rattle.fk_model.proofs.walks.Members.{IsIn, in_either, of_filter, of_flat_map}
-pub use Rattle.fk_store_links.specs.Lists.{Differ}
+pub use Rattle.fk_store_linked.specs.Lists.{Differ}
 
 module _ {A : Type 0} where
   split : (x : A) (ys : List A) → IsIn x ys → (a : List A) × (b : List A) × (ys ≡ a ++ x ∷ b)

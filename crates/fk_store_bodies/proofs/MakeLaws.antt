@@ -7,29 +7,29 @@ use Rattle.std.specs.FinMap.{get}
 use Rattle.fk_model.specs.Objects.{and_then}
 use Rattle.fk_model.specs.declared.names.Who.{Who}
 use Rattle.fk_model.specs.declared.body.Body.{Body}
-use Rattle.fk_store_hints.specs.declared.lead.Lead.{Lead}
-use Rattle.fk_store_hints.specs.Leads.{led}
-use Rattle.fk_store_keys.specs.Tables.{mark_at}
-use Rattle.fk_store_links.specs.declared.links.Link.{Link}
-use Rattle.fk_store_links.specs.Links.{AreRings}
-use Rattle.fk_store_links.specs.Nodes.{node_of}
-use Rattle.fk_store_links.proofs.NodeLaws.{rings_along}
-use Rattle.fk_store_objects.specs.declared.entry.Entry.{Entry}
-use Rattle.fk_store_objects.specs.Filed.{Filed, IsFiled, entry_under, key_of, name_under, fresh}
-use Rattle.fk_store_objects.specs.Edits.{Makes, Keeps}
-use Rattle.fk_store_leads.specs.Births.{stored_birth, is_number, home_in}
+use Rattle.fk_store_linked.specs.Shapes.{Lead}
+use Rattle.fk_store_linked.specs.Leads.{led}
+use Rattle.fk_store_linked.specs.Tables.{mark_at}
+use Rattle.fk_store_linked.specs.Shapes.{Link}
+use Rattle.fk_store_linked.specs.Links.{AreRings}
+use Rattle.fk_store_linked.specs.Nodes.{node_of}
+use Rattle.fk_store_linked.proofs.NodeLaws.{rings_along}
+use Rattle.fk_store_linked.specs.Shapes.{Entry}
+use Rattle.fk_store_linked.specs.Filed.{Filed, IsFiled, entry_under, key_of, name_under, fresh}
+use Rattle.fk_store_linked.specs.Edits.{Makes, Keeps}
+use Rattle.fk_store_linked.specs.Births.{stored_birth, is_number, home_in}
 use Rattle.fk_store_linked.specs.Bodied.{body_under, bodies, head_by, head_led, owner, owner_with, Tells, told_by, HaveNodes, HaveHeads, AreThere}
 use Rattle.fk_store_linked.specs.Bodied.{IsTold, AreTold, AreHomed, AreBodies, Retells, IsMarked, StillMarked}
-use Rattle.fk_store_leads.specs.Held.{is_held, one_if, held_in, IsCount}
+use Rattle.fk_store_linked.specs.Held.{is_held, one_if, held_in, IsCount}
 use Rattle.fk_store_linked.specs.Homes.{home_at, home_word, nowhere}
-use Rattle.fk_store_leads.specs.Leading.{LeadsAmong, target}
-use Rattle.fk_store_leads.specs.Marks.{is_of_pages, is_member, page_mark, member_mark}
-use Rattle.fk_store_leads.specs.Names.{same_who}
+use Rattle.fk_store_linked.specs.Leading.{LeadsAmong, target}
+use Rattle.fk_store_linked.specs.Marks.{is_of_pages, is_member, page_mark, member_mark}
+use Rattle.fk_store_linked.specs.Names.{same_who}
 use Rattle.fk_store_linked.proofs.BodyLaws.{get-bodies, is-bodies, bodies-made, body-of, no-body, keys_apart, under_name, name_there, get_at}
-use Rattle.fk_store_leads.proofs.HeldLaws.{Counts, enough-put}
-use Rattle.fk_store_leads.proofs.BirthLaws.{births-none, number_of, numbered, not_number}
-use Rattle.fk_store_leads.proofs.NameLaws.{same_who_eq, same_who_refl}
-use Rattle.fk_store_leads.proofs.PointerLaws.{target_lead}
+use Rattle.fk_store_linked.proofs.HeldLaws.{Counts, enough-put}
+use Rattle.fk_store_linked.proofs.BirthLaws.{births-none, number_of, numbered, not_number}
+use Rattle.fk_store_linked.proofs.NameLaws.{same_who_eq, same_who_refl}
+use Rattle.fk_store_linked.proofs.PointerLaws.{target_lead}
 use Rattle.fk_store_bodies.proofs.ScanLaws.{there_keyed}
 use Rattle.fk_store_bodies.proofs.SettleLaws.{settled, settled_map}
 

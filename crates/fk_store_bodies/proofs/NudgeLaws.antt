@@ -4,14 +4,14 @@ use Rattle.fk_model.specs.declared.body.Body.{Body}
 use Rattle.fk_model.specs.declared.body.Body.TheVariants.{Mutex, Cond, Mapping, Region, Port, Portset, Space, Thread, Reference}
 use Rattle.fk_model.specs.declared.thread.Mode.{Mode}
 use Rattle.fk_model.specs.declared.thread.Turn.{Turn}
-use Rattle.fk_store_objects.specs.declared.entry.Entry.{Entry}
-use Rattle.fk_store_objects.specs.Filed.{Filed, entry_under}
-use Rattle.fk_store_objects.specs.Edits.{Edits, on_body}
-use Rattle.fk_store_objects.specs.Threads.{on_thread, going, counting, passing, stopping}
-use Rattle.fk_store_leads.specs.Nudges.{nudged}
+use Rattle.fk_store_linked.specs.Shapes.{Entry}
+use Rattle.fk_store_linked.specs.Filed.{Filed, entry_under}
+use Rattle.fk_store_linked.specs.Edits.{Edits, on_body}
+use Rattle.fk_store_linked.specs.Threads.{on_thread, going, counting, passing, stopping}
+use Rattle.fk_store_linked.specs.Nudges.{nudged}
 use Rattle.fk_store_bodies.specs.Threads.{proceeded}
-use Rattle.fk_store_leads.specs.declared.nudges.Nudge.{Nudge}
-use Rattle.fk_store_leads.specs.declared.nudges.Nudge.TheVariants.{Counts, Passes, Stops}
+use Rattle.fk_store_linked.specs.Shapes.{Nudge}
+use Rattle.fk_store_linked.specs.Shapes.{Counts, Passes, Stops}
 use Rattle.fk_store_bodies.proofs.QuietLaws.{IsQuiet, quiet_along, quiet_counting, quiet_passing, quiet_stopping}
 
 pub edits-along : (o p : Filed) (key : ℕ) (f g : Body → Body) → ((b : Body) → f b ≡ g b) → Edits o p key (on_body f) → Edits o p key (on_body g)

@@ -6,21 +6,21 @@ use Rattle.std.specs.FinMap.{get}
 use Rattle.fk_model.specs.declared.names.Who.{Who}
 use Rattle.fk_model.specs.declared.body.Body.{Body}
 use Rattle.fk_model.proofs.walks.Members.{IsIn}
-use Rattle.fk_store_hints.specs.declared.lead.Lead.{Lead}
-use Rattle.fk_store_hints.specs.Leads.{led, lead_by}
-use Rattle.fk_store_links.specs.Nodes.{is_head, node_of}
-use Rattle.fk_store_links.specs.Walks.{AreLeaders}
-use Rattle.fk_store_objects.specs.declared.entry.Entry.{Entry}
-use Rattle.fk_store_objects.specs.declared.entry.Told.{Told}
-use Rattle.fk_store_objects.specs.declared.entry.Told.TheVariants.{Nobody, One, Many}
-use Rattle.fk_store_objects.specs.Filed.{Filed, IsFiled, entry_under, key_of, name_under}
+use Rattle.fk_store_linked.specs.Shapes.{Lead}
+use Rattle.fk_store_linked.specs.Leads.{led, lead_by}
+use Rattle.fk_store_linked.specs.Nodes.{is_head, node_of}
+use Rattle.fk_store_linked.specs.Walks.{AreLeaders}
+use Rattle.fk_store_linked.specs.Shapes.{Entry}
+use Rattle.fk_store_linked.specs.Shapes.{Told}
+use Rattle.fk_store_linked.specs.Shapes.{Nobody, One, Many}
+use Rattle.fk_store_linked.specs.Filed.{Filed, IsFiled, entry_under, key_of, name_under}
 use Rattle.fk_store_linked.specs.Bodied.{body_under, bodies, owner, Tells, told_by, AreThere, AreTold}
-use Rattle.fk_store_leads.specs.Parts.{plays, whose, sort_of}
+use Rattle.fk_store_linked.specs.Parts.{plays, whose, sort_of}
 use Rattle.fk_store_bodies.specs.Playing.{IsPlayer, NobodyPlays}
-use Rattle.fk_store_leads.specs.declared.parts.Part.{Part}
-use Rattle.fk_store_leads.specs.declared.parts.Part.TheVariants.{Parked}
+use Rattle.fk_store_linked.specs.Shapes.{Part}
+use Rattle.fk_store_linked.specs.Shapes.{Parked}
 use Rattle.fk_store_linked.proofs.BodyLaws.{name-of, body-of, no-body, get_at, get_under, entry_there}
-use Rattle.fk_store_leads.proofs.PointerLaws.{plays-led}
+use Rattle.fk_store_linked.proofs.PointerLaws.{plays-led}
 use Rattle.fk_store_linked.proofs.SweepLaws.{leads_by}
 
 -- ---- by keys

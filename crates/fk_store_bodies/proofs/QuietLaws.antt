@@ -13,25 +13,25 @@ use Rattle.fk_model.specs.declared.thread.Mode.{Mode}
 use Rattle.fk_model.specs.declared.thread.Talk.{Talk}
 use Rattle.fk_model.specs.declared.thread.Thread.{Thread as State}
 use Rattle.fk_model.specs.declared.thread.Turn.{Turn}
-use Rattle.fk_store_hints.specs.declared.lead.Lead.{Lead}
-use Rattle.fk_store_hints.specs.Leads.{led, of_thread, of_talk, of_fault}
-use Rattle.fk_store_keys.specs.Tables.{mark_at}
-use Rattle.fk_store_slots.specs.Cells.{cell}
-use Rattle.fk_store_links.specs.declared.links.Link.{Link}
-use Rattle.fk_store_links.specs.Links.{AreRings}
-use Rattle.fk_store_links.specs.Nodes.{node_of}
-use Rattle.fk_store_links.proofs.NodeLaws.{rings_along}
-use Rattle.fk_store_objects.specs.declared.entry.Entry.{Entry}
-use Rattle.fk_store_objects.specs.Filed.{Filed, IsFiled, entry_under, key_of, name_under}
-use Rattle.fk_store_objects.specs.Edits.{Edits, on_body}
-use Rattle.fk_store_objects.specs.Threads.{on_thread, going, stopping, counting, counted, passing, passed}
-use Rattle.fk_store_leads.specs.Births.{stored_birth}
+use Rattle.fk_store_linked.specs.Shapes.{Lead}
+use Rattle.fk_store_linked.specs.Leads.{led, of_thread, of_talk, of_fault}
+use Rattle.fk_store_linked.specs.Tables.{mark_at}
+use Rattle.fk_store_linked.specs.Cells.{cell}
+use Rattle.fk_store_linked.specs.Shapes.{Link}
+use Rattle.fk_store_linked.specs.Links.{AreRings}
+use Rattle.fk_store_linked.specs.Nodes.{node_of}
+use Rattle.fk_store_linked.proofs.NodeLaws.{rings_along}
+use Rattle.fk_store_linked.specs.Shapes.{Entry}
+use Rattle.fk_store_linked.specs.Filed.{Filed, IsFiled, entry_under, key_of, name_under}
+use Rattle.fk_store_linked.specs.Edits.{Edits, on_body}
+use Rattle.fk_store_linked.specs.Threads.{on_thread, going, stopping, counting, counted, passing, passed}
+use Rattle.fk_store_linked.specs.Births.{stored_birth}
 use Rattle.fk_store_linked.specs.Bodied.{body_under, bodies, head_by, owner, Tells, told_by, AreBodies}
-use Rattle.fk_store_leads.specs.Leading.{target}
-use Rattle.fk_store_leads.specs.Held.{is_held, IsCount, held_in}
-use Rattle.fk_store_leads.specs.Marks.{is_of_pages, is_member}
+use Rattle.fk_store_linked.specs.Leading.{target}
+use Rattle.fk_store_linked.specs.Held.{is_held, IsCount, held_in}
+use Rattle.fk_store_linked.specs.Marks.{is_of_pages, is_member}
 use Rattle.fk_store_linked.proofs.BodyLaws.{get-bodies, is-bodies, bodies-put, name-of, body-of, no-body, under_name, get_at}
-use Rattle.fk_store_leads.proofs.HeldLaws.{enough-same}
+use Rattle.fk_store_linked.proofs.HeldLaws.{enough-same}
 
 -- what a change of a body leaves
 pub record IsQuiet (f : Body → Body) : Type 0 where

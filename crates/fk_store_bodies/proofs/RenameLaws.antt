@@ -6,35 +6,35 @@ use Rattle.std.specs.FinMap.{get}
 use Rattle.fk_model.specs.Objects.{and_then}
 use Rattle.fk_model.specs.declared.names.Who.{Who}
 use Rattle.fk_model.specs.declared.body.Body.{Body}
-use Rattle.fk_store_hints.specs.declared.lead.Lead.{Lead}
-use Rattle.fk_store_hints.specs.Leads.{led, lead_by}
-use Rattle.fk_store_keys.specs.Tables.{mark_at}
-use Rattle.fk_store_links.specs.declared.links.Link.{Link}
-use Rattle.fk_store_links.specs.Links.{AreRings}
-use Rattle.fk_store_links.specs.Nodes.{node_of}
-use Rattle.fk_store_links.proofs.NodeLaws.{rings_along}
-use Rattle.fk_store_objects.specs.declared.entry.Entry.{Entry}
-use Rattle.fk_store_objects.specs.Filed.{Filed, IsFiled, entry_under, key_of, name_under}
-use Rattle.fk_store_objects.specs.Edits.{Renames, named}
-use Rattle.fk_store_leads.specs.Births.{stored_birth}
+use Rattle.fk_store_linked.specs.Shapes.{Lead}
+use Rattle.fk_store_linked.specs.Leads.{led, lead_by}
+use Rattle.fk_store_linked.specs.Tables.{mark_at}
+use Rattle.fk_store_linked.specs.Shapes.{Link}
+use Rattle.fk_store_linked.specs.Links.{AreRings}
+use Rattle.fk_store_linked.specs.Nodes.{node_of}
+use Rattle.fk_store_linked.proofs.NodeLaws.{rings_along}
+use Rattle.fk_store_linked.specs.Shapes.{Entry}
+use Rattle.fk_store_linked.specs.Filed.{Filed, IsFiled, entry_under, key_of, name_under}
+use Rattle.fk_store_linked.specs.Edits.{Renames, named}
+use Rattle.fk_store_linked.specs.Births.{stored_birth}
 use Rattle.fk_store_linked.specs.Bodied.{body_under, bodies, head_by, owner, Tells, told_by, AreAlike, AreBodies, Maps, space_of, space_under}
 use Rattle.fk_store_linked.specs.Bodied.{swept_under, IsMarked, StillMarked}
-use Rattle.fk_store_leads.specs.Leading.{target}
-use Rattle.fk_store_leads.specs.Held.{is_held, held_in, IsCount}
-use Rattle.fk_store_leads.specs.Marks.{is_of_pages, is_member, page_mark, member_mark}
-use Rattle.fk_store_leads.specs.Names.{same_who}
-use Rattle.fk_store_leads.specs.Sweeps.{body_after}
-use Rattle.fk_store_leads.specs.declared.sweeps.Sweep.{Sweep}
+use Rattle.fk_store_linked.specs.Leading.{target}
+use Rattle.fk_store_linked.specs.Held.{is_held, held_in, IsCount}
+use Rattle.fk_store_linked.specs.Marks.{is_of_pages, is_member, page_mark, member_mark}
+use Rattle.fk_store_linked.specs.Names.{same_who}
+use Rattle.fk_store_linked.specs.Sweeps.{body_after}
+use Rattle.fk_store_linked.specs.Shapes.{Sweep}
 use Rattle.fk_store_linked.proofs.AlikeLaws.{hints_were, alike_filed}
 use Rattle.fk_store_linked.proofs.BodyLaws.{get-bodies, renamed-found, name-of, body-of, under_name, get_at, entry_there}
 use Rattle.fk_store_linked.proofs.CountLaws.{mapped-held}
-use Rattle.fk_store_leads.proofs.HeldLaws.{enough-rename}
-use Rattle.fk_store_leads.proofs.HintLaws.{led-came}
-use Rattle.fk_store_leads.proofs.LedLaws.{swept-birth, swept-pages, swept-members, renamed-held}
-use Rattle.fk_store_leads.proofs.NameLaws.{same_who_eq, same_who_refl}
-use Rattle.fk_store_leads.proofs.PointerLaws.{target_lead}
+use Rattle.fk_store_linked.proofs.HeldLaws.{enough-rename}
+use Rattle.fk_store_linked.proofs.HintLaws.{led-came}
+use Rattle.fk_store_linked.proofs.LedLaws.{swept-birth, swept-pages, swept-members, renamed-held}
+use Rattle.fk_store_linked.proofs.NameLaws.{same_who_eq, same_who_refl}
+use Rattle.fk_store_linked.proofs.PointerLaws.{target_lead}
 use Rattle.fk_store_bodies.proofs.SettleLaws.{marked_keys, marked_entries}
-use Rattle.fk_store_leads.proofs.TargetLaws.{renamed, target-renamed}
+use Rattle.fk_store_linked.proofs.TargetLaws.{renamed, target-renamed}
 
 same_some : {A : Type 0} (o : Option A) (a b : A) → o ≡ Some a → o ≡ Some b → a ≡ b
 same_some o a b h k = cc

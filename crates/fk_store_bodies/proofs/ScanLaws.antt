@@ -7,16 +7,16 @@ use Rattle.std.specs.FinMap.{get}
 use Rattle.fk_model.specs.declared.names.Who.{Who}
 use Rattle.fk_model.specs.declared.body.Body.{Body}
 use Rattle.fk_model.specs.Objects.{and_then}
-use Rattle.fk_store_slots.specs.Cells.{cell, is_from}
-use Rattle.fk_store_slots.specs.Tabled.{map_of_rows}
-use Rattle.fk_store_slots.proofs.TabledLaws.{get-rows}
-use Rattle.fk_store_objects.specs.declared.entry.Entry.{Entry}
-use Rattle.fk_store_objects.specs.Filed.{Filed, IsFiled, entry_under, key_of, name_under}
+use Rattle.fk_store_linked.specs.Cells.{cell, is_from}
+use Rattle.fk_store_linked.specs.Tabled.{map_of_rows}
+use Rattle.fk_store_linked.proofs.TabledLaws.{get-rows}
+use Rattle.fk_store_linked.specs.Shapes.{Entry}
+use Rattle.fk_store_linked.specs.Filed.{Filed, IsFiled, entry_under, key_of, name_under}
 use Rattle.fk_store_linked.specs.Bodied.{body_under, bodies}
-use Rattle.fk_store_leads.specs.Names.{at, page_at, page_cmp, who_cmp}
+use Rattle.fk_store_linked.specs.Names.{at, page_at, page_cmp, who_cmp}
 use Rattle.fk_store_bodies.specs.Orders.{comes_after, IsFirstAfter}
 use Rattle.fk_store_linked.proofs.BodyLaws.{get-bodies}
-use Rattle.fk_store_leads.proofs.NameLaws.{page_naming}
+use Rattle.fk_store_linked.proofs.NameLaws.{page_naming}
 
 -- ---- what is there
 

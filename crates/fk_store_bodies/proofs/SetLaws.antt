@@ -8,23 +8,23 @@ use Rattle.fk_model.specs.Objects.{and_then, holds}
 use Rattle.fk_model.specs.declared.names.Who.{Who}
 use Rattle.fk_model.specs.declared.body.Body.{Body}
 use Rattle.fk_model.specs.declared.body.Body.TheVariants.{Mutex, Cond, Mapping, Region, Port, Portset, Space, Thread, Reference}
-use Rattle.fk_store_hints.specs.declared.lead.Lead.{Lead}
-use Rattle.fk_store_hints.specs.Leads.{led}
-use Rattle.fk_store_keys.specs.Tables.{mark_at}
-use Rattle.fk_store_links.specs.declared.links.Link.{Link}
-use Rattle.fk_store_links.specs.Links.{AreRings}
-use Rattle.fk_store_objects.specs.declared.entry.Entry.{Entry}
-use Rattle.fk_store_objects.specs.Filed.{Filed, IsFiled, entry_under, key_of}
-use Rattle.fk_store_leads.specs.Births.{stored_birth, birth_in}
+use Rattle.fk_store_linked.specs.Shapes.{Lead}
+use Rattle.fk_store_linked.specs.Leads.{led}
+use Rattle.fk_store_linked.specs.Tables.{mark_at}
+use Rattle.fk_store_linked.specs.Shapes.{Link}
+use Rattle.fk_store_linked.specs.Links.{AreRings}
+use Rattle.fk_store_linked.specs.Shapes.{Entry}
+use Rattle.fk_store_linked.specs.Filed.{Filed, IsFiled, entry_under, key_of}
+use Rattle.fk_store_linked.specs.Births.{stored_birth, birth_in}
 use Rattle.fk_store_linked.specs.Bodied.{body_under, bodies, owner, Tells, told_by, HaveNodes, AreThere, IsTold, AreTold, AreHomed, AreAlike}
 use Rattle.fk_store_linked.specs.Bodied.{AreBodies, Retells, IsMarked, StillMarked}
-use Rattle.fk_store_leads.specs.Held.{held_in, IsCount}
-use Rattle.fk_store_leads.specs.Leading.{LeadsAmong, is_reference}
-use Rattle.fk_store_leads.specs.Marks.{is_of_pages, is_member, page_mark, member_mark}
-use Rattle.fk_store_leads.specs.Names.{same_who}
+use Rattle.fk_store_linked.specs.Held.{held_in, IsCount}
+use Rattle.fk_store_linked.specs.Leading.{LeadsAmong, is_reference}
+use Rattle.fk_store_linked.specs.Marks.{is_of_pages, is_member, page_mark, member_mark}
+use Rattle.fk_store_linked.specs.Names.{same_who}
 use Rattle.fk_store_linked.proofs.AlikeLaws.{hints_were, nodes_kept, replaced_map}
 use Rattle.fk_store_linked.proofs.BodyLaws.{get-bodies, keys_apart, under_name}
-use Rattle.fk_store_leads.proofs.NameLaws.{same_who_refl}
+use Rattle.fk_store_linked.proofs.NameLaws.{same_who_refl}
 use Rattle.fk_store_bodies.proofs.ScanLaws.{there_keyed}
 use Rattle.fk_store_bodies.proofs.SettleLaws.{settled, settled_map}
 

@@ -5,25 +5,25 @@ use Rattle.std.specs.FinMap.{get}
 use Rattle.fk_model.specs.Objects.{and_then}
 use Rattle.fk_model.specs.declared.names.Who.{Who}
 use Rattle.fk_model.specs.declared.body.Body.{Body}
-use Rattle.fk_store_hints.specs.declared.lead.Lead.{Lead}
-use Rattle.fk_store_hints.specs.Leads.{led}
-use Rattle.fk_store_keys.specs.Tables.{mark_at}
-use Rattle.fk_store_slots.specs.Cells.{cell}
-use Rattle.fk_store_links.specs.declared.links.Link.{Link}
-use Rattle.fk_store_links.specs.Links.{AreRings}
-use Rattle.fk_store_links.specs.Nodes.{node_of}
-use Rattle.fk_store_links.proofs.NodeLaws.{rings_along}
-use Rattle.fk_store_objects.specs.declared.entry.Entry.{Entry}
-use Rattle.fk_store_objects.specs.Filed.{Filed, IsFiled, entry_under, key_of, name_under}
-use Rattle.fk_store_leads.specs.Births.{stored_birth}
+use Rattle.fk_store_linked.specs.Shapes.{Lead}
+use Rattle.fk_store_linked.specs.Leads.{led}
+use Rattle.fk_store_linked.specs.Tables.{mark_at}
+use Rattle.fk_store_linked.specs.Cells.{cell}
+use Rattle.fk_store_linked.specs.Shapes.{Link}
+use Rattle.fk_store_linked.specs.Links.{AreRings}
+use Rattle.fk_store_linked.specs.Nodes.{node_of}
+use Rattle.fk_store_linked.proofs.NodeLaws.{rings_along}
+use Rattle.fk_store_linked.specs.Shapes.{Entry}
+use Rattle.fk_store_linked.specs.Filed.{Filed, IsFiled, entry_under, key_of, name_under}
+use Rattle.fk_store_linked.specs.Births.{stored_birth}
 use Rattle.fk_store_linked.specs.Bodied.{body_under, bodies, head_by, owner, HaveNodes, AreThere, IsTold, AreTold, AreHomed, AreMarked, AreBodies}
 use Rattle.fk_store_linked.specs.Bodied.{Retells, IsMarked, StillMarked}
-use Rattle.fk_store_leads.specs.Leading.{target}
-use Rattle.fk_store_leads.specs.Held.{held_in, IsCount}
-use Rattle.fk_store_leads.specs.Marks.{is_of_pages, is_member, page_mark, member_mark}
-use Rattle.fk_store_leads.specs.Names.{same_who}
+use Rattle.fk_store_linked.specs.Leading.{target}
+use Rattle.fk_store_linked.specs.Held.{held_in, IsCount}
+use Rattle.fk_store_linked.specs.Marks.{is_of_pages, is_member, page_mark, member_mark}
+use Rattle.fk_store_linked.specs.Names.{same_who}
 use Rattle.fk_store_linked.proofs.BodyLaws.{get-bodies, is-bodies}
-use Rattle.fk_store_leads.proofs.NameLaws.{same_who_eq}
+use Rattle.fk_store_linked.proofs.NameLaws.{same_who_eq}
 
 same_some : {A : Type 0} (o : Option A) (a b : A) → o ≡ Some a → o ≡ Some b → a ≡ b
 same_some o a b h k = cc

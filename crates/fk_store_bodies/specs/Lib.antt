@@ -1,3 +1,14 @@
+pub use Rattle.fk_store_linked.specs.Leads
+pub use Rattle.fk_store_linked.specs.Sweeps
+pub use Rattle.fk_store_linked.specs.Pointers
+pub use Rattle.fk_store_linked.specs.Parts
+pub use Rattle.fk_store_linked.specs.Nudges
+pub use Rattle.fk_store_linked.specs.Names
+pub use Rattle.fk_store_linked.specs.Marks
+pub use Rattle.fk_store_linked.specs.Leading
+pub use Rattle.fk_store_linked.specs.Held
+pub use Rattle.fk_store_linked.specs.Births
+pub use Rattle.fk_store_linked.specs.Shapes
 pub mod Orders
 pub mod Playing
 pub mod Threads

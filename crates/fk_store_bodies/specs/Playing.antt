@@ -2,10 +2,10 @@
 use Rattle.std.specs.Prelude.{◌≡◌, ℕ, true, false, Some}
 use Rattle.fk_model.specs.declared.names.Who.{Who}
 use Rattle.fk_model.specs.declared.body.Body.{Body}
-use Rattle.fk_store_objects.specs.Filed.{Filed, name_under}
+use Rattle.fk_store_linked.specs.Filed.{Filed, name_under}
 use Rattle.fk_store_linked.specs.Bodied.{body_under}
-use Rattle.fk_store_leads.specs.Parts.{plays}
-use Rattle.fk_store_leads.specs.declared.parts.Part.{Part}
+use Rattle.fk_store_linked.specs.Parts.{plays}
+use Rattle.fk_store_linked.specs.Shapes.{Part}
 
 -- the object with a name plays the part
 pub record IsPlayer (o : Filed) (part : Part) (who : Who) : Type 0 where

@@ -10,39 +10,37 @@ ghost use Rattle.fk_model.specs.declared.body.Body.{Body};
 ghost use Rattle.fk_model.specs.Objects.{and_then};
 ghost use Rattle.fk_model.proofs.walks.Members.{IsIn};
 ghost use Rattle.fk_model.specs.Objects.{holds};
-ghost use Rattle.fk_store_hints.specs.Leads.{led};
-ghost use Rattle.fk_store_slots.specs.Cells.{is_from};
-ghost use Rattle.fk_store_links.specs.Links.{AreRings};
-ghost use Rattle.fk_store_links.specs.Nodes.{is_head, node_of};
-ghost use Rattle.fk_store_objects.specs.declared.entry.Entry.{Entry};
-ghost use Rattle.fk_store_objects.specs.Filed.{entry_under, name_under};
-ghost use Rattle.fk_store_objects.specs.Edits.{Edits, Removes, on_body};
+ghost use Rattle.fk_store_linked.specs.Leads.{led};
+ghost use Rattle.fk_store_linked.specs.Cells.{is_from};
+ghost use Rattle.fk_store_linked.specs.Links.{AreRings};
+ghost use Rattle.fk_store_linked.specs.Nodes.{is_head, node_of};
+ghost use Rattle.fk_store_linked.specs.Shapes.{Entry};
+ghost use Rattle.fk_store_linked.specs.Filed.{entry_under, name_under};
+ghost use Rattle.fk_store_linked.specs.Edits.{Edits, Removes, on_body};
 ghost use Rattle.fk_store_linked.specs.Bodied.{body_under, bodies, owner, HaveNodes};
-ghost use Rattle.fk_store_leads.specs.Births.{stored_birth, home_in, birth_in};
-ghost use Rattle.fk_store_leads.specs.Held as held_by;
-ghost use Rattle.fk_store_leads.specs.Held.{one_if, held_in, IsCount};
+ghost use Rattle.fk_store_linked.specs.Births.{stored_birth, home_in, birth_in};
+ghost use Rattle.fk_store_linked.specs.Held as held_by;
+ghost use Rattle.fk_store_linked.specs.Held.{one_if, held_in, IsCount};
 ghost use Rattle.fk_store_linked.specs.Homes.{home_at};
 ghost use Rattle.fk_model.specs.declared.body.Body.TheVariants.{Reference};
-ghost use Rattle.fk_store_leads.specs.Leading.{LeadsAmong, is_reference};
-ghost use Rattle.fk_store_leads.specs.Marks as marks_of;
-ghost use Rattle.fk_store_leads.specs.Names.{at, who_cmp, same_who};
-ghost use Rattle.fk_store_leads.specs.Nudges.{nudged};
+ghost use Rattle.fk_store_linked.specs.Leading.{LeadsAmong, is_reference};
+ghost use Rattle.fk_store_linked.specs.Marks as marks_of;
+ghost use Rattle.fk_store_linked.specs.Names.{at, who_cmp, same_who};
+ghost use Rattle.fk_store_linked.specs.Nudges.{nudged};
 ghost use Rattle.fk_store_bodies.specs.Orders.{comes_after, IsFirstAfter};
-ghost use Rattle.fk_store_leads.specs.Parts.{plays};
-ghost use Rattle.fk_store_leads.specs.Pointers.{body_hits};
-ghost use Rattle.fk_store_leads.specs.Sweeps.{body_after};
+ghost use Rattle.fk_store_linked.specs.Parts.{plays};
+ghost use Rattle.fk_store_linked.specs.Pointers.{body_hits};
+ghost use Rattle.fk_store_linked.specs.Sweeps.{body_after};
 ghost use Rattle.fk_store_bodies.specs.Threads.{proceeded};
 
 use crate::leaders::Leaders;
 use crate::scans::{first_leading, first_told, told_of_part};
 use fk_model::{Body, Mode, NoMemory, Ptr, Who};
-use fk_store_leads::{Nudge, Part, Sweep, birth_of, counted, ends, is_held};
 use fk_store_linked::{
-    aim, free_all, home_of, leave, link_all, make_room, mark_again, mark_all, rename_all, replace,
-    settle, tell, unlink_all,
+    Links, Nudge, Objects, Part, Sweep, aim, birth_of, counted, ends, free_all, head_of, home_of,
+    is_held, leave, link_all, make_room, mark_again, mark_all, rename_all, replace, settle, tell,
+    unlink_all,
 };
-use fk_store_links::{Links, head_of};
-use fk_store_objects::Objects;
 use std::alloc::Global;
 use std::marker::Model;
 
@@ -64,7 +62,7 @@ impl Model for Bodies {
     ghost use Rattle.fk_model.specs.declared.body.Body.{Body};
     ghost use Rattle.fk_model.specs.contracts.body.Body as body;
     ghost use Rattle.fk_store_linked.specs.Bodied.{bodies, AreBodies};
-    ghost use Rattle.fk_store_leads.specs.Names.{who_cmp, coded_who};
+    ghost use Rattle.fk_store_linked.specs.Names.{who_cmp, coded_who};
 
     ghost Value = { FinMap who_cmp Body };
 

@@ -1,12 +1,11 @@
 //! The objects whose pointers lead to one.
 ghost use Rattle.std.specs.Prelude.{◌≡◌, ◌<◌, ◌≤◌, ◌*◌, ◌+◌, ℕ, [], ◌∷◌, true, IfSome, Some, None, length};
 ghost use Rattle.fk_model.specs.declared.names.Who.{Who};
-ghost use Rattle.fk_store_links.specs.Links.{AreRings};
+ghost use Rattle.fk_store_linked.specs.Links.{AreRings};
 ghost use Rattle.fk_store_linked.specs.Bodied.{owner, names_of, AreNodes, AreLeadersOf};
 
 use fk_model::Who;
-use fk_store_links::{Links, Walk, head_of};
-use fk_store_objects::Objects;
+use fk_store_linked::{Links, Objects, Walk, head_of};
 use std::marker::Model;
 
 /// The objects whose pointers lead to one, one after another: one for each pointer.

@@ -1,11 +1,11 @@
 //! How many pointers of one object lead to another.
 ghost use Rattle.std.specs.Prelude.{◌≡◌, ◌≤◌};
 ghost use Rattle.std.specs.FinMap as map;
-ghost use Rattle.fk_store_leads.specs.Pointers.{body_hits, hits_in};
+ghost use Rattle.fk_store_linked.specs.Pointers.{body_hits, hits_in};
 
 use crate::Bodies;
 use fk_model::Who;
-use fk_store_leads::hits;
+use fk_store_linked::hits;
 
 impl Bodies {
     /// How many pointers of an object lead to another, at most 4; none where no object is there.

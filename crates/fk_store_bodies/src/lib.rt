@@ -14,6 +14,6 @@ mod pages;
 mod scans;
 
 pub use bodies::Bodies;
-pub use fk_store_leads::{Nudge, Part};
+pub use fk_store_linked::{Nudge, Part};
 pub use leaders::Leaders;
 pub use pages::Pages;

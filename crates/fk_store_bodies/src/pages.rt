@@ -2,10 +2,10 @@
 ghost use Rattle.std.specs.Prelude.{◌≡◌, ℕ, ◌<◌, ◌==◌, if◌then◌else◌, None, [], unwrap_or, slice_set, OnOk, OnErr, IsSome, IsOk, IfOk};
 ghost use Rattle.std.specs.Option.{option_copied};
 ghost use Rattle.std.specs.FinMap as map;
-ghost use Rattle.fk_store_leads.specs.Births.{is_number};
+ghost use Rattle.fk_store_linked.specs.Births.{is_number};
 
 use fk_model::NoMemory;
-use fk_store_slots::{Row, clear_row, lay_value, put_value, take_value, value_at};
+use fk_store_linked::{Row, clear_row, lay_value, put_value, take_value, value_at};
 use std::alloc::{AllocError, Global};
 use std::marker::Model;
 
@@ -67,8 +67,8 @@ impl Model for Pages {
     ghost use Rattle.std.specs.Coded.{coded×, coded_list, coded_ℕ};
     ghost use Rattle.std.specs.FinMap.{FinMap};
     ghost use Rattle.std.specs.FinMap as finmap;
-    ghost use Rattle.fk_store_slots.specs.Tabled.{map_of_rows};
-    ghost use Rattle.fk_store_leads.specs.Names.{page_cmp, page_at};
+    ghost use Rattle.fk_store_linked.specs.Tabled.{map_of_rows};
+    ghost use Rattle.fk_store_linked.specs.Names.{page_cmp, page_at};
 
     ghost Value = { FinMap page_cmp (List ℕ) };
 

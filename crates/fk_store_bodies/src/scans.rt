@@ -2,17 +2,14 @@
 ghost use Rattle.std.specs.Prelude.{◌≡◌, ◌<◌, ◌/◌, ℕ, IfSome, Some, None, true, false};
 ghost use Rattle.fk_model.specs.declared.body.Body.{Body};
 ghost use Rattle.fk_model.proofs.walks.Members.{IsIn};
-ghost use Rattle.fk_store_objects.specs.declared.entry.Entry.{Entry};
-ghost use Rattle.fk_store_objects.specs.Filed.{entry_under};
+ghost use Rattle.fk_store_linked.specs.Shapes.{Entry};
+ghost use Rattle.fk_store_linked.specs.Filed.{entry_under};
 ghost use Rattle.fk_store_linked.specs.Bodied.{body_under, Tells, told_by};
-ghost use Rattle.fk_store_leads.specs.Parts.{plays, sort_of};
+ghost use Rattle.fk_store_linked.specs.Parts.{plays, sort_of};
 ghost use Rattle.fk_store_bodies.specs.Playing.{IsPlayer, NobodyPlays};
 
 use fk_model::Who;
-use fk_store_leads::Part;
-use fk_store_linked::told_of;
-use fk_store_links::Walk;
-use fk_store_objects::{Objects, Told};
+use fk_store_linked::{Objects, Part, Told, Walk, told_of};
 
 /// An object that plays this part, where those who may are told; nothing where none does.
 pub fn first_told(objects: &Objects, part: Part, told: Told) -> Option<Who>

@@ -7,10 +7,10 @@ use Rattle.fk_model.specs.declared.names.Who.{Who}
 use Rattle.fk_model.specs.declared.body.Body.{Body}
 use Rattle.fk_model.specs.Objects.{and_then}
 use Rattle.fk_store_holds.specs.Frozen.{mark_at}
-use Rattle.fk_store_leads.specs.Births.{stored_birth, home_in, birth_in}
-use Rattle.fk_store_leads.specs.Names.{at, who_cmp, same_who}
-use Rattle.fk_store_leads.proofs.BirthLaws.{births-found}
-use Rattle.fk_store_leads.proofs.NameLaws.{same_who_eq, same_who_refl}
+use Rattle.fk_store_bodies.specs.Births.{stored_birth, home_in, birth_in}
+use Rattle.fk_store_bodies.specs.Names.{at, who_cmp, same_who}
+use Rattle.fk_store_bodies.proofs.BirthLaws.{births-found}
+use Rattle.fk_store_bodies.proofs.NameLaws.{same_who_eq, same_who_refl}
 use Rattle.fk_store_freezing.specs.Freezing.{is_held_at, IsUnder, AreFrozen, AreFrozenBut, AreKnown, IsAbove, Pending, IsPending, AreFrozenUpTo}
 use Rattle.fk_store_freezing.specs.Freezing.{behind, upward, place, weight}
 use Rattle.fk_store_freezing.specs.Freezing.IsAbove.{Home, Further}

@@ -10,17 +10,17 @@ use Rattle.fk_model.specs.declared.thread.Mode.{Mode}
 use Rattle.fk_model.specs.Objects.{and_then, holds}
 use Rattle.fk_store_holds.specs.Frozen.{mark_at}
 use Rattle.fk_store_holds.specs.Held.{IsTold}
-use Rattle.fk_store_leads.specs.Births.{stored_birth, home_in, birth_in}
-use Rattle.fk_store_leads.specs.Held.{is_held}
-use Rattle.fk_store_leads.specs.Names.{who_cmp, same_who}
-use Rattle.fk_store_leads.specs.Nudges.{nudged}
-use Rattle.fk_store_leads.specs.Sweeps.{after, body_after}
+use Rattle.fk_store_bodies.specs.Births.{stored_birth, home_in, birth_in}
+use Rattle.fk_store_bodies.specs.Held.{is_held}
+use Rattle.fk_store_bodies.specs.Names.{who_cmp, same_who}
+use Rattle.fk_store_bodies.specs.Nudges.{nudged}
+use Rattle.fk_store_bodies.specs.Sweeps.{after, body_after}
 use Rattle.fk_store_bodies.specs.Threads.{proceeded}
-use Rattle.fk_store_leads.specs.declared.nudges.Nudge.{Nudge}
-use Rattle.fk_store_leads.specs.declared.sweeps.Sweep.{Sweep}
-use Rattle.fk_store_leads.proofs.BirthLaws.{births-found, births-none}
-use Rattle.fk_store_leads.proofs.LedLaws.{swept-birth}
-use Rattle.fk_store_leads.proofs.NameLaws.{who_total, same_tied, same_who_eq, same_who_refl}
+use Rattle.fk_store_bodies.specs.Shapes.{Nudge}
+use Rattle.fk_store_bodies.specs.Shapes.{Sweep}
+use Rattle.fk_store_bodies.proofs.BirthLaws.{births-found, births-none}
+use Rattle.fk_store_bodies.proofs.LedLaws.{swept-birth}
+use Rattle.fk_store_bodies.proofs.NameLaws.{who_total, same_tied, same_who_eq, same_who_refl}
 use Rattle.fk_store_freezing.specs.Freezing.{is_held_at, IsUnder, AreFrozen, AreFrozenBut, AreTold, AreToldBut, AreKnown, IsTree}
 use Rattle.fk_store_freezing.proofs.FreezeLaws.{one_name}
 

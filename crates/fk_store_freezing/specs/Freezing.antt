@@ -6,9 +6,9 @@ use Rattle.fk_model.specs.declared.body.Body.{Body}
 use Rattle.fk_model.specs.Objects.{holds}
 use Rattle.fk_store_holds.specs.Frozen.{mark_at, unmarked}
 use Rattle.fk_store_holds.specs.Held.{IsTold}
-use Rattle.fk_store_leads.specs.Births.{home_in, birth_in}
-use Rattle.fk_store_leads.specs.Held.{is_held}
-use Rattle.fk_store_leads.specs.Names.{who_cmp, same_who}
+use Rattle.fk_store_bodies.specs.Births.{home_in, birth_in}
+use Rattle.fk_store_bodies.specs.Held.{is_held}
+use Rattle.fk_store_bodies.specs.Names.{who_cmp, same_who}
 
 -- the object with a name is a space that somebody holds
 abbrev pub is_held_at : FinMap who_cmp Body → Who → Bool

@@ -1,3 +1,14 @@
+pub use Rattle.fk_store_bodies.specs.Leads
+pub use Rattle.fk_store_bodies.specs.Sweeps
+pub use Rattle.fk_store_bodies.specs.Pointers
+pub use Rattle.fk_store_bodies.specs.Parts
+pub use Rattle.fk_store_bodies.specs.Nudges
+pub use Rattle.fk_store_bodies.specs.Names
+pub use Rattle.fk_store_bodies.specs.Marks
+pub use Rattle.fk_store_bodies.specs.Leading
+pub use Rattle.fk_store_bodies.specs.Held
+pub use Rattle.fk_store_bodies.specs.Births
+pub use Rattle.fk_store_bodies.specs.Shapes
 pub use Rattle.fk_store_bodies.specs.Orders
 pub use Rattle.fk_store_bodies.specs.Threads
 pub mod Freezing

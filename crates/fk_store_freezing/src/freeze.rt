@@ -2,7 +2,7 @@
 ghost use Rattle.std.specs.Prelude.{◌≡◌, ◌<◌, ◌≤◌, ℕ, IfSome, Some, None, true};
 ghost use Rattle.fk_store_freezing.specs.Freezing.{AreFrozen, AreFrozenBut, AreFrozenUpTo, AreKnown, IsMarkedNow, weight};
 ghost use Rattle.fk_store_holds.specs.Frozen.{mark_at, unmarked};
-ghost use Rattle.fk_store_leads.specs.Births.{birth_in};
+ghost use Rattle.fk_store_bodies.specs.Births.{birth_in};
 
 use crate::steps::up;
 use fk_model::Who;

@@ -4,7 +4,7 @@ ghost use Rattle.std.specs.FinMap as map;
 ghost use Rattle.fk_store_freezing.specs.Freezing.{AreFrozen, AreFrozenBut, AreKnown, AreTold, AreToldBut};
 ghost use Rattle.fk_store_holds.specs.Frozen.{mark_at};
 ghost use Rattle.fk_store_holds.specs.Held.{IsTold};
-ghost use Rattle.fk_store_leads.specs.Births.{stored_birth, birth_in};
+ghost use Rattle.fk_store_bodies.specs.Births.{stored_birth, birth_in};
 
 use crate::freeze::freeze;
 use crate::thaw::{is_under, thaw};

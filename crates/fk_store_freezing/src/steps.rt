@@ -1,6 +1,6 @@
 //! The steps of a walk through all that lies beneath a space.
 ghost use Rattle.std.specs.Prelude.{◌≡◌, ◌≢◌, ◌≤◌, ◌+◌, ℕ, IfSome, Some, None};
-ghost use Rattle.fk_store_leads.specs.Births.{home_in};
+ghost use Rattle.fk_store_bodies.specs.Births.{home_in};
 ghost use Rattle.fk_store_freezing.specs.Freezing.{upward};
 
 use fk_store_bodies::Bodies;

@@ -2,7 +2,7 @@
 ghost use Rattle.std.specs.Prelude.{◌≡◌, ◌<◌, ◌≤◌, IfSome, Some, None, true, false};
 ghost use Rattle.fk_store_freezing.specs.Freezing.{AreFrozen, AreKnown, IsUnder, is_held_at, weight};
 ghost use Rattle.fk_store_holds.specs.Frozen.{marked};
-ghost use Rattle.fk_store_leads.specs.Births.{birth_in};
+ghost use Rattle.fk_store_bodies.specs.Births.{birth_in};
 
 use crate::steps::up;
 use fk_model::{Body, Who};

@@ -10,17 +10,17 @@ ghost use Rattle.fk_model.specs.declared.body.Body.TheVariants.{Reference};
 ghost use Rattle.fk_model.specs.Objects.{and_then, holds};
 ghost use Rattle.fk_model.proofs.walks.Members.{IsIn};
 ghost use Rattle.fk_store_freezing.specs.Freezing.{AreFrozen, AreKnown, AreTold, IsAbove, is_held_at};
-ghost use Rattle.fk_store_leads.specs.Births.{stored_birth, home_in, birth_in};
-ghost use Rattle.fk_store_leads.specs.Held as held_by;
-ghost use Rattle.fk_store_leads.specs.Held.{one_if};
-ghost use Rattle.fk_store_leads.specs.Leading.{LeadsAmong, is_reference};
-ghost use Rattle.fk_store_leads.specs.Marks as marks_of;
-ghost use Rattle.fk_store_leads.specs.Names.{at, who_cmp, same_who};
-ghost use Rattle.fk_store_leads.specs.Nudges.{nudged};
+ghost use Rattle.fk_store_bodies.specs.Births.{stored_birth, home_in, birth_in};
+ghost use Rattle.fk_store_bodies.specs.Held as held_by;
+ghost use Rattle.fk_store_bodies.specs.Held.{one_if};
+ghost use Rattle.fk_store_bodies.specs.Leading.{LeadsAmong, is_reference};
+ghost use Rattle.fk_store_bodies.specs.Marks as marks_of;
+ghost use Rattle.fk_store_bodies.specs.Names.{at, who_cmp, same_who};
+ghost use Rattle.fk_store_bodies.specs.Nudges.{nudged};
 ghost use Rattle.fk_store_bodies.specs.Orders.{IsFirstAfter};
-ghost use Rattle.fk_store_leads.specs.Parts.{plays};
-ghost use Rattle.fk_store_leads.specs.Pointers.{body_hits, hits_in};
-ghost use Rattle.fk_store_leads.specs.Sweeps.{body_after};
+ghost use Rattle.fk_store_bodies.specs.Parts.{plays};
+ghost use Rattle.fk_store_bodies.specs.Pointers.{body_hits, hits_in};
+ghost use Rattle.fk_store_bodies.specs.Sweeps.{body_after};
 ghost use Rattle.fk_store_bodies.specs.Threads.{proceeded};
 
 use crate::settle::{forget, make_room, settle};
@@ -43,7 +43,7 @@ impl Model for Tree {
     ghost use Rattle.std.specs.FinMap as finmap;
     ghost use Rattle.fk_model.specs.declared.body.Body.{Body};
     ghost use Rattle.fk_model.specs.contracts.body.Body as body;
-    ghost use Rattle.fk_store_leads.specs.Names.{who_cmp, coded_who};
+    ghost use Rattle.fk_store_bodies.specs.Names.{who_cmp, coded_who};
     ghost use Rattle.fk_store_freezing.specs.Freezing.{IsTree};
 
     ghost Value = { FinMap who_cmp Body };

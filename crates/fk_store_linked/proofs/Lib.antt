@@ -1,3 +1,14 @@
+pub use Rattle.fk_store_leads.proofs.ProceedLaws
+pub use Rattle.fk_store_slots.proofs.TabledLaws
+pub use Rattle.fk_store_links.proofs.NodeLaws
+pub use Rattle.fk_store_leads.proofs.TargetLaws
+pub use Rattle.fk_store_leads.proofs.PointerLaws
+pub use Rattle.fk_store_leads.proofs.NameLaws
+pub use Rattle.fk_store_leads.proofs.LedLaws
+pub use Rattle.fk_store_leads.proofs.HintLaws
+pub use Rattle.fk_store_leads.proofs.HeldLaws
+pub use Rattle.fk_store_leads.proofs.Found
+pub use Rattle.fk_store_leads.proofs.BirthLaws
 pub mod BodyLaws
 pub mod CountLaws
 pub mod AlikeLaws

@@ -15,6 +15,10 @@ mod members;
 mod replacing;
 mod sweeping;
 
+pub use fk_store_leads::{Nudge, Part, Sweep, birth_of, counted, ends, hits, is_held};
+pub use fk_store_links::{Links, Walk, head_of};
+pub use fk_store_objects::{Objects, Told};
+pub use fk_store_slots::{Row, clear_row, lay_value, put_value, take_value, value_at};
 pub use hinting::{tell, told_of};
 pub use homes::{home_of, leave, make_room, settle};
 pub use linking::{link_all, unlink_all};

@@ -9,7 +9,7 @@ use Rattle.fk_model.specs.declared.body.Body.TheVariants.{Mutex, Cond, Mapping, 
 use Rattle.fk_model.specs.Places.{Path}
 use Rattle.fk_model.specs.Objects.{kind_of, holds}
 use Rattle.fk_model.specs.Valid.{kind_there}
-use Rattle.fk_store_leads.specs.Leading.{is_reference}
+use Rattle.fk_store_freezing.specs.Leading.{is_reference}
 use Rattle.fk_store.specs.Bodies.{body_by}
 use Rattle.fk_store.specs.Contents.{Contents}
 use Rattle.fk_store.specs.Paths.{place, path}

@@ -8,7 +8,7 @@ use Rattle.fk_model.specs.declared.body.Body.TheVariants.{Mutex, Cond, Mapping, 
 use Rattle.fk_model.specs.Places.{Path}
 use Rattle.fk_model.specs.Objects.{kind_of, and_then, mapping_of, region_of}
 use Rattle.fk_model.specs.Searches.{lowest}
-use Rattle.fk_store_leads.specs.Marks.{is_of_pages}
+use Rattle.fk_store_freezing.specs.Marks.{is_of_pages}
 use Rattle.fk_store.specs.Names.{at}
 use Rattle.fk_store.specs.Contents.{Contents}
 use Rattle.fk_store.specs.Paths.{path}

@@ -14,12 +14,12 @@ use Rattle.fk_model.specs.Places.{Path}
 use Rattle.fk_model.specs.Objects as objects
 use Rattle.fk_model.specs.Objects.{and_then}
 use Rattle.fk_model.specs.World.{through, following, follow, follow_peer}
-use Rattle.fk_store_leads.specs.declared.sweeps.Sweep.{Sweep}
+use Rattle.fk_store_freezing.specs.Shapes.{Sweep}
 use Rattle.fk_store.specs.Names.{at, same_who}
 use Rattle.fk_store.specs.Paths.{place, HasOwnPath}
 use Rattle.fk_store.proofs.changing.SweepLaws.{and_then-mapped}
 use Rattle.fk_store.specs.Bodies.{pointer_by, peer_by, talk_by, fault_by, thread_by, body_by}
-use Rattle.fk_store_leads.specs.Sweeps.{after, or_dead, pointer_after, peer_after, talk_after, fault_after, set_after, body_after}
+use Rattle.fk_store_freezing.specs.Sweeps.{after, or_dead, pointer_after, peer_after, talk_after, fault_after, set_after, body_after}
 
 module _ (p : ℕ → Path) (from to : Who) (apart : HasOwnPath p from) where
   abbrev moving : Sweep

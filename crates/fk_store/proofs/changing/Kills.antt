@@ -10,16 +10,16 @@ use Rattle.fk_model.specs.Objects.{and_then}
 use Rattle.fk_model.specs.World.{apply, through, death_sweep}
 use Rattle.fk_model.specs.World.Change.{Kill}
 use Rattle.fk_model.specs.Valid.{kind_there}
-use Rattle.fk_store_leads.specs.declared.sweeps.Sweep.{Sweep}
+use Rattle.fk_store_freezing.specs.Shapes.{Sweep}
 use Rattle.fk_store.specs.Names.{at, same_who, who_cmp, page_cmp}
 use Rattle.fk_store.specs.Contents.{Contents, stored_birth, birth_there, is_number, home, is_live}
 use Rattle.fk_store.specs.Paths.{place, path, space_at}
 use Rattle.fk_store.specs.Bodies.{body_by}
 use Rattle.fk_store.specs.Named.{OnNamed}
 use Rattle.fk_store.specs.World.{world, body_at, page_at, IsLive}
-use Rattle.fk_store_leads.specs.Sweeps.{body_after}
+use Rattle.fk_store_freezing.specs.Sweeps.{body_after}
 use Rattle.fk_store.specs.WellFormed.{is_there, IsSized, IsWellFormed}
-use Rattle.fk_store_leads.proofs.NameLaws.{same_who_eq}
+use Rattle.fk_store_freezing.proofs.NameLaws.{same_who_eq}
 use Rattle.fk_store.proofs.finding.NamedLaws.{body_by-named}
 use Rattle.fk_store.proofs.finding.Homes.{home-found, home-none, is_the_number}
 use Rattle.fk_store.proofs.finding.Walks.{same_path_refl, same_path_true, and_back, path-space_at, same_space}

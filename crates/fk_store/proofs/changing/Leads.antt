@@ -10,11 +10,11 @@ use Rattle.fk_model.specs.declared.thread.Talk.{Talk}
 use Rattle.fk_model.specs.declared.thread.Fault.{Fault}
 use Rattle.fk_model.specs.declared.body.Body.{Body}
 use Rattle.fk_model.specs.declared.body.Body.TheVariants.{Mutex, Cond, Mapping, Region, Port, Portset, Space, Thread, Reference}
-use Rattle.fk_store_hints.specs.declared.lead.Sort.{Sort}
-use Rattle.fk_store_hints.specs.declared.lead.Sort.TheVariants.{Pointer, Served, Taken}
-use Rattle.fk_store_hints.specs.declared.lead.Lead.{Lead}
-use Rattle.fk_store_hints.specs.Leads.{led, pointer, peer, server, of_talk, of_fault, of_thread, lead_by}
-use Rattle.fk_store_leads.specs.Leading.{LeadsAmong}
+use Rattle.fk_store_freezing.specs.Shapes.{Sort}
+use Rattle.fk_store_freezing.specs.Shapes.{Pointer, Served, Taken}
+use Rattle.fk_store_freezing.specs.Shapes.{Lead}
+use Rattle.fk_store_freezing.specs.Leads.{led, pointer, peer, server, of_talk, of_fault, of_thread, lead_by}
+use Rattle.fk_store_freezing.specs.Leading.{LeadsAmong}
 use Rattle.fk_store.specs.Contents.{Contents}
 use Rattle.fk_store.specs.Named.{Each, OnPointer, OnPeer, OnTalk, OnFault, OnNamed}
 use Rattle.fk_store.specs.WellFormed.{IsWellFormed}

@@ -19,7 +19,7 @@ use Rattle.fk_store.specs.Bodies.{body_by}
 use Rattle.fk_store.specs.Named.{OnNamed}
 use Rattle.fk_store.specs.World.{world, body_at, page_at}
 use Rattle.fk_store.specs.WellFormed.{is_there, IsSized, IsWellFormed}
-use Rattle.fk_store_leads.proofs.NameLaws.{who_total, who_tied}
+use Rattle.fk_store_freezing.proofs.NameLaws.{who_total, who_tied}
 use Rattle.fk_store.proofs.finding.NamedLaws.{OnNamed-map, body_by-named}
 use Rattle.fk_store.proofs.finding.Homes.{home-found, home-none}
 use Rattle.fk_store.proofs.finding.Walks.{not_root, same_path_true, path-root, path-step, path-home, space_at-path, same_space}

@@ -13,9 +13,9 @@ use Rattle.fk_model.specs.Places.{Path}
 use Rattle.fk_model.specs.Searches.{thread_at}
 use Rattle.fk_model.specs.World.{World, edited, apply}
 use Rattle.fk_model.specs.World.Change.{Alter}
-use Rattle.fk_store_leads.specs.Nudges.{counted, passed, nudged, nudged_thread}
-use Rattle.fk_store_leads.specs.declared.nudges.Nudge.{Nudge}
-use Rattle.fk_store_leads.specs.declared.nudges.Nudge.TheVariants.{Counts, Passes, Stops}
+use Rattle.fk_store_freezing.specs.Nudges.{counted, passed, nudged, nudged_thread}
+use Rattle.fk_store_freezing.specs.Shapes.{Nudge}
+use Rattle.fk_store_freezing.specs.Shapes.{Counts, Passes, Stops}
 use Rattle.fk_store.specs.Names.{who_cmp}
 use Rattle.fk_store.specs.Contents.{Contents}
 use Rattle.fk_store.specs.Bodies.{talk_by, thread_by, body_by}

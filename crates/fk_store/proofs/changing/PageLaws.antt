@@ -18,7 +18,7 @@ use Rattle.fk_store.specs.Paths.{path, space_at}
 use Rattle.fk_store.specs.Bodies.{body_by}
 use Rattle.fk_store.specs.World.{world, body_at, page_at, IsSpace}
 use Rattle.fk_store.specs.WellFormed.{IsWellFormed}
-use Rattle.fk_store_leads.proofs.NameLaws.{page_total, page_tied}
+use Rattle.fk_store_freezing.proofs.NameLaws.{page_total, page_tied}
 use Rattle.fk_store.proofs.finding.Walks.{same_space}
 use Rattle.fk_store.proofs.finding.LookUps.{IsSpace-live}
 use Rattle.fk_store.proofs.changing.Sets.{home-births, is_live-births, path-births, space_at-births, lost_apart}

@@ -14,13 +14,13 @@ use Rattle.fk_model.specs.Places.Ptr.{At}
 use Rattle.fk_model.specs.Objects.{Talk, Fault, thread_of, holds}
 use Rattle.fk_model.specs.Searches as searches
 use Rattle.fk_model.specs.World.{serves}
-use Rattle.fk_store_leads.specs.declared.parts.Part.{Part}
-use Rattle.fk_store_leads.specs.declared.parts.Part.TheVariants.{Client, Faulter, Guest, Parked}
+use Rattle.fk_store_freezing.specs.Shapes.{Part}
+use Rattle.fk_store_freezing.specs.Shapes.{Client, Faulter, Guest, Parked}
 use Rattle.fk_store.specs.Names.{same_who}
 use Rattle.fk_store.specs.Paths.{place, HasOwnPath}
 use Rattle.fk_store.specs.Bodies.{peer_by, talk_by, fault_by, thread_by, body_by}
 use Rattle.fk_store.specs.Named.{Each, OnPeer, OnTalk, OnFault, OnNamed}
-use Rattle.fk_store_leads.specs.Parts.{is_thread, is_service, is_parked, thread_plays, plays}
+use Rattle.fk_store_freezing.specs.Parts.{is_thread, is_service, is_parked, thread_plays, plays}
 use Rattle.fk_store.specs.Parts.{played}
 
 pub nobody : (p : ℕ → Path) (part : Part) → played p part None ≡ false

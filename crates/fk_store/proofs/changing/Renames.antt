@@ -9,16 +9,16 @@ use Rattle.fk_model.specs.Objects.{Body, and_then}
 use Rattle.fk_model.specs.World.{apply, through, following}
 use Rattle.fk_model.specs.World.Change.{Move}
 use Rattle.fk_model.specs.Valid.{kind_there}
-use Rattle.fk_store_leads.specs.declared.sweeps.Sweep.{Sweep}
+use Rattle.fk_store_freezing.specs.Shapes.{Sweep}
 use Rattle.fk_store.specs.Names.{at, same_who, who_cmp}
 use Rattle.fk_store.specs.Contents.{Contents, stored_birth, birth_there, is_number, home, is_live}
 use Rattle.fk_store.specs.Paths.{place, path, space_at}
 use Rattle.fk_store.specs.Bodies.{body_by}
 use Rattle.fk_store.specs.Named.{OnNamed}
 use Rattle.fk_store.specs.World.{world, body_at, page_at, IsLive}
-use Rattle.fk_store_leads.specs.Sweeps.{body_after}
+use Rattle.fk_store_freezing.specs.Sweeps.{body_after}
 use Rattle.fk_store.specs.WellFormed.{is_there, IsSized, IsWellFormed}
-use Rattle.fk_store_leads.proofs.NameLaws.{same_who_refl, same_who_eq, same_who_back}
+use Rattle.fk_store_freezing.proofs.NameLaws.{same_who_refl, same_who_eq, same_who_back}
 use Rattle.fk_store.proofs.finding.NamedLaws.{body_by-named}
 use Rattle.fk_store.proofs.finding.Homes.{home-found, home-none, number_is, is_the_number}
 use Rattle.fk_store.proofs.finding.Walks.{same_path_refl, same_path_true, and_back, path-home, space_at-path, path-space_at, same_space}

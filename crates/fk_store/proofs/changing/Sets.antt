@@ -18,12 +18,12 @@ use Rattle.fk_store.specs.Bodies.{body_by}
 use Rattle.fk_store.specs.World.{world, body_at, IsLive}
 use Rattle.fk_store.specs.Named.{OnNamed}
 use Rattle.fk_store.specs.WellFormed.{is_there, IsSized, IsWellFormed}
-use Rattle.fk_store_leads.proofs.NameLaws.{who_total, who_tied}
+use Rattle.fk_store_freezing.proofs.NameLaws.{who_total, who_tied}
 use Rattle.fk_store.proofs.finding.NamedLaws.{OnNamed-map}
 use Rattle.fk_store.proofs.changing.Changes.{make-alter, kinds-make}
 use Rattle.fk_store.proofs.finding.LookUps.{IsLive-there}
-use Rattle.fk_store_leads.specs.Marks.{is_of_pages}
-use Rattle.fk_store_leads.proofs.ProceedLaws.{some-alike}
+use Rattle.fk_store_freezing.specs.Marks.{is_of_pages}
+use Rattle.fk_store_freezing.proofs.ProceedLaws.{some-alike}
 use Rattle.fk_store.proofs.changing.Bare.{pages-alike}
 use Rattle.fk_store.proofs.changing.SameKinds.{kind-there, same-birth}
 use Rattle.fk_store.proofs.finding.Homes.{home-found, home-none}

@@ -10,12 +10,12 @@ use Rattle.fk_model.specs.declared.thread.Fault.{Fault}
 use Rattle.fk_model.specs.declared.body.Body.{Body}
 use Rattle.fk_model.specs.declared.body.Body.TheVariants.{Mutex, Cond, Mapping, Region, Port, Portset, Space, Thread, Reference}
 use Rattle.fk_model.specs.Objects.{and_then}
-use Rattle.fk_store_leads.specs.declared.sweeps.Sweep.{Sweep}
+use Rattle.fk_store_freezing.specs.Shapes.{Sweep}
 use Rattle.fk_store.specs.Names.{same_who}
 use Rattle.fk_store.specs.Contents.{stored_birth}
 use Rattle.fk_store.specs.Named.{Each, OnPointer, OnPeer, OnTalk, OnFault, OnNamed}
 use Rattle.fk_store.specs.WellFormed.{IsSized}
-use Rattle.fk_store_leads.specs.Sweeps.{after, or_dead, pointer_after, peer_after, talk_after, fault_after, body_after}
+use Rattle.fk_store_freezing.specs.Sweeps.{after, or_dead, pointer_after, peer_after, talk_after, fault_after, body_after}
 
 pub and_then-mapped : {A B : Type 0} (f : A → B) (g : A → Option A) (h : B → Option B) →
     ((a : A) → option_map f (g a) ≡ h (f a)) → (o : Option A) → option_map f (and_then g o) ≡ and_then h (option_map f o)

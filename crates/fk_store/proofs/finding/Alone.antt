@@ -11,7 +11,7 @@ use Rattle.fk_store.specs.Paths.{place, from_home, path, space_at, HasOwnPath}
 use Rattle.fk_store.specs.Bodies.{body_by}
 use Rattle.fk_store.specs.World.{world, body_at}
 use Rattle.fk_store.specs.WellFormed.{is_there, IsWellFormed}
-use Rattle.fk_store_leads.proofs.NameLaws.{same_who_refl}
+use Rattle.fk_store_freezing.proofs.NameLaws.{same_who_refl}
 use Rattle.fk_store.proofs.finding.Homes.{home-found, number_is, is_the_number}
 use Rattle.fk_store.proofs.finding.Walks.{same_path_refl, same_path_true, path-root, path-step, path-home, path-lost, space_at-path, path-space_at}
 use Rattle.fk_store.proofs.finding.Walks.{place-apart, there-birth}

@@ -12,8 +12,8 @@ use Rattle.fk_model.specs.Places.{Path}
 use Rattle.fk_model.specs.Searches.{depth, objects}
 use Rattle.fk_model.proofs.walks.Members.{IsIn}
 use Rattle.std.proofs.lemmas.Cmp.{tied_itself}
-use Rattle.fk_store_leads.proofs.NameLaws.{who_total, who_exact, who_tied}
-use Rattle.fk_store_leads.proofs.Found.{found-member}
+use Rattle.fk_store_freezing.proofs.NameLaws.{who_total, who_exact, who_tied}
+use Rattle.fk_store_freezing.proofs.Found.{found-member}
 use Rattle.fk_store.specs.Contents.{Contents}
 use Rattle.fk_store.specs.Names.{who_cmp, rank}
 use Rattle.fk_store.specs.Orders.{IsFirstAfter}

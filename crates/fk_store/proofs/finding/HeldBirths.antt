@@ -9,7 +9,7 @@ use Rattle.fk_model.specs.Objects.{and_then, holds}
 use Rattle.fk_model.proofs.walks.Members.{IsIn}
 use Rattle.fk_model.specs.Places.{Path}
 use Rattle.fk_store_freezing.specs.Freezing.{is_held_at}
-use Rattle.fk_store_leads.specs.Held.{is_held}
+use Rattle.fk_store_freezing.specs.Held.{is_held}
 use Rattle.fk_store.specs.Bodies.{body_by}
 use Rattle.fk_store.specs.Contents.{Contents, birth_there, stored_birth}
 use Rattle.fk_store.specs.Names.{at}

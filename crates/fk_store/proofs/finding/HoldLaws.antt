@@ -9,7 +9,7 @@ use Rattle.fk_model.specs.Places.{Path, Ptr}
 use Rattle.fk_model.specs.Places.Ptr.{At}
 use Rattle.fk_model.specs.Objects.{and_then, or_else}
 use Rattle.fk_model.specs.Holds.{holder_of, decider, is_frozen}
-use Rattle.fk_store_leads.specs.Held.{is_held}
+use Rattle.fk_store_freezing.specs.Held.{is_held}
 use Rattle.fk_store.specs.Names.{at}
 use Rattle.fk_store.specs.Contents.{Contents, home, is_live}
 use Rattle.fk_store.specs.Paths.{place, path, space_at, HasOwnPath}

@@ -4,7 +4,7 @@ use Rattle.std.specs.FinMap.{get}
 use Rattle.fk_model.specs.declared.names.Who.{Who}
 use Rattle.fk_model.specs.declared.body.Body.{Body}
 use Rattle.fk_model.specs.Objects.{and_then}
-use Rattle.fk_store_leads.proofs.Found.{found-passes, none-passes}
+use Rattle.fk_store_freezing.proofs.Found.{found-passes, none-passes}
 use Rattle.fk_store.specs.Contents.{Contents, stored_birth, birth_there, is_number, home_in, home}
 
 pub number_is : (n : ℕ) (o : Option ℕ) → is_number n o ≡ true → o ≡ Some n

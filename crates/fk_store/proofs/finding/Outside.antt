@@ -20,8 +20,8 @@ use Rattle.fk_model.specs.Places.Ptr.{At}
 use Rattle.fk_model.specs.Searches.{depth, objects, pointers_to, option_list, peer_pointer, talk_pointers, fault_pointers}
 use Rattle.fk_model.specs.World.{World}
 use Rattle.fk_model.proofs.walks.Members.{IsIn}
-use Rattle.fk_store_leads.specs.Held.{one_if}
-use Rattle.fk_store_leads.specs.Pointers.{body_hits, hits_in}
+use Rattle.fk_store_freezing.specs.Held.{one_if}
+use Rattle.fk_store_freezing.specs.Pointers.{body_hits, hits_in}
 use Rattle.fk_store.specs.Bodies.{peer_by, talk_by, fault_by, body_by}
 use Rattle.fk_store.specs.Contents.{Contents, home}
 use Rattle.fk_store.specs.Names.{at}

@@ -16,14 +16,14 @@ use Rattle.fk_model.proofs.walks.Members.{IsIn, find_some, find_none}
 use Rattle.fk_model.proofs.walks.WalkLaws.{walked}
 use Rattle.fk_model.proofs.walks.PlaceLaws.{leads_to_at}
 use Rattle.std.proofs.lemmas.Bool.{and_parts}
-use Rattle.fk_store_leads.specs.declared.parts.Part.{Part}
+use Rattle.fk_store_freezing.specs.Shapes.{Part}
 use Rattle.fk_store.specs.Contents.{Contents}
 use Rattle.fk_store.specs.Paths.{path, place, HasOwnPath}
 use Rattle.fk_store.specs.Bodies.{body_by}
 use Rattle.fk_store.specs.Named.{Each}
 use Rattle.fk_store.specs.World.{world, IsLive}
 use Rattle.fk_store.specs.WellFormed.{is_there, IsWellFormed}
-use Rattle.fk_store_leads.specs.Parts.{plays}
+use Rattle.fk_store_freezing.specs.Parts.{plays}
 use Rattle.fk_store.specs.Parts.{played, played_at}
 use Rattle.fk_store.proofs.finding.NamedLaws.{OnNamed-map}
 use Rattle.fk_store.proofs.finding.Walks.{place-apart}

@@ -6,7 +6,7 @@ use Rattle.std.proofs.lemmas.List.Sums.{sum_by-cons, sum_by-append}
 use Rattle.std.specs.declared.cmp.Ordering.{Ordering}
 use Rattle.std.specs.declared.cmp.Ordering.TheVariants.{Less, Equal, Greater}
 use Rattle.std.proofs.lemmas.Cmp.{tied_itself}
-use Rattle.fk_store_leads.proofs.Found.{second}
+use Rattle.fk_store_freezing.proofs.Found.{second}
 use Rattle.std.specs.FinMap.Entries.{below_all}
 use Rattle.std.specs.FinMap.{get, entries, entries_sorted, get-entries, is_sorted}
 use Rattle.fk_model.specs.declared.names.Who.{Who}
@@ -24,10 +24,10 @@ use Rattle.fk_model.specs.Objects.{Body, kind_of}
 use Rattle.fk_model.specs.Searches.{depth, objects, pointers_to, option_list, peer_pointer, talk_pointers, fault_pointers}
 use Rattle.fk_model.specs.Valid.{kind_there}
 use Rattle.fk_model.proofs.walks.Members.{IsIn}
-use Rattle.fk_store_leads.specs.Names.{who_cmp}
-use Rattle.fk_store_leads.specs.Pointers.{hit, hits_in, pointer_hits, peer_hits, talk_hits, fault_hits, body_hits}
-use Rattle.fk_store_leads.proofs.NameLaws.{who_total, who_tied, same_who_eq}
-use Rattle.fk_store_leads.proofs.Found.{member-found, found-member, first_apart}
+use Rattle.fk_store_freezing.specs.Names.{who_cmp}
+use Rattle.fk_store_freezing.specs.Pointers.{hit, hits_in, pointer_hits, peer_hits, talk_hits, fault_hits, body_hits}
+use Rattle.fk_store_freezing.proofs.NameLaws.{who_total, who_tied, same_who_eq}
+use Rattle.fk_store_freezing.proofs.Found.{member-found, found-member, first_apart}
 use Rattle.fk_store.specs.Contents.{Contents}
 use Rattle.fk_store.specs.Paths.{path, place, HasOwnPath}
 use Rattle.fk_store.specs.Bodies.{pointer_by, peer_by, talk_by, fault_by, body_by}

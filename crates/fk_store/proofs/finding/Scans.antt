@@ -11,7 +11,7 @@ use Rattle.fk_store.specs.Contents.{Contents}
 use Rattle.fk_store.specs.World.{world}
 use Rattle.fk_store.specs.WellFormed.{is_there, IsWellFormed}
 use Rattle.fk_store.proofs.changing.Makes.{live-born}
-use Rattle.fk_store_leads.proofs.NameLaws.{who_exact}
+use Rattle.fk_store_freezing.proofs.NameLaws.{who_exact}
 
 module _ (P : Who → Type 0) (k : Option Who) (who : Who) (first : IsFirstAfter who_cmp P k (Some who)) where
   -- those that don't come after the next one are those that were passed, and the next one

@@ -9,7 +9,7 @@ use Rattle.fk_model.specs.Places.Ptr.{At}
 use Rattle.fk_model.specs.Holds.{holder_of, decider, is_frozen}
 use Rattle.fk_store_freezing.specs.Freezing.{AreKnown, IsAbove, is_held_at}
 use Rattle.fk_store_freezing.specs.Freezing.IsAbove.{Home, Further}
-use Rattle.fk_store_leads.specs.Held.{is_held}
+use Rattle.fk_store_freezing.specs.Held.{is_held}
 use Rattle.fk_store.specs.Bodies.{body_by}
 use Rattle.fk_store.specs.Contents.{Contents, stored_birth, home}
 use Rattle.fk_store.specs.Makes.{IsNext}

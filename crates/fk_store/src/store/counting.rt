@@ -4,7 +4,7 @@ ghost use Rattle.fk_model.specs.ObjectRows as rows;
 ghost use Rattle.fk_model.specs.Places as places;
 ghost use Rattle.fk_model.specs.Places.{same_path};
 ghost use Rattle.fk_model.specs.Searches.{pointers_to};
-ghost use Rattle.fk_store_leads.specs.Held.{one_if};
+ghost use Rattle.fk_store_freezing.specs.Held.{one_if};
 ghost use Rattle.fk_store.specs.Paths.{path};
 ghost use Rattle.fk_store.specs.World.{world, place_of, IsLive, IsSpace};
 

@@ -1,6 +1,6 @@
 use Rattle.std.proofs.Common.{sym, ap, ◌∙◌}
 use Rattle.fk_model.specs.Objects.{and_then}
-use Rattle.fk_store_leads.specs.Births.{stored_birth}
+use Rattle.fk_store_linked.specs.Births.{stored_birth}
 use Rattle.fk_store_linked.proofs.BodyLaws.{no-body, body-of}
 use Rattle.fk_store_bodies.proofs.bodies.birth_under.Goals as goal
 

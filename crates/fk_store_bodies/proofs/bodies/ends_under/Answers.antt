@@ -1,5 +1,5 @@
 use Rattle.std.proofs.Common.{sym, ap, ◌∙◌}
-use Rattle.fk_store_hints.specs.Leads.{led}
+use Rattle.fk_store_linked.specs.Leads.{led}
 use Rattle.fk_store_linked.proofs.AlikeLaws.{this_body}
 use Rattle.fk_store_linked.proofs.BodyLaws.{no-body}
 use Rattle.fk_store_bodies.proofs.bodies.ends_under.Goals as goal

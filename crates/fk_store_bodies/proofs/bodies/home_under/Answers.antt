@@ -1,6 +1,6 @@
 use Rattle.std.proofs.Common.{Some, sym, ap, ◌∙◌}
 use Rattle.fk_model.specs.Objects.{and_then}
-use Rattle.fk_store_objects.specs.Filed.{name_under}
+use Rattle.fk_store_linked.specs.Filed.{name_under}
 use Rattle.fk_store_linked.proofs.BodyLaws.{name-of, no-name}
 use Rattle.fk_store_bodies.proofs.bodies.home_under.Goals as goal
 

@@ -1,6 +1,6 @@
 use Rattle.std.proofs.Common.{sym, ap, ◌∙◌}
 use Rattle.fk_model.specs.Objects.{holds}
-use Rattle.fk_store_leads.specs.Held.{is_held}
+use Rattle.fk_store_linked.specs.Held.{is_held}
 use Rattle.fk_store_linked.proofs.BodyLaws.{no-body, body-of}
 use Rattle.fk_store_bodies.proofs.bodies.is_held_under.Goals as goal
 

@@ -1,7 +1,7 @@
 use Rattle.std.proofs.Common.{◌≡◌, ◌<◌, ℕ, Some, false}
 use Rattle.fk_model.specs.declared.body.Body.{Body}
 use Rattle.fk_store_linked.specs.Bodied.{body_under}
-use Rattle.fk_store_leads.specs.Parts.{plays}
+use Rattle.fk_store_linked.specs.Parts.{plays}
 use Rattle.fk_store_bodies.proofs.scans.first_among.Given as goal
 
 -- none under the keys so far

@@ -1,10 +1,10 @@
 use Rattle.std.proofs.Common.{◌≡◌, ℕ, Option, Some, None, sym, ap, ◌∙◌}
-use Rattle.fk_store_objects.specs.declared.entry.Entry.{Entry}
-use Rattle.fk_store_objects.specs.declared.entry.Told.{Told}
-use Rattle.fk_store_objects.specs.Filed.{Filed, entry_under}
+use Rattle.fk_store_linked.specs.Shapes.{Entry}
+use Rattle.fk_store_linked.specs.Shapes.{Told}
+use Rattle.fk_store_linked.specs.Filed.{Filed, entry_under}
 use Rattle.fk_store_linked.specs.Bodied.{told_by}
-use Rattle.fk_store_leads.specs.Parts.{sort_of}
-use Rattle.fk_store_leads.specs.declared.parts.Part.{Part}
+use Rattle.fk_store_linked.specs.Parts.{sort_of}
+use Rattle.fk_store_linked.specs.Shapes.{Part}
 use Rattle.fk_store_bodies.proofs.scans.told_of_part.Goals as goal
 
 this : (o : Filed) (part : Part) (key : ℕ) (d : Entry) (told : Told) → Some d ≡ entry_under o key → told ≡ told_by (sort_of part) d.hints →

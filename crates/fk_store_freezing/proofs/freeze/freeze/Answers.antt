@@ -1,5 +1,5 @@
 use Rattle.std.proofs.Common.{subst, arith}
-use Rattle.fk_store_leads.proofs.ProceedLaws.{none-of}
+use Rattle.fk_store_bodies.proofs.ProceedLaws.{none-of}
 use Rattle.fk_store_freezing.specs.Freezing.{AreFrozenUpTo}
 use Rattle.fk_store_freezing.proofs.FreezeLaws.{begins, ends, was_marked, top_marked}
 use Rattle.fk_store_freezing.proofs.freeze.freeze.Goals as goal

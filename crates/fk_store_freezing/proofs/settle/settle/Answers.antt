@@ -1,6 +1,6 @@
 use Rattle.std.proofs.Common.{sym, ap, ◌∙◌}
-use Rattle.fk_store_leads.specs.Births.{stored_birth}
-use Rattle.fk_store_leads.specs.Held.{is_held}
+use Rattle.fk_store_bodies.specs.Births.{stored_birth}
+use Rattle.fk_store_bodies.specs.Held.{is_held}
 use Rattle.fk_store_freezing.proofs.TreeLaws.{born_top, told_anew, frozen_all, told_all, no_number}
 use Rattle.fk_store_freezing.proofs.settle.settle.Goals as goal
 

@@ -1,5 +1,5 @@
 use Rattle.std.proofs.Common.{◌≡◌, sym, ap, ◌∙◌, Some, IsSome, option_map}
-use Rattle.fk_store_leads.proofs.NameLaws.{same_who_eq}
+use Rattle.fk_store_freezing.proofs.NameLaws.{same_who_eq}
 use Rattle.fk_model.specs.Places.{Path}
 use Rattle.fk_model.specs.Places.Ptr.{At}
 use Rattle.fk_model.specs.Holds as holds

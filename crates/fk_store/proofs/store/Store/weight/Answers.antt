@@ -1,5 +1,5 @@
 use Rattle.std.proofs.Common.{refl, ap, ◌∙◌}
-use Rattle.fk_store_leads.specs.Held.{one_if}
+use Rattle.fk_store_freezing.specs.Held.{one_if}
 use Rattle.fk_store.proofs.store.Store.weight.Goals as goal
 
 pub returns-in-Some-clause-one : goal.returns-in-Some-clause-one

@@ -1,6 +1,6 @@
 use Rattle.std.proofs.Common.{sym, ap, is_some, ◌∙◌}
 use Rattle.fk_model.specs.declared.body.Body.TheVariants.{Reference}
-use Rattle.fk_store_leads.specs.Leading.{is_reference}
+use Rattle.fk_store_linked.specs.Leading.{is_reference}
 use Rattle.fk_store_linked.proofs.BodyLaws.{under_name}
 use Rattle.fk_store_bodies.proofs.QuietLaws.{gone_there}
 use Rattle.fk_store_bodies.proofs.SetLaws.{under_key, reference_unborn, reference_there, set_body, set_others, set_all, set_map}

@@ -1,5 +1,5 @@
 use Rattle.std.proofs.Common.{IfSome, sym, subst, ◌∙◌}
-use Rattle.fk_store_leads.specs.declared.parts.Part.{Part}
+use Rattle.fk_store_linked.specs.Shapes.{Part}
 use Rattle.fk_store_bodies.specs.Playing.{IsPlayer, NobodyPlays}
 use Rattle.fk_store_linked.proofs.LinkedLaws.{head_node, head_room}
 use Rattle.fk_store_bodies.proofs.PlayLaws.{player_found, nobody_found, nobody_there, players_told, players_lead}

@@ -1,6 +1,6 @@
 use Rattle.std.proofs.Common.{arith}
 use Rattle.std.proofs.lemmas.Bool.Decides.{nat_tests}
-use Rattle.fk_store_leads.proofs.HeldLaws.{none-held, none-counted}
+use Rattle.fk_store_linked.proofs.HeldLaws.{none-held, none-counted}
 use Rattle.fk_store_bodies.proofs.bodies.Bodies.is_any_held.Goals as goal
 
 pub returns : goal.returns

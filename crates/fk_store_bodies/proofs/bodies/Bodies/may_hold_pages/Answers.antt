@@ -1,6 +1,6 @@
 use Rattle.std.proofs.Common.{sym, ap, ◌∙◌}
-use Rattle.fk_store_keys.specs.Tables.{mark_at}
-use Rattle.fk_store_leads.specs.Marks.{is_of_pages, page_mark}
+use Rattle.fk_store_linked.specs.Tables.{mark_at}
+use Rattle.fk_store_linked.specs.Marks.{is_of_pages, page_mark}
 use Rattle.fk_store_linked.proofs.MarkLaws.{none_unmarked}
 use Rattle.fk_store_bodies.proofs.bodies.Bodies.may_hold_pages.Goals as goal
 

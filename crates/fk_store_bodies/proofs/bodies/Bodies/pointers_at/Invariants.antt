@@ -1,7 +1,7 @@
 use Rattle.std.proofs.Common.{◌≡◌, ◌+◌, ◌≤◌, length}
 use Rattle.std.specs.FinMap.{entries}
 use Rattle.std.specs.List.{sum_by}
-use Rattle.fk_store_leads.specs.Pointers.{body_hits}
+use Rattle.fk_store_linked.specs.Pointers.{body_hits}
 use Rattle.fk_store_bodies.proofs.bodies.Bodies.pointers_at.Given as goal
 
 -- what was counted, and what is yet to come

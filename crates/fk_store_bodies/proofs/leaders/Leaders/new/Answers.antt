@@ -1,6 +1,6 @@
 use Rattle.std.proofs.Common.{Some, refl, arith}
-use Rattle.fk_store_links.specs.Nodes.{node_of}
-use Rattle.fk_store_links.specs.Walks.{AreLeaders}
+use Rattle.fk_store_linked.specs.Nodes.{node_of}
+use Rattle.fk_store_linked.specs.Walks.{AreLeaders}
 use Rattle.fk_store_linked.specs.Bodied.{owner}
 use Rattle.fk_store_bodies.proofs.LeaderWalks.{nodes_there, few_names}
 use Rattle.fk_store_linked.proofs.LinkedLaws.{head_node}

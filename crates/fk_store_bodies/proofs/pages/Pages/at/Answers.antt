@@ -1,6 +1,6 @@
 use Rattle.std.proofs.Common.{Some, sym, ap, ◌∙◌}
-use Rattle.fk_store_slots.proofs.TabledLaws.{get-rows}
-use Rattle.fk_store_leads.proofs.NameLaws.{page_naming}
+use Rattle.fk_store_linked.proofs.TabledLaws.{get-rows}
+use Rattle.fk_store_linked.proofs.NameLaws.{page_naming}
 use Rattle.fk_store_bodies.proofs.pages.Pages.at.Goals as goal
 
 pub returns-in-None : goal.returns-in-None

@@ -1,6 +1,6 @@
 use Rattle.std.proofs.Common.{sym, ◌∙◌}
-use Rattle.fk_store_slots.proofs.TabledLaws.{relaid_rows, same_rows, untaken}
-use Rattle.fk_store_leads.proofs.NameLaws.{page_naming}
+use Rattle.fk_store_linked.proofs.TabledLaws.{relaid_rows, same_rows, untaken}
+use Rattle.fk_store_linked.proofs.NameLaws.{page_naming}
 use Rattle.fk_store_bodies.proofs.Results.{any_err}
 use Rattle.fk_store_bodies.proofs.ScanLaws.{page_not_gone}
 use Rattle.fk_store_bodies.proofs.pages.Pages.put.Goals as goal

@@ -1,5 +1,5 @@
-use Rattle.fk_store_slots.proofs.TabledLaws.{remove_rows}
-use Rattle.fk_store_leads.proofs.NameLaws.{page_naming}
+use Rattle.fk_store_linked.proofs.TabledLaws.{remove_rows}
+use Rattle.fk_store_linked.proofs.NameLaws.{page_naming}
 use Rattle.fk_store_bodies.proofs.pages.Pages.remove.Goals as goal
 
 pub returns : goal.returns

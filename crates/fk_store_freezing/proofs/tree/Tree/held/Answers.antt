@@ -4,8 +4,8 @@ use Rattle.fk_model.specs.declared.names.Who.{Who}
 use Rattle.fk_model.specs.declared.body.Body.{Body}
 use Rattle.fk_model.proofs.walks.Members.{IsIn}
 use Rattle.fk_store_holds.specs.Held.{IsTold}
-use Rattle.fk_store_leads.specs.Births.{birth_in}
-use Rattle.fk_store_leads.specs.Names.{who_cmp}
+use Rattle.fk_store_bodies.specs.Births.{birth_in}
+use Rattle.fk_store_bodies.specs.Names.{who_cmp}
 use Rattle.fk_store_freezing.specs.Freezing.{AreTold, is_held_at}
 use Rattle.fk_store_freezing.proofs.tree.Tree.held.Goals as goal
 

@@ -1,4 +1,4 @@
-use Rattle.fk_store_leads.specs.Nudges.{nudged}
+use Rattle.fk_store_bodies.specs.Nudges.{nudged}
 use Rattle.fk_store_freezing.proofs.TreeLaws.{nudged-birth, nudged-held, tree_changed}
 use Rattle.fk_store_freezing.proofs.tree.Tree.nudge.Goals as goal
 
