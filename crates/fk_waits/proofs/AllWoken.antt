@@ -1,15 +1,14 @@
 -- AllWoken: threads that are woken one after another, each the first of all.
-use Rattle.std.proofs.Common.{◌≡◌, ◌<◌, ◌≤◌, ◌+◌, ◌-◌, ◌||◌, ℕ, suc, Bool, true, false, List, [], ◌∷◌, ◌++◌, length, length-append, map, Option, Some, None}
-use Rattle.std.proofs.Common.{is_some, if◌then◌else◌, refl, sym, ap, subst, ◌∙◌, arith}
+use Rattle.std.proofs.Common.{◌≡◌, ◌<◌, ◌≤◌, ◌+◌, ◌-◌, ◌||◌, ℕ, suc, Bool, true, List, [], ◌∷◌, ◌++◌, length, length-append, map, Option, Some, None}
+use Rattle.std.proofs.Common.{if◌then◌else◌, refl, sym, ap, subst, ◌∙◌, arith}
 use Rattle.std.proofs.lemmas.Bool.{or_left}
 use Rattle.fk_model.specs.declared.names.Who.{Who}
 use Rattle.fk_waits_names.specs.Names.{is_same}
 use Rattle.fk_waits_causes.specs.Causes.{front_of, Standing}
 use Rattle.fk_waits_causes.proofs.Placed.{same_by, same_self}
-use Rattle.fk_waits.specs.Lists.{is_in, is_queued, stands, Lists}
-use Rattle.fk_waits.specs.Threads.{all_ready, are_queued, are_ready, besides, front_for, is_there, lists_of, pair_of, pairs_of, AreThere, Pairs, StandApart}
+use Rattle.fk_waits.specs.Lists.{stands}
+use Rattle.fk_waits.specs.Threads.{all_ready, are_queued, besides, front_for, is_there, lists_of, pair_of, pairs_of, AreThere, Pairs, StandApart}
 use Rattle.fk_waits.specs.declared.threads.Threads.{Threads}
-use Rattle.fk_waits_causes.proofs.Numbers.{clash}
 use Rattle.fk_waits.proofs.Listed.{pairs_are, stands_there}
 use Rattle.fk_waits.proofs.There.{besides_none}
 

@@ -1,6 +1,8 @@
 //! Threads by their names.
 ghost use Rattle.std.specs.Prelude.{◌≡◌, ◌+◌, ◌≤◌, ◌<◌, ◌^◌, [], ◌∷◌, ◌++◌, length, map, Option, None, IfOk, OnErr, OnOk};
-ghost use Rattle.fk_waits.specs.Threads.{all_ready, besides, first_for, front_for, is_waiting, with_cause, with_name, AreThere, Fits, IsNobody, IsUnused, Pairs, Stand};
+ghost use Rattle.fk_waits_names.specs.Names.{key_at};
+ghost use Rattle.fk_waits.specs.Threads.{all_ready, besides, first_for, front_for, is_waiting, with_cause, with_name, AreThere};
+ghost use Rattle.fk_waits.specs.Threads.{Fits, IsNobody, IsUnused, Pairs, Stand};
 
 use fk_model::{NoMemory, Who};
 use fk_waits_causes::Causes;
@@ -59,7 +61,19 @@ impl Threads {
         ensures waited { (l : Pairs) → AreThere self.old l → result ≡ is_waiting thread l }
         ensures seats { self.new.causes.seats ≡ self.old.causes.seats }
     {
-        match self.names.find(thread) {
+        let key = self.names.find_near(thread);
+        self.settle_found(thread, cause, key)
+    }
+
+    /// The same of a thread with this node, or with none where it doesn't stand.
+    fn settle_found(&mut self, thread: Who, cause: Option<Who>, key: Option<usize>) -> bool
+        requires fits { Fits self.old thread }
+        requires key { key ≡ key_at self.old.names.0 thread }
+        ensures there { (l : Pairs) → AreThere self.old l → AreThere self.new (besides thread l ++ (thread, cause) ∷ []) }
+        ensures waited { (l : Pairs) → AreThere self.old l → result ≡ is_waiting thread l }
+        ensures seats { self.new.causes.seats ≡ self.old.causes.seats }
+    {
+        match key {
             Some(key) => self.causes.turn(key, cause),
             None => {
                 let key = self.causes.enter(thread, cause);

@@ -96,6 +96,16 @@ found [] at d who place low same = absurd (omega (arith, low))
 found (n ∷ l) zero d who place low same = rw same refl
 found (n ∷ l) (suc at) d who place low same = rw (apart-less n.who who place.0) (found l at d who place.1 (omega (arith, low)) same)
 
+-- of a name that is there, wherever that is
+pub found_there : (l : List Name) (at : ℕ) (d : Name) (who : Who) → IsRising l → at < length l → is_same (get_or l at d).who who ≡ true →
+    key_at l who ≡ Some (get_or l at d).key
+found_there [] at d who rising low same = absurd (omega (arith, low))
+found_there (n ∷ l) zero d who rising low same = rw same refl
+found_there (n ∷ l) (suc at) d who rising low same =
+    let less = above_at (rank n.who) l rising.1 at d (omega (arith, low)) in
+    rw (apart-less n.who who (omega (arith, less, same-ranks (get_or l at d).who who same)))
+    (found_there l at d who rising.2 (omega (arith, low)) same)
+
 pub not_found : (l : List Name) (at : ℕ) (d : Name) (who : Who) → IsPlace (rank who) l at → IsRising l →
     (at < length l → is_same (get_or l at d).who who ≡ false) →
     key_at l who ≡ None

@@ -18,6 +18,8 @@ pub struct Name {
 #[derive(Drop)]
 pub struct Names {
     items: Vec<Name>,
+    /// Behind where a name was found last. Who looks for one name after another finds the next one there.
+    next: usize,
 }
 
 impl Model for Names {
@@ -76,6 +78,11 @@ fn key_in(items: &[Name], at: usize, who: Who) -> Option<usize>
     }
 }
 
+/// The place behind one. It is where a look begins, so any would do.
+fn behind(at: usize) -> usize {
+    at.wrapping_add(1)
+}
+
 impl Names {
     /// No names, and no room yet.
     pub fn new(alloc: Global) -> Names
@@ -83,6 +90,7 @@ impl Names {
     {
         Names {
             items: Vec::new(alloc),
+            next: 0,
         }
     }
 
@@ -110,6 +118,30 @@ impl Names {
         ensures { result ≡ key_at self.now.0 who }
     {
         key_in(&self.items, place_of(&self.items, who), who)
+    }
+
+    /// The same, sought first behind the name that was found so last.
+    pub fn find_near(&mut self, who: Who) -> Option<usize>
+        ensures found { result ≡ key_at self.old.0 who }
+        ensures same { self.new ≡ self.old }
+    {
+        match key_in(&self.items, self.next, who) {
+            Some(key) => {
+                self.next = behind(self.next);
+                Some(key)
+            }
+            None => self.find_far(who),
+        }
+    }
+
+    /// The same by halving.
+    fn find_far(&mut self, who: Who) -> Option<usize>
+        ensures found { result ≡ key_at self.old.0 who }
+        ensures same { self.new ≡ self.old }
+    {
+        let at = place_of(&self.items, who);
+        self.next = behind(at);
+        key_in(&self.items, at, who)
     }
 
     /// Puts in a name that isn't there, with a number.

@@ -1,29 +1,29 @@
-use Rattle.std.proofs.Common.{sym}
-use Rattle.fk_waits.proofs.Settled.{come_there, come_waited, has_key, has_seat, put_fits, turned_there, turned_waited}
+use Rattle.std.proofs.Common.{◌≡◌, sym, ap, subst, ◌∙◌}
+use Rattle.fk_waits_names.specs.Names.{key_at}
+use Rattle.fk_waits.specs.Threads.{AreThere, Fits}
+use Rattle.fk_waits.specs.declared.threads.Threads.{Threads}
 use Rattle.fk_waits.proofs.threads.Threads.settle.Goals as goal
 
-pub turn-requires : goal.turn-requires
-turn-requires c = has_key c.args.self.now c.args.thread c.in-Some.key c.requires.list c.requires.there c.in-Some.ensures
+pub settle_found-requires : goal.settle_found-requires
+settle_found-requires c =
+    let t = c.args.self.now in
+    let is : record { causes = t.causes; names = c.find_near-key.new.self } ≡ t =
+    ap (λ n. record { causes = t.causes; names = n }) c.find_near-key.ensures.same in
+    record {
+      fits = subst (λ (u : Threads). Fits u c.args.thread) (sym is) c.requires;
+      key = c.find_near-key.ensures.found ∙ ap (λ (u : Threads). key_at u.names.0 c.args.thread) (sym is);
+    }
 
-pub returns-in-Some-clause-there : goal.returns-in-Some-clause-there
-returns-in-Some-clause-there c l there =
-    turned_there c.args.self.now c.turn.new.self c.args.thread c.args.cause c.in-Some.key c.in-Some.ensures c.turn.ensures.standing c.turn.ensures.seats l there
+pub returns-clause-there : goal.returns-clause-there
+returns-clause-there c l there =
+    let t = c.args.self.now in
+    let is : record { causes = t.causes; names = c.find_near-key.new.self } ≡ t =
+    ap (λ n. record { causes = t.causes; names = n }) c.find_near-key.ensures.same in
+    c.settle_found.ensures.there l (subst (λ (u : Threads). AreThere u l) (sym is) there)
 
-pub returns-in-Some-clause-waited : goal.returns-in-Some-clause-waited
-returns-in-Some-clause-waited c l there =
-    turned_waited c.args.self.now c.args.thread c.in-Some.key c.turn.result c.in-Some.ensures c.turn.ensures.waited l there
-
-pub enter-key-requires : goal.enter-key-requires
-enter-key-requires c = has_seat c.args.self.now c.args.thread c.requires c.in-None.ensures
-
-pub put-requires : goal.put-requires
-put-requires c = record { new = sym c.in-None.ensures; room = put_fits c.args.self.now c.args.thread c.requires c.in-None.ensures }
-
-pub returns-in-None-clause-there : goal.returns-in-None-clause-there
-returns-in-None-clause-there c l there =
-    let p = c.put.ensures in
-    come_there c.args.self.now c.enter-key.new.self c.put.new.self c.args.thread c.args.cause c.enter-key.result c.in-None.ensures c.requires
-    c.enter-key.ensures.standing c.enter-key.ensures.seats p.put p.len p.kept l there
-
-pub returns-in-None-clause-waited : goal.returns-in-None-clause-waited
-returns-in-None-clause-waited c l there = come_waited c.args.self.now c.args.thread c.in-None.ensures l there
+pub returns-clause-waited : goal.returns-clause-waited
+returns-clause-waited c l there =
+    let t = c.args.self.now in
+    let is : record { causes = t.causes; names = c.find_near-key.new.self } ≡ t =
+    ap (λ n. record { causes = t.causes; names = n }) c.find_near-key.ensures.same in
+    c.settle_found.ensures.waited l (subst (λ (u : Threads). AreThere u l) (sym is) there)

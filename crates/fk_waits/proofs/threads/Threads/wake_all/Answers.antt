@@ -1,5 +1,4 @@
-use Rattle.std.proofs.Common.{◌<◌, ◌≤◌, length, refl, sym, ◌∙◌, arith}
-use Rattle.fk_waits.specs.Threads.{all_ready}
+use Rattle.std.proofs.Common.{refl, ◌∙◌, arith}
 use Rattle.fk_waits.proofs.AllWoken.{turned_all, turned_first, turned_next}
 use Rattle.fk_waits.proofs.threads.Threads.wake_all.Goals as goal
 

@@ -1,4 +1,4 @@
-use Rattle.std.proofs.Common.{[], List, length, refl, sym, ap, ◌∙◌}
+use Rattle.std.proofs.Common.{List, length, sym, ap, ◌∙◌}
 use Rattle.fk_model.specs.declared.names.Who.{Who}
 use Rattle.fk_waits.specs.Lists.{stands, Lists}
 use Rattle.fk_waits.specs.Threads.{all_ready, pairs_of}
