@@ -3,12 +3,20 @@
 //! It stands on `fk_boot` for its first world and its servers, on `fk_jobs` and `fk_porters` for what is planned of its jobs and who does it,
 //! on `fk_core` for the core, and on `laws_first` for what that world gives to a run. It promises that the core has that world, those servers and
 //! all jobs of the file, none of which has begun (`specs/First.antt`), and that a run may begin there.
+//!
+//! `watch` makes the moves of a trace from there on, each of which was ready, and shows a watcher what stands before and after each. It promises
+//! no more than that it ends.
 #![tactic(auto)]
 
 mod first;
 mod plans;
+mod ready;
+mod seen;
+mod watching;
 
 pub use first::first_core;
 pub use fk_boot::Kernel;
 pub use fk_core::Core;
 pub use plans::{maker_of, plans_of};
+pub use seen::{Job, Ready, Seen, Stop, Trace, Watcher};
+pub use watching::watch;

@@ -1,0 +1,80 @@
+//! What is seen of a run, and who watches it.
+use fk_model::{Move, NoMemory, Stage, Who};
+use fk_natives::Native;
+use fk_store::Store;
+use std::collections::BTreeMap;
+
+/// The job whose turn it is, as far as it asks for a call.
+#[derive(Clone, Copy)]
+pub struct Job {
+    pub porter: Who,
+    pub stage: Stage,
+    /// After how many moves it begins.
+    pub at: u64,
+    /// Whether it has made a move.
+    pub is_at_work: bool,
+}
+
+/// What is seen at a moment of a run.
+#[derive(Clone, Copy)]
+pub struct Seen<'a> {
+    pub store: &'a Store,
+    /// The native servers with their ports, in the order of the file.
+    pub services: &'a [(Who, Native)],
+    pub job: Option<Job>,
+    /// How many moves were made.
+    pub events: u64,
+}
+
+/// The threads that have a ready move, each with the thread that it picks where it picks one.
+pub type Ready = BTreeMap<Who, Option<Who>>;
+
+/// Where a run stops.
+#[derive(Clone, Copy)]
+pub enum Stop {
+    /// As many moves were made as was asked for.
+    Enough,
+    /// The trace has no further line.
+    Ended,
+    /// The trace's first line isn't that of a trace.
+    NoTrace,
+    /// The line of the move with this index is misspelled.
+    Misspelled { index: u64 },
+    /// The move with this index isn't ready.
+    Unready { index: u64, one: Move },
+    /// The budget is used, and the trace goes on with the move with this index.
+    Budget { index: u64 },
+}
+
+/// A trace: the bytes of its file, how many of its moves are made at most, and whether the one behind these is looked at, which
+/// isn't made.
+#[derive(Clone, Copy)]
+pub struct Trace<'a> {
+    pub bytes: &'a [u8],
+    pub most: u64,
+    pub looks_ahead: bool,
+}
+
+/// Who watches a run.
+pub trait Watcher {
+    /// It sees what stands before a move, of which it isn't known yet whether it is ready.
+    ///
+    /// # Errors
+    ///
+    /// It has no memory.
+    fn before(&mut self, seen: Seen<'_>, one: &Move) -> Result<(), NoMemory>;
+
+    /// It sees what stands after that move, which was made.
+    ///
+    /// # Errors
+    ///
+    /// It has no memory.
+    fn after(&mut self, seen: Seen<'_>, one: &Move) -> Result<(), NoMemory>;
+
+    /// It sees what stands where the run stops, and who could go on.
+    ///
+    /// # Errors
+    ///
+    /// It has no memory.
+    fn stops(&mut self, seen: Seen<'_>, ready: &Ready, stop: Stop) -> Result<(), NoMemory>;
+}

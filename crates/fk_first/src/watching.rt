@@ -1,0 +1,134 @@
+//! A run by a trace, watched.
+ghost use Rattle.std.specs.Prelude.{map};
+ghost use Rattle.fk_core.specs.Goings.{IsGoing};
+ghost use Rattle.fk_scenario.specs.Kept.{KeepsScenario, HasRules};
+ghost use Rattle.fk_core.specs.Served.{AllFit};
+
+use crate::first::first_core;
+use crate::ready::ready_threads;
+use crate::seen::{Job, Seen, Stop, Trace, Watcher};
+use fk_core::Core;
+use fk_finish::ValidImage;
+use fk_model::limits::LAST_PORTER_SLOT;
+use fk_model::{NoMemory, Who};
+use fk_natives::Native;
+use fk_porters::Porter;
+use fk_responders::Table;
+use fk_scenario::Scenario;
+use fk_trace_text::{after_first_line, first_move};
+use std::alloc::Global;
+
+/// The job whose turn it is, with the call that it asks for.
+fn job_of(core: &Core<Native, Porter>) -> Option<Job> {
+    let jobs = core.jobs();
+    let plan = jobs.current()?;
+    let mut words = [0; 64];
+    let stage = jobs.next(&mut words)?;
+    Some(Job {
+        porter: Who {
+            space: plan.nester,
+            slot: LAST_PORTER_SLOT as u8,
+        },
+        stage,
+        at: plan.at,
+        is_at_work: jobs.is_at_work(),
+    })
+}
+
+/// What is seen of a core, and of its job.
+fn seen<'a>(core: &'a Core<Native, Porter>, job: Option<Job>) -> Seen<'a> {
+    Seen {
+        store: core.kernel().store(),
+        services: core.services(),
+        job,
+        events: core.events(),
+    }
+}
+
+/// Where a run stops behind the moves that were asked for: where the next one isn't ready, at that.
+fn ahead(core: &Core<Native, Porter>, rest: &[u8], index: u64) -> Stop {
+    match first_move(rest) {
+        Some((one, _)) if !core.ready(&one) => Stop::Unready { index, one },
+        _ => Stop::Enough,
+    }
+}
+
+/// Makes the moves of a trace, as many as are asked for, and answers where that stops.
+fn play<V: Watcher>(
+    core: &mut Core<Native, Porter>,
+    table: &Table,
+    trace: Trace<'_>,
+    watcher: &mut V,
+) -> Result<Stop, NoMemory>
+    requires fits { AllFit (map (λ r. r.rule) table.now.list.items) core.old.services.list }
+    requires come { IsGoing core.old }
+{
+    let Some(mut rest) = after_first_line(trace.bytes) else {
+        return Ok(Stop::NoTrace);
+    };
+    for index in 0..trace.most {
+        if rest.is_empty() {
+            return Ok(Stop::Ended);
+        }
+        let Some((one, after)) = first_move(rest) else {
+            return Ok(Stop::Misspelled { index });
+        };
+        if !core.is_below_budget() {
+            return Ok(Stop::Budget { index });
+        }
+        let job = job_of(core);
+        watcher.before(seen(core, job), &one)?;
+        if !core.go(table, &one)? {
+            return Ok(Stop::Unready { index, one });
+        }
+        watcher.after(seen(core, None), &one)?;
+        rest = after;
+    }
+    if trace.looks_ahead {
+        return Ok(ahead(core, rest, trace.most));
+    }
+    Ok(Stop::Enough)
+}
+
+/// Makes the moves of a trace, if there is one, and shows the watcher where that stops.
+fn play_to_stop<V: Watcher>(
+    alloc: Global,
+    core: &mut Core<Native, Porter>,
+    table: &Table,
+    trace: Option<Trace<'_>>,
+    watcher: &mut V,
+) -> Result<Stop, NoMemory>
+    requires fits { AllFit (map (λ r. r.rule) table.now.list.items) core.old.services.list }
+    requires come { IsGoing core.old }
+{
+    let stop = match trace {
+        Some(trace) => play(core, table, trace, watcher)?,
+        None => Stop::Ended,
+    };
+    let job = job_of(core);
+    let ready = ready_threads(alloc, core, job)?;
+    watcher.stops(seen(core, job), &ready, stop)?;
+    Ok(stop)
+}
+
+/// Makes the moves of a trace from the first core of a scenario that was read by the rules of a table, with images for its jobs; shows them to
+/// a watcher, and answers where that stops. With no trace the watcher sees the first core alone. The core is let go here, so that
+/// who watches proves nothing of it.
+///
+/// # Errors
+///
+/// There is no memory.
+pub fn watch<V: Watcher>(
+    alloc: Global,
+    table: &Table,
+    scenario: &Scenario,
+    images: &[Option<ValidImage>],
+    trace: Option<Trace<'_>>,
+    watcher: &mut V,
+) -> Result<Stop, NoMemory>
+    requires keeps { KeepsScenario scenario.now }
+    requires rules { HasRules (map (λ r. r.rule) table.now.list.items) scenario.now }
+{
+    let mut core = first_core(alloc, scenario, images)?;
+    play_to_stop(alloc, &mut core, table, trace, watcher)
+}
