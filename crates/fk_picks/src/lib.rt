@@ -12,6 +12,9 @@ mod picks;
 mod ports;
 mod sleepers;
 
-pub use fk_calls::{Sent, Told, attempt, call, is_fit, may_move, proceed, ready, say};
+pub use fk_calls::{
+    Picks, Sent, Told, attempt, call, is_fit, may_move, may_pick, proceed, ready, say,
+};
+pub use fk_links::is_member;
 pub use moves::Picker;
 pub use picks::{ready_accept, ready_pick};

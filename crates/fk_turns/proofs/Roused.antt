@@ -1,7 +1,7 @@
 -- Roused: threads that are woken one after another.
 use Rattle.std.proofs.Common.{◌≡◌, ◌≤◌, ◌<◌, ◌||◌, ◌⊎◌, Bool, true, false, List, [], ◌∷◌, ◌++◌, length, Option, Some, None, if◌then◌else◌, inl, inr, refl, sym}
 use Rattle.std.proofs.Common.{ap, subst, ◌∙◌, arith}
-use Rattle.std.proofs.lemmas.Bool.{or_from, or_left, or_right}
+use Rattle.std.proofs.lemmas.Bool.{or_from, or_right}
 use Rattle.fk_model.specs.declared.names.Who.{Who}
 use Rattle.fk_waits_names.specs.Names.{is_same}
 use Rattle.fk_waits_names.proofs.Order.{same_who}
@@ -9,20 +9,30 @@ use Rattle.fk_waits.specs.Lists.{first_queued, first_ready, is_cause, is_in, is_
 use Rattle.fk_waits.proofs.Listed.{front_stands}
 use Rattle.fk_waits_causes.proofs.Numbers.{clash}
 use Rattle.fk_waits_causes.proofs.Placed.{same_by}
-use Rattle.fk_turns.specs.Turns.{waits_at, AreMet, IsFreed, IsLess, IsRoused, IsSound}
+use Rattle.fk_turns.specs.Turns.{all_marks, waits_at, AreMet, IsFreed, IsLess, IsRoused, IsSound}
 use Rattle.fk_waits_woken.specs.Wakes.{those_at}
 use Rattle.fk_waits_woken.proofs.Wakes.{first_goes, first_stands}
-use Rattle.fk_turns.proofs.Woken.{cause_less, queued_less, queued_off, room_woken, stands_woken, waits_cause, waits_less, waits_more, waits_other}
+use Rattle.fk_turns.proofs.Woken.{cause_less, queued_less, queued_off, room_woken, stands_woken, waits_behind, waits_cause, waits_less, waits_more, waits_other, waits_split}
 
 pub less_none : (l : Lists) → IsLess l l
-less_none l = record { waiting = λ cause x is. is; queued = λ x is. is; causes = λ cause is. is }
+less_none l = record { waiting = λ cause x is. is; queued = λ x is. is; causes = λ cause is. is; stays = λ cause x is. inl is }
+
+false_unless : (b c : Bool) → (b ≡ true → c ≡ true) → c ≡ false → b ≡ false
+false_unless true c then_so off = clash c (then_so refl) off
+false_unless false c then_so off = refl
 
 pub less_then : (a b c : Lists) → IsLess a b → IsLess b c → IsLess a c
 less_then a b c first second = record {
   waiting = λ cause x is. first.waiting cause x (second.waiting cause x is);
   queued = λ x is. first.queued x (second.queued x is);
   causes = λ cause is. first.causes cause (second.causes cause is);
+  stays = λ cause x is. by cause x (first.stays cause x is);
 }
+  where
+    by : (cause x : Who) → (waits_at cause x b.queued ≡ true) ⊎ (is_queued x b.queued ≡ false) →
+        (waits_at cause x c.queued ≡ true) ⊎ (is_queued x c.queued ≡ false)
+    by cause x (inl there) = second.stays cause x there
+    by cause x (inr gone) = inr (false_unless (is_queued x c.queued) (is_queued x b.queued) (second.queued x) gone)
 
 -- without one
 pub less_one : (n : Who) (l now : Lists) → now.queued ≡ without_queued n l.queued → IsLess l now
@@ -30,7 +40,14 @@ less_one n l now is = record {
   waiting = λ cause x here. waits_less cause x n l.queued (ap (waits_at cause x) (sym is) ∙ here);
   queued = λ x here. queued_less x n l.queued (ap (is_queued x) (sym is) ∙ here);
   causes = λ cause here. cause_less cause n l.queued (ap (is_cause cause) (sym is) ∙ here);
+  stays = λ cause x there. by cause x there (is_same n x) refl;
 }
+  where
+    by : (cause x : Who) → waits_at cause x l.queued ≡ true → (t : Bool) → is_same n x ≡ t →
+        (waits_at cause x now.queued ≡ true) ⊎ (is_queued x now.queued ≡ false)
+    by cause x there true e =
+        inr (ap (is_queued x) is ∙ subst (λ (w : Who). is_queued w (without_queued n l.queued) ≡ false) (same_who n x e) (queued_off n l.queued))
+    by cause x there false e = inl (ap (waits_at cause x) is ∙ waits_other cause x n l.queued e there)
 
 pub off_one : (n : Who) (l now : Lists) → now.queued ≡ without_queued n l.queued → is_queued n now.queued ≡ false
 off_one n l now is = ap (is_queued n) is ∙ queued_off n l.queued
@@ -82,10 +99,6 @@ met_none marks waits = record { met = λ x is. inl is; keyed = λ key x is. inl 
 -- where nobody is queued
 pub met_nobody : (marks now waits : Lists) → waits.queued ≡ [] → AreMet marks now waits
 met_nobody marks now waits none = record { met = λ x is. inr (ap (is_queued x) none); keyed = λ key x is. inr (ap (is_queued x) none) }
-
-false_unless : (b c : Bool) → (b ≡ true → c ≡ true) → c ≡ false → b ≡ false
-false_unless true c then_so off = clash c (then_so refl) off
-false_unless false c then_so off = refl
 
 -- one is woken, or goes
 pub met_more : (marks now waits after woke : Lists) (n : Who) → AreMet marks now waits → after.ready ≡ without n now.ready →
@@ -197,6 +210,50 @@ freed_later key marks now w v met freed less named x there = by (met.keyed key x
     by : (waits_at key x now.queued ≡ true) ⊎ (is_queued x w.queued ≡ false) → is_queued x v.queued ≡ false
     by (inl here) = freed named x here
     by (inr gone) = gone_later w v x less gone
+
+-- who is queued is marked at its cause too
+pub met_both : (waits marks now then_marks : Lists) → AreMet marks then_marks now → IsLess waits now →
+    AreMet (all_marks waits marks) (all_marks now then_marks) now
+met_both waits marks now then_marks met less = record {
+  met = λ x is. met.met x is;
+  keyed = λ key x is. by key x (waits_split key x marks.queued waits.queued is);
+}
+  where
+    marked : (key x : Who) → (waits_at key x then_marks.queued ≡ true) ⊎ (is_queued x now.queued ≡ false) →
+        (waits_at key x (then_marks.queued ++ now.queued) ≡ true) ⊎ (is_queued x now.queued ≡ false)
+    marked key x (inl there) = inl (waits_more key x then_marks.queued now.queued there)
+    marked key x (inr gone) = inr gone
+
+    queued : (key x : Who) → (waits_at key x now.queued ≡ true) ⊎ (is_queued x now.queued ≡ false) →
+        (waits_at key x (then_marks.queued ++ now.queued) ≡ true) ⊎ (is_queued x now.queued ≡ false)
+    queued key x (inl there) = inl (waits_behind key x then_marks.queued now.queued there)
+    queued key x (inr gone) = inr gone
+
+    by : (key x : Who) → (waits_at key x marks.queued ≡ true) ⊎ (waits_at key x waits.queued ≡ true) →
+        (waits_at key x (then_marks.queued ++ now.queued) ≡ true) ⊎ (is_queued x now.queued ≡ false)
+    by key x (inl there) = marked key x (met.keyed key x there)
+    by key x (inr there) = queued key x (less.stays key x there)
+
+-- nobody that was marked at an object, or queued there, is queued
+pub freed_both : (key : Who) (waits marks mid now : Lists) → IsFreed key marks mid → IsLess waits mid → IsLess mid now → is_cause key now.queued ≡ false →
+    IsFreed key (all_marks waits marks) now
+freed_both key waits marks mid now freed first second none named x is = by (waits_split key x marks.queued waits.queued is)
+  where
+    last : (waits_at key x now.queued ≡ true) ⊎ (is_queued x now.queued ≡ false) → is_queued x now.queued ≡ false
+    last (inl here) = clash (is_cause key now.queued) (waits_cause key x now.queued here) none
+    last (inr gone) = gone
+
+    then_by : (waits_at key x mid.queued ≡ true) ⊎ (is_queued x mid.queued ≡ false) → is_queued x now.queued ≡ false
+    then_by (inl here) = last (second.stays key x here)
+    then_by (inr gone) = gone_later mid now x second gone
+
+    by : (waits_at key x marks.queued ≡ true) ⊎ (waits_at key x waits.queued ≡ true) → is_queued x now.queued ≡ false
+    by (inl there) = gone_later mid now x second (freed named x there)
+    by (inr there) = then_by (first.stays key x there)
+
+-- the marks stay, and fewer are queued
+pub met_still : (a b c w v : Lists) → AreMet a b w → IsLess w v → c ≡ b → AreMet a c v
+met_still a b c w v met less same = subst (λ (m : Lists). AreMet a m v) (sym same) (met_then a b b w v met (met_none b v) less)
 
 pub met_all : (marks now waits : Lists) → AreMet marks now waits → now.ready ≡ [] → (x : Who) → is_in x marks.ready ≡ true → is_queued x waits.queued ≡ false
 met_all marks now waits all none x is = by (all.met x is)

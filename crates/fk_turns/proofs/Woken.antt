@@ -1,5 +1,5 @@
 -- Woken: who stands where once a thread is woken, parked or gone.
-use Rattle.std.proofs.Common.{◌≡◌, ◌≤◌, ◌+◌, ◌-◌, ◌&&◌, ◌||◌, Bool, true, false, List, [], ◌∷◌, ◌++◌, Option, Some, None, is_some, if◌then◌else◌, refl, sym}
+use Rattle.std.proofs.Common.{◌≡◌, ◌≤◌, ◌+◌, ◌-◌, ◌&&◌, ◌||◌, ◌⊎◌, inl, inr, Bool, true, false, List, [], ◌∷◌, ◌++◌, Some, if◌then◌else◌, refl, sym}
 use Rattle.std.proofs.Common.{ap, subst, ◌∙◌, arith}
 use Rattle.std.proofs.lemmas.Bool.{or_from, or_left, or_right}
 use Rattle.std.specs.Bool.{OnTrue}
@@ -128,6 +128,40 @@ pub waits_more : (key x : Who) (l k : List (Who × Who)) → waits_at key x l �
 waits_more key x [] k is = absurd (cc)
 waits_more key x (q ∷ l) k is = more (is_same q.0 key && is_same q.1 x) (waits_at key x l) (waits_at key x (l ++ k)) (λ rest. waits_more key x l k rest) is
 
+pub waits_behind : (key x : Who) (l k : List (Who × Who)) → waits_at key x k ≡ true → waits_at key x (l ++ k) ≡ true
+waits_behind key x [] k is = is
+waits_behind key x (q ∷ l) k is = or_right (is_same q.0 key && is_same q.1 x) (waits_at key x (l ++ k)) (waits_behind key x l k is)
+
+pub waits_split : (key x : Who) (l k : List (Who × Who)) → waits_at key x (l ++ k) ≡ true → (waits_at key x l ≡ true) ⊎ (waits_at key x k ≡ true)
+waits_split key x [] k is = inr is
+waits_split key x (q ∷ l) k is = by (is_same q.0 key && is_same q.1 x) refl (λ rest. waits_split key x l k rest) is
+  where
+    of : (waits_at key x l ≡ true) ⊎ (waits_at key x k ≡ true) →
+        (((is_same q.0 key && is_same q.1 x) || waits_at key x l) ≡ true) ⊎ (waits_at key x k ≡ true)
+    of (inl one) = inl (or_right (is_same q.0 key && is_same q.1 x) (waits_at key x l) one)
+    of (inr other) = inr other
+
+    by : (t : Bool) → (is_same q.0 key && is_same q.1 x) ≡ t →
+        (waits_at key x (l ++ k) ≡ true → (waits_at key x l ≡ true) ⊎ (waits_at key x k ≡ true)) → (t || waits_at key x (l ++ k)) ≡ true →
+        (((is_same q.0 key && is_same q.1 x) || waits_at key x l) ≡ true) ⊎ (waits_at key x k ≡ true)
+    by true e rest here = inl (or_left (is_same q.0 key && is_same q.1 x) (waits_at key x l) e)
+    by false e rest here = of (rest here)
+
+-- nothing is a cause in either list
+cause_off : (cause : Who) (l k : List (Who × Who)) → is_cause cause l ≡ false → is_cause cause k ≡ false → is_cause cause (l ++ k) ≡ false
+cause_off cause [] k none other = other
+cause_off cause (q ∷ l) k none other = by (is_same q.0 cause) refl (λ rest. cause_off cause l k rest other) none
+  where
+    by : (t : Bool) → is_same q.0 cause ≡ t → (is_cause cause l ≡ false → is_cause cause (l ++ k) ≡ false) → (t || is_cause cause l) ≡ false →
+        (is_same q.0 cause || is_cause cause (l ++ k)) ≡ false
+    by true e rest here = absurd (cc)
+    by false e rest here = or_from (is_same q.0 cause) (is_cause cause (l ++ k)) e (rest here)
+
+pub cause_in_neither : (cause : Who) (l k : List (Who × Who)) (b : Bool) → is_cause cause l ≡ false → OnTrue b (is_cause cause k ≡ false) →
+    OnTrue b (is_cause cause (l ++ k) ≡ false)
+cause_in_neither cause l k false none other = tt
+cause_in_neither cause l k true none other = cause_off cause l k none other
+
 -- who waits at something is queued, and that is a cause
 pub waits_queued : (cause x : Who) (l : List (Who × Who)) → waits_at cause x l ≡ true → is_queued x l ≡ true
 waits_queued cause x [] is = is
@@ -202,19 +236,30 @@ sound_woken n waits marks sound = record {
   both = λ x. stands_parked n x free_cause marks ∙ ap (λ (t : Bool). is_same n x || t) (sound.both x) ∙ sym (stands_woken n x waits);
 }
 
-stands_marked : (mark : Mark) (n x : Who) (marks : Lists) → stands x (marked_by mark n marks) ≡ (is_same n x || stands x marks)
-stands_marked marks_of.Own n x marks = stands_parked n x free_cause marks
-stands_marked (marks_of.At key) n x marks = by (is_same free_cause key)
+-- (one that stands is put nowhere)
+stands_anyway : (n x : Who) (l : Lists) → stands n l ≡ true → stands x l ≡ (is_same n x || stands x l)
+stands_anyway n x l there = by (is_same n x) refl
   where
-    by : (t : Bool) → stands x (if t then woken n marks else parked n key marks) ≡ (is_same n x || stands x marks)
-    by true = stands_woken n x marks
-    by false = stands_parked n x key marks
-stands_marked marks_of.Loud n x marks = stands_parked n x loud_cause marks
-stands_marked marks_of.Any n x marks = stands_woken n x marks
+    by : (t : Bool) → is_same n x ≡ t → stands x l ≡ (t || stands x l)
+    by true e = subst (λ (w : Who). stands w l ≡ true) (same_who n x e) there
+    by false e = refl
 
-pub sound_parked : (mark : Mark) (n cause : Who) (waits marks : Lists) → IsSound waits marks → IsSound (parked n cause waits) (marked_by mark n marks)
-sound_parked mark n cause waits marks sound = record {
-  both = λ x. stands_marked mark n x marks ∙ ap (λ (t : Bool). is_same n x || t) (sound.both x) ∙ sym (stands_parked n x cause waits);
+stands_marked : (mark : Mark) (n x cause : Who) (marks : Lists) → stands n marks ≡ true →
+    stands x (marked_by cause mark n marks) ≡ (is_same n x || stands x marks)
+stands_marked marks_of.Own n x cause marks there = stands_parked n x free_cause marks
+stands_marked (marks_of.At key) n x cause marks there = by (is_same free_cause key) (is_same cause key)
+  where
+    by : (s t : Bool) → stands x (if s then woken n marks else (if t then marks else parked n key marks)) ≡ (is_same n x || stands x marks)
+    by true t = stands_woken n x marks
+    by false true = stands_anyway n x marks there
+    by false false = stands_parked n x key marks
+stands_marked marks_of.Loud n x cause marks there = stands_parked n x loud_cause marks
+stands_marked marks_of.Any n x cause marks there = stands_woken n x marks
+
+pub sound_parked : (mark : Mark) (n cause : Who) (waits marks : Lists) → stands n waits ≡ true → IsSound waits marks →
+    IsSound (parked n cause waits) (marked_by cause mark n marks)
+sound_parked mark n cause waits marks there sound = record {
+  both = λ x. stands_marked mark n x cause marks (sound.both n ∙ there) ∙ ap (λ (t : Bool). is_same n x || t) (sound.both x) ∙ sym (stands_parked n x cause waits);
 }
 
 pub sound_left : (n : Who) (waits marks : Lists) → IsSound waits marks → IsSound (left n waits) (left n marks)

@@ -1,5 +1,5 @@
 -- Turns: lists of threads, and marks of those whom any change may free.
-use Rattle.std.specs.Prelude.{◌≡◌, Bool, true, false, ◌&&◌, ◌||◌, ◌⊎◌, List, [], ◌∷◌, if◌then◌else◌}
+use Rattle.std.specs.Prelude.{◌≡◌, Bool, true, false, ◌&&◌, ◌||◌, ◌⊎◌, List, [], ◌∷◌, ◌++◌, if◌then◌else◌}
 use Rattle.fk_model.specs.declared.names.Who.{Who}
 use Rattle.fk_waits_names.specs.Names.{is_same}
 use Rattle.fk_waits.specs.Lists.{is_cause, is_in, is_queued, parked, stands, woken, Lists}
@@ -28,18 +28,24 @@ loud_cause = record { space = 4294967295; slot = 254 }
 pub record IsSound (waits marks : Lists) : Type 0 where
   pub both : (who : Who) → stands who marks ≡ stands who waits
 
--- the marks once a thread that is queued is marked
-abbrev pub marked_by : Mark → Who → Lists → Lists
-marked_by marks_of.Own who marks = parked who free_cause marks
-marked_by (marks_of.At key) who marks = if is_same free_cause key then woken who marks else parked who key marks
-marked_by marks_of.Loud who marks = parked who loud_cause marks
-marked_by marks_of.Any who marks = woken who marks
+-- the marks once a thread that is queued at a cause is marked. Whom its cause may free is found there, and isn't marked
+abbrev pub marked_by : Who → Mark → Who → Lists → Lists
+marked_by cause marks_of.Own who marks = parked who free_cause marks
+marked_by cause (marks_of.At key) who marks =
+    if is_same free_cause key then woken who marks else (if is_same cause key then marks else parked who key marks)
+marked_by cause marks_of.Loud who marks = parked who loud_cause marks
+marked_by cause marks_of.Any who marks = woken who marks
+
+-- the marks, and each that is queued marked at its cause
+abbrev pub all_marks : Lists → Lists → Lists
+all_marks waits marks = record { ready = marks.ready; queued = marks.queued ++ waits.queued; spare = marks.spare }
 
 -- who is queued still, is where he was
 pub record IsLess (old new : Lists) : Type 0 where
   pub waiting : (cause who : Who) → waits_at cause who new.queued ≡ true → waits_at cause who old.queued ≡ true
   pub queued : (who : Who) → is_queued who new.queued ≡ true → is_queued who old.queued ≡ true
   pub causes : (cause : Who) → is_cause cause new.queued ≡ true → is_cause cause old.queued ≡ true
+  pub stays : (cause who : Who) → waits_at cause who old.queued ≡ true → (waits_at cause who new.queued ≡ true) ⊎ (is_queued who new.queued ≡ false)
 
 -- some that were queued may be ready, and the same threads stand, with as much room as before
 pub record IsRoused (old new : Lists) : Type 0 where

@@ -6,7 +6,7 @@ ghost use Rattle.fk_waits_names.specs.Names.{is_same};
 ghost use Rattle.fk_waits.specs.Lists.{first_ready, is_cause, is_in, is_queued, left, parked, stands, woken};
 ghost use Rattle.fk_turns.specs.Turns as turns_of;
 ghost use Rattle.fk_turns.specs.declared.turns.Mark.TheVariants as marks_of;
-ghost use Rattle.fk_turns.specs.Turns.{free_cause, loud_cause, marked_by, AreMet, IsFreed, IsLess, IsRoused, IsSound};
+ghost use Rattle.fk_turns.specs.Turns.{all_marks, free_cause, loud_cause, marked_by, AreMet, IsFreed, IsLess, IsRoused, IsSound};
 
 use fk_model::{NoMemory, Who};
 use fk_waits::Waits;
@@ -44,8 +44,16 @@ fn is_free(key: Who) -> bool
     FREE == key
 }
 
+/// Two names are the same.
+fn is_one(cause: Who, key: Who) -> bool
+    ensures { result ≡ is_same cause key }
+{
+    cause == key
+}
+
 /// The threads that are ready and those that are queued, each behind its cause; and marks: the same threads, first those whom any change may free, then
-/// each behind the object that may.
+/// each behind the object that may, where that isn't its cause. What stands among the marks of a thread that is ready, or that its cause may free, is
+/// what stood there before, and wakes it for nothing at most.
 #[derive(Drop)]
 pub struct Turns {
     waits: Waits,
@@ -126,28 +134,40 @@ impl Turns {
         requires stands { stands who self.old.waits ≡ true }
         ensures sound { IsSound self.new.waits self.new.marks }
         ensures waits { self.new.waits ≡ parked who cause self.old.waits }
-        ensures marks { self.new.marks ≡ marked_by mark who self.old.marks }
+        ensures marks { self.new.marks ≡ marked_by cause mark who self.old.marks }
     {
         self.waits.park(who, cause);
         match mark {
             Mark::Own => self.marks.park(who, FREE),
-            Mark::At { key } => self.mark_at(who, key),
+            Mark::At { key } => self.mark_at(who, cause, key),
             Mark::Loud => self.marks.park(who, LOUD),
             Mark::Any => self.marks.wake(who),
         }
     }
 
-    /// An object may free a thread.
-    fn mark_at(&mut self, who: Who, key: Who)
+    /// An object may free a thread that is queued at a cause.
+    fn mark_at(&mut self, who: Who, cause: Who, key: Who)
         requires { stands who self.old.marks ≡ true }
         ensures waits { self.new.waits ≡ self.old.waits }
-        ensures marks { self.new.marks ≡ marked_by (marks_of.At key) who self.old.marks }
+        ensures marks { self.new.marks ≡ marked_by cause (marks_of.At key) who self.old.marks }
     {
         if is_free(key) {
             self.marks.wake(who);
         } else {
-            self.marks.park(who, key);
+            self.mark_besides(who, cause, key);
         }
+    }
+
+    /// The same of an object that has a name. Whom its cause may free is found there.
+    fn mark_besides(&mut self, who: Who, cause: Who, key: Who)
+        requires { stands who self.old.marks ≡ true }
+        ensures waits { self.new.waits ≡ self.old.waits }
+        ensures marks { self.new.marks ≡ (if is_same cause key then self.old.marks else parked who key self.old.marks) }
+    {
+        if is_one(cause, key) {
+            return;
+        }
+        self.marks.park(who, key);
     }
 
     /// A thread stands no more.
@@ -182,16 +202,31 @@ impl Turns {
         ensures sound { IsSound self.new.waits self.new.marks }
         ensures roused { IsRoused self.old.waits self.new.waits }
         ensures met { AreMet self.old.marks self.new.marks self.new.waits }
-        ensures freed { IsFreed key self.old.marks self.new.waits }
+        ensures freed { IsFreed key (all_marks self.old.waits self.old.marks) self.new.waits }
         ensures room { self.new.marks.spare ≡ self.old.marks.spare }
     {
         if is_free(key) {
             return;
         }
         self.rouse_marked_at(key);
+        self.rouse_queued_at(key);
     }
 
-    /// The same of an object that has a name.
+    /// All that are queued at an object are ready.
+    fn rouse_queued_at(&mut self, key: Who)
+        requires sound { IsSound self.old.waits self.old.marks }
+        ensures sound { IsSound self.new.waits self.new.marks }
+        ensures roused { IsRoused self.old.waits self.new.waits }
+        ensures marks { self.new.marks ≡ self.old.marks }
+        ensures none { is_cause key self.new.waits.queued ≡ false }
+    {
+        while let Some(who) = self.waits.first(key) {
+            self.waits.once();
+            self.waits.wake(who);
+        }
+    }
+
+    /// All that are marked at an object that has a name are ready.
     fn rouse_marked_at(&mut self, key: Who)
         requires sound { IsSound self.old.waits self.old.marks }
         requires named { is_same free_cause key ≡ false }
@@ -215,7 +250,7 @@ impl Turns {
         ensures room { self.new.marks.spare ≡ self.old.marks.spare }
         ensures met { AreMet self.old.marks self.new.marks self.new.waits }
         ensures gone { (who : names_of.Who) → is_in who self.old.marks.ready ≡ true → is_queued who self.new.waits.queued ≡ false }
-        ensures loud { IsFreed loud_cause self.old.marks self.new.waits }
+        ensures loud { IsFreed loud_cause (all_marks self.old.waits self.old.marks) self.new.waits }
     {
         self.rouse_any();
         self.rouse_at(LOUD);
@@ -249,9 +284,19 @@ impl Turns {
 
     /// Nobody is queued whom any move of another may free but an instruction.
     pub fn is_hushed(&self) -> bool
-        ensures { OnTrue result (is_cause loud_cause self.now.marks.queued ≡ false) }
+        ensures { OnTrue result (is_cause loud_cause (all_marks self.now.waits self.now.marks).queued ≡ false) }
     {
         match self.marks.first(LOUD) {
+            Some(_) => false,
+            None => self.is_none_there(),
+        }
+    }
+
+    /// Nobody is queued at what is no object but where these are marked.
+    fn is_none_there(&self) -> bool
+        ensures { OnTrue result (is_cause loud_cause self.now.waits.queued ≡ false) }
+    {
+        match self.waits.first(LOUD) {
             Some(_) => false,
             None => true,
         }

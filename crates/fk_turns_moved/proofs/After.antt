@@ -5,8 +5,8 @@ use Rattle.fk_model.specs.declared.names.Who.{Who}
 use Rattle.fk_store.specs.Contents.{Contents}
 use Rattle.fk_store.specs.Paths.{path}
 use Rattle.fk_store.specs.World.{world, place_of}
-use Rattle.fk_turns.specs.Turns.{free_cause, loud_cause, waits_at, AreMet, IsFreed, IsLess, IsRoused, IsSound}
-use Rattle.fk_turns.proofs.Roused.{met_nobody}
+use Rattle.fk_turns.specs.Turns.{all_marks, free_cause, loud_cause, waits_at, AreMet, IsFreed, IsLess, IsRoused, IsSound}
+use Rattle.fk_turns.proofs.Roused.{met_both, met_nobody}
 use Rattle.fk_waits.specs.Lists.{is_cause, is_in, is_queued, stands, Lists}
 use Rattle.fk_waits_causes.proofs.Numbers.{clash}
 use Rattle.fk_waits_names.specs.Names.{is_same}
@@ -45,7 +45,8 @@ refiled_met m marks now waits x filed met here = refiled m marks now x filed (λ
 module _ (m n : Contents) (mover : Who) (touched : Touched) (waits marks roused roused_marks told told_marks now then_marks : Lists)
     (kept : AreKept m waits marks) (move : IsMoved m n mover touched) (free : AreRoused touched waits marks roused roused_marks)
     (named : IsTouched n (is_named touched) roused told) (own : IsTouched n (is_same mover) told now)
-    (named_freed : AreFreed (is_named touched) roused_marks told_marks told) (own_freed : AreFreed (is_same mover) told_marks then_marks now)
+    (named_freed : AreFreed (is_named touched) (all_marks roused roused_marks) (all_marks told told_marks) told)
+    (own_freed : AreFreed (is_same mover) (all_marks told told_marks) (all_marks now then_marks) now)
     (sound : IsSound now then_marks) where
   each_after : (x : Who) → stands x now ≡ is_user_at n x
   each_after x = own.placed x ∙ by (is_same mover x) (is_named touched x) refl refl
@@ -66,7 +67,7 @@ module _ (m n : Contents) (mover : Who) (touched : Touched) (waits marks roused 
       by true off = clash here is (off refl)
       by false off = refl
 
-  filed_after : (x : Who) → is_queued x now.queued ≡ true → IsFiled n then_marks x
+  filed_after : (x : Who) → is_queued x now.queued ≡ true → IsFiled n (all_marks now then_marks) x
   filed_after x here = by (is_wide touched) refl was.why was.stuck was.filed
     where
       in_told : is_queued x told.queued ≡ true
@@ -78,7 +79,7 @@ module _ (m n : Contents) (mover : Who) (touched : Touched) (waits marks roused 
       in_waits : is_queued x waits.queued ≡ true
       in_waits = free.less.queued x in_roused
 
-      was : IsFiled m marks x
+      was : IsFiled m (all_marks waits marks) x
       was = kept.filed x in_waits
 
       user : is_user_at m x ≡ true
@@ -88,7 +89,7 @@ module _ (m n : Contents) (mover : Who) (touched : Touched) (waits marks roused 
       it = untold x (is_queued x told.queued) (λ e. clash (is_queued x now.queued) here (own.away x e)) (named.away x) in_told
 
       -- what may free it isn't told
-      key_untold : (key : Who) → is_same free_cause key ≡ false → waits_at key x roused_marks.queued ≡ true → waits_at key x told_marks.queued ≡ true →
+      key_untold : (key : Who) → is_same free_cause key ≡ false → waits_at key x (all_marks roused roused_marks).queued ≡ true → waits_at key x (all_marks told told_marks).queued ≡ true →
           is_told mover touched key ≡ false
       key_untold key some first second =
           untold key (is_queued x told.queued) (λ e. clash (is_queued x now.queued) here (own_freed.freed key e some x second))
@@ -99,15 +100,15 @@ module _ (m n : Contents) (mover : Who) (touched : Touched) (waits marks roused 
       still key l queued is (inr gone) = clash queued is gone
 
       at : is_wide touched ≡ false → (key : Who) → IsWhy (world m) (path m) (place_of m x) (whys.At key) → is_same free_cause key ≡ false →
-          waits_at key x marks.queued ≡ true → IsFiled n then_marks x
+          waits_at key x (all_marks waits marks).queued ≡ true → IsFiled n (all_marks now then_marks) x
       at e key stuck some there =
-          let first = still key roused_marks (is_queued x roused.queued) in_roused (free.met.keyed key x there) in
-          let second = still key told_marks (is_queued x told.queued) in_told (named_freed.met.keyed key x first) in
-          let third = still key then_marks (is_queued x now.queued) here (own_freed.met.keyed key x second) in
+          let first = still key (all_marks roused roused_marks) (is_queued x roused.queued) in_roused (free.met.keyed key x there) in
+          let second = still key (all_marks told told_marks) (is_queued x told.queued) in_told (named_freed.met.keyed key x first) in
+          let third = still key (all_marks now then_marks) (is_queued x now.queued) here (own_freed.met.keyed key x second) in
           record { why = whys.At key; stuck = move.stays e x (whys.At key) it (key_untold key some first second) user stuck; filed = (some, third) }
 
-      by : (wide : Bool) → is_wide touched ≡ wide → (why : Why) → IsWhy (world m) (path m) (place_of m x) why → IsFiledAs marks x why →
-          IsFiled n then_marks x
+      by : (wide : Bool) → is_wide touched ≡ wide → (why : Why) → IsWhy (world m) (path m) (place_of m x) why → IsFiledAs (all_marks waits marks) x why →
+          IsFiled n (all_marks now then_marks) x
       by true e why stuck filed = let none : false ≡ true = ap (is_queued x) (sym (free.none e)) ∙ in_roused in absurd (cc)
       by false e whys.Still stuck filed = record { why = whys.Still; stuck = move.stays e x whys.Still it tt user stuck; filed = tt }
       by false e (whys.At key) stuck filed = at e key stuck filed.0 filed.1
@@ -124,17 +125,18 @@ nobody_waits waits now none = record {
   waiting = λ c x is. let off : false ≡ true = ap (waits_at c x) (sym none) ∙ is in absurd (cc);
   queued = λ x is. let off : false ≡ true = ap (is_queued x) (sym none) ∙ is in absurd (cc);
   causes = λ c is. let off : false ≡ true = ap (is_cause c) (sym none) ∙ is in absurd (cc);
+  stays = λ c x is. inr (ap (is_queued x) none);
 }
 
 pub roused_few : (touched : Touched) (waits marks now then_marks : Lists) → is_wide touched ≡ false → IsRoused waits now →
     ((x : Who) → is_in x marks.ready ≡ true → is_queued x now.queued ≡ false) → then_marks.spare ≡ marks.spare →
-    AreMet marks then_marks now → IsFreed loud_cause marks now → AreRoused touched waits marks now then_marks
+    AreMet marks then_marks now → IsFreed loud_cause (all_marks waits marks) now → AreRoused touched waits marks now then_marks
 roused_few touched waits marks now then_marks few roused gone room met loud = record {
   stays = roused.stays;
   less = roused.less;
   unmarked = gone;
   hushed = λ x is. loud refl x is;
-  met = met;
+  met = met_both waits marks now then_marks met roused.less;
   none = λ wide. clash (is_wide touched) wide few;
   room = λ off. (roused.room, room);
 }
@@ -146,7 +148,7 @@ roused_wide touched waits marks now then_marks wide stays none = record {
   less = nobody_waits waits now none;
   unmarked = λ x is. ap (is_queued x) none;
   hushed = λ x is. ap (is_queued x) none;
-  met = met_nobody marks then_marks now none;
+  met = met_nobody (all_marks waits marks) (all_marks now then_marks) now none;
   none = λ e. none;
   room = λ off. clash (is_wide touched) wide off;
 }

@@ -14,8 +14,8 @@ use Rattle.fk_store.specs.Paths.{path}
 use Rattle.fk_store.specs.World.{world, place_of, IsLive}
 use Rattle.fk_turns.specs.declared.turns.Mark.{Mark}
 use Rattle.fk_turns.specs.declared.turns.Mark.TheVariants as marks_of
-use Rattle.fk_turns.specs.Turns.{free_cause, loud_cause, marked_by, waits_at, IsSound}
-use Rattle.fk_turns.proofs.Woken.{in_last, in_other, queued_last, queued_less, stands_parked, waits_more, waits_other}
+use Rattle.fk_turns.specs.Turns.{all_marks, free_cause, loud_cause, marked_by, waits_at, IsSound}
+use Rattle.fk_turns.proofs.Woken.{in_last, in_other, queued_last, queued_less, stands_parked, waits_behind, waits_more, waits_other, waits_split}
 use Rattle.fk_waits.specs.Lists.{is_in, is_queued, parked, stands, without, without_queued, woken, Lists}
 use Rattle.fk_waits_causes.proofs.Placed.{same_self}
 use Rattle.fk_waits_names.specs.Names.{is_same}
@@ -40,30 +40,33 @@ user_live m who is = by ((world m).body (place_of m who)) is
 
 -- ---- the marks
 
-still_marked : (mark : Mark) (who x : Who) (marks : Lists) → is_same who x ≡ false → is_in x marks.ready ≡ true → is_in x (marked_by mark who marks).ready ≡ true
-still_marked marks_of.Own who x marks off is = in_other x who marks.ready off ∙ is
-still_marked (marks_of.At key) who x marks off is = by (is_same free_cause key)
+still_marked : (mark : Mark) (cause who x : Who) (marks : Lists) → is_same who x ≡ false → is_in x marks.ready ≡ true →
+    is_in x (marked_by cause mark who marks).ready ≡ true
+still_marked marks_of.Own cause who x marks off is = in_other x who marks.ready off ∙ is
+still_marked (marks_of.At key) cause who x marks off is = by (is_same free_cause key) (is_same cause key)
   where
-    by : (t : Bool) → is_in x (if t then woken who marks else parked who key marks).ready ≡ true
-    by true =
+    by : (s t : Bool) → is_in x (if s then woken who marks else (if t then marks else parked who key marks)).ready ≡ true
+    by true t =
         in_last x who (without who marks.ready) ∙ ap (λ (t : Bool). t || is_in x (without who marks.ready)) off ∙ in_other x who marks.ready off ∙ is
-    by false = in_other x who marks.ready off ∙ is
-still_marked marks_of.Loud who x marks off is = in_other x who marks.ready off ∙ is
-still_marked marks_of.Any who x marks off is =
+    by false true = is
+    by false false = in_other x who marks.ready off ∙ is
+still_marked marks_of.Loud cause who x marks off is = in_other x who marks.ready off ∙ is
+still_marked marks_of.Any cause who x marks off is =
     in_last x who (without who marks.ready) ∙ ap (λ (t : Bool). t || is_in x (without who marks.ready)) off ∙ in_other x who marks.ready off ∙ is
 
-still_at : (mark : Mark) (key who x : Who) (marks : Lists) → is_same who x ≡ false → waits_at key x marks.queued ≡ true →
-    waits_at key x (marked_by mark who marks).queued ≡ true
-still_at marks_of.Own key who x marks off is =
+still_at : (mark : Mark) (cause key who x : Who) (marks : Lists) → is_same who x ≡ false → waits_at key x marks.queued ≡ true →
+    waits_at key x (marked_by cause mark who marks).queued ≡ true
+still_at marks_of.Own cause key who x marks off is =
     waits_more key x (without_queued who marks.queued) ((free_cause, who) ∷ []) (waits_other key x who marks.queued off is)
-still_at (marks_of.At other) key who x marks off is = by (is_same free_cause other)
+still_at (marks_of.At other) cause key who x marks off is = by (is_same free_cause other) (is_same cause other)
   where
-    by : (t : Bool) → waits_at key x (if t then woken who marks else parked who other marks).queued ≡ true
-    by true = waits_other key x who marks.queued off is
-    by false = waits_more key x (without_queued who marks.queued) ((other, who) ∷ []) (waits_other key x who marks.queued off is)
-still_at marks_of.Loud key who x marks off is =
+    by : (s t : Bool) → waits_at key x (if s then woken who marks else (if t then marks else parked who other marks)).queued ≡ true
+    by true t = waits_other key x who marks.queued off is
+    by false true = is
+    by false false = waits_more key x (without_queued who marks.queued) ((other, who) ∷ []) (waits_other key x who marks.queued off is)
+still_at marks_of.Loud cause key who x marks off is =
     waits_more key x (without_queued who marks.queued) ((loud_cause, who) ∷ []) (waits_other key x who marks.queued off is)
-still_at marks_of.Any key who x marks off is = waits_other key x who marks.queued off is
+still_at marks_of.Any cause key who x marks off is = waits_other key x who marks.queued off is
 
 now_marked : (who : Who) (marks : Lists) → is_in who (woken who marks).ready ≡ true
 now_marked who marks = in_last who who (without who marks.ready) ∙ ap (λ (t : Bool). t || is_in who (without who marks.ready)) (same_self who)
@@ -75,7 +78,7 @@ waits_last key who (q ∷ l) = or_right (is_same q.0 key && is_same q.1 who) (wa
 module _ (m : Contents) (who cause : Who) (why : Why) (waits marks now then_marks : Lists) (kept : AreKept m waits marks)
     (user : is_user_at m who ≡ true) (unready : (pick : Option Path) → IsReady (world m) (place_of m who) pick asks.Run → ⊥)
     (stuck : IsWhy (world m) (path m) (place_of m who) why) (queued : now ≡ parked who cause waits)
-    (marked : then_marks ≡ marked_by (mark_of why) who marks) where
+    (marked : then_marks ≡ marked_by cause (mark_of why) who marks) where
   each_settled : (x : Who) → stands x now ≡ is_user_at m x
   each_settled x = ap (stands x) queued ∙ stands_parked who x cause waits ∙ by (is_same who x) refl
     where
@@ -83,52 +86,82 @@ module _ (m : Contents) (who cause : Who) (why : Why) (waits marks now then_mark
       by true e = sym user ∙ ap (is_user_at m) (same_who who x e)
       by false e = kept.each x
 
-  -- the thread itself
-  own : (y : Why) → why ≡ y → IsWhy (world m) (path m) (place_of m who) y → IsFiled m then_marks who
-  own whys.Still f s = record { why = whys.Still; stuck = s; filed = tt }
-  own (whys.At key) f s = by (is_same free_cause key) refl
-    where
-      is : then_marks ≡ (if is_same free_cause key then woken who marks else parked who key marks)
-      is = marked ∙ ap (λ (y : Why). marked_by (mark_of y) who marks) f
+  now_queued : now.queued ≡ without_queued who waits.queued ++ (cause, who) ∷ []
+  now_queued = ap (λ (l : Lists). l.queued) queued
 
-      by : (t : Bool) → is_same free_cause key ≡ t → IsFiled m then_marks who
-      by true e = record {
+  -- the thread itself
+  own : (y : Why) → why ≡ y → IsWhy (world m) (path m) (place_of m who) y → IsFiled m (all_marks now then_marks) who
+  own whys.Still f s = record { why = whys.Still; stuck = s; filed = tt }
+  own (whys.At key) f s = by (is_same free_cause key) (is_same cause key) refl refl
+    where
+      is : then_marks ≡ (if is_same free_cause key then woken who marks else (if is_same cause key then marks else parked who key marks))
+      is = marked ∙ ap (λ (y : Why). marked_by cause (mark_of y) who marks) f
+
+      by : (t u : Bool) → is_same free_cause key ≡ t → is_same cause key ≡ u → IsFiled m (all_marks now then_marks) who
+      by true u e g = record {
         why = whys.Barred;
         stuck = unready;
-        filed = ap (λ (l : Lists). is_in who l.ready) (is ∙ ap (λ (t : Bool). if t then woken who marks else parked who key marks) e) ∙ now_marked who marks;
+        filed = ap (λ (l : Lists). is_in who l.ready)
+            (is ∙ ap (λ (t : Bool). if t then woken who marks else (if is_same cause key then marks else parked who key marks)) e) ∙ now_marked who marks;
       }
-      by false e = record {
+      by false true e g = record {
         why = whys.At key;
         stuck = s;
         filed = (
           e,
-          ap (λ (l : Lists). waits_at key who l.queued) (is ∙ ap (λ (t : Bool). if t then woken who marks else parked who key marks) e)
-              ∙ waits_last key who (without_queued who marks.queued),
+          waits_behind key who then_marks.queued now.queued
+              (ap (waits_at key who) now_queued
+              ∙ subst (λ (k : Who). waits_at k who (without_queued who waits.queued ++ (cause, who) ∷ []) ≡ true) (same_who cause key g)
+              (waits_last cause who (without_queued who waits.queued))),
+        );
+      }
+      by false false e g = record {
+        why = whys.At key;
+        stuck = s;
+        filed = (
+          e,
+          waits_more key who then_marks.queued now.queued
+              (ap (λ (l : Lists). waits_at key who l.queued)
+              (is ∙ ap (λ (t : Bool). if t then woken who marks else (if is_same cause key then marks else parked who key marks)) e
+              ∙ ap (λ (t : Bool). if t then marks else parked who key marks) g)
+              ∙ waits_last key who (without_queued who marks.queued)),
         );
       }
   own whys.Loud f s = record {
     why = whys.Loud;
     stuck = s;
-    filed = ap (λ (l : Lists). waits_at loud_cause who l.queued) (marked ∙ ap (λ (y : Why). marked_by (mark_of y) who marks) f)
-        ∙ waits_last loud_cause who (without_queued who marks.queued);
+    filed = waits_more loud_cause who then_marks.queued now.queued
+        (ap (λ (l : Lists). waits_at loud_cause who l.queued) (marked ∙ ap (λ (y : Why). marked_by cause (mark_of y) who marks) f)
+        ∙ waits_last loud_cause who (without_queued who marks.queued));
   }
   own whys.Barred f s = record {
     why = whys.Barred;
     stuck = s;
-    filed = ap (λ (l : Lists). is_in who l.ready) (marked ∙ ap (λ (y : Why). marked_by (mark_of y) who marks) f) ∙ now_marked who marks;
+    filed = ap (λ (l : Lists). is_in who l.ready) (marked ∙ ap (λ (y : Why). marked_by cause (mark_of y) who marks) f) ∙ now_marked who marks;
   }
 
   -- the others
-  other : (x : Who) → is_same who x ≡ false → IsFiled m marks x → IsFiled m then_marks x
+  other : (x : Who) → is_same who x ≡ false → IsFiled m (all_marks waits marks) x → IsFiled m (all_marks now then_marks) x
   other x off filed =
-      refiled m marks then_marks x filed (λ is. ap (λ (l : Lists). is_in x l.ready) marked ∙ still_marked (mark_of why) who x marks off is)
-      (λ key is. ap (λ (l : Lists). waits_at key x l.queued) marked ∙ still_at (mark_of why) key who x marks off is)
+      refiled m (all_marks waits marks) (all_marks now then_marks) x filed
+      (λ is. ap (λ (l : Lists). is_in x l.ready) marked ∙ still_marked (mark_of why) cause who x marks off is)
+      (λ key is. at key (waits_split key x marks.queued waits.queued is))
+    where
+      at : (key : Who) → (waits_at key x marks.queued ≡ true) ⊎ (waits_at key x waits.queued ≡ true) →
+          waits_at key x (then_marks.queued ++ now.queued) ≡ true
+      at key (inl is) =
+          waits_more key x then_marks.queued now.queued
+          (ap (λ (l : Lists). waits_at key x l.queued) marked ∙ still_at (mark_of why) cause key who x marks off is)
+      at key (inr is) =
+          waits_behind key x then_marks.queued now.queued
+          (ap (waits_at key x) now_queued
+          ∙ waits_more key x (without_queued who waits.queued) ((cause, who) ∷ []) (waits_other key x who waits.queued off is))
 
-  filed_settled : (x : Who) → is_queued x now.queued ≡ true → IsFiled m then_marks x
+  filed_settled : (x : Who) → is_queued x now.queued ≡ true → IsFiled m (all_marks now then_marks) x
   filed_settled x here = by (is_same who x) refl
     where
-      by : (t : Bool) → is_same who x ≡ t → IsFiled m then_marks x
-      by true e = subst (λ (w : Who). IsFiled m then_marks w) (same_who who x e) (own why refl stuck)
+      by : (t : Bool) → is_same who x ≡ t → IsFiled m (all_marks now then_marks) x
+      by true e = subst (λ (w : Who). IsFiled m (all_marks now then_marks) w) (same_who who x e) (own why refl stuck)
       by false e = other x e (kept.filed x (queued_less x who waits.queued
           (ap (λ (t : Bool). t || is_queued x (without_queued who waits.queued)) (sym e)
           ∙ sym (queued_last x who cause (without_queued who waits.queued)) ∙ ap (λ (l : Lists). is_queued x l.queued) (sym queued) ∙ here)))

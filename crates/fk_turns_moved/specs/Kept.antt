@@ -7,7 +7,7 @@ use Rattle.fk_model.specs.Searches.{thread_at}
 use Rattle.fk_store.specs.Contents.{Contents}
 use Rattle.fk_store.specs.Paths.{path}
 use Rattle.fk_store.specs.World.{world, place_of}
-use Rattle.fk_turns.specs.Turns.{free_cause, loud_cause, waits_at, IsSound}
+use Rattle.fk_turns.specs.Turns.{all_marks, free_cause, loud_cause, waits_at, IsSound}
 use Rattle.fk_waits.specs.Lists.{is_in, is_queued, stands, Lists}
 use Rattle.fk_waits_names.specs.Names.{is_same}
 use Rattle.fk_whys.specs.declared.whys.Why.{Why}
@@ -18,7 +18,7 @@ use Rattle.fk_whys.specs.Whys.{IsWhy}
 abbrev pub is_user_at : Contents → Who → Bool
 is_user_at m who = holds (λ (t : Thread). not (is_porter t.mode)) (thread_at (world m) (place_of m who))
 
--- whom one object may free is marked at it, and whom any change may free is marked
+-- whom one object may free is marked at it, or queued there, and whom any change may free is marked
 abbrev pub IsFiledAs : Lists → Who → Why → Type 0
 IsFiledAs marks who whys.Still = ⊤
 IsFiledAs marks who (whys.At key) = (is_same free_cause key ≡ false) × (waits_at key who marks.queued ≡ true)
@@ -34,4 +34,4 @@ pub record IsFiled (m : Contents) (marks : Lists) (who : Who) : Type 0 where
 pub record AreKept (m : Contents) (waits marks : Lists) : Type 0 where
   pub each : (who : Who) → stands who waits ≡ is_user_at m who
   pub sound : IsSound waits marks
-  pub filed : (who : Who) → is_queued who waits.queued ≡ true → IsFiled m marks who
+  pub filed : (who : Who) → is_queued who waits.queued ≡ true → IsFiled m (all_marks waits marks) who

@@ -6,7 +6,7 @@ use Rattle.fk_store.specs.Contents.{Contents}
 use Rattle.fk_store.specs.Names.{at}
 use Rattle.fk_store.specs.Paths.{path}
 use Rattle.fk_store.specs.World.{world, place_of}
-use Rattle.fk_turns.specs.Turns.{loud_cause, waits_at, AreMet, IsFreed, IsLess}
+use Rattle.fk_turns.specs.Turns.{all_marks, loud_cause, waits_at, AreMet, IsFreed, IsLess}
 use Rattle.fk_waits.specs.Lists.{is_in, is_queued, stands, Lists}
 use Rattle.fk_waits_names.specs.Names.{is_same}
 use Rattle.fk_wakes.specs.declared.touching.Touched.{Touched}
@@ -99,8 +99,8 @@ pub record AreRoused (touched : Touched) (waits marks now then_marks : Lists) : 
   pub stays : (who : Who) → stands who now ≡ stands who waits
   pub less : IsLess waits now
   pub unmarked : (who : Who) → is_in who marks.ready ≡ true → is_queued who now.queued ≡ false
-  pub hushed : (who : Who) → waits_at loud_cause who marks.queued ≡ true → is_queued who now.queued ≡ false
-  pub met : AreMet marks then_marks now
+  pub hushed : (who : Who) → waits_at loud_cause who (all_marks waits marks).queued ≡ true → is_queued who now.queued ≡ false
+  pub met : AreMet (all_marks waits marks) (all_marks now then_marks) now
   pub none : is_wide touched ≡ true → now.queued ≡ []
   pub room : is_wide touched ≡ false → (now.spare ≡ waits.spare) × (then_marks.spare ≡ marks.spare)
 

@@ -12,5 +12,5 @@ mod users;
 
 pub use filling::of;
 pub use moving::moved;
-pub use settling::settle;
+pub use settling::{settle, settle_at};
 pub use users::is_user;

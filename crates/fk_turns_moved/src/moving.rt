@@ -5,7 +5,7 @@ ghost use Rattle.fk_store.specs.Contents.{Contents};
 ghost use Rattle.fk_store.specs.Names.{at};
 ghost use Rattle.fk_waits_names.specs.Names.{is_same};
 ghost use Rattle.fk_waits.specs.Lists.{is_cause, is_in, is_queued, stands};
-ghost use Rattle.fk_turns.specs.Turns.{AreMet, IsLess, IsSound};
+ghost use Rattle.fk_turns.specs.Turns.{all_marks, AreMet, IsLess, IsSound};
 ghost use Rattle.fk_turns_moved.specs.Kept.{is_user_at, AreKept};
 ghost use Rattle.fk_turns_moved.specs.Moved.{is_it, is_named, is_wide, AreFreed, AreRoused, HasPlace, HasRoom, HasRoomFor, IsMoved, IsTouched};
 
@@ -59,7 +59,8 @@ fn touch_told(turns: &mut Turns, store: &Store, touched: &Touched)
     requires none { is_wide touched.now ≡ true → turns.old.waits.queued ≡ [] }
     ensures sound { IsSound turns.new.waits turns.new.marks }
     ensures touched { IsTouched store.now (is_named touched.now) turns.old.waits turns.new.waits }
-    ensures freed { AreFreed (is_named touched.now) turns.old.marks turns.new.marks turns.new.waits }
+    ensures freed { AreFreed (is_named touched.now)
+        (all_marks turns.old.waits turns.old.marks) (all_marks turns.new.waits turns.new.marks) turns.new.waits }
 {
     match *touched {
         Touched::Few {
@@ -95,7 +96,8 @@ fn touch_few(
         → stands who turns.old.waits ≡ true }
     ensures sound { IsSound turns.new.waits turns.new.marks }
     ensures touched { IsTouched store.now (λ who. is_it first who || (is_it second who || is_it third who)) turns.old.waits turns.new.waits }
-    ensures freed { AreFreed (λ who. is_it first who || (is_it second who || is_it third who)) turns.old.marks turns.new.marks turns.new.waits }
+    ensures freed { AreFreed (λ who. is_it first who || (is_it second who || is_it third who))
+        (all_marks turns.old.waits turns.old.marks) (all_marks turns.new.waits turns.new.marks) turns.new.waits }
 {
     touch_one(turns, store, first);
     touch_one(turns, store, second);
@@ -108,7 +110,8 @@ fn touch_one(turns: &mut Turns, store: &Store, name: Option<Who>)
     requires known { (who : names_of.Who) → is_it name who ≡ true → is_user_at store.now who ≡ true → stands who turns.old.waits ≡ true }
     ensures sound { IsSound turns.new.waits turns.new.marks }
     ensures touched { IsTouched store.now (is_it name) turns.old.waits turns.new.waits }
-    ensures freed { AreFreed (is_it name) turns.old.marks turns.new.marks turns.new.waits }
+    ensures freed { AreFreed (is_it name)
+        (all_marks turns.old.waits turns.old.marks) (all_marks turns.new.waits turns.new.marks) turns.new.waits }
 {
     match name {
         Some(who) => touch(turns, store, who),
@@ -122,7 +125,8 @@ fn touch(turns: &mut Turns, store: &Store, who: Who)
     requires room { HasPlace store.now turns.old.waits turns.old.marks who }
     ensures sound { IsSound turns.new.waits turns.new.marks }
     ensures touched { IsTouched store.now (is_same who) turns.old.waits turns.new.waits }
-    ensures freed { AreFreed (is_same who) turns.old.marks turns.new.marks turns.new.waits }
+    ensures freed { AreFreed (is_same who)
+        (all_marks turns.old.waits turns.old.marks) (all_marks turns.new.waits turns.new.marks) turns.new.waits }
 {
     place(turns, store, who);
     turns.rouse_at(who);
@@ -154,7 +158,8 @@ fn shift(turns: &mut Turns, store: &Store, from: Who, to: Who)
     requires left { is_user_at store.now from ≡ false }
     ensures sound { IsSound turns.new.waits turns.new.marks }
     ensures touched { IsTouched store.now (λ who. is_same from who || is_same to who) turns.old.waits turns.new.waits }
-    ensures freed { AreFreed (λ who. is_same from who || is_same to who) turns.old.marks turns.new.marks turns.new.waits }
+    ensures freed { AreFreed (λ who. is_same from who || is_same to who)
+        (all_marks turns.old.waits turns.old.marks) (all_marks turns.new.waits turns.new.marks) turns.new.waits }
 {
     if is_user(store, to) {
         turns.rename(from, to);

@@ -1,10 +1,13 @@
 //! Who can't move.
-ghost use Rattle.std.specs.Prelude.{◌≡◌, true, Option};
+ghost use Rattle.std.specs.Prelude.{◌≡◌, true, Option, IfSome};
 ghost use Rattle.fk_model.specs.declared.moves.Ask.TheVariants as asks;
 ghost use Rattle.fk_model.specs.Moves.{IsReady};
 ghost use Rattle.fk_model.specs.Places.{Path};
 ghost use Rattle.fk_model.specs.Valid.{IsValid};
+ghost use Rattle.fk_store.specs.Paths.{path};
 ghost use Rattle.fk_store.specs.World.{world, place_of};
+ghost use Rattle.fk_whys.specs.Causes.{cause_at};
+ghost use Rattle.fk_whys.specs.Whys.{IsAt, IsWhy};
 ghost use Rattle.fk_turns_moved.specs.Kept.{is_user_at, AreKept};
 ghost use Rattle.fk_turns_moved.specs.Settled as settled;
 ghost use Rattle.fk_turns_moved.specs.Settled.{IsSettled};
@@ -25,7 +28,38 @@ pub fn settle(turns: &mut Turns, store: &Store, who: Who)
     ensures settled { IsSettled store.now who turns.old.waits turns.new.waits }
 {
     let cause = cause(store, who);
-    let mark = mark_of(reason(store, who));
+    let why = reason(store, who);
+    settle_for(turns, store, who, cause, why);
+}
+
+/// The same, where the locked mutex may be told at which it waits.
+pub fn settle_at(turns: &mut Turns, store: &Store, who: Who, mutex: Option<Who>)
+    requires valid { IsValid (world store.now) }
+    requires kept { AreKept store.now turns.old.waits turns.old.marks }
+    requires user { is_user_at store.now who ≡ true }
+    requires unready { (pick : Option Path) → IsReady (world store.now) (place_of store.now who) pick asks.Run → ⊥ }
+    requires why { IfSome mutex (λ key. IsAt (world store.now) (place_of store.now who) (place_of store.now key)) }
+    requires cause { IfSome mutex (λ key. place_of store.now key ≡ cause_at (world store.now) (place_of store.now who)) }
+    ensures kept { AreKept store.now turns.new.waits turns.new.marks }
+    ensures settled { IsSettled store.now who turns.old.waits turns.new.waits }
+{
+    match mutex {
+        Some(key) => settle_for(turns, store, who, key, Why::At { key }),
+        None => settle(turns, store, who),
+    }
+}
+
+/// The same at this cause, where it is known why no move of it is ready.
+fn settle_for(turns: &mut Turns, store: &Store, who: Who, cause: Who, why: Why)
+    requires kept { AreKept store.now turns.old.waits turns.old.marks }
+    requires user { is_user_at store.now who ≡ true }
+    requires unready { (pick : Option Path) → IsReady (world store.now) (place_of store.now who) pick asks.Run → ⊥ }
+    requires why { IsWhy (world store.now) (path store.now) (place_of store.now who) why }
+    requires cause { place_of store.now cause ≡ cause_at (world store.now) (place_of store.now who) }
+    ensures kept { AreKept store.now turns.new.waits turns.new.marks }
+    ensures settled { IsSettled store.now who turns.old.waits turns.new.waits }
+{
+    let mark = mark_of(why);
     turns.park(who, cause, mark);
 }
 

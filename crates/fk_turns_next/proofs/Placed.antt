@@ -3,7 +3,8 @@ use Rattle.std.proofs.Common.{◌≡◌, ◌||◌, Bool, true, false, refl, sym,
 use Rattle.fk_model.specs.declared.names.Who.{Who}
 use Rattle.fk_store.specs.Contents.{Contents}
 use Rattle.fk_store.specs.World.{world, place_of}
-use Rattle.fk_turns.specs.Turns.{AreMet, IsLess, IsSound}
+use Rattle.fk_turns.specs.Turns.{all_marks, AreMet, IsLess, IsSound}
+use Rattle.fk_turns.proofs.Roused.{met_both}
 use Rattle.fk_turns.proofs.Woken.{stands_woken}
 use Rattle.fk_waits.specs.Lists.{is_queued, stands, without, without_queued, woken, Lists}
 use Rattle.fk_waits_names.specs.Names.{is_same}
@@ -22,8 +23,9 @@ module _ (m : Contents) (who : Who) (waits marks now then_marks : Lists) (kept :
       by true e = sym user ∙ ap (is_user_at m) (same_who who x e)
       by false e = kept.each x
 
-  filed_woken : (x : Who) → is_queued x now.queued ≡ true → IsFiled m then_marks x
-  filed_woken x here = refiled_met m marks then_marks now x (kept.filed x (less.queued x here)) met here
+  filed_woken : (x : Who) → is_queued x now.queued ≡ true → IsFiled m (all_marks now then_marks) x
+  filed_woken x here = refiled_met m (all_marks waits marks) (all_marks now then_marks) now x (kept.filed x (less.queued x here))
+      (met_both waits marks now then_marks met less) here
 
   pub kept_woken : IsSound now then_marks → AreKept m now then_marks
   kept_woken sound = record { each = each_woken; sound = sound; filed = filed_woken }

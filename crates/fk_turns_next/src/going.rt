@@ -8,11 +8,11 @@ ghost use Rattle.fk_turns_moved.specs.Kept.{AreKept};
 ghost use Rattle.fk_waits.specs.Lists.{first_ready};
 ghost use Rattle.fk_turns_next.specs.Waiting.{standing, AreWaiting, ArePassed, IsIdle};
 
-use crate::placing::ready_move;
+use crate::looking::move_of;
 use fk_model::Move;
 use fk_store::Store;
 use fk_turns::Turns;
-use fk_turns_moved::settle;
+use fk_turns_moved::settle_at;
 
 /// Each user's thread stands once, and who is queued can't move. What the lists keep is seen where they are kept alone; by this call it is had above.
 pub fn waiting(turns: &Turns, store: &Store)
@@ -35,11 +35,13 @@ pub fn next(turns: &mut Turns, store: &Store) -> Option<Move>
     ensures none { IfNone result (IsIdle store.now) }
 {
     while let Some(who) = turns.next() {
-        if let Some(m) = ready_move(store, who) {
-            return Some(m);
+        match move_of(turns, store, who) {
+            Ok(m) => return Some(m),
+            Err(mutex) => {
+                turns.waits().once();
+                settle_at(turns, store, who, mutex);
+            }
         }
-        turns.waits().once();
-        settle(turns, store, who);
     }
     idle(turns, store);
     None

@@ -6,7 +6,9 @@
 #![tactic(auto)]
 
 mod going;
+mod looking;
 mod placing;
+mod taking;
 
 pub use fk_picks::{Sent, Told, attempt, call, is_fit, proceed, ready, ready_accept, say};
 pub use going::{next, waiting};

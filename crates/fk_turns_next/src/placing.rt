@@ -8,10 +8,11 @@ ghost use Rattle.fk_turns_moved.specs.Kept.{is_user_at, AreKept};
 ghost use Rattle.fk_turns_moved.specs.Moved.{now_named};
 ghost use Rattle.fk_turns_next.specs.Waiting.{standing, ComesAfter, IsMoveReady, IsPlaced};
 
+use crate::looking::move_of;
 use fk_model::{Ask, Move, Who};
 use fk_store::Store;
 use fk_turns::Turns;
-use fk_turns_moved::{is_user, moved, settle};
+use fk_turns_moved::{is_user, moved, settle_at};
 use fk_wakes::Touched;
 
 /// The lists after a move that touched this: who moved stands last of the ready where a move of it is ready, and else last of the queued. There was room for
@@ -55,9 +56,9 @@ fn put(turns: &mut Turns, store: &Store, who: Who)
     if !is_user(store, who) {
         return;
     }
-    match ready_move(store, who) {
-        Some(_) => turns.wake(who),
-        None => settle(turns, store, who),
+    match move_of(turns, store, who) {
+        Ok(_) => turns.wake(who),
+        Err(mutex) => settle_at(turns, store, who, mutex),
     }
 }
 

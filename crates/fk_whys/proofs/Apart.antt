@@ -1,5 +1,5 @@
 -- Apart: a reason that a move's changes are apart from stays.
-use Rattle.std.proofs.Common.{◌≡◌, ◌≤◌, ◌&&◌, ◌||◌, ℕ, Bool, true, false, is_some, List, [], ◌∷◌, Option, Some, None, Result, Ok, Err, IsSome, if◌then◌else◌, refl}
+use Rattle.std.proofs.Common.{◌≡◌, ◌≤◌, ◌&&◌, ℕ, Bool, true, false, is_some, List, [], ◌∷◌, Option, Some, None, Result, Ok, IsSome, refl}
 use Rattle.std.proofs.Common.{sym, ap, subst, ◌∙◌}
 use Rattle.std.proofs.lemmas.Bool.{or_parts}
 use Rattle.fk_model.specs.declared.moves.Ask.{Ask}
@@ -9,7 +9,7 @@ use Rattle.fk_model.specs.declared.names.Kind.TheVariants as kinds
 use Rattle.fk_model.specs.Holds.{holder_of}
 use Rattle.fk_model.specs.Moves.{outcome, step, IsReady}
 use Rattle.fk_model.specs.declared.thread.Turn.{Turn}
-use Rattle.fk_model.specs.Objects.{Body, Thread, and_then, kind_of, mutex_of, thread_of}
+use Rattle.fk_model.specs.Objects.{Body, Thread, and_then, mutex_of, thread_of}
 use Rattle.fk_model.specs.Objects.Mode.{Running}
 use Rattle.fk_model.specs.Objects.Body.{Cond, Mapping, Mutex, Port, Portset, Reference, Region, Space, Thread_of}
 use Rattle.fk_model.specs.Outcomes.{listed}
@@ -19,14 +19,14 @@ use Rattle.fk_model.specs.Readers.{handled, is_kind, kind_at, led_to}
 use Rattle.fk_model.specs.Searches.{depth, thread_at}
 use Rattle.fk_model.specs.Talks.{other_side, receiving}
 use Rattle.fk_model.specs.Valid.{kind_there, IsValid}
-use Rattle.fk_model.specs.World.{World, Change, Edit, apply}
+use Rattle.fk_model.specs.World.{World, Change, apply}
 use Rattle.fk_model.specs.World.Change.{Alter, DropPage, Kill, Make, MakeSpace, Move, PutPage}
 use Rattle.fk_model.proofs.walks.PlaceLaws.{same_path_eq}
 use Rattle.fk_store.specs.Paths.{place}
 use Rattle.laws_machine.specs.Frame.{name_body, names_body}
 use Rattle.laws_waits.specs.Calm.{AreCalm, IsApart}
 use Rattle.laws_waits.specs.Complete.{is_barred}
-use Rattle.laws_waits.specs.Stuck.{is_held, AreUntouched, HasRoom, IsBeneath, IsStuck, IsUntouched, Reason}
+use Rattle.laws_waits.specs.Stuck.{AreUntouched, HasRoom, IsStuck, IsUntouched, Reason}
 use Rattle.laws_waits.specs.Stuck.Reason.{Barred, Beneath, Connecting, Ending, Holding, Lacking, Locking, Passing, Receiving, Resting, Sending, Sleeping}
 use Rattle.laws_waits.specs.Stuck.Reason.{Waiting, WaitingOut}
 use Rattle.laws_waits.specs.Touching.{is_pointing, remakes, repoints}
@@ -35,7 +35,7 @@ use Rattle.laws_waits.proofs.Stays.{moves_leave_stuck_lem, stuck_stays_lem}
 use Rattle.laws_waits.proofs.Unready.{stuck_is_unready_lem}
 use Rattle.fk_whys.specs.declared.whys.Why.{Why}
 use Rattle.fk_whys.specs.declared.whys.Why.TheVariants as whys
-use Rattle.fk_whys.specs.Staying.{AreApart, AreMild, IsMild, ReasonsStay}
+use Rattle.fk_whys.specs.Staying.{AreMild, IsMild, ReasonsStay}
 use Rattle.fk_whys.specs.Whys.{IsAt, IsOwn, IsReadAt, IsStill, IsWhy}
 
 -- ---- what a mild change leaves

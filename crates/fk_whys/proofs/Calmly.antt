@@ -1,5 +1,5 @@
 -- Calmly: an instruction after which a thread runs on touches no reason of another.
-use Rattle.std.proofs.Common.{◌≡◌, ◌&&◌, ◌||◌, ◌/◌, ℕ, zero, suc, Bool, true, false, not, is_some, is_none, List, [], ◌∷◌, Option, Some, None, if◌then◌else◌}
+use Rattle.std.proofs.Common.{◌≡◌, ◌&&◌, ◌||◌, ◌/◌, ℕ, zero, suc, Bool, true, false, is_some, is_none, List, ◌∷◌, Option, Some, None, if◌then◌else◌}
 use Rattle.std.proofs.Common.{refl, sym, ap, subst, ◌∙◌}
 use Rattle.std.specs.Prelude.{nat_lt}
 use Rattle.fk_model.specs.declared.instruction.Act.{Act}
@@ -14,16 +14,16 @@ use Rattle.fk_model.specs.Moves.{goes_on, outcome, step, stepped, user_move, wit
 use Rattle.fk_model.specs.Objects.{Body, Mode, Thread, Window, and_then, holds, thread_of}
 use Rattle.fk_model.specs.Objects.Body.{Thread_of}
 use Rattle.fk_model.specs.Objects.Mode.{Calling, Halted, Native, Running}
-use Rattle.fk_model.specs.Outcomes.{Outcome, Said, listed, when}
+use Rattle.fk_model.specs.Outcomes.{Outcome, listed, when}
 use Rattle.fk_model.specs.Outcomes.Outcome.{Goes, Refused, Waits}
-use Rattle.fk_model.specs.Places.{Path, Ptr, parent, same_path, slot_of}
-use Rattle.fk_model.specs.Reach.{Reach, at_home, followed, keeper, led_by, mapped, mapping_at, reach, reach_within, reach_word}
+use Rattle.fk_model.specs.Places.{Path, Ptr}
+use Rattle.fk_model.specs.Reach.{Reach, at_home, followed, led_by, mapped, mapping_at, reach, reach_within, reach_word}
 use Rattle.fk_model.specs.Reach.Reach.{Bad, Home, Missing}
-use Rattle.fk_model.specs.Readers.{accessed, fault_on, missed}
+use Rattle.fk_model.specs.Readers.{accessed, missed}
 use Rattle.fk_model.specs.Searches.{thread_at}
 use Rattle.fk_model.specs.UserRows.{enters, executes, halts_with, loads, performs, proceeds, run_row, run_row_by, stores, word_at}
-use Rattle.fk_model.specs.World.{World, Change, apply, apply_all, edited}
-use Rattle.fk_model.specs.World.Change.{Alter, PutPage}
+use Rattle.fk_model.specs.World.{World, apply, apply_all, edited}
+use Rattle.fk_model.specs.World.Change.{Alter}
 use Rattle.fk_model.specs.World.Edit.{Proceed, SetFault}
 use Rattle.fk_model.proofs.walks.PlaceLaws.{same_path_refl}
 use Rattle.laws_machine.proofs.safety.Reads.{body-thread_of}

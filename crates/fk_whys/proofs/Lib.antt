@@ -2,3 +2,4 @@ pub mod Reasons
 pub mod Waited
 pub mod Apart
 pub mod Calmly
+pub mod Locked

@@ -1,5 +1,5 @@
 -- Reasons: the reason of a thread that rests, that lies beneath a hold, or that waits in a call.
-use Rattle.std.proofs.Common.{◌≡◌, ◌≤◌, ◌||◌, ℕ, Bool, true, false, is_some, List, [], ◌∷◌, ◌++◌, Option, Some, None, IsSome, unwrap_or, option_map, Result, Ok, Err, if◌then◌else◌}
+use Rattle.std.proofs.Common.{◌≡◌, ◌≤◌, ℕ, Bool, true, false, is_some, List, [], ◌∷◌, ◌++◌, Option, Some, None, IsSome, unwrap_or, option_map, Ok, if◌then◌else◌}
 use Rattle.std.proofs.Common.{refl, sym, ap, subst, ◌∙◌}
 use Rattle.std.proofs.lemmas.Bool.{or_from, or_parts}
 use Rattle.std.specs.FinMap.{get}
@@ -28,7 +28,7 @@ use Rattle.fk_model.specs.Objects.Mode.{Calling}
 use Rattle.fk_model.specs.Outcomes.{Caller}
 use Rattle.fk_model.specs.Places.{Path, Ptr, is_within, parent, same_path, strip}
 use Rattle.fk_model.specs.Places.Ptr.{At}
-use Rattle.fk_model.specs.Readers.{and_read, handle, handled}
+use Rattle.fk_model.specs.Readers.{handle, handled}
 use Rattle.fk_model.specs.Searches.{depth, fault_pointers, option_list, pointers, talk_at, talk_pointers, thread_at}
 use Rattle.fk_model.specs.Talks.{first_stage}
 use Rattle.fk_model.specs.Valid.{kind_there, IsValid}
@@ -39,7 +39,7 @@ use Rattle.fk_store.specs.Contents.{Contents}
 use Rattle.fk_store.specs.Names.{at}
 use Rattle.fk_store.specs.Paths.{path, place, space_at}
 use Rattle.fk_store.specs.World.{world}
-use Rattle.laws_waits.specs.Stuck.{is_held, is_resting, IsAtStage, IsStuck}
+use Rattle.laws_waits.specs.Stuck.{is_held, is_resting, IsAtStage}
 use Rattle.laws_waits.specs.Stuck.Reason.{Beneath, Connecting, Locking, Resting, Sleeping}
 use Rattle.laws_waits.specs.Complete.{is_outer, HasReason, IsWholeWorld}
 use Rattle.laws_waits.proofs.Complete.{has_reason}

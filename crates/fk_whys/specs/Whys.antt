@@ -1,5 +1,5 @@
 -- Whys: what a reason reads besides the thread's own body.
-use Rattle.std.specs.Prelude.{◌≡◌, ℕ, nat_le, true, false, ◌∷◌, Option, Some, ⊤}
+use Rattle.std.specs.Prelude.{◌≡◌, ℕ, nat_le, true, ◌∷◌, Option, Some, ⊤}
 use Rattle.fk_model.specs.declared.limits.TheConstants.{LAST_USER_SLOT}
 use Rattle.fk_model.specs.declared.names.Kind.{Kind}
 use Rattle.fk_model.specs.declared.moves.Ask.TheVariants as asks

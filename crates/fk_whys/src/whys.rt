@@ -1,8 +1,9 @@
 //! Reasons.
-ghost use Rattle.std.specs.Prelude.{◌≡◌, ℕ, Option, None, Some, IfSome, IsSome, is_some};
+ghost use Rattle.std.specs.Prelude.{◌≡◌, ℕ, Option, None, Some, false, IfSome, IsSome, is_some};
 ghost use Rattle.std.specs.Bool.{OnTrue};
 ghost use Rattle.fk_model.specs.declared.moves.Ask.TheVariants as asks;
 ghost use Rattle.fk_model.specs.declared.names.Kind.TheVariants as kinds;
+ghost use Rattle.fk_model.specs.Holds.{decider};
 ghost use Rattle.fk_model.specs.Moves.{IsReady};
 ghost use Rattle.fk_model.specs.Places.{Path};
 ghost use Rattle.fk_model.specs.Searches.{talk_at, thread_at};
@@ -13,7 +14,8 @@ ghost use Rattle.fk_store.specs.Paths.{path, place};
 ghost use Rattle.fk_store.specs.World.{world};
 ghost use Rattle.laws_waits.specs.Stuck as stuck;
 ghost use Rattle.laws_waits.specs.Stuck.{IsAtStage};
-ghost use Rattle.fk_whys.specs.Whys.{IsKnown, IsLocked, IsThere, IsWhy};
+ghost use Rattle.fk_whys.specs.Causes.{cause_at};
+ghost use Rattle.fk_whys.specs.Whys.{IsAt, IsKnown, IsLocked, IsThere, IsWhy};
 
 use crate::causes::{named, outermost};
 use crate::stages::{first_stage, is_user};
@@ -47,7 +49,70 @@ pub fn reason(store: &Store, who: Who) -> Why
     }
 }
 
-/// The same of this thread: it rests, it lies beneath a hold, or it waits in a call.
+/// The locked mutex at which the thread in a slot waits, while nothing is held. No move of it is ready then, and the mutex is its cause.
+pub fn at_locked(store: &Store, who: Who) -> Option<Who>
+    ensures why { IfSome result (λ key. IsAt (world store.now) (place (path store.now) who) (place (path store.now) key)) }
+    ensures cause { IfSome result (λ key. place (path store.now) key ≡ cause_at (world store.now) (place (path store.now) who)) }
+{
+    if store.is_any_held() {
+        return None;
+    }
+    match store.thread(who) {
+        Some(thread) => locked_before(store, who, thread),
+        None => None,
+    }
+}
+
+/// The same of this thread.
+fn locked_before(store: &Store, who: Who, thread: &Thread) -> Option<Who>
+    requires unheld { (q : Path) → decider (world store.now) q ≡ None }
+    requires there { Some (thread_by (path store.now) thread.now) ≡ thread_at (world store.now) (place (path store.now) who) }
+    ensures why { IfSome result (λ key. IsAt (world store.now) (place (path store.now) who) (place (path store.now) key)) }
+    ensures cause { IfSome result (λ key. place (path store.now) key ≡ cause_at (world store.now) (place (path store.now) who)) }
+{
+    if is_resting(thread) {
+        return None;
+    }
+    match first_stage(thread) {
+        Some(stage) => locked_at(store, who, thread, stage),
+        None => None,
+    }
+}
+
+/// The same at this stage of it.
+fn locked_at(store: &Store, who: Who, thread: &Thread, stage: Stage) -> Option<Who>
+    requires unheld { (q : Path) → decider (world store.now) q ≡ None }
+    requires there { Some (thread_by (path store.now) thread.now) ≡ thread_at (world store.now) (place (path store.now) who) }
+    requires awake { stuck.is_resting (thread_by (path store.now) thread.now) ≡ false }
+    requires stage { talks.first_stage (thread_by (path store.now) thread.now).mode ≡ Some stage }
+    ensures why { IfSome result (λ key. IsAt (world store.now) (place (path store.now) who) (place (path store.now) key)) }
+    ensures cause { IfSome result (λ key. place (path store.now) key ≡ cause_at (world store.now) (place (path store.now) who)) }
+{
+    match stage {
+        Stage::MutexLock { m } => locked_named(store, who, thread, m),
+        _ => None,
+    }
+}
+
+/// The same of this mutex.
+fn locked_named(store: &Store, who: Who, thread: &Thread, mutex: u64) -> Option<Who>
+    requires unheld { (q : Path) → decider (world store.now) q ≡ None }
+    requires there { Some (thread_by (path store.now) thread.now) ≡ thread_at (world store.now) (place (path store.now) who) }
+    requires awake { stuck.is_resting (thread_by (path store.now) thread.now) ≡ false }
+    requires stage { talks.first_stage (thread_by (path store.now) thread.now).mode ≡ Some (Stage.MutexLock mutex) }
+    ensures why { IfSome result (λ key. IsAt (world store.now) (place (path store.now) who) (place (path store.now) key)) }
+    ensures cause { IfSome result (λ key. place (path store.now) key ≡ cause_at (world store.now) (place (path store.now) who)) }
+{
+    match locked(store, who.space, mutex) {
+        Some(slot) => Some(Who {
+            space: who.space,
+            slot,
+        }),
+        None => None,
+    }
+}
+
+/// Why no move of this thread is ready: it rests, it lies beneath a hold, or it waits in a call.
 fn why_not(store: &Store, who: Who, thread: &Thread) -> Why
     requires valid { IsValid (world store.now) }
     requires there { Some (thread_by (path store.now) thread.now) ≡ thread_at (world store.now) (place (path store.now) who) }

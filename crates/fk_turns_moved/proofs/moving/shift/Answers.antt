@@ -1,5 +1,6 @@
 use Rattle.std.proofs.Common.{◌||◌, sym, ◌∙◌}
 use Rattle.fk_model.specs.declared.names.Who.{Who}
+use Rattle.fk_turns.specs.Turns.{all_marks}
 use Rattle.fk_turns.proofs.Roused.{less_then}
 use Rattle.fk_waits_names.specs.Names.{is_same}
 use Rattle.fk_turns_moved.proofs.Touched.{freed_nobody, shifted_other, shifted_user, still_nobody}
@@ -20,7 +21,7 @@ pub returns-then-is_user-clause-freed : goal.returns-then-is_user-clause-freed
 returns-then-is_user-clause-freed c =
     let was = c.args.turns.now in
     let now = c.rename.new.self in
-    freed_nobody (λ (y : Who). is_same c.args.from y || is_same c.args.to y) was.marks now.marks now.waits
+    freed_nobody (λ (y : Who). is_same c.args.from y || is_same c.args.to y) (all_marks was.waits was.marks) (all_marks now.waits now.marks) now.waits
     (still_nobody was.waits now.waits c.rename.ensures.less c.requires.none)
 
 pub returns-else-is_user-clause-freed : goal.returns-else-is_user-clause-freed
@@ -28,5 +29,5 @@ returns-else-is_user-clause-freed c =
     let was = c.args.turns.now in
     let first = c.forget.new.self in
     let now = c.forget-else-is_user.new.self in
-    freed_nobody (λ (y : Who). is_same c.args.from y || is_same c.args.to y) was.marks now.marks now.waits
+    freed_nobody (λ (y : Who). is_same c.args.from y || is_same c.args.to y) (all_marks was.waits was.marks) (all_marks now.waits now.marks) now.waits
     (still_nobody was.waits now.waits (less_then was.waits first.waits now.waits c.forget.ensures.less c.forget-else-is_user.ensures.less) c.requires.none)

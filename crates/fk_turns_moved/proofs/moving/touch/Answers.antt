@@ -1,3 +1,5 @@
+use Rattle.fk_turns.specs.Turns.{all_marks}
+use Rattle.fk_turns.proofs.Roused.{met_both}
 use Rattle.fk_turns_moved.proofs.Touched.{freed_one, touched_one}
 use Rattle.fk_turns_moved.proofs.moving.touch.Goals as goal
 
@@ -10,5 +12,8 @@ pub returns-clause-freed : goal.returns-clause-freed
 returns-clause-freed c =
     let first = c.place.new.turns in
     let second = c.rouse_at.new.self in
-    freed_one c.args.who c.args.turns.now.marks first.marks second.marks first.waits second.waits c.place.ensures.met c.rouse_at.ensures.met
+    let was = c.args.turns.now in
+    freed_one c.args.who (all_marks was.waits was.marks) (all_marks first.waits first.marks) (all_marks second.waits second.marks) first.waits second.waits
+    (met_both was.waits was.marks first.waits first.marks c.place.ensures.met c.place.ensures.less)
+    (met_both first.waits first.marks second.waits second.marks c.rouse_at.ensures.met c.rouse_at.ensures.roused.less)
     c.rouse_at.ensures.freed c.rouse_at.ensures.roused.less

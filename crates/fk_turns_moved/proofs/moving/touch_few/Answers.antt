@@ -1,6 +1,7 @@
 use Rattle.std.proofs.Common.{◌||◌, refl}
 use Rattle.std.proofs.lemmas.Bool.{or_left, or_right}
 use Rattle.fk_model.specs.declared.names.Who.{Who}
+use Rattle.fk_turns.specs.Turns.{all_marks}
 use Rattle.fk_turns.proofs.Roused.{less_then}
 use Rattle.fk_turns_moved.specs.Moved.{is_it}
 use Rattle.fk_turns_moved.proofs.Touched.{freed_then, still_stands, touched_then}
@@ -46,11 +47,12 @@ returns-clause-freed c =
     let a = is_it c.args.first in
     let b = is_it c.args.second in
     let d = is_it c.args.third in
+    let was = c.args.turns.now in
     let first = c.touch_one.new.turns in
     let second = c.touch_one-2.new.turns in
     let third = c.touch_one-3.new.turns in
-    freed_then a (λ (x : Who). b x || d x) (λ (x : Who). a x || (b x || d x)) c.args.turns.now.marks first.marks third.marks first.waits third.waits (λ x. refl)
-    c.touch_one.ensures.freed
-    (freed_then b d (λ (x : Who). b x || d x) first.marks second.marks third.marks second.waits third.waits (λ x. refl) c.touch_one-2.ensures.freed
-    c.touch_one-3.ensures.freed c.touch_one-3.ensures.touched.less)
+    freed_then a (λ (x : Who). b x || d x) (λ (x : Who). a x || (b x || d x)) (all_marks was.waits was.marks) (all_marks first.waits first.marks)
+    (all_marks third.waits third.marks) first.waits third.waits (λ x. refl) c.touch_one.ensures.freed
+    (freed_then b d (λ (x : Who). b x || d x) (all_marks first.waits first.marks) (all_marks second.waits second.marks) (all_marks third.waits third.marks)
+    second.waits third.waits (λ x. refl) c.touch_one-2.ensures.freed c.touch_one-3.ensures.freed c.touch_one-3.ensures.touched.less)
     (less_then first.waits second.waits third.waits c.touch_one-2.ensures.touched.less c.touch_one-3.ensures.touched.less)

@@ -1,5 +1,6 @@
 use Rattle.std.proofs.Common.{Option, sym, ap, subst, ◌∙◌}
 use Rattle.fk_model.specs.declared.names.Who.{Who}
+use Rattle.fk_turns.specs.Turns.{all_marks}
 use Rattle.fk_waits_causes.proofs.Placed.{same_self}
 use Rattle.fk_turns_moved.specs.Moved.{is_it, AreFreed, IsTouched}
 use Rattle.fk_turns_moved.proofs.Touched.{freed_none, place_known, touched_none}
@@ -27,9 +28,10 @@ pub returns-in-Some-clause-freed : goal.returns-in-Some-clause-freed
 returns-in-Some-clause-freed c =
     let was = c.args.turns.now in
     let now = c.touch.new.turns in
-    subst (λ (o : Option Who). AreFreed (is_it o) was.marks now.marks now.waits) (sym c.in-Some.is) c.touch.ensures.freed
+    subst (λ (o : Option Who). AreFreed (is_it o) (all_marks was.waits was.marks) (all_marks now.waits now.marks) now.waits) (sym c.in-Some.is) c.touch.ensures.freed
 
 pub returns-in-None-clause-freed : goal.returns-in-None-clause-freed
 returns-in-None-clause-freed c =
     let was = c.args.turns.now in
-    subst (λ (o : Option Who). AreFreed (is_it o) was.marks was.marks was.waits) (sym c.in-None.is) (freed_none was.marks was.waits)
+    subst (λ (o : Option Who). AreFreed (is_it o) (all_marks was.waits was.marks) (all_marks was.waits was.marks) was.waits) (sym c.in-None.is)
+    (freed_none (all_marks was.waits was.marks) was.waits)

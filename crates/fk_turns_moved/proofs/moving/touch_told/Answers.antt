@@ -1,4 +1,5 @@
 use Rattle.std.proofs.Common.{refl, sym, ap, subst}
+use Rattle.fk_turns.specs.Turns.{all_marks}
 use Rattle.fk_waits_causes.proofs.Placed.{same_self}
 use Rattle.fk_wakes.specs.declared.touching.Touched.{Touched}
 use Rattle.fk_turns_moved.specs.Moved.{is_named, is_wide, AreFreed, HasRoomFor, IsTouched}
@@ -56,25 +57,30 @@ returns-in-Moves-clause-touched c =
 
 pub returns-in-Few-clause-freed : goal.returns-in-Few-clause-freed
 returns-in-Few-clause-freed c =
+    let was = c.args.turns.now in
     let now = c.touch_few.new.turns in
-    subst (λ (t : Touched). AreFreed (is_named t) c.args.turns.now.marks now.marks now.waits) (sym c.in-Few.is) c.touch_few.ensures.freed
+    subst (λ (t : Touched). AreFreed (is_named t) (all_marks was.waits was.marks) (all_marks now.waits now.marks) now.waits) (sym c.in-Few.is) c.touch_few.ensures.freed
 
 pub returns-in-Makes-clause-freed : goal.returns-in-Makes-clause-freed
 returns-in-Makes-clause-freed c =
+    let was = c.args.turns.now in
     let now = c.touch.new.turns in
-    subst (λ (t : Touched). AreFreed (is_named t) c.args.turns.now.marks now.marks now.waits) (sym c.in-Makes.is) c.touch.ensures.freed
+    subst (λ (t : Touched). AreFreed (is_named t) (all_marks was.waits was.marks) (all_marks now.waits now.marks) now.waits) (sym c.in-Makes.is) c.touch.ensures.freed
 
 pub returns-in-Dies-clause-freed : goal.returns-in-Dies-clause-freed
 returns-in-Dies-clause-freed c =
+    let was = c.args.turns.now in
     let now = c.touch-in-Dies.new.turns in
-    subst (λ (t : Touched). AreFreed (is_named t) c.args.turns.now.marks now.marks now.waits) (sym c.in-Dies.is) c.touch-in-Dies.ensures.freed
+    subst (λ (t : Touched). AreFreed (is_named t) (all_marks was.waits was.marks) (all_marks now.waits now.marks) now.waits) (sym c.in-Dies.is) c.touch-in-Dies.ensures.freed
 
 pub returns-in-Moves-clause-freed : goal.returns-in-Moves-clause-freed
 returns-in-Moves-clause-freed c =
+    let was = c.args.turns.now in
     let now = c.shift.new.turns in
-    subst (λ (t : Touched). AreFreed (is_named t) c.args.turns.now.marks now.marks now.waits) (sym c.in-Moves.is) c.shift.ensures.freed
+    subst (λ (t : Touched). AreFreed (is_named t) (all_marks was.waits was.marks) (all_marks now.waits now.marks) now.waits) (sym c.in-Moves.is) c.shift.ensures.freed
 
 pub returns-in-Any-clause-freed : goal.returns-in-Any-clause-freed
 returns-in-Any-clause-freed c =
     let was = c.args.turns.now in
-    subst (λ (t : Touched). AreFreed (is_named t) was.marks was.marks was.waits) (sym c.in-Any.is) (freed_none was.marks was.waits)
+    subst (λ (t : Touched). AreFreed (is_named t) (all_marks was.waits was.marks) (all_marks was.waits was.marks) was.waits) (sym c.in-Any.is)
+    (freed_none (all_marks was.waits was.marks) was.waits)

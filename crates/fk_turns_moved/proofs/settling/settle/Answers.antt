@@ -1,21 +1,14 @@
-use Rattle.std.proofs.Common.{ap, ◌∙◌}
-use Rattle.fk_turns.specs.declared.turns.Mark.{Mark}
-use Rattle.fk_turns.specs.Turns.{marked_by}
-use Rattle.fk_turns_moved.proofs.Settled.{kept_settled, user_live}
+use Rattle.fk_turns_moved.proofs.Settled.{user_live}
 use Rattle.fk_turns_moved.proofs.settling.settle.Goals as goal
 
 pub cause-cause-requires : goal.cause-cause-requires
 cause-cause-requires c = record { consistent = c.requires.valid.consistent; live = user_live c.args.store.now c.args.who c.requires.user }
 
-pub park-requires : goal.park-requires
-park-requires c = record { sound = c.requires.kept.sound; stands = c.requires.kept.each c.args.who ∙ c.requires.user }
-
-pub returns-clause-kept : goal.returns-clause-kept
-returns-clause-kept c =
-    let was = c.args.turns.now in
-    kept_settled c.args.store.now c.args.who c.cause-cause.result c.reason.result was.waits was.marks
-    c.park.new.self.waits c.park.new.self.marks c.requires.kept c.requires.user c.requires.unready (c.reason.ensures c.requires.unready)
-    c.park.ensures.waits (c.park.ensures.marks ∙ ap (λ (k : Mark). marked_by k c.args.who was.marks) c.mark_of-mark.ensures) c.park.ensures.sound
-
-pub returns-clause-settled : goal.returns-clause-settled
-returns-clause-settled c = record { cause = c.cause-cause.result; where_it_waits = c.cause-cause.ensures; queued = c.park.ensures.waits }
+pub settle_for-requires : goal.settle_for-requires
+settle_for-requires c = record {
+  kept = c.requires.kept;
+  user = c.requires.user;
+  unready = c.requires.unready;
+  why = c.reason-why.ensures c.requires.unready;
+  cause = c.cause-cause.ensures;
+}

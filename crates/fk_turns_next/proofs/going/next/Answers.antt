@@ -8,14 +8,16 @@ use Rattle.fk_turns_next.proofs.going.next.Goals as goal
 pub loop-who-init : goal.loop-who-init
 loop-who-init c = record { kept = c.requires.kept; passed = passed_none c.args.store.now c.args.turns.now.waits }
 
-pub settle-requires : goal.settle-requires
-settle-requires c =
+pub settle_at-requires : goal.settle_at-requires
+settle_at-requires c =
     let now = c.loop-who.turns in
     record {
       valid = c.requires.valid;
       kept = c.loop-who.invariant.kept;
       user = sym (c.loop-who.invariant.kept.each c.in-Some.who) ∙ front_stands c.in-Some.who now.waits c.in-Some.ensures;
-      unready = λ pick ready. c.in_default-ready_move.ensures.none (pick, ready);
+      unready = λ pick ready. c.in-Err.ensures.none (pick, ready);
+      why = c.in-Err.ensures.why;
+      cause = c.in-Err.ensures.cause;
     }
 
 pub loop-who-preserved : goal.loop-who-preserved
@@ -24,9 +26,9 @@ loop-who-preserved c =
     let now = c.loop-who.turns in
     let once : StandOnce now.waits = subst StandOnce c.waits.ensures c.once.ensures in
     record {
-      kept = c.settle.ensures.kept;
-      passed = passed_more c.args.store.now c.in-Some.who was.waits now.waits c.settle.new.turns.waits c.loop-who.invariant.passed c.in-Some.ensures once
-          c.settle.ensures.settled c.in_default-ready_move.ensures.none;
+      kept = c.settle_at.ensures.kept;
+      passed = passed_more c.args.store.now c.in-Some.who was.waits now.waits c.settle_at.new.turns.waits c.loop-who.invariant.passed c.in-Some.ensures once
+          c.settle_at.ensures.settled c.in-Err.ensures.none;
     }
 
 pub loop-who-smaller : goal.loop-who-smaller
@@ -34,8 +36,8 @@ loop-who-smaller c =
     let was = c.args.turns.now in
     let now = c.loop-who.turns in
     let once : StandOnce now.waits = subst StandOnce c.waits.ensures c.once.ensures in
-    fewer_ready c.args.store.now c.in-Some.who was.waits now.waits c.settle.new.turns.waits c.loop-who.invariant.passed c.in-Some.ensures once
-    c.settle.ensures.settled
+    fewer_ready c.args.store.now c.in-Some.who was.waits now.waits c.settle_at.new.turns.waits c.loop-who.invariant.passed c.in-Some.ensures once
+    c.settle_at.ensures.settled
 
 pub idle-requires : goal.idle-requires
 idle-requires c =

@@ -1,4 +1,4 @@
-use Rattle.std.proofs.Common.{refl, sym, ◌∙◌}
+use Rattle.std.proofs.Common.{sym, ◌∙◌}
 use Rattle.fk_waits.specs.Lists.{stands}
 use Rattle.fk_waits_causes.proofs.Numbers.{clash}
 use Rattle.fk_turns_next.proofs.Placed.{kept_woken, placed_settled, placed_woken}
@@ -13,23 +13,25 @@ wake-requires c =
       marks = λ off. clash (stands c.args.who c.args.turns.now.waits) there off;
     }
 
-pub settle-requires : goal.settle-requires
-settle-requires c = record {
+pub settle_at-requires : goal.settle_at-requires
+settle_at-requires c = record {
   valid = c.requires.valid;
   kept = c.requires.kept;
   user = sym c.is_user.ensures ∙ c.if-not-is_user.false;
-  unready = λ pick ready. c.in-None.ensures.none (pick, ready);
+  unready = λ pick ready. c.in-Err.ensures.none (pick, ready);
+  why = c.in-Err.ensures.why;
+  cause = c.in-Err.ensures.cause;
 }
 
-pub returns-in-Some-clause-kept : goal.returns-in-Some-clause-kept
-returns-in-Some-clause-kept c =
+pub returns-in-Ok-clause-kept : goal.returns-in-Ok-clause-kept
+returns-in-Ok-clause-kept c =
     kept_woken c.args.store.now c.args.who c.args.turns.now.waits c.args.turns.now.marks c.wake.new.self.waits c.wake.new.self.marks c.requires.kept
     (sym c.is_user.ensures ∙ c.if-not-is_user.false) c.wake.ensures.waits c.wake.ensures.met c.wake.ensures.less c.wake.ensures.sound
 
-pub returns-in-Some-clause-placed : goal.returns-in-Some-clause-placed
-returns-in-Some-clause-placed c user =
-    placed_woken c.args.store.now c.args.who c.args.turns.now.waits c.wake.new.self.waits c.wake.ensures.waits (c.in-Some.ensures.up refl)
+pub returns-in-Ok-clause-placed : goal.returns-in-Ok-clause-placed
+returns-in-Ok-clause-placed c user =
+    placed_woken c.args.store.now c.args.who c.args.turns.now.waits c.wake.new.self.waits c.wake.ensures.waits (c.in-Ok.ensures.up)
 
-pub returns-in-None-clause-placed : goal.returns-in-None-clause-placed
-returns-in-None-clause-placed c user =
-    placed_settled c.args.store.now c.args.who c.args.turns.now.waits c.settle.new.turns.waits c.settle.ensures.settled c.in-None.ensures.none
+pub returns-in-Err-clause-placed : goal.returns-in-Err-clause-placed
+returns-in-Err-clause-placed c user =
+    placed_settled c.args.store.now c.args.who c.args.turns.now.waits c.settle_at.new.turns.waits c.settle_at.ensures.settled c.in-Err.ensures.none

@@ -1,7 +1,7 @@
-use Rattle.std.proofs.Common.{◌≡◌, Some, true, sym, subst, ◌∙◌}
-use Rattle.fk_turns.specs.Turns.{is_front, IsSound}
+use Rattle.std.proofs.Common.{sym, subst, ◌∙◌}
+use Rattle.fk_turns.specs.Turns.{IsSound}
 use Rattle.fk_turns.proofs.Woken.{front_first, sound_turned}
-use Rattle.fk_waits.specs.Lists.{first_ready, woken, Lists}
+use Rattle.fk_waits.specs.Lists.{Lists}
 use Rattle.fk_waits.proofs.Listed.{front_passes, front_stands}
 use Rattle.fk_turns.proofs.turns.Turns.go_last.Goals as goal
 

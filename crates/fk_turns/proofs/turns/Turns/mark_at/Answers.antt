@@ -1,20 +1,20 @@
 use Rattle.std.proofs.Common.{sym, ap, if◌then◌else◌, ◌∙◌}
-use Rattle.fk_waits.specs.Lists.{parked, stands, woken, Lists}
+use Rattle.fk_waits.specs.Lists.{parked, stands, woken}
 use Rattle.fk_waits_causes.proofs.Numbers.{clash}
+use Rattle.fk_waits_names.specs.Names.{is_same}
 use Rattle.fk_turns.proofs.turns.Turns.mark_at.Goals as goal
 
 pub wake-requires : goal.wake-requires
 wake-requires c off = clash (stands c.args.who c.args.self.now.marks) c.requires off
 
-pub park-requires : goal.park-requires
-park-requires c off = clash (stands c.args.who c.args.self.now.marks) c.requires off
-
 pub returns-then-is_free-clause-marks : goal.returns-then-is_free-clause-marks
 returns-then-is_free-clause-marks c =
     let marks = c.args.self.now.marks in
-    c.wake.ensures ∙ ap (λ b. if b then woken c.args.who marks else parked c.args.who c.args.key marks) (sym (sym c.is_free.ensures ∙ c.if-is_free.true))
+    let besides = if is_same c.args.cause c.args.key then marks else parked c.args.who c.args.key marks in
+    c.wake.ensures ∙ ap (λ b. if b then woken c.args.who marks else besides) (sym (sym c.is_free.ensures ∙ c.if-is_free.true))
 
 pub returns-else-is_free-clause-marks : goal.returns-else-is_free-clause-marks
 returns-else-is_free-clause-marks c =
     let marks = c.args.self.now.marks in
-    c.park.ensures ∙ ap (λ b. if b then woken c.args.who marks else parked c.args.who c.args.key marks) (sym (sym c.is_free.ensures ∙ c.if-is_free.false))
+    let besides = if is_same c.args.cause c.args.key then marks else parked c.args.who c.args.key marks in
+    c.mark_besides.ensures.marks ∙ ap (λ b. if b then woken c.args.who marks else besides) (sym (sym c.is_free.ensures ∙ c.if-is_free.false))

@@ -1,8 +1,9 @@
-use Rattle.std.proofs.Common.{sym, ◌∙◌}
+use Rattle.std.proofs.Common.{sym, ap, ◌∙◌}
+use Rattle.fk_waits.specs.Lists.{Lists}
 use Rattle.fk_waits_causes.proofs.Numbers.{clash}
 use Rattle.fk_waits_names.specs.Names.{is_same}
 use Rattle.fk_turns.specs.Turns.{free_cause}
-use Rattle.fk_turns.proofs.Roused.{met_none, roused_none}
+use Rattle.fk_turns.proofs.Roused.{freed_both, met_none, met_still, roused_none, roused_then}
 use Rattle.fk_turns.proofs.turns.Turns.rouse_at.Goals as goal
 
 pub rouse_marked_at-requires : goal.rouse_marked_at-requires
@@ -17,3 +18,24 @@ returns-then-is_free-clause-met c = met_none c.args.self.now.marks c.args.self.n
 pub returns-then-is_free-clause-freed : goal.returns-then-is_free-clause-freed
 returns-then-is_free-clause-freed c named =
     clash (is_same free_cause c.args.key) (sym c.is_free.ensures ∙ c.if-is_free.true) named
+
+pub returns-clause-roused : goal.returns-clause-roused
+returns-clause-roused c =
+    roused_then c.args.self.now.waits c.rouse_marked_at.new.self.waits c.rouse_queued_at.new.self.waits c.rouse_marked_at.ensures.roused
+    c.rouse_queued_at.ensures.roused
+
+pub returns-clause-met : goal.returns-clause-met
+returns-clause-met c =
+    let first = c.rouse_marked_at.new.self in
+    let now = c.rouse_queued_at.new.self in
+    met_still c.args.self.now.marks first.marks now.marks first.waits now.waits c.rouse_marked_at.ensures.met c.rouse_queued_at.ensures.roused.less
+    c.rouse_queued_at.ensures.marks
+
+pub returns-clause-freed : goal.returns-clause-freed
+returns-clause-freed c =
+    let was = c.args.self.now in
+    freed_both c.args.key was.waits was.marks c.rouse_marked_at.new.self.waits c.rouse_queued_at.new.self.waits c.rouse_marked_at.ensures.freed
+    c.rouse_marked_at.ensures.roused.less c.rouse_queued_at.ensures.roused.less c.rouse_queued_at.ensures.none
+
+pub returns-clause-room : goal.returns-clause-room
+returns-clause-room c = ap (λ (l : Lists). l.spare) c.rouse_queued_at.ensures.marks ∙ c.rouse_marked_at.ensures.room

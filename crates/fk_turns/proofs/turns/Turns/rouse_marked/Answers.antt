@@ -1,6 +1,6 @@
 use Rattle.std.proofs.Common.{◌∙◌}
-use Rattle.fk_turns.specs.Turns.{loud_cause}
-use Rattle.fk_turns.proofs.Roused.{freed_later, gone_later, met_then, roused_then}
+use Rattle.fk_turns.specs.Turns.{all_marks, loud_cause}
+use Rattle.fk_turns.proofs.Roused.{freed_later, gone_later, met_both, met_then, roused_then}
 use Rattle.fk_turns.proofs.turns.Turns.rouse_marked.Goals as goal
 
 pub returns-clause-roused : goal.returns-clause-roused
@@ -26,4 +26,6 @@ returns-clause-loud c =
     let was = c.args.self.now in
     let first = c.rouse_any.new.self in
     let now = c.rouse_at.new.self in
-    freed_later loud_cause was.marks first.marks first.waits now.waits c.rouse_any.ensures.met c.rouse_at.ensures.freed c.rouse_at.ensures.roused.less
+    freed_later loud_cause (all_marks was.waits was.marks) (all_marks first.waits first.marks) first.waits now.waits
+    (met_both was.waits was.marks first.waits first.marks c.rouse_any.ensures.met c.rouse_any.ensures.roused.less) c.rouse_at.ensures.freed
+    c.rouse_at.ensures.roused.less
