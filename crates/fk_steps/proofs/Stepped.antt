@@ -1,5 +1,5 @@
 -- Stepped: the lists are kept by a move.
-use Rattle.std.proofs.Common.{◌≡◌, ◌≤◌, ◌||◌, Bool, true, false, Option, Some, None, IsSome, is_some, Result, Ok, Err, IfOk, IfSome, IfNone, OnErr}
+use Rattle.std.proofs.Common.{◌≡◌, ◌≤◌, ◌||◌, ◌++◌, Bool, true, false, Option, Some, None, IsSome, is_some, Result, Ok, Err, IfOk, IfSome, IfNone, OnErr}
 use Rattle.std.proofs.Common.{refl, sym, ap, subst, ◌∙◌}
 use Rattle.std.specs.Bool.{⊤, OnTrue, OnFalse}
 use Rattle.fk_model.specs.declared.moves.Ask.{Ask}
@@ -18,7 +18,7 @@ use Rattle.fk_store.specs.World.{world, place_of}
 use Rattle.fk_turns_next.specs.Tellings.{Told}
 use Rattle.fk_turns_next.specs.Judgements.{is_fit_move, may_lack, IsReadyMove, IsStepTo, TellsTouched}
 use Rattle.fk_turns_next.specs.Tried.{IsLacking, IsMade, IsUnready, TellsOf}
-use Rattle.fk_turns.specs.Turns.{waits_at}
+use Rattle.fk_turns.specs.Turns.{all_marks, waits_at}
 use Rattle.fk_turns_told.specs.Kept.{is_user_at, AreKept}
 use Rattle.fk_turns_told.specs.Moved.{now_named, HasPlaceFor, HasRoom, IsLeft, IsMoved}
 use Rattle.fk_turns_next.specs.Waiting.{standing, ComesAfter, IsPlaced}
@@ -47,8 +47,8 @@ pub kept_wider : (m : Contents) (waits marks now then_marks : Lists) → AreKept
 kept_wider m waits marks now then_marks kept wider = record {
   each = λ who. (λ i. is_in who (wider.ready i) || is_queued who (wider.queued i)) ∙ kept.each who;
   sound = wider.sound;
-  filed = λ who here. refiled m marks then_marks who (kept.filed who (ap (is_queued who) (sym wider.queued) ∙ here)) (λ is. ap (is_in who) wider.marked ∙ is)
-      (λ key is. ap (waits_at key who) wider.keyed ∙ is);
+  filed = λ who here. refiled m (all_marks waits marks) (all_marks now then_marks) who (kept.filed who (ap (is_queued who) (sym wider.queued) ∙ here)) (λ is. ap (is_in who) wider.marked ∙ is)
+      (λ key is. (λ i. waits_at key who (wider.keyed i ++ wider.queued i)) ∙ is);
 }
 
 -- a thread that is made has a seat

@@ -1,5 +1,5 @@
 -- Went: the lists after a move of a thread that runs on and touches nobody else.
-use Rattle.std.proofs.Common.{◌≡◌, ◌&&◌, ◌||◌, ◌==◌, ℕ, Bool, true, false, not, [], ◌⊎◌, Option, Some, None, is_none, option_map, inl, inr, refl, sym, ap}
+use Rattle.std.proofs.Common.{◌≡◌, ◌&&◌, ◌||◌, ◌==◌, ℕ, Bool, true, false, not, [], ◌⊎◌, ◌++◌, Option, Some, None, is_none, option_map, inl, inr, refl, sym, ap}
 use Rattle.std.proofs.Common.{subst, ◌∙◌}
 use Rattle.std.proofs.lemmas.Bool.{and_parts, or_from, or_right}
 use Rattle.std.specs.Bool.{OnTrue, OnFalse}
@@ -16,8 +16,8 @@ use Rattle.fk_store.specs.Bodies.{fault_by, thread_by}
 use Rattle.fk_store.specs.Contents.{Contents}
 use Rattle.fk_store.specs.Paths.{path}
 use Rattle.fk_store.specs.World.{world, place_of}
-use Rattle.fk_turns.specs.Turns.{loud_cause, waits_at, IsSound}
-use Rattle.fk_turns.proofs.Woken.{queued_less, queued_off, stands_woken, waits_cause}
+use Rattle.fk_turns.specs.Turns.{all_marks, loud_cause, waits_at, IsSound}
+use Rattle.fk_turns.proofs.Woken.{queued_less, queued_off, stands_woken, waits_behind, waits_cause, waits_more, waits_other, waits_split}
 use Rattle.fk_turns_told.specs.Kept.{is_user_at, AreKept, IsFiled, IsFiledAs}
 use Rattle.fk_turns_told.specs.Moved.{is_named, is_told, IsMoved}
 use Rattle.fk_turns_told.specs.Told.{is_going, runs_on_at, IsQuietTo, IsRunning}
@@ -155,7 +155,7 @@ module _ (m n : Contents) (mover : Who) (marks : Lists) (moved : IsMoved m n mov
   left_hushed x whys.Barred other user filed is some = absurd (some refl)
 
 module _ (m n : Contents) (mover : Who) (waits marks now then_marks : Lists) (kept : AreKept m waits marks) (moved : IsMoved m n mover nobody)
-    (left : Leaves m n mover marks) (turned : IsTurned mover waits marks now then_marks) (user : is_user_at n mover ≡ true) where
+    (left : Leaves m n mover (all_marks waits marks)) (turned : IsTurned mover waits marks now then_marks) (user : is_user_at n mover ≡ true) where
   untold : (x : Who) → is_same mover x ≡ false → is_told mover nobody x ≡ false
   untold x e = or_from (is_same mover x) (is_named nobody x) e refl
 
@@ -166,13 +166,13 @@ module _ (m n : Contents) (mover : Who) (waits marks now then_marks : Lists) (ke
       by true e = sym user ∙ ap (is_user_at n) (same_who mover x e)
       by false e = kept.each x ∙ sym (moved.users x (untold x e))
 
-  filed_went : (x : Who) → is_queued x now.queued ≡ true → IsFiled n then_marks x
+  filed_went : (x : Who) → is_queued x now.queued ≡ true → IsFiled n (all_marks now then_marks) x
   filed_went x here = by was.why was.stuck was.filed
     where
       there : is_queued x (without_queued mover waits.queued) ≡ true
       there = ap (λ (l : Lists). is_queued x l.queued) (sym turned.turned) ∙ here
 
-      was : IsFiled m marks x
+      was : IsFiled m (all_marks waits marks) x
       was = kept.filed x (queued_less x mover waits.queued there)
 
       other : is_same mover x ≡ false
@@ -187,17 +187,26 @@ module _ (m n : Contents) (mover : Who) (waits marks now then_marks : Lists) (ke
       was_user : is_user_at m x ≡ true
       was_user = sym (kept.each x) ∙ or_right (is_in x waits.ready) (is_queued x waits.queued) (queued_less x mover waits.queued there)
 
-      by : (y : Why) → IsWhy (world m) (path m) (place_of m x) y → IsFiledAs marks x y → IsFiled n then_marks x
+      still : (key : Who) → waits_at key x (marks.queued ++ waits.queued) ≡ true → waits_at key x (then_marks.queued ++ now.queued) ≡ true
+      still key is = of (waits_split key x marks.queued waits.queued is)
+        where
+          of : (waits_at key x marks.queued ≡ true) ⊎ (waits_at key x waits.queued ≡ true) → waits_at key x (then_marks.queued ++ now.queued) ≡ true
+          of (inl here) = waits_more key x then_marks.queued now.queued (ap (λ (l : Lists). waits_at key x l.queued) turned.same ∙ here)
+          of (inr here) =
+              waits_behind key x then_marks.queued now.queued
+              (ap (λ (l : Lists). waits_at key x l.queued) turned.turned ∙ waits_other key x mover waits.queued other here)
+
+      by : (y : Why) → IsWhy (world m) (path m) (place_of m x) y → IsFiledAs (all_marks waits marks) x y → IsFiled n (all_marks now then_marks) x
       by whys.Still s f = record { why = whys.Still; stuck = left x whys.Still other was_user f s (λ e. cc); filed = tt }
       by (whys.At key) s f = record {
         why = whys.At key;
         stuck = left x (whys.At key) other was_user f s (λ e. cc);
-        filed = (f.0, ap (λ (l : Lists). waits_at key x l.queued) turned.same ∙ f.1);
+        filed = (f.0, still key f.1);
       }
       by whys.Loud s f = record {
         why = whys.Loud;
         stuck = left x whys.Loud other was_user f s (λ e. cc);
-        filed = ap (λ (l : Lists). waits_at loud_cause x l.queued) turned.same ∙ f;
+        filed = still loud_cause f;
       }
       by whys.Barred s f = clash (is_in x marks.ready) f (ap (is_in x) turned.none)
 
@@ -206,12 +215,12 @@ module _ (m n : Contents) (mover : Who) (waits marks now then_marks : Lists) (ke
 
 -- whichever it was
 pub kept_quick : (n : Contents) (mover : Who) (ran : Bool) (touched : Touched) (waits marks now then_marks : Lists) → ComesAfter n mover touched waits marks →
-    MayBeQuiet n mover ran touched waits marks → touched ≡ nobody → (ran ≡ true) ⊎ (is_cause loud_cause marks.queued ≡ false) →
+    MayBeQuiet n mover ran touched waits marks → touched ≡ nobody → (ran ≡ true) ⊎ (is_cause loud_cause (all_marks waits marks).queued ≡ false) →
     runs_on_at n mover ≡ true → IsTurned mover waits marks now then_marks → is_user_at n mover ≡ true → IsSound now then_marks → AreKept n now then_marks
 kept_quick n mover ran touched waits marks now then_marks comes quiet alone (inl so) on turned user sound =
     let from = quiet so alone on in
-    kept_went from.before n mover waits marks now then_marks from.kept from.moved (left_quiet from.before n mover marks from.quiet) turned user sound
+    kept_went from.before n mover waits marks now then_marks from.kept from.moved (left_quiet from.before n mover (all_marks waits marks) from.quiet) turned user sound
 kept_quick n mover ran touched waits marks now then_marks comes quiet alone (inr hushed) on turned user sound =
     let moved = subst (λ (t : Touched). IsMoved comes.before n mover t) alone comes.moved in
     kept_went comes.before n mover waits marks now then_marks comes.kept moved
-    (left_hushed comes.before n mover marks moved (sym (comes.kept.each mover) ∙ turned.stood) hushed) turned user sound
+    (left_hushed comes.before n mover (all_marks waits marks) moved (sym (comes.kept.each mover) ∙ turned.stood) hushed) turned user sound

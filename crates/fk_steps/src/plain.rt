@@ -3,7 +3,7 @@ ghost use Rattle.std.specs.Prelude.{◌≡◌, ◌⊎◌, true, false, None};
 ghost use Rattle.std.specs.Bool.{OnTrue, OnFalse};
 ghost use Rattle.fk_model.specs.Valid.{IsValid};
 ghost use Rattle.fk_store.specs.World.{world, place_of};
-ghost use Rattle.fk_turns.specs.Turns.{loud_cause, IsSound};
+ghost use Rattle.fk_turns.specs.Turns.{all_marks, loud_cause, IsSound};
 ghost use Rattle.fk_waits.specs.Lists.{is_cause};
 ghost use Rattle.fk_turns_told.specs.Kept.{is_user_at, AreKept};
 ghost use Rattle.fk_turns_told.specs.Moved.{now_named};
@@ -42,7 +42,7 @@ fn is_quick(turns: &mut Turns, store: &Store, mover: Who, touched: &Touched, ran
     ensures sound { IsSound turns.new.waits turns.new.marks }
     ensures turned { OnTrue result (IsTurned mover turns.old.waits turns.old.marks turns.new.waits turns.new.marks) }
     ensures alone { OnTrue result (touched.now ≡ Touched.Few None None None) }
-    ensures ran { OnTrue result ((ran ≡ true) ⊎ (is_cause loud_cause turns.old.marks.queued ≡ false)) }
+    ensures ran { OnTrue result ((ran ≡ true) ⊎ (is_cause loud_cause (all_marks turns.old.waits turns.old.marks).queued ≡ false)) }
     ensures on { OnTrue result (runs_on_at store.now mover ≡ true) }
     ensures up { OnTrue result (IsMoveReady (world store.now) (place_of store.now mover)) }
     ensures user { OnTrue result (is_user_at store.now mover ≡ true) }
@@ -63,7 +63,7 @@ fn is_quick(turns: &mut Turns, store: &Store, mover: Who, touched: &Touched, ran
 
 /// It was an instruction, or nobody is queued whom any move may free.
 fn is_gentle(turns: &Turns, ran: bool) -> bool
-    ensures { OnTrue result ((ran ≡ true) ⊎ (is_cause loud_cause turns.now.marks.queued ≡ false)) }
+    ensures { OnTrue result ((ran ≡ true) ⊎ (is_cause loud_cause (all_marks turns.now.waits turns.now.marks).queued ≡ false)) }
 {
     if ran {
         return true;
