@@ -123,12 +123,17 @@ fn fault_of(alloc: Global, word: &String, is_name_wanted: bool) -> Option<Proble
     }
 }
 
-/// What is wrong with the first word behind a verb that isn't what is wanted there: a name, or two, and then numbers of moves.
-fn first_fault(alloc: Global, words: &[String], verb: Verb) -> Option<Problem> {
-    let names = match verb {
+/// How many names stand behind a verb before its numbers of moves, at most.
+fn names_behind(verb: Verb) -> usize {
+    match verb {
         Verb::Differences => 2,
         _ => 1,
-    };
+    }
+}
+
+/// What is wrong with the first word behind a verb that isn't what is wanted there: a name, or two, and then numbers of moves.
+fn first_fault(alloc: Global, words: &[String], verb: Verb) -> Option<Problem> {
+    let names = names_behind(verb);
     for (place, word) in words.iter().enumerate() {
         let fault = fault_of(alloc, word, place < names);
         if fault.is_some() {
@@ -151,14 +156,19 @@ fn count_at(words: &[String], place: usize) -> Option<u64> {
     plain_number_up_to(MOST, words.get(place)?.as_bytes())
 }
 
-/// What a verb with these words behind it asks for.
-fn asked_of<'a>(verb: Verb, words: &'a [String]) -> Asked<'a> {
-    let (first, end) = match (verb, count_at(words, 1), count_at(words, 2)) {
+/// The first move that is shown, and before which a run is to stop.
+fn moves_of(verb: Verb, words: &[String]) -> (u64, u64) {
+    match (verb, count_at(words, 1), count_at(words, 2)) {
         (Verb::Tree | Verb::Why, Some(count), _) => (0, count),
         (Verb::Steps, Some(first), Some(last)) => (first, last.saturating_add(1)),
         (Verb::Steps, _, _) => (0, MOST),
         _ => (0, u64::MAX),
-    };
+    }
+}
+
+/// What a verb with these words behind it asks for.
+fn asked_of<'a>(verb: Verb, words: &'a [String]) -> Asked<'a> {
+    let (first, end) = moves_of(verb, words);
     Asked {
         verb,
         name: name_at(words, 0),

@@ -32,19 +32,28 @@ fn shape_of(op: u8) -> Shape {
     }
 }
 
+/// What an instruction has in the operands that its line leaves out.
+fn left_out(instr: Instr) -> u64 {
+    let Instr { op, a, b, c, n } = instr;
+    let (a, b, c, n) = (a as u64, b as u64, c as u64, n as u64);
+    match shape_of(op) {
+        Shape::Bare => a | b | c | n,
+        Shape::Number => a | b | c,
+        Shape::RegisterNumber => b | c,
+        Shape::TwoRegisters => c | n,
+        Shape::ThreeRegisters => n,
+        Shape::TwoRegistersNumber => c,
+    }
+}
+
 /// The instruction in a word that the assembler can make: what its operands leave out is 0.
 pub fn plain_instruction(word: u64) -> Option<Instr> {
     let instr = decode(word)?;
-    let Instr { op, a, b, c, n } = instr;
-    let is_plain = match shape_of(op) {
-        Shape::Bare => a == 0 && b == 0 && c == 0 && n == 0,
-        Shape::Number => a == 0 && b == 0 && c == 0,
-        Shape::RegisterNumber => b == 0 && c == 0,
-        Shape::TwoRegisters => c == 0 && n == 0,
-        Shape::ThreeRegisters => n == 0,
-        Shape::TwoRegistersNumber => c == 0,
-    };
-    if is_plain { Some(instr) } else { None }
+    if left_out(instr) == 0 {
+        Some(instr)
+    } else {
+        None
+    }
 }
 
 /// Adds registers behind a name.

@@ -3,10 +3,10 @@
 //! instructions, calls and statuses in words.
 //!
 //! An image is shown one thing a line (`images`), a program so that what is written assembles to the same words (`words`), and a store as the
-//! tree of its spaces (`store`). `Seen` is what is seen of a run at a moment.
+//! tree of its spaces (`store`).
 //!
 //! It stands on `fk_causes` for the shelf, on `fk_isa` for the instruction in a word, on `fk_stages` for porters' calls, on `fk_asm` for
-//! programs, on `fk_codec` and `fk_image` for images, on `fk_store` for what stands there, and on `fk_natives` for native servers. It promises
+//! programs, on `fk_codec` and `fk_image` for images, and on `fk_store` for what stands there. It promises
 //! no more than that each function ends, whatever bytes it is given.
 #![tactic(auto)]
 
@@ -32,7 +32,7 @@ pub use refusal::refused_scenario;
 pub use sheet::Sheet;
 pub use statuses::{halt_text, status_text};
 pub use store::{
-    Job, Ready, Seen, Stop, handled, names_of, object_named, object_text, path_text, push_at,
-    push_path, push_thread, root_text, tree_text, word_at,
+    handled, names_of, object_named, object_text, path_text, push_at, push_path, push_thread,
+    root_text, tree_text, word_at,
 };
 pub use words::words_text;

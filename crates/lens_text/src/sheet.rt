@@ -39,6 +39,13 @@ impl Sheet {
         }
     }
 
+    /// Adds a piece behind what stands there, if something does.
+    pub fn gap(&mut self, piece: &str) {
+        if !self.is_empty() {
+            self.put(piece);
+        }
+    }
+
     /// Adds a number.
     pub fn number(&mut self, number: u64) {
         self.put_between("", number, "");

@@ -17,14 +17,19 @@ fn no_image(alloc: Global, file: &str, name: &str, status: &Status) -> Problem {
     }
 }
 
+/// The image that the bytes of the file of a name are.
+fn valid_of(alloc: Global, file: &str, name: &str, bytes: &[u8]) -> Result<ValidImage, Problem> {
+    match image_of(alloc, name, bytes) {
+        Ok(image) => Ok(ValidImage::new(alloc, image)?),
+        Err(status) => Err(no_image(alloc, file, name, &status)),
+    }
+}
+
 /// The image that the shelf has under a name.
 fn image_in<H: Shelf>(alloc: Global, shelf: &mut H, name: &str) -> Result<ValidImage, Problem> {
     let file = format!(in alloc; "{name}.img")?;
     let bytes = file_of(alloc, shelf, file.as_str())?;
-    match image_of(alloc, name, &bytes) {
-        Ok(image) => Ok(ValidImage::new(alloc, image)?),
-        Err(status) => Err(no_image(alloc, file.as_str(), name, &status)),
-    }
+    valid_of(alloc, file.as_str(), name, &bytes)
 }
 
 /// The image that a job behind others needs of the shelf: that of a restore which none of them makes.

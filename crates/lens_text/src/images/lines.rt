@@ -6,19 +6,29 @@ use crate::sheet::Sheet;
 use fk_image::{Image, Link, SpaceRec};
 use std::alloc::{AllocError, Global};
 
-/// Adds the lines of a space: its own, that of its holder where it is held, those of its objects, those of its pages. The root's path is empty.
+/// The path of a space as it is shown: the root's is empty.
+fn shown_path(path: &str) -> &str {
+    if path.is_empty() { "/" } else { path }
+}
+
+/// Adds the line of a space's holder, where it is held.
+fn push_holder(sheet: &mut Sheet, shown: &str, paths: &[String], holder: Link) {
+    match holder {
+        Link::Null => {}
+        holder => push_pointer(sheet, shown, "held by", paths, holder),
+    }
+}
+
+/// Adds the lines of a space: its own, that of its holder where it is held, those of its objects, those of its pages.
 fn push_space(
     sheet: &mut Sheet,
     path: &str,
     paths: &[String],
     space: &SpaceRec,
 ) -> Result<(), AllocError> {
-    let shown = if path.is_empty() { "/" } else { path };
+    let shown = shown_path(path);
     sheet.puts(&["space ", shown, "\n"]);
-    match space.holder {
-        Link::Null => {}
-        holder => push_pointer(sheet, shown, "held by", paths, holder),
-    }
+    push_holder(sheet, shown, paths, space.holder);
     for object in space.objects.as_slice() {
         push_object(sheet, path, paths, object)?;
     }

@@ -6,12 +6,16 @@ use fk_model::{Body, Who};
 use fk_store::Store;
 use std::alloc::{AllocError, Global};
 
+/// Whether pages are written to.
+fn access_of(write: bool) -> &'static str {
+    if write { ", writable" } else { ", read only" }
+}
+
 /// Adds the pages from one on, behind a text.
 pub fn push_extent(sheet: &mut Sheet, before: &str, first: u8, count: u16, write: bool) {
     let last = first as u64 + count.saturating_sub(1) as u64;
-    let what = if write { ", writable" } else { ", read only" };
     sheet.put_between(before, first as u64, " to ");
-    sheet.put_between("", last, what);
+    sheet.put_between("", last, access_of(write));
 }
 
 /// Adds a port, and who serves it.
@@ -29,12 +33,17 @@ fn push_port(sheet: &mut Sheet, store: &Store, who: Who, set: Option<u8>, served
     }
 }
 
-/// Adds a space: its birth number, its holder, its pages.
-pub fn push_home(sheet: &mut Sheet, store: &Store, birth: u32, holder: Option<Who>) {
-    sheet.put_between("space ", birth as u64, "");
+/// Adds the holder of a space, if it is held.
+fn push_holder(sheet: &mut Sheet, store: &Store, holder: Option<Who>) {
     if let Some(holder) = holder {
         push_path(sheet, store, ", held by ", holder, "");
     }
+}
+
+/// Adds a space: its birth number, its holder, its pages.
+pub fn push_home(sheet: &mut Sheet, store: &Store, birth: u32, holder: Option<Who>) {
+    sheet.put_between("space ", birth as u64, "");
+    push_holder(sheet, store, holder);
     let mut gap = ", pages ";
     for page in 0..=255u8 {
         if store.page(birth, page).is_some() {

@@ -4,7 +4,7 @@ use crate::instructions::push_instruction;
 use crate::sheet::Sheet;
 use crate::statuses::halt_text;
 use crate::store::names::push_path;
-use fk_model::{Fault, Mode, Peer, Thread, Turn, Who};
+use fk_model::{Fault, Mode, Peer, Talk, Thread, Turn, Who};
 use fk_store::{Reach, Store};
 
 /// The word at an address of a space, if its page is there.
@@ -48,14 +48,18 @@ fn push_peer(sheet: &mut Sheet, store: &Store, before: &str, peer: Peer) {
     }
 }
 
-/// Adds a fault.
-fn push_fault(sheet: &mut Sheet, store: &Store, fault: &Fault) {
-    let what = if fault.write {
+/// What a fault was raised by.
+fn what_of(write: bool) -> &'static str {
+    if write {
         "; fault, write of page "
     } else {
         "; fault, read of page "
-    };
-    sheet.put_between(what, fault.page as u64, "");
+    }
+}
+
+/// Adds a fault.
+fn push_fault(sheet: &mut Sheet, store: &Store, fault: &Fault) {
+    sheet.put_between(what_of(fault.write), fault.page as u64, "");
     match fault.taker {
         None => push_path(sheet, store, ", raised at ", fault.port, ""),
         Some(taker) => {
@@ -65,24 +69,38 @@ fn push_fault(sheet: &mut Sheet, store: &Store, fault: &Fault) {
     }
 }
 
+/// Whose turn it is in a talk.
+fn turn_of(turn: Turn) -> &'static str {
+    match turn {
+        Turn::Client => ", client's turn, words moved ",
+        Turn::Server => ", server's turn, words moved ",
+    }
+}
+
+/// Adds a talk of a client, if there is one.
+fn push_talk(sheet: &mut Sheet, store: &Store, talk: Option<Talk>) {
+    if let Some(talk) = talk {
+        push_path(sheet, store, "; talk at ", talk.port, "");
+        push_peer(sheet, store, " with ", talk.peer);
+        sheet.put_between(turn_of(talk.turn), talk.moved as u64, "");
+    }
+}
+
+/// Adds how often a thread is stopped.
+fn push_stops(sheet: &mut Sheet, stops: u64) {
+    match stops {
+        0 => {}
+        1 => sheet.put("; stopped once"),
+        _ => sheet.put_between("; stopped ", stops, " times"),
+    }
+}
+
 /// Adds a thread behind a text: what it does next, how often it is stopped, its talk as a client, its fault.
 pub fn push_thread(sheet: &mut Sheet, store: &Store, before: &str, who: Who, thread: &Thread) {
     sheet.put(before);
     push_at(sheet, store, who, thread);
-    match thread.stops {
-        0 => {}
-        1 => sheet.put("; stopped once"),
-        stops => sheet.put_between("; stopped ", stops as u64, " times"),
-    }
-    if let Some(talk) = &thread.talk {
-        let turn = match talk.turn {
-            Turn::Client => ", client's turn, words moved ",
-            Turn::Server => ", server's turn, words moved ",
-        };
-        push_path(sheet, store, "; talk at ", talk.port, "");
-        push_peer(sheet, store, " with ", talk.peer);
-        sheet.put_between(turn, talk.moved as u64, "");
-    }
+    push_stops(sheet, thread.stops as u64);
+    push_talk(sheet, store, thread.talk);
     if let Some(fault) = &thread.fault {
         push_fault(sheet, store, fault);
     }

@@ -23,22 +23,16 @@ pub fn push_changed(sheet: &mut Sheet, store: &Store, mover: Who, who: Who, befo
     if before.regs == after.regs {
         return;
     }
-    if !sheet.is_empty() {
-        sheet.put("; ");
-    }
+    sheet.gap("; ");
     if who != mover {
         push_path(sheet, store, "", who, " ");
     }
     push_registers(sheet, &before.regs, &after.regs);
 }
 
-/// Adds what has come of a mover's move besides its registers: how its call ended, how it halted, which fault it
-/// raised; or that it is gone.
-pub fn push_ending(sheet: &mut Sheet, store: &Store, who: Who, before: &Thread) {
-    let Some(after) = store.thread(who) else {
-        return sheet.put("; it is gone from there");
-    };
-    match (before.mode, after.mode) {
+/// Adds how a mover's call ended, or how it halted.
+fn push_mode(sheet: &mut Sheet, before: Mode, after: &Thread) {
+    match (before, after.mode) {
         (Mode::Calling, Mode::Running) => {
             sheet.puts(&["; the call ends, ", status_text(after.regs[0])]);
         }
@@ -48,6 +42,15 @@ pub fn push_ending(sheet: &mut Sheet, store: &Store, who: Who, before: &Thread) 
         }
         _ => {}
     }
+}
+
+/// Adds what has come of a mover's move besides its registers: how its call ended, how it halted, which fault it
+/// raised; or that it is gone.
+pub fn push_ending(sheet: &mut Sheet, store: &Store, who: Who, before: &Thread) {
+    let Some(after) = store.thread(who) else {
+        return sheet.put("; it is gone from there");
+    };
+    push_mode(sheet, before.mode, after);
     if let (None, Some(fault)) = (before.fault, after.fault) {
         sheet.put_between("; it misses page ", fault.page as u64, "");
         push_path(sheet, store, ", a fault at ", fault.port, "");

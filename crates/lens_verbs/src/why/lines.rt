@@ -3,8 +3,9 @@ use crate::why::handles::mutex_of;
 use crate::why::jobs::push_porter_line;
 use crate::why::moves::push_move;
 use crate::why::reasons::{Lockers, push_reason};
+use fk_first::{Ready, Seen, Stop};
 use fk_model::{Mode, Move, Who};
-use lens_text::{Ready, Seen, Sheet, Stop, names_of, push_at, push_path};
+use lens_text::{Sheet, names_of, push_at, push_path};
 use std::alloc::{AllocError, Global};
 use std::collections::BTreeMap;
 

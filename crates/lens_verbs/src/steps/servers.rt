@@ -60,13 +60,17 @@ pub fn states_of(
     Ok(states)
 }
 
-/// Adds the words that came to a native server since, as many as it says, each after a blank.
-fn push_words(sheet: &mut Sheet, native: &Native, was: ServerState, is: ServerState) {
-    let words = match native {
+/// The words that a native server was sent.
+fn sent_to(native: &Native) -> &[u64] {
+    match native {
         Native::Console(console) => console.printed(),
         Native::Server(server) => server.request.words.as_slice(),
-    };
-    let came = words.get(was.sent..).unwrap_or(&[]);
+    }
+}
+
+/// Adds the words that came to a native server since, as many as it says, each after a blank.
+fn push_words(sheet: &mut Sheet, native: &Native, was: ServerState, is: ServerState) {
+    let came = sent_to(native).get(was.sent..).unwrap_or(&[]);
     let most = is.sent.saturating_sub(was.sent);
     for word in came.get(..most).unwrap_or(came) {
         sheet.put_between(" ", *word, "");
@@ -104,9 +108,7 @@ fn push_one(sheet: &mut Sheet, store: &Store, port: Who, native: &Native, was: S
     if news.is_empty() {
         return;
     }
-    if !sheet.is_empty() {
-        sheet.put("; ");
-    }
+    sheet.gap("; ");
     push_path(sheet, store, "", port, " ");
     sheet.put(name_of(native));
     sheet.add(&news);

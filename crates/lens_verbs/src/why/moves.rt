@@ -2,8 +2,9 @@
 use crate::steps::push_act;
 use crate::why::jobs::push_porter;
 use crate::why::reasons::{Lockers, push_reason};
+use fk_first::{Ready, Seen};
 use fk_model::{Body, Mode, Move, Thread, Who};
-use lens_text::{Ready, Seen, Sheet, halt_text, push_path};
+use lens_text::{Sheet, halt_text, push_path};
 
 /// Adds a pick in words, behind a text.
 fn push_pick(sheet: &mut Sheet, seen: Seen<'_>, before: &str, pick: Option<Who>) {

@@ -1,7 +1,8 @@
 //! A line a move.
 use crate::steps::moves::{Begun, begin, push_step};
+use fk_first::Seen;
 use fk_model::{Move, Who};
-use lens_text::{Seen, Sheet};
+use lens_text::Sheet;
 use std::alloc::{AllocError, Global};
 
 /// Writes a line for each move of a run from one on and before another.

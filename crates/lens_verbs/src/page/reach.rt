@@ -7,13 +7,18 @@ use lens_text::{first_stage, handled};
 /// Whom a move may change, where these are few: others, the mover, its pick.
 pub type Few = [Option<Who>; 4];
 
+/// The port of a thread's talk.
+fn port_of(thread: &Thread) -> Option<Who> {
+    match thread.talk {
+        Some(talk) => Some(talk.port),
+        None => None,
+    }
+}
+
 /// Whom a stage of a call may change besides the caller, where these are few: its talk, or the mutex that it names. None
 /// where the stage may change more.
 fn few_of_call(store: &Store, who: Who, thread: &Thread) -> Option<(Option<Who>, Option<Who>)> {
-    let port = match thread.talk {
-        Some(talk) => Some(talk.port),
-        None => None,
-    };
+    let port = port_of(thread);
     match first_stage(thread.regs[0]) {
         // Words go and the turn passes, or a server waits.
         36 | 37 | 38 | 48 | 50 | 51 | 52 => Some((peer_of(store, who, thread), port)),

@@ -1,9 +1,11 @@
 //! What is shown of a run, by what is asked for.
 use crate::page::Page;
 use crate::steps::Steps;
+use crate::stops::trace_problem;
 use crate::why::Why;
-use fk_model::Move;
-use lens_text::{Asked, Problem, Ready, Seen, Stop, Verb, given, tree_text};
+use fk_first::{Ready, Seen, Stop, Watcher};
+use fk_model::{Move, NoMemory};
+use lens_text::{Asked, Problem, Verb, given, tree_text};
 use std::alloc::{AllocError, Global};
 
 /// What is shown of a run.
@@ -16,13 +18,8 @@ pub enum Show {
     Page(Page),
 }
 
-impl Show {
-    /// It sees what stands before a move, of which it isn't known yet whether it is ready.
-    ///
-    /// # Errors
-    ///
-    /// It has no memory.
-    pub fn before(&mut self, seen: Seen<'_>, one: &Move) -> Result<(), AllocError> {
+impl Watcher for Show {
+    fn before(&mut self, seen: Seen<'_>, one: &Move) -> Result<(), NoMemory> {
         match self {
             Show::Tree(_, _) => {}
             Show::Steps(steps) => steps.before(seen, one)?,
@@ -32,26 +29,17 @@ impl Show {
         Ok(())
     }
 
-    /// It sees what stands after that move, which was made.
-    ///
-    /// # Errors
-    ///
-    /// It has no memory.
-    pub fn after(&mut self, seen: Seen<'_>, one: &Move) -> Result<(), AllocError> {
+    fn after(&mut self, seen: Seen<'_>, one: &Move) -> Result<(), NoMemory> {
         match self {
-            Show::Tree(_, _) => Ok(()),
-            Show::Steps(steps) => steps.after(seen, one),
-            Show::Why(why) => why.after(seen, one),
-            Show::Page(page) => page.after(seen, one),
+            Show::Tree(_, _) => {}
+            Show::Steps(steps) => steps.after(seen, one)?,
+            Show::Why(why) => why.after(seen, one)?,
+            Show::Page(page) => page.after(seen, one)?,
         }
+        Ok(())
     }
 
-    /// It sees what stands where the run stops, and who could go on.
-    ///
-    /// # Errors
-    ///
-    /// It has no memory.
-    pub fn stops(&mut self, seen: Seen<'_>, ready: &Ready, stop: Stop) -> Result<(), AllocError> {
+    fn stops(&mut self, seen: Seen<'_>, ready: &Ready, stop: Stop) -> Result<(), NoMemory> {
         match self {
             Show::Tree(alloc, text) => *text = tree_text(*alloc, seen.store)?,
             Show::Steps(_) => {}
@@ -95,6 +83,6 @@ pub fn stop_fault(alloc: Global, asked: Asked<'_>, file: &str, stop: Stop) -> Op
         (Verb::Tree | Verb::Why, Stop::Ended) => {
             Some(given(format!(in alloc; "{file}: expected {end} moves or more")))
         }
-        _ => stop.problem(alloc, file),
+        _ => trace_problem(alloc, file, stop),
     }
 }

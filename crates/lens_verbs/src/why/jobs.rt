@@ -1,12 +1,13 @@
 //! Why the job of a porter doesn't go on.
 use crate::why::reasons::{Lockers, push_blocked};
+use fk_first::{Job, Seen};
 use fk_model::{Todo, Who};
 use fk_stages::words;
-use lens_text::{Job, Seen, Sheet, first_stage, push_asked, push_path};
+use lens_text::{Sheet, first_stage, push_asked, push_path};
 
 /// Adds why a job doesn't go on.
 fn push_job(sheet: &mut Sheet, seen: Seen<'_>, lockers: &Lockers, job: Job) {
-    if !job.is_at_work && job.at > seen.events {
+    if !job.is_at_work & (job.at > seen.events) {
         let behind = " moves, or where nobody else can move";
         return sheet.put_between("its job begins after ", job.at, behind);
     }

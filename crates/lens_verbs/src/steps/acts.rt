@@ -1,10 +1,9 @@
 //! What a mover is about to do.
+use fk_first::Seen;
 use fk_model::{Ask, Body, Mode, Move, Peer, Thread, Who};
 use fk_natives::{Native, Service};
 use fk_store::Store;
-use lens_text::{
-    Seen, Sheet, first_stage, push_asked, push_instruction, push_path, push_stage, word_at,
-};
+use lens_text::{Sheet, first_stage, push_asked, push_instruction, push_path, push_stage, word_at};
 
 /// What the native server of a port asks for.
 fn ask_of(services: &[(Who, Native)], port: Who) -> Option<Ask> {

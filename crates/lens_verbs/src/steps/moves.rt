@@ -2,9 +2,10 @@
 use crate::steps::acts::{peer_of, push_act, push_named, sending_of};
 use crate::steps::changes::{push_changed, push_ending};
 use crate::steps::servers::{ServerState, push_told, states_of};
+use fk_first::Seen;
 use fk_model::{Move, Thread, Who};
 use fk_store::Store;
-use lens_text::{Seen, Sheet, push_path};
+use lens_text::{Sheet, push_path};
 use std::alloc::{AllocError, Global};
 
 /// The mover, whom it deals with, and its pick, each where that is a thread.

@@ -3,9 +3,10 @@ use crate::page::changes::{Objects, note_all, note_few};
 use crate::page::reach::{Few, few_changed};
 use crate::page::template::{BODY, BOXES, KEYS, LANES, STATES, STYLE};
 use crate::steps::{Begun, begin, peer_of, push_named, push_step};
+use fk_first::{Seen, Stop};
 use fk_model::{Mode, Move, Who};
 use fk_store::Store;
-use lens_text::{Seen, Sheet, Stop};
+use lens_text::Sheet;
 use std::alloc::{AllocError, Global};
 use std::collections::BTreeMap;
 
@@ -63,7 +64,7 @@ fn pending_of(alloc: Global, seen: Seen<'_>, one: &Move) -> Result<Pending, Allo
     let mut pending = Pending {
         begun: begin(alloc, seen, one)?,
         others: Sheet::new(alloc),
-        is_fault: has_fault(store, one.pick) || has_fault(store, peer),
+        is_fault: has_fault(store, one.pick) | has_fault(store, peer),
         few: few_changed(store, one),
     };
     push_named(&mut pending.others, store, "", one.pick);
@@ -72,20 +73,25 @@ fn pending_of(alloc: Global, seen: Seen<'_>, one: &Move) -> Result<Pending, Allo
     Ok(pending)
 }
 
+/// What stands before a move's line, behind these.
+fn head_of(moves: &Sheet) -> &'static str {
+    if moves.is_empty() { "[\"" } else { ",\n[\"" }
+}
+
+/// What stands behind a move's changes.
+fn tail_of(is_fault: bool) -> &'static str {
+    if is_fault { "],\"fault\"]" } else { "],\"\"]" }
+}
+
 /// Adds the line of a move that was made, with what it has changed.
 fn push_move(sheet: &mut Sheet, seen: Seen<'_>, one: &Move, pending: &Pending, changes: &Sheet) {
-    let head = if sheet.is_empty() { "[\"" } else { ",\n[\"" };
-    sheet.put(head);
+    sheet.put(head_of(sheet));
     push_step(sheet, seen, one, &pending.begun, GAP);
     sheet.put(GAP);
     sheet.add(&pending.others);
     sheet.put("\",[");
     sheet.add(changes);
-    sheet.put(if pending.is_fault {
-        "],\"fault\"]"
-    } else {
-        "],\"\"]"
-    });
+    sheet.put(tail_of(pending.is_fault));
 }
 
 /// Notes what the move that was made may have changed, and adds what it has changed.

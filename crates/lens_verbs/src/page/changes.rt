@@ -10,9 +10,7 @@ pub type Objects = BTreeMap<String, String>;
 
 /// Adds an object and its words, or that it is gone.
 fn push_change(changes: &mut Sheet, path: &str, words: Option<&str>) {
-    if !changes.is_empty() {
-        changes.put(",");
-    }
+    changes.gap(",");
     match words {
         Some(words) => changes.puts(&["[\"", path, "\",\"", words, "\"]"]),
         None => changes.puts(&["[\"", path, "\",null]"]),
@@ -68,23 +66,38 @@ pub fn note_few(
     Ok(())
 }
 
-/// Adds what stands in a slot.
-fn add_object(alloc: Global, all: &mut Objects, store: &Store, who: Who) -> Result<(), AllocError> {
-    if let Some(body) = store.at(who) {
-        let path = path_text(alloc, store, who)?;
-        all.insert(path, object_text(alloc, store, who, body)?)?;
+/// Adds an object's words under its path.
+fn add(
+    all: &mut Objects,
+    path: Result<String, AllocError>,
+    words: Result<String, AllocError>,
+) -> Result<(), AllocError> {
+    if let (Ok(path), Ok(words)) = (path, words) {
+        all.insert(path, words)?;
+        return Ok(());
     }
-    Ok(())
+    Err(AllocError)
 }
 
-/// All that stands in a store.
-fn all_of(alloc: Global, store: &Store) -> Result<Objects, AllocError> {
-    let mut all = BTreeMap::new(alloc);
-    all.insert(String::from_str(alloc, "/")?, root_text(alloc, store)?)?;
-    for (_, who) in &names_of(alloc, store)? {
-        add_object(alloc, &mut all, store, *who)?;
+/// Adds what stands in a slot.
+fn add_object(alloc: Global, all: &mut Objects, store: &Store, who: Who) -> Result<(), AllocError> {
+    match store.at(who) {
+        Some(body) => add(
+            all,
+            path_text(alloc, store, who),
+            object_text(alloc, store, who, body),
+        ),
+        None => Ok(()),
     }
-    Ok(all)
+}
+
+/// Adds all that stands in a store.
+fn add_all(alloc: Global, all: &mut Objects, store: &Store) -> Result<(), AllocError> {
+    add(all, String::from_str(alloc, "/"), root_text(alloc, store))?;
+    for (_, who) in &names_of(alloc, store)? {
+        add_object(alloc, all, store, *who)?;
+    }
+    Ok(())
 }
 
 /// Adds what stands and isn't known so.
@@ -111,7 +124,9 @@ fn push_gone(changes: &mut Sheet, known: &Objects, all: &Objects) {
 ///
 /// For want of memory.
 pub fn note_all(changes: &mut Sheet, known: &mut Objects, store: &Store) -> Result<(), AllocError> {
-    let all = all_of(changes.alloc(), store)?;
+    let alloc = changes.alloc();
+    let mut all = BTreeMap::new(alloc);
+    add_all(alloc, &mut all, store)?;
     push_new(changes, known, &all);
     push_gone(changes, known, &all);
     *known = all;
