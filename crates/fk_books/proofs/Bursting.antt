@@ -1,7 +1,6 @@
 -- Bursting: a lease that is committed is so many moves of a run, and a book goes on by them.
-use Rattle.std.proofs.Common.{◌≡◌, ℕ, suc, zero, ◌+◌, ◌-◌, ◌<◌, ◌≤◌, Bool, true, false, List, [], ◌∷◌, ◌++◌, length, replicate, take, None}
+use Rattle.std.proofs.Common.{◌≡◌, ℕ, suc, zero, ◌+◌, ◌-◌, ◌<◌, ◌≤◌, Bool, true, false, List, [], ◌∷◌, ◌++◌, length, replicate, None}
 use Rattle.std.proofs.Common.{length-append, append-nil, append_assoc, refl, sym, ap, subst, ◌∙◌, arith}
-use Rattle.std.proofs.lemmas.List.{take-replicate}
 use Rattle.std.specs.Bool.{OnTrue, OnFalse}
 use Rattle.fk_model.specs.declared.moves.Move.{Move}
 use Rattle.fk_model.specs.declared.names.Who.{Who}
@@ -116,27 +115,3 @@ within_now first s past run =
 -- a book goes on by them
 pub goes_so : {C : Type 0} (b d : Told C) (ms : List Move) → d.boot ≡ b.boot → d.history ≡ b.history ++ ms → GoesOn b d
 goes_so b d ms boot history = record { boot = boot; more = ms; history = history }
-
--- ---- one after the other is pushed
-
-snoc-replicate : {X : Type 0} (n : ℕ) (x : X) → replicate n x ++ x ∷ [] ≡ replicate (suc n) x
-snoc-replicate zero x = refl
-snoc-replicate (suc n) x = ap (λ l. x ∷ l) (snoc-replicate n x)
-
-pub pushed_more : {X : Type 0} (old now new : List X) (n : ℕ) (x : X) → now ≡ old ++ replicate n x → new ≡ now ++ x ∷ [] → new ≡ old ++ replicate (n + 1) x
-pushed_more old now new n x so_far is =
-    let more : suc n ≡ n + 1 = omega arith in
-    is ∙ ap (λ l. l ++ x ∷ []) so_far ∙ append_assoc old (replicate n x) (x ∷ []) ∙ ap (λ l. old ++ l) (snoc-replicate n x)
-    ∙ ap (λ k. old ++ replicate k x) more
-
--- there is room for one more
-pub room_more : {X : Type 0} (old now : List X) (k count room capacity : ℕ) (x : X) → now ≡ old ++ replicate k x → k < count →
-    length old + count ≤ room → capacity ≡ room → length now < capacity
-room_more old now k count room capacity x so_far less few wide =
-    let long : length now ≡ length old + length (replicate k x) = ap length so_far ∙ length-append old (replicate k x) in
-    let made : length (replicate k x) ≡ k = long_replicate k x in
-    omega (arith, long, made, less, few, wide)
-
--- the first of so many that are the same
-pub front_same : {X : Type 0} (all front : List X) (n count : ℕ) (x : X) → all ≡ replicate n x → count ≤ n → front ≡ take count all → front ≡ replicate count x
-front_same all front n count x same few is = is ∙ ap (λ l. take count l) same ∙ take-replicate count n x few

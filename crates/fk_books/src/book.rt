@@ -6,9 +6,9 @@ ghost use Rattle.fk_books.specs.Shown.{IsSound, MayMove, MayBurst, moves_of, Has
 ghost use Rattle.fk_books.specs.Told.{Told, IsKept, IsSame, IsOneMore, HasMore, HasOneMore, TakesDue, GoesOn};
 
 use crate::playable::Playable;
-use crate::stretches::{Stretch, push_all};
 use fk_burst::{Leased, count};
-use fk_model::{List as Items, Move, NoMemory, Who};
+use fk_history::{History, Moves as Listed};
+use fk_model::{Move, NoMemory, Who};
 use fk_responders::Table;
 use fk_rlock::Counted;
 use std::alloc::Global;
@@ -23,7 +23,7 @@ const MOVES: u32 = 64;
 pub struct Book<C: Playable + Drop> {
     boot: Snapshot<C>,
     core: C,
-    history: Vec<Move>,
+    history: History,
     /// Whom the workers have out, so that none is leased twice. It is a hint alone.
     out: [Option<Who>; 8],
 }
@@ -36,7 +36,7 @@ pub struct Gone {
 }
 
 impl<C: Playable + Drop> Model for Book<C> {
-    ghost use Rattle.std.specs.Prelude.{◌≤◌, vec_capacity};
+    ghost use Rattle.std.specs.Prelude.{◌≤◌};
     ghost use Rattle.fk_books.specs.Shown.{HasRun};
     ghost use Rattle.fk_books.specs.Told.{Told, told_code};
 
@@ -44,9 +44,9 @@ impl<C: Playable + Drop> Model for Book<C> {
 
     ghost coded = { told_code C.code };
 
-    ghost view = { λ b. record { boot = b.boot.value; core = b.core; history = b.history.items } };
+    ghost view = { λ b. record { boot = b.boot.value; core = b.core; history = b.history.moves } };
 
-    ghost invariant = { λ b. HasRun (C.shown b.boot.value) b.history.items (C.shown b.core) × ((C.shown b.boot.value).budget ≤ vec_capacity b.history) };
+    ghost invariant = { λ b. HasRun (C.shown b.boot.value) b.history.moves (C.shown b.core) × ((C.shown b.boot.value).budget ≤ b.history.room) };
 }
 
 impl<C: Playable + Drop> Counted for Book<C> {
@@ -57,7 +57,7 @@ impl<C: Playable + Drop> Counted for Book<C> {
     ghost counted = { λ b. length b.history };
 
     fn count(&self) -> u64 {
-        self.history.len() as u64
+        self.history.len()
     }
 }
 
@@ -75,7 +75,7 @@ impl<C: Playable + Drop> Book<C> {
         ensures history { IfOk result (λ book. book.history ≡ []) }
     {
         let boot = Snapshot::of(&first);
-        let history = Vec::with_capacity(alloc, first.most_moves() as usize)?;
+        let history = History::with_room(alloc, first.most_moves())?;
         Ok(Book {
             boot,
             core: first,
@@ -85,10 +85,10 @@ impl<C: Playable + Drop> Book<C> {
     }
 
     /// The moves in their order.
-    pub fn history(&self) -> &[Move]
-        ensures { result.now ≡ self.now.history }
+    pub fn history(&self) -> &History
+        ensures { result.now.moves ≡ self.now.history }
     {
-        self.history.as_slice()
+        &self.history
     }
 
     /// The core to which they have come.
@@ -106,7 +106,7 @@ impl<C: Playable + Drop> Book<C> {
     }
 
     /// The core and the moves.
-    pub fn into_parts(self) -> (C, Items<Move>)
+    pub fn into_parts(self) -> (C, Listed)
         ensures core { result.0 ≡ self.core }
         ensures history { result.1 ≡ self.history }
         ensures kept { IsKept C.shown self }
@@ -117,7 +117,7 @@ impl<C: Playable + Drop> Book<C> {
             history,
             out: _,
         } = self;
-        (core, Items::of(history))
+        (core, history.into_moves())
     }
 
     /// Makes a move, and answers whether one was made: after an even number of moves a due job's where one is ready, and none exactly where the
@@ -139,7 +139,7 @@ impl<C: Playable + Drop> Book<C> {
     {
         match self.core.make_any(table)? {
             Some(m) => {
-                self.history.push_reserved(m);
+                self.history.push(m);
                 Ok(true)
             }
             None => Ok(false),
@@ -162,7 +162,7 @@ impl<C: Playable + Drop> Book<C> {
         ensures lacking { OnErr result (IsSame C.shown self.old self.new) }
     {
         if self.core.make(table, m)? {
-            self.history.push_reserved(*m);
+            self.history.push(*m);
             Ok(true)
         } else {
             Ok(false)
@@ -179,13 +179,12 @@ impl<C: Playable + Drop> Book<C> {
         ensures may_not { OnFalse result (MayBurst (C.shown self.old.core) lease → ⊥) }
         ensures same { OnFalse result (IsSame C.shown self.old self.new) }
     {
-        let laid = Stretch::of(lease.thread());
-        self.burst_held(&lease, &laid)
+        self.burst_held(&lease)
     }
 
-    /// The same of a lease that stays where it is, whose moves may be laid out.
+    /// The same of a lease that stays where it is.
     #[tactic(auto, using(crate::proofs::Runs::come, crate::proofs::Runs::same_run, crate::proofs::Runs::goes_not, crate::proofs::Bursting::within_now, crate::proofs::Bursting::goes_so))]
-    fn burst_held(&mut self, lease: &Leased, laid: &Stretch) -> bool
+    fn burst_held(&mut self, lease: &Leased) -> bool
         ensures kept { IsKept C.shown self.old × IsKept C.shown self.new }
         ensures goes { GoesOn self.old self.new }
         ensures more { OnTrue result (HasMore C.shown self.old (moves_of lease.now) self.new) }
@@ -196,7 +195,7 @@ impl<C: Playable + Drop> Book<C> {
         let who = lease.thread();
         let made = count(lease);
         if self.core.burst(lease) {
-            push_all(&mut self.history, who, made, laid);
+            self.history.add(Move { who, pick: None }, made);
             true
         } else {
             false
@@ -209,33 +208,30 @@ impl<C: Playable + Drop> Book<C> {
         ensures same { IsSame C.shown self.old self.new }
     {
         let place = worker as usize % 8;
-        self.out[place] = None;
-        if self.core.lease(&self.out, stays, lease) {
-            self.out[place] = Some(lease.thread());
-            true
-        } else {
-            false
+        let mut others = self.out;
+        others[place] = None;
+        let leased = self.core.lease(&others, stays, lease);
+        let whose = if leased { Some(lease.thread()) } else { None };
+        // What stays isn't written: the other workers look at it too.
+        if self.out[place] != whose {
+            self.out[place] = whose;
         }
+        leased
     }
 
     /// The moves of one turn at the lock by which a lease comes back: those of the lease, where it may be committed, and one more, while any is
-    /// left. It takes less time where moves of the lease's thread are laid out.
+    /// left.
     ///
     /// # Errors
     ///
     /// There is no memory for what the move makes.
     #[tactic(auto, using(crate::proofs::Runs::goes_further))]
-    pub fn go_burst(
-        &mut self,
-        table: &Table,
-        lease: &Leased,
-        laid: &Stretch,
-    ) -> Result<Gone, NoMemory>
+    pub fn go_burst(&mut self, table: &Table, lease: &Leased) -> Result<Gone, NoMemory>
         requires fits { AllFit (map (λ r. r.rule) table.now.list.items) (C.shown self.old.boot).core.servers }
         ensures goes { GoesOn self.old self.new }
         ensures ended { IfOk result (λ gone. OnFalse gone.more (HasEnded (C.shown self.new.core))) }
     {
-        let moves = if self.burst_held(lease, laid) {
+        let moves = if self.burst_held(lease) {
             count(lease)
         } else {
             0

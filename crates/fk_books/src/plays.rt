@@ -84,7 +84,7 @@ pub fn play_all<C: Playable + Drop>(
         return Err(PlayFail::Trace { index: 0 });
     };
     while !rest.is_empty() {
-        let index = book.history().len() as u64;
+        let index = book.history().len();
         let Some(after) = play_next(&mut book, table, rest)? else {
             return Err(PlayFail::Trace { index });
         };

@@ -5,8 +5,8 @@
 //! `check` and `show` prepare the counts of a scenario and of an image. `play` stands in `fk_plays`.
 //!
 //! It stands on `fk_asm` for programs, on `fk_lone` for the machine of `exec`, on `fk_scenario`, on
-//! `fk_codec` and `fk_image_show` for images, on `fk_report` for how a run ends, and on `fk_causes` for the
-//! shelf.
+//! `fk_codec` and `fk_image_show` for images, on `fk_report` for how a run ends, on `fk_history` for its moves, and on `fk_causes` for
+//! the shelf.
 //!
 //! It promises of each command the outcome and the output that its definition calls for (`specs/Exec.antt`,
 //! `Check.antt`, `Show.antt`), unless a get or the memory failed; that it answers a fault only where one
@@ -24,6 +24,7 @@ mod shelf_file;
 pub mod show;
 mod status;
 
+pub use fk_history::Moves;
 pub use image::image_of;
 pub use outcome::{Outcome, Report};
 pub use prepared::Prepared;

@@ -1,12 +1,13 @@
 //! What a call comes to.
 use crate::status::Status;
-use fk_model::{List as Items, Move, Text};
+use fk_history::Moves;
+use fk_model::{List as Items, Text};
 use fk_report::{End, JobEnd};
 
 /// The run of a scenario: its moves in their order, how each of its jobs has ended, if it has, and how the run ended.
 #[derive(Drop)]
 pub struct Report {
-    pub history: Items<Move>,
+    pub history: Moves,
     pub jobs: Items<Option<JobEnd>>,
     /// The names of the jobs' images, in the order of the jobs.
     pub images: Items<Text>,

@@ -131,8 +131,11 @@ fn put_trace<H: Shelf>(
     ensures small { OnOk result (All traces.IsMove report.now.history) }
 {
     let file = format!(in alloc; "{name}.trc")?;
-    read_moves(report.history.as_slice());
-    let trace = trace_text(alloc, report.history.as_slice())?;
+    let Ok(moves) = report.history.list(alloc) else {
+        return Err(ShelfFail::NoMemory);
+    };
+    read_moves(moves.as_slice());
+    let trace = trace_text(alloc, moves.as_slice())?;
     shelf.put(file.as_str(), trace.as_bytes())
 }
 

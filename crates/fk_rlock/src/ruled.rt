@@ -15,6 +15,7 @@ use std::marker::Model;
 use std::snapshot::Snapshot;
 use std::sync::Wait;
 use std::thread::yield_now;
+use std::time::Duration;
 
 // How many tickets were drawn, modulo 2^64.
 const TICKET: usize = 0;
@@ -25,25 +26,24 @@ const SERVING: usize = 1;
 // The count of the value at home.
 const FRONT: usize = 2;
 
-// So many looks are made at most before a ticket is drawn, the first ones without letting other threads run.
-const LOOKS: u32 = 4096;
+// So many looks are made at most before a ticket is drawn, the first ones on the processor.
+const LOOKS: u32 = 128;
 
-const FIRST_LOOKS: u32 = 64;
+const FIRST_LOOKS: u32 = 8;
 
 // Between two of these.
 const PAUSE: u32 = 16;
 
+// And so long it sleeps between two of the others.
+const SLEEP: u64 = 100;
+
 // So many looks for its turn are made without letting other threads run.
 const NEAR_LOOKS: u32 = 256;
 
-// Waits between two looks: on the processor at first, since a turn is short, and then while other threads run.
-fn rest(look: u32) {
-    if look < FIRST_LOOKS {
-        for _ in 0..PAUSE {
-            spin_loop();
-        }
-    } else {
-        yield_now();
+// Waits on the processor for a moment.
+fn pause() {
+    for _ in 0..PAUSE {
+        spin_loop();
     }
 }
 
@@ -102,14 +102,26 @@ impl<T: Counted> Ruled<T> {
         self.table.shared.peek(SERVING) == self.table.shared.peek(TICKET)
     }
 
+    // Sleeps for a moment. Nobody wakes it.
+    fn sleep<R: Wait>(&self, rt: &R) {
+        let drawn = self.table.shared.peek(TICKET) % (1 << 32);
+        self.table
+            .shared
+            .park_timeout(rt, TICKET, drawn as u32, Duration::from_micros(SLEEP));
+    }
+
     // Waits a while until nobody has a turn. A ticket holds up all that are drawn behind it, also while its thread doesn't run; so who comes while
-    // another has its turn draws none yet.
-    fn await_free(&self) {
+    // another has its turn draws none yet. Who finds no free moment soon sleeps, so that few contend: each one more costs all the others time.
+    fn await_free<R: Wait>(&self, rt: &R) {
         for look in 0..LOOKS {
             if self.is_free() {
                 return;
             }
-            rest(look);
+            if look < FIRST_LOOKS {
+                pause();
+            } else {
+                self.sleep(rt);
+            }
         }
     }
 
@@ -147,7 +159,7 @@ impl<T: Counted> Ruled<T> {
         ensures lock { seat.new.table_id ≡ seat.old.table_id }
         ensures entered { Entered T.boot T.counted seat.old.me.0 seat.new.me }
     {
-        self.await_free();
+        self.await_free(rt);
         let ticket = self.draw(seat);
         self.await_turn(rt, seat, ticket);
         self.table.shared.load::<Learn>(seat, FRONT);

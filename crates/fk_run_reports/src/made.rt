@@ -7,12 +7,12 @@ ghost use Rattle.fk_report.specs.Jobs.{refused_from};
 ghost use Rattle.fk_run_reports.specs.Made.{IsEnd, IsMade, IsText, IsLine, status_of_end, status_of_refused};
 ghost use Rattle.laws_house.specs.Houses.{jobs_of};
 
-use fk_commands::{Prepared, Report, Status};
+use fk_commands::{Moves, Prepared, Report, Status};
 use fk_core::Core;
 use fk_finish::ValidImage;
 use fk_job_ends::{Tells, images_of, told_in};
 use fk_jobs::Worker;
-use fk_model::{JobSpec, List as Items, Move, NoMemory};
+use fk_model::{JobSpec, List as Items, NoMemory};
 use fk_natives::Service;
 use fk_report::{End, JobEnd, first_refused, outs_text, run_text, threads_of};
 use fk_soak::soak_line;
@@ -55,7 +55,7 @@ fn status_of(end: End, budget: u64, jobs: &[Option<JobEnd>]) -> Result<Status, N
 fn concluded(
     alloc: Global,
     specs: &[JobSpec],
-    history: Items<Move>,
+    history: Moves,
     jobs: Items<Option<JobEnd>>,
     end: End,
     budget: u64,
@@ -87,7 +87,7 @@ pub fn prepared<S: Service + Drop, W: Tells + Drop>(
     core: Core<S, W>,
     specs: &[JobSpec],
     images: &[Option<ValidImage>],
-    history: Items<Move>,
+    history: Moves,
 ) -> Result<Prepared, NoMemory>
     requires jobs { core.jobs.jobs ≡ jobs_of specs.now images.now }
     requires within { core.events ≤ core.budget }
@@ -99,7 +99,7 @@ pub fn prepared<S: Service + Drop, W: Tells + Drop>(
     let outs = outs_text(alloc, core.services(), threads.as_slice())?;
     let budget = core.budget();
     let jobs = told_in(alloc, specs.len(), core.into_jobs().into_ends())?;
-    let events = history.len() as u64;
+    let events = history.len();
     let output = run_text(alloc, events, end, specs, jobs.as_slice(), outs.as_str())?;
     Ok(concluded(alloc, specs, history, jobs, end, budget, output)?)
 }
@@ -110,7 +110,7 @@ pub fn soaked<S: Service + Drop, W: Tells + Drop>(
     count: u32,
     core: Core<S, W>,
     specs: &[JobSpec],
-    history: Items<Move>,
+    history: Moves,
 ) -> Result<Prepared, NoMemory>
     requires jobs { core.jobs.jobs ≡ jobs_of specs.now [] }
     requires within { core.events ≤ core.budget }

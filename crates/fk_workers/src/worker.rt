@@ -5,7 +5,7 @@ ghost use Rattle.fk_books.specs.Served.{AllFit};
 ghost use Rattle.fk_books.specs.Shown.{HasEnded};
 ghost use Rattle.fk_books.specs.Told.{Told, IsKept, IsSame, GoesOn};
 
-use fk_books::{Book, Gone, Leased, Playable, Stretch, count, run};
+use fk_books::{Book, Gone, Leased, Playable, count, run};
 use fk_causes::Gate;
 use fk_model::{NoMemory, Who};
 use fk_responders::Table;
@@ -38,7 +38,6 @@ pub fn work<R: Wait, G: Gate, C: Playable + Drop>(
     let mut turn = 0u64;
     // It is large, so it stays where it is.
     let mut lease = Leased::blank();
-    let mut laid = Stretch::of(lease.thread());
     let mut plan = Plan::new();
     for _ in rt.forever() {
         gate.pass(worker, turn);
@@ -49,7 +48,7 @@ pub fn work<R: Wait, G: Gate, C: Playable + Drop>(
                 requires { AllFit (map (λ r. r.rule) table.now.list.items) (C.shown book.old.boot).core.servers }
                 ensures { IsKept C.shown book.new × (book.new.boot ≡ book.old.boot) × (length book.old.history ≤ length book.new.history)
                     × IfOk result (λ done. done.more ≡ false → HasEnded (C.shown book.new.core)) }
-            { take_turn(book, table, worker, &mut lease, &laid, &plan) },
+            { take_turn(book, table, worker, &mut lease, &plan) },
         )?;
         if done.moves > 0 {
             gate.committed(worker, done.moves);
@@ -57,7 +56,7 @@ pub fn work<R: Wait, G: Gate, C: Playable + Drop>(
         if !done.more {
             return Ok(());
         }
-        make(&mut lease, done.leased, &mut laid, &mut plan);
+        make(&mut lease, done.leased, &mut plan);
         turn = turn.wrapping_add(1);
     }
     unreachable!()
@@ -77,7 +76,6 @@ fn take_turn<C: Playable + Drop>(
     table: &Table,
     worker: u32,
     lease: &mut Leased,
-    laid: &Stretch,
     plan: &Plan,
 ) -> Result<Done, NoMemory>
     requires fits { AllFit (map (λ r. r.rule) table.now.list.items) (C.shown book.old.boot).core.servers }
@@ -85,7 +83,7 @@ fn take_turn<C: Playable + Drop>(
     ensures goes { GoesOn book.old book.new }
     ensures ended { IfOk result (λ done. done.more ≡ false → HasEnded (C.shown book.new.core)) }
 {
-    let gone = go(book, table, lease, laid, plan.held)?;
+    let gone = go(book, table, lease, plan.held)?;
     let leased = next_lease(book, worker, lease, gone.more, plan);
     book.keeps();
     Ok(Done {
@@ -100,7 +98,6 @@ fn go<C: Playable + Drop>(
     book: &mut Book<C>,
     table: &Table,
     lease: &Leased,
-    laid: &Stretch,
     held: bool,
 ) -> Result<Gone, NoMemory>
     requires fits { AllFit (map (λ r. r.rule) table.now.list.items) (C.shown book.old.boot).core.servers }
@@ -109,7 +106,7 @@ fn go<C: Playable + Drop>(
     ensures ended { IfOk result (λ gone. OnFalse gone.more (HasEnded (C.shown book.new.core))) }
 {
     if held {
-        let gone = book.go_burst(table, lease, laid);
+        let gone = book.go_burst(table, lease);
         book.keeps();
         gone
     } else {
@@ -139,11 +136,10 @@ fn next_lease<C: Playable + Drop>(
     }
 }
 
-/// The instructions of a lease, without the lock, where there is one, and the moves that they are.
-fn make(lease: &mut Leased, leased: bool, laid: &mut Stretch, plan: &mut Plan) {
+/// The instructions of a lease, without the lock, where there is one.
+fn make(lease: &mut Leased, leased: bool, plan: &mut Plan) {
     if leased {
         run(lease);
-        laid.renew(lease.thread());
         plan.made(lease.thread(), count(lease));
     } else {
         plan.pass();

@@ -31,7 +31,8 @@ pub fn shelf_of(alloc: Global, files: &FileMap, fails: &[u64]) -> Result<MemShel
 
 /// The moves of a report as a trace, and how they ended.
 fn report_of(alloc: Global, report: &Report) -> Result<Vec<u8>, NoMemory> {
-    let mut text = trace_text(alloc, report.history.as_slice())?;
+    let moves = report.history.list(alloc)?;
+    let mut text = trace_text(alloc, moves.as_slice())?;
     text.push_str(match report.end {
         End::Halted => "end halted\n",
         End::Quiet => "end quiet\n",

@@ -46,7 +46,7 @@ fn count<R: Print + AllocGlobal + Threads + Wait + Sync>(
 ) -> anyhow::Result<()> {
     let gate = Count::new();
     let done = call(rt, rt.alloc(), table, &["soak", "100"], "", &gate)?;
-    let events = done.report.history.len() as u64;
+    let events = done.report.history.len();
     let often = gate.calls() >= events / MOVES;
     print!(rt; "{}", done.output)?;
     let bursts = gate.bursts() > 0;

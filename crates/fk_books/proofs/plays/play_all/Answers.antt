@@ -26,12 +26,12 @@ returns-in_default-2-clause-cause g c =
         goes_on = search rules;
         stops = none_follows (shown c.args.first) (shown book.core) book.history c.loop-rest.rest.now kept none;
       },
-      ap length c.history.ensures,
+      c.len-index.ensures ∙ ap length c.history.ensures,
     )
 
 pub returns-in_default-2-clause-back : goal.returns-in_default-2-clause-back
 returns-in_default-2-clause-back g c = λ moves spells.
-    Spells-not_bad (MayPlay (g.C.Playable.shown c.args.first)) c.args.trace.now moves (length c.history.result.now) spells
+    Spells-not_bad (MayPlay (g.C.Playable.shown c.args.first)) c.args.trace.now moves c.len-index.result spells
     (returns-in_default-2-clause-cause g c)
 
 pub loop-rest-preserved : goal.loop-rest-preserved

@@ -10,20 +10,20 @@ pub invariant_of-self-in-Some : goal.invariant_of-self-in-Some
 invariant_of-self-in-Some g c =
     let shown = g.C.Playable.shown in
     let moved : Moves (shown c.self.inside.core) c.in-Some.m (shown c.make_any.new.self) = rw c.in-Some.is at c.in_ok-m.ensures.comes in
-    let room = c.push_reserved.ensures.capacity in
+    let room = c.push.ensures.room in
     let wide = c.self.invariant.1 in
-    (more_run _ _ _ _ _ _ c.self.invariant.0 moved c.push_reserved.ensures.items, omega (arith, room, wide))
+    (more_run _ _ _ _ _ _ c.self.invariant.0 moved c.push.ensures.moves, omega (arith, room, wide))
 
 pub returns-in-Some-clause-kept : goal.returns-in-Some-clause-kept
 returns-in-Some-clause-kept g c =
     let shown = g.C.Playable.shown in
     let moved : Moves (shown c.self.inside.core) c.in-Some.m (shown c.make_any.new.self) = rw c.in-Some.is at c.in_ok-m.ensures.comes in (
       was_kept shown _ _ _ _ c.self.view_is c.self.invariant.0,
-      more_run _ _ _ _ _ _ c.self.invariant.0 moved c.push_reserved.ensures.items,
+      more_run _ _ _ _ _ _ c.self.invariant.0 moved c.push.ensures.moves,
     )
 
 pub returns-in-Some-clause-first : goal.returns-in-Some-clause-first
 returns-in-Some-clause-first g c =
     let shown = g.C.Playable.shown in
     let first : IsFirstDue (shown c.self.inside.core) (Some c.in-Some.m) = rw c.in-Some.is at c.in_ok-m.ensures.first in
-    took_due shown _ _ _ _ _ _ c.self.view_is first c.push_reserved.ensures.items
+    took_due shown _ _ _ _ _ _ c.self.view_is first c.push.ensures.moves

@@ -11,14 +11,14 @@ pub invariant_of-self-then-branch : goal.invariant_of-self-then-branch
 invariant_of-self-then-branch g c =
     let shown = g.C.Playable.shown in
     let moved : Moves (shown c.self.inside.core) c.args.m.now (shown c.make.new.self) = OnTrue_at c.if-branch.true c.in_ok-make.ensures.made in
-    let room = c.push_reserved.ensures.capacity in
+    let room = c.push.ensures.room in
     let wide = c.self.invariant.1 in
-    (more_run _ _ _ _ _ _ c.self.invariant.0 moved c.push_reserved.ensures.items, omega (arith, room, wide))
+    (more_run _ _ _ _ _ _ c.self.invariant.0 moved c.push.ensures.moves, omega (arith, room, wide))
 
 pub returns-then-branch-clause-kept : goal.returns-then-branch-clause-kept
 returns-then-branch-clause-kept g c =
     let shown = g.C.Playable.shown in
     let moved : Moves (shown c.self.inside.core) c.args.m.now (shown c.make.new.self) = OnTrue_at c.if-branch.true c.in_ok-make.ensures.made in (
       was_kept shown _ _ _ _ c.self.view_is c.self.invariant.0,
-      more_run _ _ _ _ _ _ c.self.invariant.0 moved c.push_reserved.ensures.items,
+      more_run _ _ _ _ _ _ c.self.invariant.0 moved c.push.ensures.moves,
     )
