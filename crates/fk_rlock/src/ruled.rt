@@ -29,12 +29,12 @@ const FRONT: usize = 2;
 // So many looks are made at most before a ticket is drawn, the first ones on the processor.
 const LOOKS: u32 = 128;
 
-const FIRST_LOOKS: u32 = 8;
+const FIRST_LOOKS: u32 = 16;
 
 // Between two of these.
-const PAUSE: u32 = 16;
+const PAUSE: u32 = 4;
 
-// And so long it sleeps between two of the others.
+// And so many microseconds it sleeps between two of the others.
 const SLEEP: u64 = 100;
 
 // So many looks for its turn are made without letting other threads run.
