@@ -9,4 +9,5 @@ mod Quiet
 mod Pointing
 mod Untold
 mod Chosen
+mod Running
 pub mod Touches

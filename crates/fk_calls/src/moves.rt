@@ -1,10 +1,10 @@
 //! Which moves are ready, and making them.
-ghost use Rattle.std.specs.Prelude.{◌≡◌, ◌↔◌, ℕ, List, None, true, false, IsTrue, IsOk, IfOk, OnErr, option_map};
+ghost use Rattle.std.specs.Prelude.{◌≡◌, ◌↔◌, ◌&&◌, ℕ, List, None, true, false, IsTrue, IsOk, IfOk, OnErr, option_map};
 ghost use Rattle.std.specs.Bool.{OnTrue, OnFalse};
 ghost use Rattle.fk_model.specs.declared.moves.Ask.TheVariants as asks;
 ghost use Rattle.fk_model.specs.Valid.{IsValid};
 ghost use Rattle.fk_model.specs.Searches.{thread_at};
-ghost use Rattle.fk_plans.specs.Effects.{effect_by, of_running, IsEffect};
+ghost use Rattle.fk_plans.specs.Effects.{effect_by, is_running, of_running, IsEffect};
 ghost use Rattle.fk_plans.specs.Hearers.{IsPadded};
 ghost use Rattle.fk_store.specs.Moves.{picked_by};
 ghost use Rattle.fk_store.specs.Paths.{path, place, HasOwnPath};
@@ -14,12 +14,12 @@ ghost use Rattle.fk_calls.specs.Judgements.{client_by, is_fit_move, IsEnded, IsM
 ghost use Rattle.fk_plans.specs.Verdicts.{hearer_of, IsVerdict};
 ghost use Rattle.fk_store.specs.Named.{Each};
 ghost use Rattle.fk_calls.specs.Tried.{IsMade, HasEnded, IsTold, IsToldPadded, IsUnready, IsLacking, TellsOf};
+ghost use Rattle.fk_calls.specs.Runs.{has_run, has_run_on, is_under_way_at, leaves_running};
 ghost use Rattle.fk_calls.specs.Rows as stages;
 ghost use Rattle.fk_calls.specs.Rows.{are_given_for};
 
 use crate::judging::{given, judge, moving_of, running, running_user};
 use crate::rows::restores;
-use crate::silent::{make_silently, may_be_silent};
 use fk_acts::ended_by;
 use fk_model::{Ask, Move, NoMemory, Said, Stage, Who};
 use fk_plans::{
@@ -209,36 +209,60 @@ fn client_of(store: &Store, m: &Move, ask: &Ask) -> Option<Who>
     }
 }
 
-/// Makes the next instruction of the user in a slot, or the next stage of its call where that tells nothing, where it is ready, and answers
-/// whether it did; else, and wherever it declines a stage, all stays as it is. No server loses its client by it. So nobody needs room here
-/// for what moves tell.
-pub fn proceed(store: &mut Store, who: Who, touched: &mut Touched) -> bool
+/// What came of a thread's instruction.
+#[derive(Clone, Copy)]
+pub enum Ran {
+    /// It was made, and the thread runs on.
+    On,
+    /// It was made, and the thread halts or enters a call.
+    Off,
+    /// None was made.
+    Not,
+}
+
+/// Makes the next instruction of the user in a slot, where it runs and the instruction is ready, and tells what came of it; else, and where
+/// the instruction raises a fault, all stays as it is. No server loses its client by it. So nobody needs room here for what moves tell.
+pub fn run(store: &mut Store, who: Who) -> Ran
     requires valid { IsValid (world store.old) }
-    requires few { touched.old ≡ Touched.Few None None None }
-    ensures made { OnTrue result (IsReadyMove store.old (record { who = who; pick = None }) asks.Run
+    ensures made { OnTrue (has_run result) (IsReadyMove store.old (record { who = who; pick = None }) asks.Run
         × IsStepTo store.old (record { who = who; pick = None }) asks.Run store.new Said.Nothing) }
-    ensures ended { OnTrue result (IsEnded store.old store.new None) }
-    ensures touched { OnTrue result (TellsTouched store.old (record { who = who; pick = None }) asks.Run touched.new) }
-    ensures same { OnFalse result (store.new ≡ store.old) }
+    ensures ended { OnTrue (has_run result) (IsEnded store.old store.new None) }
+    ensures touched { OnTrue (has_run result)
+        (TellsTouched store.old (record { who = who; pick = None }) asks.Run (Touched.Few None None None)) }
+    ensures ran { OnTrue (has_run result) (is_running (thread_at (world store.old) (place (path store.old) who)) ≡ true) }
+    ensures on { OnTrue (has_run_on result) (is_under_way_at store.new who ≡ true) }
+    ensures same { OnFalse (has_run result) (store.new ≡ store.old) }
 {
     let Some(thread) = running_user(store, who) else {
-        // Nobody else is judged for it.
-        if !may_be_silent(store, who) {
-            return false;
-        }
-        return make_silently(store, who, touched);
+        return Ran::Not;
     };
     let caller = Caller {
         who,
         is_porter: false,
     };
     let Instruction::Runs(effect) = fk_user::instruction(store, caller, thread) else {
-        return false;
+        return Ran::Not;
     };
     let registers = thread.regs;
     let counter = thread.pc;
     let m = Move { who, pick: None };
-    make_instruction(store, &m, registers, counter, effect)
+    let made = make_instruction(store, &m, registers, counter, effect);
+    ran_by(made, effect)
+}
+
+/// What came of an instruction with this effect.
+#[inline(always)]
+fn ran_by(made: bool, effect: Effect) -> Ran
+    ensures made { has_run result ≡ made }
+    ensures on { has_run_on result ≡ (made && leaves_running effect) }
+{
+    if !made {
+        return Ran::Not;
+    }
+    match effect {
+        Effect::Puts { .. } | Effect::Jumps { .. } | Effect::Stores { .. } => Ran::On,
+        Effect::Halts { .. } | Effect::Enters => Ran::Off,
+    }
 }
 
 /// Attempts an instruction with this effect on these registers at this counter.
@@ -298,6 +322,7 @@ fn make_instruction(
     requires effect { IsEffect (path store.old) (world store.old) registers effect }
     ensures made { OnTrue result (IsReadyMove store.old m.now asks.Run × IsStepTo store.old m.now asks.Run store.new Said.Nothing) }
     ensures ended { OnTrue result (IsEnded store.old store.new None) }
+    ensures on { OnTrue result (leaves_running effect ≡ true → is_under_way_at store.new m.now.who ≡ true) }
     ensures unready { OnFalse result ((IsReadyMove store.old m.now asks.Run → ⊥) × (store.new ≡ store.old)) }
 {
     let caller = Caller {

@@ -1,6 +1,6 @@
 //! Words that a user sends to a native server, laid straight into the caller's room. What else a move may tell takes much room, which each call on
 //! the way clears and copies.
-ghost use Rattle.std.specs.Prelude.{◌≡◌, ◌≤◌, ◌+◌, ◌-◌, ℕ, false, [], None, IfSome, IfNone, IsSome, take, drop, replicate};
+ghost use Rattle.std.specs.Prelude.{◌≡◌, ◌≤◌, ◌+◌, ◌-◌, ℕ, true, false, [], None, IfSome, IfNone, IsSome, take, drop, replicate};
 ghost use Rattle.fk_model.specs.declared.moves.Ask.TheVariants as asks;
 ghost use Rattle.fk_model.specs.declared.moves.Said.TheVariants as says;
 ghost use Rattle.fk_model.specs.Moves.{closed, stepped};
@@ -11,18 +11,21 @@ ghost use Rattle.fk_model.specs.Reach.{words_at};
 ghost use Rattle.fk_model.specs.Valid.{IsValid};
 ghost use Rattle.fk_store.specs.Moves.{said_by};
 ghost use Rattle.fk_store.specs.Paths.{path, place};
-ghost use Rattle.fk_store.specs.World.{world, IsLive};
+ghost use Rattle.fk_store.specs.Threads.{is_free_at};
+ghost use Rattle.fk_store.specs.World.{world, IsLive, IsSpace};
 ghost use Rattle.fk_plans.specs.Hearers.{IsPadded};
 ghost use Rattle.fk_plans.specs.Plans.{caller_by};
 ghost use Rattle.fk_plans.specs.Verdicts.{outcome_by, words_told, AreWords, IsVerdict};
 ghost use Rattle.fk_wakes.specs.Touches.{is_making};
+ghost use Rattle.fk_calls.specs.Doings.{IsAtStage};
 ghost use Rattle.fk_calls.specs.Judgements.{IsEnded, IsHeardBy, IsReadyMove, IsStepTo, TellsTouched};
 ghost use Rattle.fk_calls.specs.Sayings.{told_by, verdict_of};
 
 use crate::codes::begins_with_client_send;
-use crate::judging::judge;
 use crate::moves::apart;
-use fk_model::{Ask, Move, Peer, Thread, Who};
+use crate::rows;
+use crate::silent::stage_of;
+use fk_model::{Peer, Stage, Thread, Who};
 use fk_plans::{Caller, Deed, News, Plan, Verdict, Words, is_ready};
 use fk_store::Store;
 use fk_threads::{Answers, advance, count_moved, finish};
@@ -65,16 +68,45 @@ pub fn say(store: &mut Store, who: Who, room: &mut [u64; 64], touched: &mut Touc
     if !may_say(store, who) {
         return None;
     }
-    let m = Move { who, pick: None };
-    let j = judge(store, &m, &Ask::Run)?;
-    let saying = saying_of(&j.verdict)?;
-    if !is_ready(store, j.caller, j.chooses, m.pick, &j.verdict) {
+    let stage = stage_of(store, who)?;
+    say_stage(store, who, &stage, room, touched)
+}
+
+/// The same of this stage of a free user, the first of its call. It is judged where it stands, so that no answer of the judge is handed on.
+#[inline(always)]
+fn say_stage(
+    store: &mut Store,
+    who: Who,
+    stage: &Stage,
+    room: &mut [u64; 64],
+    touched: &mut Touched,
+) -> Option<Sent>
+    requires valid { IsValid (world store.old) }
+    requires free { is_free_at (world store.old) (place (path store.old) who) ≡ true }
+    requires space { IsSpace store.old who.space }
+    requires at { IsAtStage (world store.old) (place (path store.old) who) stage.now }
+    ensures made { IfSome result (λ sent. IsReadyMove store.old (record { who = who; pick = None }) asks.Run
+        × IsStepTo store.old (record { who = who; pick = None }) asks.Run store.new (told_by sent room.new)) }
+    ensures ended { IsSome result → IsEnded store.old store.new None }
+    ensures heard { IfSome result (λ sent. IsHeardBy store.old store.new (told_by sent room.new)) }
+    ensures padded { IfSome result (λ sent. IsPadded (told_by sent room.new)) }
+    ensures touched { IsSome result → TellsTouched store.old (record { who = who; pick = None }) asks.Run touched.new }
+    ensures few { IsSome result → is_making touched.new ≡ false }
+    ensures same { IfNone result (store.new ≡ store.old) }
+{
+    let caller = Caller {
+        who,
+        is_porter: false,
+    };
+    let verdict = rows::judge(store, caller, &[], stage, None);
+    let saying = saying_of(&verdict)?;
+    if !is_ready(store, caller, rows::chooses(stage), None, &verdict) {
         return None;
     }
-    apart(store, j.caller, &j.verdict);
+    apart(store, caller, &verdict);
     // Tells that names and paths agree.
     store.names();
-    make(store, j.caller, &saying, room);
+    make(store, caller, &saying, room);
     *touched = Touched::Few {
         first: Some(saying.client),
         second: Some(saying.thread),

@@ -33,8 +33,24 @@ use fk_wakes::{Touched, touched_by_move};
 
 /// Makes the next stage of the user in a slot, where that is such a one and ready, and answers whether it did. Else, and wherever it
 /// declines, all stays as it is: whether the move is ready then `attempt` tells.
+pub fn stage(store: &mut Store, who: Who, touched: &mut Touched) -> bool
+    requires valid { IsValid (world store.old) }
+    ensures made { OnTrue result (IsReadyMove store.old (record { who = who; pick = None }) asks.Run
+        × IsStepTo store.old (record { who = who; pick = None }) asks.Run store.new says.Nothing) }
+    ensures ended { OnTrue result (IsEnded store.old store.new None) }
+    ensures touched { OnTrue result (TellsTouched store.old (record { who = who; pick = None }) asks.Run touched.new) }
+    ensures same { OnFalse result (store.new ≡ store.old) }
+{
+    // Nobody else is judged for it.
+    if !may_be_silent(store, who) {
+        return false;
+    }
+    make_silently(store, who, touched)
+}
+
+/// The same of one who may be about to make such a stage.
 #[inline(never)]
-pub fn make_silently(store: &mut Store, who: Who, touched: &mut Touched) -> bool
+fn make_silently(store: &mut Store, who: Who, touched: &mut Touched) -> bool
     requires valid { IsValid (world store.old) }
     ensures made { OnTrue result (IsReadyMove store.old (record { who = who; pick = None }) asks.Run
         × IsStepTo store.old (record { who = who; pick = None }) asks.Run store.new says.Nothing) }
@@ -50,7 +66,7 @@ pub fn make_silently(store: &mut Store, who: Who, touched: &mut Touched) -> bool
 
 /// The next stage of the free user in a slot, if it is at one.
 #[inline(always)]
-fn stage_of(store: &Store, who: Who) -> Option<Stage>
+pub fn stage_of(store: &Store, who: Who) -> Option<Stage>
     ensures free { IsSome result → is_free_at (world store.now) (place (path store.now) who) ≡ true }
     ensures space { IsSome result → IsSpace store.now who.space }
     ensures at { IfSome result (λ stage. IsAtStage (world store.now) (place (path store.now) who) stage) }
@@ -94,7 +110,7 @@ fn make_stage(store: &mut Store, who: Who, stage: &Stage, touched: &mut Touched)
 
 /// A user may be about to make such a stage.
 #[inline(always)]
-pub fn may_be_silent(store: &Store, who: Who) -> bool {
+fn may_be_silent(store: &Store, who: Who) -> bool {
     match store.thread(who) {
         Some(thread) => is_on_objects(thread.regs[0]),
         None => false,

@@ -13,7 +13,7 @@ mod ports;
 mod sleepers;
 
 pub use fk_calls::{
-    Picks, Sent, Told, attempt, call, is_fit, may_move, may_pick, proceed, ready, say,
+    Picks, Ran, Sent, Told, attempt, call, is_fit, may_move, may_pick, ready, run, say, stage,
 };
 pub use fk_links::is_member;
 pub use moves::Picker;

@@ -22,7 +22,7 @@ use Rattle.fk_turns.specs.Turns.{all_marks, waits_at}
 use Rattle.fk_turns_told.specs.Kept.{is_user_at, AreKept}
 use Rattle.fk_turns_told.specs.Moved.{now_named, HasPlaceFor, HasRoom, IsLeft, IsMoved}
 use Rattle.fk_turns_next.specs.Waiting.{standing, ComesAfter, IsPlaced}
-use Rattle.fk_turns_told.specs.Told.{IsMadeTo, IsRunning, IsStored, IsToldOf}
+use Rattle.fk_turns_told.specs.Told.{runs_on_at, IsMadeTo, IsRunning, IsStored, IsToldOf}
 use Rattle.fk_turns_told.proofs.After.{refiled}
 use Rattle.fk_turns_told.proofs.Quiet.{told_quiet}
 use Rattle.fk_turns_told.proofs.Told.{told_moves_leave, told_names}
@@ -32,7 +32,7 @@ use Rattle.fk_wakes.specs.declared.touching.Touched.{Touched}
 use Rattle.fk_wakes.specs.declared.touching.Touched.TheVariants.{Any, Dies, Few, Makes, Moves}
 use Rattle.fk_wakes.specs.Touches.{is_making}
 use Rattle.laws_machine.proofs.validity.Steps.{step_keeps_valid_lem}
-use Rattle.fk_steps.specs.Steps.{may_make, was_made, HasSeat, IsPut, IsWider, MayBeQuiet}
+use Rattle.fk_steps.specs.Steps.{may_make, was_made, HasSeat, IsPut, IsQuietFrom, IsWider, MayBeQuiet}
 use Rattle.fk_steps.proofs.Giving.{lacks_gives, stood_before}
 
 -- what is no instruction
@@ -180,26 +180,6 @@ module _ (m n : Contents) (move : Move) (ask : Ask) (valid : IsValid (world m)) 
     comes_true waits marks said true kept room made tells = comes waits marks kept (seat_by waits marks kept room said made.1 tells) said made.0 made.1 tells
     comes_true waits marks said false kept room made tells = tt
 
-    pub quiet_true : (waits marks : Lists) (said : Said) (b ran : Bool) → AreKept m waits marks → (may_make m move ask ≡ true → HasSeat waits marks) →
-        ask ≡ asks.Run → OnTrue ran (IsRunning m move.who) → OnTrue b (IsReadyMove m move ask × IsStepTo m move ask n said) →
-        OnTrue b (TellsTouched m move ask touched) → OnTrue b (MayBeQuiet n move.who ran touched waits marks)
-    quiet_true waits marks said false ran kept room runs running made tells = tt
-    quiet_true waits marks said true false kept room runs running made tells = λ never alone on. absurd (cc)
-    quiet_true waits marks said true true kept room runs running made tells = λ so alone on.
-        let new : IsStored n = record { valid = kept_valid said made.1; born = born_new; few = few_new } in
-        let was : IsMadeTo m n move.who (picked_by (path m) move.pick) ask =
-        record { fit = fit; ready = made.0; step = ap (λ (s : Step). s.world) (sym made.1) } in
-        let told : IsToldOf m move.who (picked_by (path m) move.pick) ask (Few None None None) =
-        subst (IsToldOf m move.who (picked_by (path m) move.pick) ask) alone (told_of tells) in
-        record {
-          before = m;
-          kept = kept;
-          moved = told_moves_leave m n move.who (picked_by (path m) move.pick) ask (Few None None None) old new was told;
-          quiet = told_quiet m n move.who (picked_by (path m) move.pick) old new
-              (subst (IsMadeTo m n move.who (picked_by (path m) move.pick)) runs was)
-              (subst (λ (a : Ask). IsToldOf m move.who (picked_by (path m) move.pick) a (Few None None None)) runs told) running on;
-        }
-
     pub put_true : (waits : Lists) (said : Said) (b : Bool) → OnTrue b (IsReadyMove m move ask × IsStepTo m move ask n said) →
         OnTrue b (TellsTouched m move ask touched) →
         OnTrue b (is_user_at n (now_named move.who touched) ≡ true → IsPlaced n (standing waits) (now_named move.who touched)) →
@@ -214,6 +194,32 @@ no_seat n (Moves object slot) waits marks none = tt
 no_seat n (Few first second third) waits marks none = tt
 no_seat n Any waits marks none = tt
 no_seat n (Dies object) waits marks none = tt
+
+-- ---- an instruction, by which nobody else is touched
+
+module _ (m n : Contents) (move : Move) (valid : IsValid (world m)) (few : (world m).next ≤ depth) (fit : is_fit_move m move asks.Run ≡ true)
+    (born : path m ≡ space_born (world m)) (born_new : path n ≡ space_born (world n)) (few_new : (world n).next ≤ depth) (touched : Touched) where
+  pub comes_ran : (waits marks : Lists) (said : Said) → AreKept m waits marks → is_making touched ≡ false → IsReadyMove m move asks.Run →
+      IsStepTo m move asks.Run n said → TellsTouched m move asks.Run touched → ComesAfter n move.who touched waits marks
+  comes_ran waits marks said kept none ready step tells =
+      comes m n move asks.Run valid few fit born born_new few_new touched waits marks kept (no_seat n touched waits marks none) said ready step tells
+
+  pub quiet_ran : (waits marks : Lists) (said : Said) → AreKept m waits marks → IsRunning m move.who → runs_on_at n move.who ≡ true →
+      touched ≡ Few None None None → IsReadyMove m move asks.Run → IsStepTo m move asks.Run n said → TellsTouched m move asks.Run touched →
+      IsQuietFrom n move.who waits marks
+  quiet_ran waits marks said kept running on alone ready step tells =
+      let old : IsStored m = record { valid = valid; born = born; few = few } in
+      let new : IsStored n = record { valid = kept_valid m n move asks.Run valid few fit said step; born = born_new; few = few_new } in
+      let was : IsMadeTo m n move.who (picked_by (path m) move.pick) asks.Run =
+      record { fit = fit; ready = ready; step = ap (λ (s : Step). s.world) (sym step) } in
+      let told : IsToldOf m move.who (picked_by (path m) move.pick) asks.Run (Few None None None) =
+      subst (IsToldOf m move.who (picked_by (path m) move.pick) asks.Run) alone (record { names = tells.names; leaves = tells.leaves; moves = tells.moves }) in
+      record {
+        before = m;
+        kept = kept;
+        moved = told_moves_leave m n move.who (picked_by (path m) move.pick) asks.Run (Few None None None) old new was told;
+        quiet = told_quiet m n move.who (picked_by (path m) move.pick) old new was told running on;
+      }
 
 -- ---- words for a native server
 

@@ -1,11 +1,15 @@
 -- Steps: what a move leaves of where threads stand.
-use Rattle.std.specs.Prelude.{◌≡◌, ◌≤◌, ◌&&◌, ◌==◌, Bool, true, false, List, [], ◌∷◌, Option, Some, None, is_none, Result, Ok, Err}
+use Rattle.std.specs.Prelude.{◌≡◌, ◌≤◌, ◌⊎◌, ◌&&◌, ◌||◌, ◌==◌, ℕ, Bool, true, false, not, List, [], ◌∷◌, Option, Some, None, is_none, Result, Ok, Err, slice_index}
 use Rattle.fk_model.specs.declared.moves.Ask.{Ask}
 use Rattle.fk_model.specs.declared.moves.Move.{Move}
 use Rattle.fk_model.specs.declared.names.Who.{Who}
 use Rattle.fk_model.specs.declared.thread.Mode as modes_of
+use Rattle.fk_model.specs.declared.thread.Peer.{Peer}
+use Rattle.fk_model.specs.declared.thread.Peer.TheVariants as peers
+use Rattle.fk_model.specs.declared.thread.Talk.{Talk}
 use Rattle.fk_model.specs.declared.thread.Mode.TheVariants as modes
 use Rattle.fk_model.specs.declared.thread.Thread as threads_of
+use Rattle.fk_model.specs.Objects.{holds}
 use Rattle.fk_turns_next.specs.Tellings.{Told}
 use Rattle.fk_model.specs.declared.moves.Ask.TheVariants as asks
 use Rattle.fk_model.specs.declared.stage.Stage.{Stage}
@@ -15,18 +19,15 @@ use Rattle.fk_store.specs.Moves.{picked_by}
 use Rattle.fk_store.specs.Paths.{path, place}
 use Rattle.fk_store.specs.Threads.{todo_at}
 use Rattle.fk_store.specs.World.{world}
-use Rattle.fk_turns.specs.Turns.{IsSound}
+use Rattle.fk_turns.specs.Turns.{all_marks, loud_cause, IsSound}
 use Rattle.fk_turns_told.specs.Kept.{is_user_at, AreKept}
 use Rattle.fk_turns_next.specs.Waiting.{IsPlaced, Standing}
 use Rattle.fk_turns_told.specs.Moved.{IsMoved}
 use Rattle.fk_turns_told.specs.Told.{name_after, runs_on_at, IsQuietTo}
-use Rattle.fk_waits.specs.Lists.{stands, woken, Lists}
+use Rattle.fk_waits.specs.Lists.{is_cause, stands, woken, Lists}
+use Rattle.fk_waits_names.specs.Names.{is_same}
 use Rattle.fk_wakes.specs.declared.touching.Touched.{Touched}
 use Rattle.fk_wakes.specs.declared.touching.Touched.TheVariants.{Few}
-
-abbrev pub is_running : modes_of.Mode → Bool
-is_running modes.Running = true
-is_running other = false
 
 -- there is room for one more thread
 abbrev pub HasSeat : Lists → Lists → Type 0
@@ -53,14 +54,47 @@ IsPut m move ask n s =
 
 -- ---- a thread that runs on
 
--- it runs, isn't stopped and has no fault
-abbrev pub runs_on : threads_of.Thread → Bool
-runs_on t = is_running t.mode && (t.stops == 0 && is_none t.fault)
+-- a call begins with a client's send
+abbrev pub begins_with_send : ℕ → Bool
+begins_with_send code = code == 37 || code == 34
 
--- nobody but who moved was touched
+-- or with its over
+abbrev pub begins_with_over : ℕ → Bool
+begins_with_over code = code == 38 || code == 35
+
+abbrev pub speaks : ℕ → Bool
+speaks code = begins_with_send code || begins_with_over code
+
+abbrev pub is_service : Peer → Bool
+is_service peers.Service = true
+is_service other = false
+
+-- in a call: it sends words to a native server, or passes the turn to it
+abbrev pub is_speaking : threads_of.Thread → Bool
+is_speaking t = holds (λ (talk : Talk). speaks (slice_index t.regs 0) && is_service talk.peer) t.talk
+
+abbrev pub goes_in : modes_of.Mode → Bool → Bool
+goes_in modes.Running speaks = true
+goes_in modes.Calling speaks = speaks
+goes_in other speaks = false
+
+-- it runs, or after what was no instruction speaks to a native server, isn't stopped and has no fault
+abbrev pub keeps_on : Bool → threads_of.Thread → Bool
+keeps_on ran t = t.stops == 0 && (is_none t.fault && goes_in t.mode (not ran && is_speaking t))
+
+-- nobody was touched, besides who moved
 abbrev pub touches_nobody : Touched → Bool
 touches_nobody (Few first second third) = is_none first && (is_none second && is_none third)
 touches_nobody other = false
+
+abbrev pub is_own : Who → Option Who → Bool
+is_own mover None = true
+is_own mover (Some who) = is_same who mover
+
+-- nobody but who moved was touched, by whatever name
+abbrev pub touches_only : Who → Touched → Bool
+touches_only mover (Few first second third) = is_own mover first && (is_own mover second && is_own mover third)
+touches_only mover other = false
 
 -- a move of a thread that touched nobody else left the reasons of all others, but of whom any change may free
 pub record IsQuietFrom (n : Contents) (mover : Who) (waits marks : Lists) : Type 0 where
@@ -72,6 +106,14 @@ pub record IsQuietFrom (n : Contents) (mover : Who) (waits marks : Lists) : Type
 -- so it is where it was an instruction after which the thread runs on
 abbrev pub MayBeQuiet : Contents → Who → Bool → Touched → Lists → Lists → Type 0
 MayBeQuiet n mover ran touched waits marks = ran ≡ true → touched ≡ Few None None None → runs_on_at n mover ≡ true → IsQuietFrom n mover waits marks
+
+-- nobody is queued, or nobody whom any move may free
+abbrev pub IsCalm : Lists → Lists → Type 0
+IsCalm waits marks = (waits.queued ≡ []) ⊎ (is_cause loud_cause (all_marks waits marks).queued ≡ false)
+
+-- it touched nobody, as an instruction, or those that are queued are calm
+abbrev pub IsGentle : Who → Touched → Bool → Lists → Lists → Type 0
+IsGentle mover touched ran waits marks = ((ran ≡ true) × (touched ≡ Few None None None)) ⊎ IsCalm waits marks
 
 -- it stood, went last, and no change may free any other
 pub record IsTurned (who : Who) (waits marks now then_marks : Lists) : Type 0 where

@@ -1,24 +1,36 @@
 //! Moves after which only who moved is looked at, and most often not even that.
-ghost use Rattle.std.specs.Prelude.{◌≡◌, ◌⊎◌, true, false, None};
+ghost use Rattle.std.specs.Prelude.{◌≡◌, [], true, None};
 ghost use Rattle.std.specs.Bool.{OnTrue, OnFalse};
+ghost use Rattle.fk_model.specs.Holds.{decider};
+ghost use Rattle.fk_model.specs.Places.{Path};
 ghost use Rattle.fk_model.specs.Valid.{IsValid};
 ghost use Rattle.fk_store.specs.World.{world, place_of};
-ghost use Rattle.fk_turns.specs.Turns.{all_marks, loud_cause, IsSound};
-ghost use Rattle.fk_waits.specs.Lists.{is_cause};
+ghost use Rattle.fk_turns.specs.Turns.{IsSound};
+ghost use Rattle.fk_waits_names.specs.Names as names_of;
 ghost use Rattle.fk_turns_told.specs.Kept.{is_user_at, AreKept};
 ghost use Rattle.fk_turns_told.specs.Moved.{now_named};
+ghost use Rattle.fk_turns_next.specs.Runs.{is_under_way_at};
 ghost use Rattle.fk_turns_next.specs.Waiting.{standing, ComesAfter, IsMoveReady, IsPlaced};
 ghost use Rattle.fk_steps.specs.Steps as steps_of;
-ghost use Rattle.fk_turns_told.specs.Told.{runs_on_at, IsRunning};
-ghost use Rattle.fk_steps.specs.Steps.{IsTurned, MayBeQuiet};
+ghost use Rattle.fk_turns_told.specs.Told.{runs_on_at};
+ghost use Rattle.fk_steps.specs.Steps.{touches_only, IsCalm, IsGentle, IsQuietFrom, IsTurned, MayBeQuiet};
 
-use fk_model::{Mode, Thread, Who};
+use fk_model::{Mode, Peer, Thread, Who};
 use fk_store::Store;
 use fk_turns::Turns;
 use fk_turns_next::after;
 use fk_wakes::Touched;
 
-/// The lists after a move. Where that touched nobody else, the thread runs on and nothing is held, and it was an instruction, or nobody is queued whom any
+/// A client sends words.
+const CLIENT_SEND: u64 = 37;
+/// A client sends words, passes the turn and receives.
+const CLIENT_SEND_OVER_RECEIVE: u64 = 34;
+/// A client passes the turn.
+const CLIENT_OVER: u64 = 38;
+/// A client passes the turn and receives.
+const CLIENT_OVER_RECEIVE: u64 = 35;
+
+/// The lists after a move. Where that touched nobody else, who moved goes on and nothing is held, and it was an instruction, or nobody is queued whom any
 /// move may free, who moved goes from first to last, and nobody is looked at.
 #[inline(always)]
 pub fn after_plain(turns: &mut Turns, store: &Store, mover: Who, touched: &Touched, ran: bool)
@@ -35,43 +47,113 @@ pub fn after_plain(turns: &mut Turns, store: &Store, mover: Who, touched: &Touch
     after(turns, store, mover, touched);
 }
 
-/// Who moved and runs on went from first to last, and nobody else need be looked at; or all is as it was.
+/// The lists after an instruction after which the thread runs on. Where nothing is held, and nobody is queued whom any change may free, it goes from first to
+/// last, and nobody is looked at.
 #[inline(always)]
-fn is_quick(turns: &mut Turns, store: &Store, mover: Who, touched: &Touched, ran: bool) -> bool
+pub fn after_on(turns: &mut Turns, store: &Store, mover: Who)
+    requires valid { IsValid (world store.now) }
+    requires quiet { IsQuietFrom store.now mover turns.old.waits turns.old.marks }
+    requires comes { ComesAfter store.now mover (Touched.Few None None None) turns.old.waits turns.old.marks }
+    requires on { is_under_way_at store.now mover ≡ true }
+    ensures kept { AreKept store.now turns.new.waits turns.new.marks }
+    ensures placed { is_user_at store.now mover ≡ true → IsPlaced store.now (standing turns.new.waits) mover }
+{
+    if turns_on(turns, store, mover) {
+        return;
+    }
+    after_off(turns, store, mover);
+}
+
+/// Nothing is held, and who moved went from first to last, and nobody else need be looked at; or all is as it was.
+#[inline(always)]
+fn turns_on(turns: &mut Turns, store: &Store, mover: Who) -> bool
     requires sound { IsSound turns.old.waits turns.old.marks }
     ensures sound { IsSound turns.new.waits turns.new.marks }
     ensures turned { OnTrue result (IsTurned mover turns.old.waits turns.old.marks turns.new.waits turns.new.marks) }
-    ensures alone { OnTrue result (touched.now ≡ Touched.Few None None None) }
-    ensures ran { OnTrue result ((ran ≡ true) ⊎ (is_cause loud_cause (all_marks turns.old.waits turns.old.marks).queued ≡ false)) }
-    ensures on { OnTrue result (runs_on_at store.now mover ≡ true) }
-    ensures up { OnTrue result (IsMoveReady (world store.now) (place_of store.now mover)) }
-    ensures user { OnTrue result (is_user_at store.now mover ≡ true) }
+    ensures unheld { OnTrue result ((q : Path) → decider (world store.now) q ≡ None) }
     ensures waits { OnFalse result (turns.new.waits ≡ turns.old.waits) }
     ensures marks { OnFalse result (turns.new.marks ≡ turns.old.marks) }
 {
-    if !is_gentle(turns, ran) {
-        return false;
-    }
-    if !touches_nobody(touched) {
-        return false;
-    }
-    if !goes_on(store, mover) {
+    if store.is_any_held() {
         return false;
     }
     turns.turn(mover)
 }
 
-/// It was an instruction, or nobody is queued whom any move may free.
-fn is_gentle(turns: &Turns, ran: bool) -> bool
-    ensures { OnTrue result ((ran ≡ true) ⊎ (is_cause loud_cause (all_marks turns.now.waits turns.now.marks).queued ≡ false)) }
+/// The lists after any move that touched nobody, besides who moved.
+#[inline(never)]
+pub fn after_off(turns: &mut Turns, store: &Store, mover: Who)
+    requires valid { IsValid (world store.now) }
+    requires comes { ComesAfter store.now mover (Touched.Few None None None) turns.old.waits turns.old.marks }
+    ensures kept { AreKept store.now turns.new.waits turns.new.marks }
+    ensures placed { is_user_at store.now mover ≡ true → IsPlaced store.now (standing turns.new.waits) mover }
+{
+    let touched = Touched::Few {
+        first: None,
+        second: None,
+        third: None,
+    };
+    after(turns, store, mover, &touched);
+}
+
+/// Who moved and goes on went from first to last, and nobody else need be looked at; or all is as it was.
+#[inline(always)]
+fn is_quick(turns: &mut Turns, store: &Store, mover: Who, touched: &Touched, ran: bool) -> bool
+    requires sound { IsSound turns.old.waits turns.old.marks }
+    ensures sound { IsSound turns.new.waits turns.new.marks }
+    ensures turned { OnTrue result (IsTurned mover turns.old.waits turns.old.marks turns.new.waits turns.new.marks) }
+    ensures alone { OnTrue result (touches_only mover touched.now ≡ true) }
+    ensures gentle { OnTrue result (IsGentle mover touched.now ran turns.old.waits turns.old.marks) }
+    ensures on { OnTrue result (ran ≡ true → runs_on_at store.now mover ≡ true) }
+    ensures up { OnTrue result (IsMoveReady (world store.now) (place_of store.now mover)) }
+    ensures user { OnTrue result (is_user_at store.now mover ≡ true) }
+    ensures waits { OnFalse result (turns.new.waits ≡ turns.old.waits) }
+    ensures marks { OnFalse result (turns.new.marks ≡ turns.old.marks) }
+{
+    if !is_gentle(turns, mover, touched, ran) {
+        return false;
+    }
+    if !goes_on(store, mover, ran) {
+        return false;
+    }
+    turns.turn(mover)
+}
+
+/// It touched nobody else, and was an instruction, or nobody is queued, or nobody whom any move may free.
+#[inline(always)]
+fn is_gentle(turns: &Turns, mover: Who, touched: &Touched, ran: bool) -> bool
+    ensures alone { OnTrue result (touches_only mover touched.now ≡ true) }
+    ensures gentle { OnTrue result (IsGentle mover touched.now ran turns.now.waits turns.now.marks) }
 {
     if ran {
+        return touches_nobody(touched);
+    }
+    if !touches_only(mover, touched) {
+        return false;
+    }
+    is_calm(turns)
+}
+
+/// Nobody is queued, or nobody whom any move may free.
+#[inline(always)]
+fn is_calm(turns: &Turns) -> bool
+    ensures { OnTrue result (IsCalm turns.now.waits turns.now.marks) }
+{
+    if is_none_queued(turns) {
         return true;
     }
     turns.is_hushed()
 }
 
-/// A move touched nobody but who moved.
+/// Nobody is queued.
+#[inline(always)]
+fn is_none_queued(turns: &Turns) -> bool
+    ensures { OnTrue result (turns.now.waits.queued ≡ []) }
+{
+    turns.waits().len() == 0
+}
+
+/// A move touched nobody, besides who moved.
 fn touches_nobody(touched: &Touched) -> bool
     ensures { result ≡ steps_of.touches_nobody touched.now }
 {
@@ -87,51 +169,112 @@ fn touches_nobody(touched: &Touched) -> bool
     }
 }
 
-/// A user's thread runs and nothing keeps it, as far as is seen at once.
-fn goes_on(store: &Store, who: Who) -> bool
+/// A move touched nobody but who moved, by whatever name.
+fn touches_only(mover: Who, touched: &Touched) -> bool
+    ensures { result ≡ steps_of.touches_only mover touched.now }
+{
+    match *touched {
+        Touched::Few {
+            first,
+            second,
+            third,
+        } => is_own(mover, first) && (is_own(mover, second) && is_own(mover, third)),
+        Touched::Makes { .. } | Touched::Any | Touched::Dies { .. } | Touched::Moves { .. } => {
+            false
+        }
+    }
+}
+
+/// A name is the mover's, or none.
+fn is_own(mover: Who, name: Option<Who>) -> bool
+    ensures { result ≡ steps_of.is_own mover name }
+{
+    match name {
+        Some(who) => is_same(who, mover),
+        None => true,
+    }
+}
+
+/// Two names are the same.
+fn is_same(one: Who, other: Who) -> bool
+    ensures { result ≡ names_of.is_same one other }
+{
+    one == other
+}
+
+/// A user's thread runs, or after what was no instruction sends words or passes the turn to a native server, and nothing keeps it, as far as is seen at once.
+fn goes_on(store: &Store, who: Who, ran: bool) -> bool
     ensures up { OnTrue result (IsMoveReady (world store.now) (place_of store.now who)) }
     ensures user { OnTrue result (is_user_at store.now who ≡ true) }
-    ensures on { OnTrue result (runs_on_at store.now who ≡ true) }
+    ensures on { OnTrue result (ran ≡ true → runs_on_at store.now who ≡ true) }
 {
     if store.is_any_held() {
         return false;
     }
     match store.thread(who) {
-        Some(thread) => runs_on(thread),
+        Some(thread) => keeps_on(thread, ran),
         None => false,
     }
 }
 
-/// A thread runs.
-pub fn is_running(store: &Store, who: Who) -> bool
-    ensures { OnTrue result (IsRunning store.now who) }
+/// It isn't stopped and has no fault, and runs, or speaks so.
+fn keeps_on(thread: &Thread, ran: bool) -> bool
+    ensures { result ≡ steps_of.keeps_on ran thread.now }
 {
-    match store.thread(who) {
-        Some(thread) => runs(thread.mode),
-        None => false,
-    }
+    thread.stops == 0
+        && (thread.fault.is_none() && goes_in(thread.mode, !ran && is_speaking(thread)))
 }
 
-/// It runs.
-fn runs(mode: Mode) -> bool
-    ensures { result ≡ steps_of.is_running mode }
+/// It runs, or speaks so in a call.
+fn goes_in(mode: Mode, speaks: bool) -> bool
+    ensures { result ≡ steps_of.goes_in mode speaks }
 {
     match mode {
         Mode::Running => true,
-        Mode::Calling => false,
+        Mode::Calling => speaks,
         Mode::Halted(_) => false,
         Mode::Native => false,
     }
 }
 
-/// A thread runs, isn't stopped and has no fault.
-fn runs_on(thread: &Thread) -> bool
-    ensures { result ≡ steps_of.runs_on thread.now }
+/// In a call, it sends words or passes the turn to a native server.
+fn is_speaking(thread: &Thread) -> bool
+    ensures { result ≡ steps_of.is_speaking thread.now }
 {
-    match thread.mode {
-        Mode::Running => thread.stops == 0 && thread.fault.is_none(),
-        Mode::Calling => false,
-        Mode::Halted(_) => false,
-        Mode::Native => false,
+    match thread.talk {
+        Some(talk) => speaks(thread.regs[0]) && is_service(talk.peer),
+        None => false,
+    }
+}
+
+/// A call begins with a client's send or over.
+fn speaks(code: u64) -> bool
+    ensures { result ≡ steps_of.speaks code }
+{
+    begins_with_send(code) || begins_with_over(code)
+}
+
+/// A call begins with a client's over.
+fn begins_with_over(code: u64) -> bool
+    ensures { result ≡ steps_of.begins_with_over code }
+{
+    code == CLIENT_OVER || code == CLIENT_OVER_RECEIVE
+}
+
+/// A call begins with a client's send.
+fn begins_with_send(code: u64) -> bool
+    ensures { result ≡ steps_of.begins_with_send code }
+{
+    code == CLIENT_SEND || code == CLIENT_SEND_OVER_RECEIVE
+}
+
+/// A native server is at the other end of a talk.
+fn is_service(peer: Peer) -> bool
+    ensures { result ≡ steps_of.is_service peer }
+{
+    match peer {
+        Peer::Service => true,
+        Peer::Thread(_) => false,
+        Peer::Parked => false,
     }
 }

@@ -15,12 +15,12 @@ ghost use Rattle.fk_turns_told.specs.Moved.{now_named};
 ghost use Rattle.fk_turns_next.specs.Waiting.{standing, ComesAfter, IsPlaced};
 ghost use Rattle.fk_steps.specs.Steps.{was_made, IsPut, MayBeQuiet};
 
-use crate::plain::{after_plain, is_running};
+use crate::plain::{after_off, after_on, after_plain};
 use crate::room::{reserve_for, reserve_for_stage, seat_for};
 use fk_model::{Ask, Move, NoMemory, Said, Stage, Who};
 use fk_store::Store;
 use fk_turns::Turns;
-use fk_turns_next::{Sent, Told, after};
+use fk_turns_next::{Ran, Sent, Told, after};
 use fk_wakes::Touched;
 
 /// Makes a move where it is ready, as `fk_turns_next::attempt` does, and keeps the lists: who moved is in its place.
@@ -181,8 +181,39 @@ fn is_done(made: &Result<bool, NoMemory>) -> bool
     }
 }
 
-/// Makes the next instruction of the user in a slot, or the next stage of its call where that tells nothing, as `fk_turns_next::proceed` does, and keeps the lists.
+/// Makes the next instruction of the user in a slot, or the next stage of its call where that tells nothing, and keeps the lists.
 pub fn proceed(store: &mut Store, turns: &mut Turns, who: Who) -> bool
+    requires valid { IsValid (world store.old) }
+    requires kept { AreKept store.old turns.old.waits turns.old.marks }
+    ensures made { OnTrue result (IsReadyMove store.old (record { who = who; pick = None }) asks.Run
+        × IsStepTo store.old (record { who = who; pick = None }) asks.Run store.new Said.Nothing) }
+    ensures ended { OnTrue result (IsEnded store.old store.new None) }
+    ensures same { OnFalse result (store.new ≡ store.old) }
+    ensures valid { IsValid (world store.new) }
+    ensures kept { AreKept store.new turns.new.waits turns.new.marks }
+    ensures placed { OnTrue result (IsPut store.old (record { who = who; pick = None }) asks.Run store.new (standing turns.new.waits)) }
+    ensures still { OnFalse result (standing turns.new.waits ≡ standing turns.old.waits) }
+{
+    store.names();
+    let ran = fk_turns_next::run(store, who);
+    // And so they do in the world that it leaves.
+    store.names();
+    match ran {
+        Ran::On => {
+            after_on(turns, store, who);
+            true
+        }
+        Ran::Off => {
+            after_off(turns, store, who);
+            true
+        }
+        Ran::Not => proceed_stage(store, turns, who),
+    }
+}
+
+/// The same of the next stage of its call.
+#[inline(never)]
+fn proceed_stage(store: &mut Store, turns: &mut Turns, who: Who) -> bool
     requires valid { IsValid (world store.old) }
     requires kept { AreKept store.old turns.old.waits turns.old.marks }
     ensures made { OnTrue result (IsReadyMove store.old (record { who = who; pick = None }) asks.Run
@@ -197,17 +228,12 @@ pub fn proceed(store: &mut Store, turns: &mut Turns, who: Who) -> bool
     if !seat_for(turns, store, who) {
         return false;
     }
-    let ran = is_running(store, who);
     store.names();
-    let mut touched = Touched::Few {
-        first: None,
-        second: None,
-        third: None,
-    };
-    let made = fk_turns_next::proceed(store, who, &mut touched);
+    let mut touched = Touched::Any;
+    let made = fk_turns_next::stage(store, who, &mut touched);
     // And so they do in the world that the move leaves.
     store.names();
-    after_plain_if(turns, store, made, who, &touched, ran);
+    after_plain_if(turns, store, made, who, &touched, false);
     made
 }
 

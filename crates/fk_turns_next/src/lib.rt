@@ -10,6 +10,6 @@ mod looking;
 mod placing;
 mod taking;
 
-pub use fk_picks::{Sent, Told, attempt, call, is_fit, proceed, ready, ready_accept, say};
+pub use fk_picks::{Ran, Sent, Told, attempt, call, is_fit, ready, ready_accept, run, say, stage};
 pub use going::{next, waiting};
 pub use placing::{after, ready_move};

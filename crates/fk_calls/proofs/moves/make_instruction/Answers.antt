@@ -1,4 +1,10 @@
-use Rattle.std.proofs.Common.{[], false, refl, ap, ◌∙◌}
+use Rattle.std.proofs.Common.{◌≡◌, ℕ, [], true, false, refl, sym, ap, subst, ◌∙◌}
+use Rattle.fk_model.specs.Objects.{holds}
+use Rattle.fk_model.specs.Places.{Path}
+use Rattle.fk_model.specs.Searches.{thread_at}
+use Rattle.fk_store.specs.Paths.{path, place}
+use Rattle.fk_calls.specs.Runs.{is_under_way}
+use Rattle.fk_calls.proofs.Running.{under_way_after}
 use Rattle.fk_model.specs.Moves.{stepped}
 use Rattle.fk_model.specs.declared.moves.Ask.TheVariants as asks
 use Rattle.fk_model.specs.declared.moves.Said.TheVariants as says
@@ -33,3 +39,12 @@ returns-clause-ended c =
     let j : Judgement = record { caller = user c.args.m.now.who; chooses = false; verdict = verdicts.Runs c.args.effect } in
     quiet_judged c.args.store.now c.make_effect.new.store c.args.m.now asks.Run j says.Nothing c.requires.valid c.names.ensures.few refl
     c.requires.judged (returns-clause-made c)
+
+pub returns-clause-on : goal.returns-clause-on
+returns-clause-on c on =
+    let m = c.args.store.now in
+    let n = c.make_effect.new.store in
+    let who = c.args.m.now.who in
+    let there = under_way_after (world m) (path m) (place (path m) who) c.args.effect c.args.registers c.args.counter (world n) _ c.make_effect.ensures.step
+    (c.requires.judged.free refl) on in
+    subst (λ (p : ℕ → Path). holds is_under_way (thread_at (world n) (place p who)) ≡ true) (sym c.make_effect.ensures.paths) there

@@ -1,11 +1,10 @@
 use Rattle.std.proofs.Common.{◌≡◌, true, sym, subst}
+use Rattle.fk_model.specs.declared.names.Who.{Who}
 use Rattle.fk_turns_told.specs.Kept.{is_user_at}
-use Rattle.fk_turns_told.specs.Moved.{now_named}
 use Rattle.fk_turns_next.specs.Waiting.{standing, ComesAfter, IsPlaced}
 use Rattle.fk_turns_next.proofs.Placed.{placed_woken}
 use Rattle.fk_waits.specs.Lists.{Lists}
-use Rattle.fk_wakes.specs.declared.touching.Touched.{Touched}
-use Rattle.fk_steps.proofs.Went.{kept_quick}
+use Rattle.fk_steps.proofs.Went.{kept_quick, named_alone}
 use Rattle.fk_steps.proofs.plain.after_plain.Goals as goal
 
 pub is_quick-requires : goal.is_quick-requires
@@ -29,12 +28,12 @@ returns-then-is_quick-clause-kept c =
     let n = c.args.store.now in
     let was = c.args.turns.now in
     let now = c.is_quick.new.turns in
-    let ran = rw c.if-is_quick.true at c.is_quick.ensures.ran in
+    let gentle = rw c.if-is_quick.true at c.is_quick.ensures.gentle in
     let alone = rw c.if-is_quick.true at c.is_quick.ensures.alone in
     let on = rw c.if-is_quick.true at c.is_quick.ensures.on in
     let turned = rw c.if-is_quick.true at c.is_quick.ensures.turned in
     let user = rw c.if-is_quick.true at c.is_quick.ensures.user in
-    kept_quick n c.args.mover c.args.ran c.args.touched.now was.waits was.marks now.waits now.marks c.requires.comes c.requires.quiet alone ran on turned user
+    kept_quick n c.args.mover c.args.ran c.args.touched.now was.waits was.marks now.waits now.marks c.requires.comes c.requires.quiet alone gentle on turned user
     c.is_quick.ensures.sound
 
 pub returns-then-is_quick-clause-placed : goal.returns-then-is_quick-clause-placed
@@ -45,5 +44,5 @@ returns-then-is_quick-clause-placed c =
     let alone = rw c.if-is_quick.true at c.is_quick.ensures.alone in
     let turned = rw c.if-is_quick.true at c.is_quick.ensures.turned in
     let up = rw c.if-is_quick.true at c.is_quick.ensures.up in
-    subst (λ (t : Touched). is_user_at n (now_named mover t) ≡ true → IsPlaced n (standing now.waits) (now_named mover t)) (sym alone)
+    subst (λ (w : Who). is_user_at n w ≡ true → IsPlaced n (standing now.waits) w) (sym (named_alone mover c.args.touched.now alone))
     (λ user. placed_woken n mover c.args.turns.now.waits now.waits turned.turned up)

@@ -1,13 +1,19 @@
-use Rattle.std.proofs.Common.{◌≡◌, true, false, inl}
-use Rattle.fk_turns.specs.Turns.{all_marks, loud_cause}
-use Rattle.fk_waits.specs.Lists.{is_cause}
-use Rattle.fk_steps.proofs.Went.{on_right}
+use Rattle.std.proofs.Common.{inl, inr, refl, sym, ◌∙◌}
+use Rattle.fk_steps.proofs.Went.{alone_if, anyway, nobody_else, on_going}
+use Rattle.fk_steps.specs.Steps.{touches_nobody}
 use Rattle.fk_steps.proofs.plain.is_gentle.Goals as goal
 
-pub returns-then-ran : goal.returns-then-ran
-returns-then-ran c = inl c.if-ran.true
+pub returns-then-ran-clause-alone : goal.returns-then-ran-clause-alone
+returns-then-ran-clause-alone c =
+    on_going c.touches_nobody.result (touches_nobody c.args.touched.now) c.touches_nobody.ensures (nobody_else c.args.mover c.args.touched.now)
 
-pub returns : goal.returns
-returns c =
-    let now = c.args.turns.now in
-    on_right (c.args.ran ≡ true) (is_cause loud_cause (all_marks now.waits now.marks).queued ≡ false) c.is_hushed.result c.is_hushed.ensures
+pub returns-then-ran-clause-gentle : goal.returns-then-ran-clause-gentle
+returns-then-ran-clause-gentle c =
+    on_going c.touches_nobody.result (touches_nobody c.args.touched.now) c.touches_nobody.ensures
+    (λ is. inl (c.if-ran.true, alone_if c.args.touched.now is))
+
+pub returns-clause-alone : goal.returns-clause-alone
+returns-clause-alone c = anyway c.is_calm.result (sym c.touches_only.ensures ∙ c.if-not-touches_only.false)
+
+pub returns-clause-gentle : goal.returns-clause-gentle
+returns-clause-gentle c = on_going c.is_calm.result c.is_calm.result refl (λ so. inr (rw so at c.is_calm.ensures))

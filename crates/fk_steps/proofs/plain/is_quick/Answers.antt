@@ -1,5 +1,4 @@
-use Rattle.std.proofs.Common.{sym, ◌∙◌}
-use Rattle.fk_steps.proofs.Went.{alone_if, anyway, off_anyway, turned_if}
+use Rattle.fk_steps.proofs.Went.{anyway, off_anyway, turned_if}
 use Rattle.fk_steps.proofs.plain.is_quick.Goals as goal
 
 pub returns-clause-turned : goal.returns-clause-turned
@@ -10,8 +9,10 @@ returns-clause-turned c =
     c.turn.ensures.marks
 
 pub returns-clause-alone : goal.returns-clause-alone
-returns-clause-alone c =
-    anyway c.turn.result (alone_if c.args.touched.now (sym c.touches_nobody.ensures ∙ c.if-not-touches_nobody.false))
+returns-clause-alone c = let alone = rw c.if-not-is_gentle.false at c.is_gentle.ensures.alone in anyway c.turn.result alone
+
+pub returns-clause-gentle : goal.returns-clause-gentle
+returns-clause-gentle c = let gentle = rw c.if-not-is_gentle.false at c.is_gentle.ensures.gentle in anyway c.turn.result gentle
 
 pub returns-clause-up : goal.returns-clause-up
 returns-clause-up c = let up = rw c.if-not-goes_on.false at c.goes_on.ensures.up in anyway c.turn.result up
@@ -21,9 +22,6 @@ returns-clause-user c = let user = rw c.if-not-goes_on.false at c.goes_on.ensure
 
 pub returns-clause-marks : goal.returns-clause-marks
 returns-clause-marks c = off_anyway c.turn.result c.turn.ensures.marks
-
-pub returns-clause-ran : goal.returns-clause-ran
-returns-clause-ran c = let gentle = rw c.if-not-is_gentle.false at c.is_gentle.ensures in anyway c.turn.result gentle
 
 pub returns-clause-on : goal.returns-clause-on
 returns-clause-on c = let on = rw c.if-not-goes_on.false at c.goes_on.ensures.on in anyway c.turn.result on
