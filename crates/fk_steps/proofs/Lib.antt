@@ -4,5 +4,6 @@ pub mod Wanted
 pub mod Giving
 pub mod Stepped
 pub mod Sends
+pub mod Acts
 pub mod Went
 pub mod Known

@@ -40,31 +40,32 @@ use Rattle.fk_whys.specs.declared.whys.Why.TheVariants as whys
 use Rattle.fk_whys.specs.Whys.{IsWhy}
 use Rattle.fk_whys.proofs.Apart.{key_lone}
 use Rattle.laws_waits.proofs.Complete.{free_runners_are_ready}
-use Rattle.fk_steps.specs.Steps.{speaks, goes_in, is_own, is_speaking, is_service, keeps_on, touches_nobody, touches_only}
+use Rattle.fk_steps.specs.Steps.{acts, speaks, goes_in, is_busy, is_own, is_speaking, is_service, keeps_on, touches_nobody, touches_only}
 use Rattle.fk_steps.specs.Steps.{IsGentle, IsQuietFrom, IsTurned, MayBeQuiet}
+use Rattle.fk_steps.proofs.Acts.{acts_up, begins_act, or_if}
 use Rattle.fk_steps.proofs.Sends.{begins, over_up, sends_up, BeginsWithOver, BeginsWithSend}
 
 -- ---- who goes on
 
 module _ (w : World) (k : ℕ) (s : Path) (p : ℕ → Path) (ran : Bool) (t : threads_of.Thread) (there : thread_at w (k ∷ s) ≡ Some (thread_by p t))
     (keeps : keeps_on ran t ≡ true) where
-  rest : (is_none t.fault && goes_in t.mode (not ran && is_speaking t)) ≡ true
-  rest = (and_parts (t.stops == 0) (is_none t.fault && goes_in t.mode (not ran && is_speaking t)) keeps).1
+  rest : (is_none t.fault && goes_in t.mode (not ran && is_busy t)) ≡ true
+  rest = (and_parts (t.stops == 0) (is_none t.fault && goes_in t.mode (not ran && is_busy t)) keeps).1
 
-  going : goes_in t.mode (not ran && is_speaking t) ≡ true
-  going = (and_parts (is_none t.fault) (goes_in t.mode (not ran && is_speaking t)) rest).1
+  going : goes_in t.mode (not ran && is_busy t) ≡ true
+  going = (and_parts (is_none t.fault) (goes_in t.mode (not ran && is_busy t)) rest).1
 
   no_fault : (o : Option _) → is_none o ≡ true → is_none (option_map (fault_by p) o) ≡ true
   no_fault None is = refl
   no_fault (Some fault) is = absurd (cc)
 
   faultless : is_none (option_map (fault_by p) t.fault) ≡ true
-  faultless = no_fault t.fault (and_parts (is_none t.fault) (goes_in t.mode (not ran && is_speaking t)) rest).0
+  faultless = no_fault t.fault (and_parts (is_none t.fault) (goes_in t.mode (not ran && is_busy t)) rest).0
 
   pub keeps_user : holds (λ (t : Thread). not (is_porter t.mode)) (thread_at w (k ∷ s)) ≡ true
   keeps_user = rw there (by t.mode going)
     where
-      by : (m : modes_of.Mode) → goes_in m (not ran && is_speaking t) ≡ true → not (is_porter (mode_by m t.regs)) ≡ true
+      by : (m : modes_of.Mode) → goes_in m (not ran && is_busy t) ≡ true → not (is_porter (mode_by m t.regs)) ≡ true
       by modes.Running is = refl
       by modes.Calling is = refl
       by (modes.Halted code) is = absurd (cc)
@@ -73,7 +74,7 @@ module _ (w : World) (k : ℕ) (s : Path) (p : ℕ → Path) (ran : Bool) (t : t
   pub keeps_going : ran ≡ true → holds (λ (t : Thread). is_going t.mode && is_none t.fault) (thread_at w (k ∷ s)) ≡ true
   keeps_going so = rw there (by t.mode ran so going)
     where
-      by : (m : modes_of.Mode) (ran : Bool) → ran ≡ true → goes_in m (not ran && is_speaking t) ≡ true →
+      by : (m : modes_of.Mode) (ran : Bool) → ran ≡ true → goes_in m (not ran && is_busy t) ≡ true →
           (is_going (mode_by m t.regs) && is_none (option_map (fault_by p) t.fault)) ≡ true
       by modes.Running ran so is = faultless
       by modes.Calling true so is = absurd (cc)
@@ -87,7 +88,7 @@ module _ (w : World) (k : ℕ) (s : Path) (p : ℕ → Path) (ran : Bool) (t : t
       free : (m : modes_of.Mode) → t.mode ≡ m → is_user (mode_by m t.regs) ≡ true → is_free w s (thread_by p t) ≡ true
       free m e user = rw (
         unheld s,
-        (and_parts (t.stops == 0) (is_none t.fault && goes_in t.mode (not ran && is_speaking t)) keeps).0,
+        (and_parts (t.stops == 0) (is_none t.fault && goes_in t.mode (not ran && is_busy t)) keeps).0,
         faultless,
         e,
         user,
@@ -113,9 +114,12 @@ module _ (w : World) (k : ℕ) (s : Path) (p : ℕ → Path) (ran : Bool) (t : t
           let both = and_parts (speaks (slice_index t.regs 0)) (is_service talk.peer) is in
           speaks_up talk e calling (to_service talk.peer both.1) (begins t.regs both.0)
 
-      by : (m : modes_of.Mode) → t.mode ≡ m → goes_in m (not ran && is_speaking t) ≡ true → IsMoveReady w (k ∷ s)
+      by : (m : modes_of.Mode) → t.mode ≡ m → goes_in m (not ran && is_busy t) ≡ true → IsMoveReady w (k ∷ s)
       by modes.Running e is = (None, free_runners_are_ready w (k ∷ s) (thread_by p t) t.regs unheld there (free modes.Running e refl) (rw e refl))
-      by modes.Calling e is = sends t.talk refl (and_parts (not ran) (is_speaking t) is).1 e
+      by modes.Calling e is =
+          or_if (is_speaking t) (acts (slice_index t.regs 0)) (λ so. sends t.talk refl so e)
+          (λ act. acts_up w unheld k s (thread_by p t) there (free modes.Calling e refl) (rw e (begins_act t.regs act)))
+          (and_parts (not ran) (is_busy t) is).1
       by (modes.Halted code) e is = absurd (cc)
       by modes.Native e is = absurd (cc)
 
@@ -203,6 +207,10 @@ alone_if (Makes object) is = absurd (cc)
 alone_if Any is = absurd (cc)
 alone_if (Dies object) is = absurd (cc)
 alone_if (Moves object slot) is = absurd (cc)
+
+-- what is said of an instruction isn't said of another move
+pub not_quiet : (n : Contents) (mover : Who) (touched : Touched) (waits marks : Lists) → MayBeQuiet n mover false touched waits marks
+not_quiet n mover touched waits marks = λ never alone on. absurd (cc)
 
 -- who touched nobody touched nobody else
 pub nobody_else : (mover : Who) (t : Touched) → touches_nobody t ≡ true → touches_only mover t ≡ true

@@ -73,14 +73,33 @@ is_service other = false
 abbrev pub is_speaking : threads_of.Thread → Bool
 is_speaking t = holds (λ (talk : Talk). speaks (slice_index t.regs 0) && is_service talk.peer) t.talk
 
-abbrev pub goes_in : modes_of.Mode → Bool → Bool
-goes_in modes.Running speaks = true
-goes_in modes.Calling speaks = speaks
-goes_in other speaks = false
+-- calls on objects, spaces and pages, but space_hold
+abbrev pub acts_first : ℕ → Bool
+acts_first code =
+    code == 1 || code == 2 || code == 3 || code == 4 || code == 5 || code == 6 || code == 7 || code == 8 || code == 9 || code == 10
 
--- it runs, or after what was no instruction speaks to a native server, isn't stopped and has no fault
+abbrev pub acts_later : ℕ → Bool
+acts_later code = code == 11 || code == 12 || code == 14 || code == 15 || code == 16 || code == 17 || code == 18 || code == 19 || code == 20
+
+-- and a mutex's trylock and unlock, and disconnect: none of these waits but for what is held
+abbrev pub acts_besides : ℕ → Bool
+acts_besides code = code == 22 || code == 23 || code == 39
+
+abbrev pub acts : ℕ → Bool
+acts code = acts_first code || acts_later code || acts_besides code
+
+-- in a call that waits for nobody while nothing is held
+abbrev pub is_busy : threads_of.Thread → Bool
+is_busy t = is_speaking t || acts (slice_index t.regs 0)
+
+abbrev pub goes_in : modes_of.Mode → Bool → Bool
+goes_in modes.Running busy = true
+goes_in modes.Calling busy = busy
+goes_in other busy = false
+
+-- it runs, or after what was no instruction is in such a call, isn't stopped and has no fault
 abbrev pub keeps_on : Bool → threads_of.Thread → Bool
-keeps_on ran t = t.stops == 0 && (is_none t.fault && goes_in t.mode (not ran && is_speaking t))
+keeps_on ran t = t.stops == 0 && (is_none t.fault && goes_in t.mode (not ran && is_busy t))
 
 -- nobody was touched, besides who moved
 abbrev pub touches_nobody : Touched → Bool

@@ -80,7 +80,7 @@ fn turns_on(turns: &mut Turns, store: &Store, mover: Who) -> bool
     turns.turn(mover)
 }
 
-/// The lists after any move that touched nobody, besides who moved.
+/// The lists after any other instruction.
 #[inline(never)]
 pub fn after_off(turns: &mut Turns, store: &Store, mover: Who)
     requires valid { IsValid (world store.now) }
@@ -93,7 +93,7 @@ pub fn after_off(turns: &mut Turns, store: &Store, mover: Who)
         second: None,
         third: None,
     };
-    after(turns, store, mover, &touched);
+    after_plain(turns, store, mover, &touched, false);
 }
 
 /// Who moved and goes on went from first to last, and nobody else need be looked at; or all is as it was.
@@ -202,7 +202,7 @@ fn is_same(one: Who, other: Who) -> bool
     one == other
 }
 
-/// A user's thread runs, or after what was no instruction sends words or passes the turn to a native server, and nothing keeps it, as far as is seen at once.
+/// A user's thread runs, or after what was no instruction is in a call that waits for nobody, and nothing keeps it, as far as is seen at once.
 fn goes_on(store: &Store, who: Who, ran: bool) -> bool
     ensures up { OnTrue result (IsMoveReady (world store.now) (place_of store.now who)) }
     ensures user { OnTrue result (is_user_at store.now who ≡ true) }
@@ -217,24 +217,75 @@ fn goes_on(store: &Store, who: Who, ran: bool) -> bool
     }
 }
 
-/// It isn't stopped and has no fault, and runs, or speaks so.
+/// It isn't stopped and has no fault, and runs, or is in such a call.
 fn keeps_on(thread: &Thread, ran: bool) -> bool
     ensures { result ≡ steps_of.keeps_on ran thread.now }
 {
-    thread.stops == 0
-        && (thread.fault.is_none() && goes_in(thread.mode, !ran && is_speaking(thread)))
+    thread.stops == 0 && (thread.fault.is_none() && goes_in(thread.mode, !ran && is_busy(thread)))
 }
 
-/// It runs, or speaks so in a call.
-fn goes_in(mode: Mode, speaks: bool) -> bool
-    ensures { result ≡ steps_of.goes_in mode speaks }
+/// It runs, or is in such a call.
+fn goes_in(mode: Mode, busy: bool) -> bool
+    ensures { result ≡ steps_of.goes_in mode busy }
 {
     match mode {
         Mode::Running => true,
-        Mode::Calling => speaks,
+        Mode::Calling => busy,
         Mode::Halted(_) => false,
         Mode::Native => false,
     }
+}
+
+/// In a call, it waits for nobody while nothing is held.
+fn is_busy(thread: &Thread) -> bool
+    ensures { result ≡ steps_of.is_busy thread.now }
+{
+    is_speaking(thread) || acts(thread.regs[0])
+}
+
+/// A call on an object, a space or a page but `space_hold`, or one that lets go.
+fn acts(code: u64) -> bool
+    ensures { result ≡ steps_of.acts code }
+{
+    acts_first(code) || (acts_later(code) || acts_besides(code))
+}
+
+/// Those up to `set_state`.
+fn acts_first(code: u64) -> bool
+    ensures { result ≡ steps_of.acts_first code }
+{
+    code == 1
+        || code == 2
+        || code == 3
+        || code == 4
+        || code == 5
+        || code == 6
+        || code == 7
+        || code == 8
+        || code == 9
+        || code == 10
+}
+
+/// Those from `get_ptr` on.
+fn acts_later(code: u64) -> bool
+    ensures { result ≡ steps_of.acts_later code }
+{
+    code == 11
+        || code == 12
+        || code == 14
+        || code == 15
+        || code == 16
+        || code == 17
+        || code == 18
+        || code == 19
+        || code == 20
+}
+
+/// A mutex's trylock and unlock, and disconnect.
+fn acts_besides(code: u64) -> bool
+    ensures { result ≡ steps_of.acts_besides code }
+{
+    code == 22 || code == 23 || code == 39
 }
 
 /// In a call, it sends words or passes the turn to a native server.
