@@ -1,7 +1,8 @@
 -- Roused: threads that are woken one after another.
-use Rattle.std.proofs.Common.{◌≡◌, ◌≤◌, ◌<◌, ◌||◌, ◌⊎◌, Bool, true, false, List, [], ◌∷◌, ◌++◌, length, Option, Some, None, if◌then◌else◌, inl, inr, refl, sym}
+use Rattle.std.proofs.Common.{◌≡◌, ◌≤◌, ◌<◌, ◌||◌, ◌⊎◌, ◌==◌, ℕ, Bool, true, false, List, [], ◌∷◌, ◌++◌, length, Option, Some, None, if◌then◌else◌, inl, inr, refl, sym}
 use Rattle.std.proofs.Common.{ap, subst, ◌∙◌, arith}
-use Rattle.std.proofs.lemmas.Bool.{or_from, or_right}
+use Rattle.std.proofs.lemmas.Bool.{eqb-true, or_from, or_right}
+use Rattle.std.specs.Bool.{OnTrue}
 use Rattle.fk_model.specs.declared.names.Who.{Who}
 use Rattle.fk_waits_names.specs.Names.{is_same}
 use Rattle.fk_waits_names.proofs.Order.{same_who}
@@ -290,3 +291,15 @@ marked_stands n waits marks sound first = sym (sound.both n) ∙ front_stands n 
 -- who is first at a cause stands
 pub at_stands : (cause n : Who) (lists : Lists) → Some n ≡ first_queued cause lists.queued → stands n lists ≡ true
 at_stands cause n lists first = or_right (is_in n lists.ready) (is_queued n lists.queued) (first_stands cause n lists.queued first)
+
+if_anyway : {P : Type 0} (b : Bool) → P → OnTrue b P
+if_anyway true p = p
+if_anyway false p = tt
+
+pub length_none : {A : Type 0} (n : ℕ) (l : List A) → n ≡ length l → OnTrue (n == 0) (l ≡ [])
+length_none n [] e = if_anyway (n == 0) refl
+length_none n (x ∷ l) e = by (n == 0) refl
+  where
+    by : (b : Bool) → (n == 0) ≡ b → OnTrue b (x ∷ l ≡ [])
+    by true h = let none : 0 ≡ length (x ∷ l) = sym (eqb-true n 0 h) ∙ e in absurd (cc)
+    by false h = tt

@@ -208,8 +208,19 @@ impl Turns {
         if is_free(key) {
             return;
         }
+        // Then there is nobody whom it may free.
+        if self.is_none_queued() {
+            return;
+        }
         self.rouse_marked_at(key);
         self.rouse_queued_at(key);
+    }
+
+    /// Nobody is queued.
+    fn is_none_queued(&self) -> bool
+        ensures { OnTrue result (self.now.waits.queued ≡ []) }
+    {
+        self.waits.len() == 0
     }
 
     /// All that are queued at an object are ready.

@@ -1,5 +1,5 @@
 use Rattle.std.proofs.Common.{sym, ap, ◌∙◌}
-use Rattle.fk_waits.specs.Lists.{Lists}
+use Rattle.fk_waits.specs.Lists.{is_queued, Lists}
 use Rattle.fk_waits_causes.proofs.Numbers.{clash}
 use Rattle.fk_waits_names.specs.Names.{is_same}
 use Rattle.fk_turns.specs.Turns.{free_cause}
@@ -18,6 +18,16 @@ returns-then-is_free-clause-met c = met_none c.args.self.now.marks c.args.self.n
 pub returns-then-is_free-clause-freed : goal.returns-then-is_free-clause-freed
 returns-then-is_free-clause-freed c named =
     clash (is_same free_cause c.args.key) (sym c.is_free.ensures ∙ c.if-is_free.true) named
+
+pub returns-then-is_none_queued-clause-roused : goal.returns-then-is_none_queued-clause-roused
+returns-then-is_none_queued-clause-roused c = roused_none c.args.self.now.waits
+
+pub returns-then-is_none_queued-clause-met : goal.returns-then-is_none_queued-clause-met
+returns-then-is_none_queued-clause-met c = met_none c.args.self.now.marks c.args.self.now.waits
+
+pub returns-then-is_none_queued-clause-freed : goal.returns-then-is_none_queued-clause-freed
+returns-then-is_none_queued-clause-freed c named who at =
+    let none = rw c.if-is_none_queued.true at c.is_none_queued.ensures in ap (is_queued who) none
 
 pub returns-clause-roused : goal.returns-clause-roused
 returns-clause-roused c =
