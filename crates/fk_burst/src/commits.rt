@@ -4,6 +4,8 @@ ghost use Rattle.std.specs.Prelude.{take, true};
 ghost use Rattle.std.specs.Bool.{OnTrue, OnFalse};
 ghost use Rattle.fk_kernel.specs.Kernels.{world_of};
 ghost use Rattle.fk_kernel.specs.Replaced.{IsPageThere};
+ghost use Rattle.fk_model.specs.declared.moves.Ask.TheVariants as asks;
+ghost use Rattle.fk_model.specs.Moves.{IsReady};
 ghost use Rattle.fk_model.specs.Searches.{thread_at};
 ghost use Rattle.fk_model.specs.Valid.{birth_at, IsPaged};
 ghost use Rattle.fk_plans.specs.Effects.{is_running};
@@ -134,6 +136,7 @@ fn front(room: &[BurstPage], laid: usize) -> &[BurstPage]
 /// The thread in a slot becomes as a copy has it, and so do these pages, which are those that the copy has used.
 fn hand_back(k: &mut Kernel, thread: Who, now: &Copied, pages: &[BurstPage])
     requires running { is_running (thread_at (world_of k.old) (named (world_of k.old) thread)) ≡ true }
+    requires ready { IsReady (world_of k.old) (named (world_of k.old) thread) None asks.Run }
     requires pages { pages.now ≡ used_pages 4 now.now thread.space }
     requires there { All (IsPageThere (space_born (world_of k.old)) (world_of k.old)) (used_pages 4 now.now thread.space) }
     requires has { (page : ℕ) → (burst_of now.now).used page ≡ true → IsSome ((burst_of now.now).page page) }
@@ -147,6 +150,7 @@ fn hand_back(k: &mut Kernel, thread: Who, now: &Copied, pages: &[BurstPage])
 #[inline(never)]
 fn put_back_far(k: &mut Kernel, thread: Who, now: &Copied)
     requires running { is_running (thread_at (world_of k.old) (named (world_of k.old) thread)) ≡ true }
+    requires ready { IsReady (world_of k.old) (named (world_of k.old) thread) None asks.Run }
     requires low { (place : ℕ) → slice_index_or now.now.used place false ≡ true → now.now.first + place < 256 }
     requires there { All (IsPageThere (space_born (world_of k.old)) (world_of k.old)) (used_pages 4 now.now thread.space) }
     requires has { (page : ℕ) → (burst_of now.now).used page ≡ true → IsSome ((burst_of now.now).page page) }
@@ -161,6 +165,7 @@ fn put_back_far(k: &mut Kernel, thread: Who, now: &Copied)
 /// The same, where only pages of the first two places are used.
 fn put_back_near(k: &mut Kernel, thread: Who, now: &Copied)
     requires running { is_running (thread_at (world_of k.old) (named (world_of k.old) thread)) ≡ true }
+    requires ready { IsReady (world_of k.old) (named (world_of k.old) thread) None asks.Run }
     requires near { (slice_index_or now.now.used 2 false ≡ false) × (slice_index_or now.now.used 3 false ≡ false) }
     requires low { (place : ℕ) → slice_index_or now.now.used place false ≡ true → now.now.first + place < 256 }
     requires there { All (IsPageThere (space_born (world_of k.old)) (world_of k.old)) (used_pages 4 now.now thread.space) }
@@ -176,6 +181,7 @@ fn put_back_near(k: &mut Kernel, thread: Who, now: &Copied)
 /// The thread in a slot, and the pages of its space that a copy has used, become as the copy has them.
 fn put_back(k: &mut Kernel, thread: Who, now: &Copied)
     requires running { is_running (thread_at (world_of k.old) (named (world_of k.old) thread)) ≡ true }
+    requires ready { IsReady (world_of k.old) (named (world_of k.old) thread) None asks.Run }
     requires low { (place : ℕ) → slice_index_or now.now.used place false ≡ true → now.now.first + place < 256 }
     requires there { All (IsPageThere (space_born (world_of k.old)) (world_of k.old)) (used_pages 4 now.now thread.space) }
     requires has { (page : ℕ) → (burst_of now.now).used page ≡ true → IsSome ((burst_of now.now).page page) }

@@ -22,7 +22,7 @@ impl<S: Service + Drop, W: Worker + Drop> Core<S, W> {
         ensures jobs { self.new.jobs.jobs ≡ self.old.jobs.jobs }
     {
         let who = self.same_thread()?;
-        if self.kernel.proceed(who) {
+        if self.kernel.proceed_on(who) {
             self.events += 1;
             self.rounds.hear(None);
             Some(Move { who, pick: None })

@@ -221,6 +221,21 @@ impl Kernel {
         made
     }
 
+    /// The same of the user that has moved last: an instruction leaves it where it stands among the ready.
+    pub fn proceed_on(&mut self, who: Who) -> bool
+        ensures made { OnTrue result (
+            IsReadyEvent (world_of self.old) (event_of (world_of self.old) Ask.Run (record { who = who; pick = None }))
+            × (step_of (world_of self.old) (event_of (world_of self.old) Ask.Run (record { who = who; pick = None }))
+            ≡ record { world = world_of self.new; said = Nothing })) }
+        ensures ended { OnTrue result ((port : Who) → has_ended (world_of self.old) (world_of self.new) (named (world_of self.old) port) ≡ false) }
+        ensures same { OnFalse result (self.new ≡ self.old) }
+    {
+        self.store.names();
+        let made = fk_steps::proceed_on(&mut self.store, &mut self.turns, who);
+        self.store.names();
+        made
+    }
+
     /// Makes the next stage of the user in a slot, where that sends words to a native server and is ready: lays the words into the room, with
     /// zeros behind them, and gives whom they are for. Else, and wherever it declines, it gives none and all stays as it is: whether the move is
     /// ready then `attempt` tells. No native server loses its client by it.

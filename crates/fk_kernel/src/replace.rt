@@ -1,5 +1,7 @@
 //! A thread and some pages get other words at once, as by several instructions.
-ghost use Rattle.std.specs.Prelude.{◌≡◌, true, All};
+ghost use Rattle.std.specs.Prelude.{◌≡◌, true, All, None};
+ghost use Rattle.fk_model.specs.declared.moves.Ask.TheVariants as asks;
+ghost use Rattle.fk_model.specs.Moves.{IsReady};
 ghost use Rattle.fk_model.specs.Searches.{thread_at};
 ghost use Rattle.fk_model.specs.Who.{named, space_born};
 ghost use Rattle.fk_model.specs.World.{apply};
@@ -12,7 +14,7 @@ ghost use Rattle.fk_kernel.specs.Replaced.{IsPageThere, replaced, rewritten};
 
 use crate::Kernel;
 use fk_model::{Mode, Who};
-use fk_steps::after_plain;
+use fk_steps::after_still;
 use fk_store::Store;
 use fk_wakes::Touched;
 
@@ -45,10 +47,11 @@ fn rewrite(store: &mut Store, pages: &[BurstPage])
 }
 
 impl Kernel {
-    /// A thread that runs goes on with these registers at this counter, and pages that are there get these words. All else stays, and each user's thread still
+    /// A thread that is ready in running mode goes on with these registers at this counter, and pages that are there get these words. All else stays, and each user's thread still
     /// stands once, and none that is queued can move.
     pub fn replace(&mut self, thread: Who, regs: &[u64; 16], pc: u64, pages: &[BurstPage])
         requires running { is_running (thread_at (world_of self.old) (named (world_of self.old) thread)) ≡ true }
+        requires ready { IsReady (world_of self.old) (named (world_of self.old) thread) None asks.Run }
         requires pages { All (IsPageThere (space_born (world_of self.old)) (world_of self.old)) pages.now }
         ensures world { world_of self.new ≡ replaced (world_of self.old) thread regs.now pc pages.now }
         ensures paths { path_of self.new ≡ path_of self.old }
@@ -63,6 +66,6 @@ impl Kernel {
             second: None,
             third: None,
         };
-        after_plain(&mut self.turns, &self.store, thread, &alone, true);
+        after_still(&mut self.turns, &self.store, thread, &alone, true);
     }
 }

@@ -34,6 +34,7 @@ use Rattle.fk_wakes.specs.Touches.{is_making}
 use Rattle.laws_machine.proofs.validity.Steps.{step_keeps_valid_lem}
 use Rattle.fk_steps.specs.Steps.{may_make, was_made, HasSeat, IsPut, IsQuietFrom, IsWider, MayBeQuiet}
 use Rattle.fk_steps.proofs.Giving.{lacks_gives, stood_before}
+use Rattle.fk_steps.proofs.Went.{free_when_ready}
 
 -- what is no instruction
 pub never_quiet : (n : Contents) (mover : Who) (made : Bool) (touched : Touched) (waits marks : Lists) → OnTrue made (MayBeQuiet n mover false touched waits marks)
@@ -217,6 +218,7 @@ module _ (m n : Contents) (move : Move) (valid : IsValid (world m)) (few : (worl
       record {
         before = m;
         kept = kept;
+        free = free_when_ready m waits marks move.who (picked_by (path m) move.pick) valid few kept ready;
         moved = told_moves_leave m n move.who (picked_by (path m) move.pick) asks.Run (Few None None None) old new was told;
         quiet = told_quiet m n move.who (picked_by (path m) move.pick) old new was told running on;
       }

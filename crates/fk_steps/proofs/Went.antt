@@ -1,8 +1,9 @@
 -- Went: the lists after a move of a thread that runs on and touches nobody else.
-use Rattle.std.proofs.Common.{◌≡◌, ◌&&◌, ◌||◌, ◌==◌, ℕ, Bool, true, false, not, List, [], ◌∷◌, length, ◌⊎◌, ◌++◌, slice_index, Option, Some, None, is_none, option_map, inl, inr, refl, sym, ap}
+use Rattle.std.proofs.Common.{◌≡◌, ◌≤◌, ◌&&◌, ◌||◌, ◌==◌, ℕ, Bool, true, false, not, List, [], ◌∷◌, length, ◌⊎◌, ◌++◌, slice_index, Option, Some, None, is_none, option_map, inl, inr, refl, sym, ap}
 use Rattle.std.proofs.Common.{subst, ◌∙◌}
 use Rattle.std.proofs.lemmas.Bool.{and_parts, eqb-true, or_from, or_right}
 use Rattle.std.specs.Bool.{OnTrue, OnFalse}
+use Rattle.fk_model.specs.declared.moves.Ask.TheVariants as asks
 use Rattle.fk_model.specs.declared.names.Who.{Who}
 use Rattle.fk_model.specs.declared.thread.Mode as modes_of
 use Rattle.fk_model.specs.declared.thread.Mode.TheVariants as modes
@@ -11,11 +12,13 @@ use Rattle.fk_model.specs.declared.thread.Peer as peers_of
 use Rattle.fk_model.specs.declared.thread.Peer.TheVariants as peers
 use Rattle.fk_model.specs.declared.thread.Talk as talks_of
 use Rattle.fk_model.specs.Holds.{decider, is_free, is_porter, is_user}
+use Rattle.fk_model.specs.Moves.{IsReady}
 use Rattle.fk_model.specs.Objects.{Mode, Thread, holds}
 use Rattle.fk_model.specs.Objects.Mode.{Calling, Halted, Native, Running}
 use Rattle.fk_model.specs.Objects.Peer.{Service}
 use Rattle.fk_model.specs.Places.{Path}
-use Rattle.fk_model.specs.Searches.{thread_at}
+use Rattle.fk_model.specs.Searches.{depth, thread_at}
+use Rattle.fk_model.specs.Valid.{IsValid}
 use Rattle.fk_model.specs.World.{World}
 use Rattle.fk_plans.specs.Effects.{is_running, is_running_mode}
 use Rattle.fk_store.specs.Bodies.{calling_mode, fault_by, mode_by, peer_by, talk_by, thread_by}
@@ -29,6 +32,7 @@ use Rattle.fk_turns_told.specs.Moved.{is_it, is_named, is_told, is_wide, now_nam
 use Rattle.fk_turns_told.specs.Told.{is_going, runs_on_at, IsQuietTo, IsRunning}
 use Rattle.fk_turns_next.specs.Runs.{is_under_way, is_under_way_at}
 use Rattle.fk_turns_next.specs.Waiting.{ComesAfter, IsMoveReady}
+use Rattle.fk_turns_next.proofs.Passed.{queued_unready}
 use Rattle.fk_waits.specs.Lists.{is_cause, is_in, is_queued, stands, without_queued, woken, Lists}
 use Rattle.fk_waits_causes.proofs.Numbers.{clash}
 use Rattle.fk_waits_names.specs.Names.{is_same}
@@ -369,6 +373,67 @@ pub kept_on : (n : Contents) (mover : Who) (waits marks now then_marks : Lists) 
 kept_on n mover waits marks now then_marks from turned user sound =
     kept_went from.before n mover nobody refl waits marks now then_marks from.kept from.moved turned user
     (left_quiet from.before n mover (all_marks waits marks) from.quiet) sound
+
+-- ---- who moved stays where it stands
+
+-- who can move isn't queued
+pub free_when_ready : (m : Contents) (waits marks : Lists) (who : Who) (pick : Option Path) → IsValid (world m) → (world m).next ≤ depth →
+    AreKept m waits marks → IsReady (world m) (place_of m who) pick asks.Run → is_queued who waits.queued ≡ false
+free_when_ready m waits marks who pick valid few kept ready = by (is_queued who waits.queued) refl
+  where
+    by : (b : Bool) → is_queued who waits.queued ≡ b → is_queued who waits.queued ≡ false
+    by false e = e
+    by true e = absurd (queued_unready m waits marks valid few kept who e pick ready)
+
+module _ (m n : Contents) (mover : Who) (waits marks : Lists) (kept : AreKept m waits marks) (moved : IsMoved m n mover nobody)
+    (left : Leaves m n mover (all_marks waits marks)) (free : is_queued mover waits.queued ≡ false) (none : marks.ready ≡ [])
+    (user : is_user_at n mover ≡ true) where
+  beside : (x : Who) → is_same mover x ≡ false → is_told mover nobody x ≡ false
+  beside x e = or_from (is_same mover x) (is_named nobody x) e refl
+
+  each_stays : (x : Who) → stands x waits ≡ is_user_at n x
+  each_stays x = by (is_same mover x) refl
+    where
+      by : (t : Bool) → is_same mover x ≡ t → stands x waits ≡ is_user_at n x
+      by true e =
+          let here : is_user_at n x ≡ true = subst (λ (w : Who). is_user_at n w ≡ true) (same_who mover x e) user in
+          kept.each x ∙ moved.grown x here refl ∙ sym here
+      by false e = kept.each x ∙ sym (moved.users x (beside x e))
+
+  filed_stays : (x : Who) → is_queued x waits.queued ≡ true → IsFiled n (all_marks waits marks) x
+  filed_stays x here = by was.why was.stuck was.filed
+    where
+      was : IsFiled m (all_marks waits marks) x
+      was = kept.filed x here
+
+      other : is_same mover x ≡ false
+      other = apart (is_same mover x) refl
+        where
+          apart : (t : Bool) → is_same mover x ≡ t → is_same mover x ≡ false
+          apart true e =
+              clash (is_queued mover waits.queued) (subst (λ (w : Who). is_queued w waits.queued ≡ true) (sym (same_who mover x e)) here) free
+          apart false e = e
+
+      was_user : is_user_at m x ≡ true
+      was_user = sym (kept.each x) ∙ or_right (is_in x waits.ready) (is_queued x waits.queued) here
+
+      by : (y : Why) → IsWhy (world m) (path m) (place_of m x) y → IsFiledAs (all_marks waits marks) x y → IsFiled n (all_marks waits marks) x
+      by whys.Still s f = record { why = whys.Still; stuck = left x whys.Still other was_user f s (λ e. cc); filed = tt }
+      by (whys.At key) s f = record { why = whys.At key; stuck = left x (whys.At key) other was_user f s (λ e. cc); filed = f }
+      by whys.Loud s f = record { why = whys.Loud; stuck = left x whys.Loud other was_user f s (λ e. cc); filed = f }
+      by whys.Barred s f = clash (is_in x marks.ready) f (ap (is_in x) none)
+
+  kept_where : AreKept n waits marks
+  kept_where = record { each = each_stays; sound = kept.sound; filed = filed_stays }
+
+pub kept_stay : (n : Contents) (mover : Who) (waits marks : Lists) → IsQuietFrom n mover waits marks → marks.ready ≡ [] → is_user_at n mover ≡ true →
+    AreKept n waits marks
+kept_stay n mover waits marks from none user =
+    kept_where from.before n mover waits marks from.kept from.moved (left_quiet from.before n mover (all_marks waits marks) from.quiet) from.free none user
+
+pub kept_still : (n : Contents) (mover : Who) (ran : Bool) (touched : Touched) (waits marks : Lists) → MayBeQuiet n mover ran touched waits marks →
+    ran ≡ true → touched ≡ nobody → runs_on_at n mover ≡ true → marks.ready ≡ [] → is_user_at n mover ≡ true → AreKept n waits marks
+kept_still n mover ran touched waits marks quiet so alone on none user = kept_stay n mover waits marks (quiet so alone on) none user
 
 -- whichever it was
 pub kept_quick : (n : Contents) (mover : Who) (ran : Bool) (touched : Touched) (waits marks now then_marks : Lists) → ComesAfter n mover touched waits marks →

@@ -24,7 +24,7 @@ use Rattle.fk_turns_told.specs.Kept.{is_user_at, AreKept}
 use Rattle.fk_turns_next.specs.Waiting.{IsPlaced, Standing}
 use Rattle.fk_turns_told.specs.Moved.{IsMoved}
 use Rattle.fk_turns_told.specs.Told.{name_after, runs_on_at, IsQuietTo}
-use Rattle.fk_waits.specs.Lists.{is_cause, stands, woken, Lists}
+use Rattle.fk_waits.specs.Lists.{is_cause, is_queued, stands, woken, Lists}
 use Rattle.fk_waits_names.specs.Names.{is_same}
 use Rattle.fk_wakes.specs.declared.touching.Touched.{Touched}
 use Rattle.fk_wakes.specs.declared.touching.Touched.TheVariants.{Few}
@@ -115,10 +115,11 @@ abbrev pub touches_only : Who → Touched → Bool
 touches_only mover (Few first second third) = is_own mover first && (is_own mover second && is_own mover third)
 touches_only mover other = false
 
--- a move of a thread that touched nobody else left the reasons of all others, but of whom any change may free
+-- a move of a thread that wasn't queued and touched nobody else left the reasons of all others, but of whom any change may free
 pub record IsQuietFrom (n : Contents) (mover : Who) (waits marks : Lists) : Type 0 where
   pub before : Contents
   pub kept : AreKept before waits marks
+  pub free : is_queued mover waits.queued ≡ false
   pub moved : IsMoved before n mover (Few None None None)
   pub quiet : IsQuietTo before n mover
 

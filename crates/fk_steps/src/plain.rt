@@ -96,6 +96,58 @@ pub fn after_off(turns: &mut Turns, store: &Store, mover: Who)
     after_plain(turns, store, mover, &touched, false);
 }
 
+/// The lists after an instruction after which the thread runs on and needn't go last. Where nobody is queued whom any change may free, it stands where it
+/// stood, and nothing is written.
+#[inline(always)]
+pub fn after_stay(turns: &mut Turns, store: &Store, mover: Who)
+    requires valid { IsValid (world store.now) }
+    requires quiet { IsQuietFrom store.now mover turns.old.waits turns.old.marks }
+    requires comes { ComesAfter store.now mover (Touched.Few None None None) turns.old.waits turns.old.marks }
+    requires on { is_under_way_at store.now mover ≡ true }
+    ensures kept { AreKept store.now turns.new.waits turns.new.marks }
+{
+    if turns.marks_nobody() {
+        return;
+    }
+    after_off(turns, store, mover);
+}
+
+/// The lists after a move whose thread needn't go last. Where that was an instruction, the thread runs on and nothing is held, who moved stands where it
+/// stood, and nothing is written.
+#[inline(always)]
+pub fn after_still(turns: &mut Turns, store: &Store, mover: Who, touched: &Touched, ran: bool)
+    requires valid { IsValid (world store.now) }
+    requires quiet { MayBeQuiet store.now mover ran touched.now turns.old.waits turns.old.marks }
+    requires comes { ComesAfter store.now mover touched.now turns.old.waits turns.old.marks }
+    ensures kept { AreKept store.now turns.new.waits turns.new.marks }
+{
+    if may_stay(turns, store, mover, touched, ran) {
+        return;
+    }
+    after(turns, store, mover, touched);
+}
+
+/// It was an instruction of a thread that runs on, and nobody else need be looked at.
+#[inline(always)]
+fn may_stay(turns: &Turns, store: &Store, mover: Who, touched: &Touched, ran: bool) -> bool
+    ensures ran { OnTrue result (ran ≡ true) }
+    ensures alone { OnTrue result (touched.now ≡ Touched.Few None None None) }
+    ensures on { OnTrue result (runs_on_at store.now mover ≡ true) }
+    ensures user { OnTrue result (is_user_at store.now mover ≡ true) }
+    ensures none { OnTrue result (turns.now.marks.ready ≡ []) }
+{
+    if !ran {
+        return false;
+    }
+    if !touches_nobody(touched) {
+        return false;
+    }
+    if !goes_on(store, mover, ran) {
+        return false;
+    }
+    turns.marks_nobody()
+}
+
 /// Who moved and goes on went from first to last, and nobody else need be looked at; or all is as it was.
 #[inline(always)]
 fn is_quick(turns: &mut Turns, store: &Store, mover: Who, touched: &Touched, ran: bool) -> bool

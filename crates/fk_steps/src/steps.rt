@@ -15,7 +15,7 @@ ghost use Rattle.fk_turns_told.specs.Moved.{now_named};
 ghost use Rattle.fk_turns_next.specs.Waiting.{standing, ComesAfter, IsPlaced};
 ghost use Rattle.fk_steps.specs.Steps.{was_made, IsPut, MayBeQuiet};
 
-use crate::plain::{after_off, after_on, after_plain};
+use crate::plain::{after_off, after_on, after_plain, after_stay};
 use crate::room::{reserve_for, reserve_for_stage, seat_for};
 use fk_model::{Ask, Move, NoMemory, Said, Stage, Who};
 use fk_store::Store;
@@ -235,6 +235,36 @@ fn proceed_stage(store: &mut Store, turns: &mut Turns, who: Who) -> bool
     store.names();
     after_plain_if(turns, store, made, who, &touched, false);
     made
+}
+
+/// The same of the user that has moved last. An instruction leaves it where it stands among the ready, so that the lists aren't written: who moves on and on
+/// isn't to be put last each time.
+pub fn proceed_on(store: &mut Store, turns: &mut Turns, who: Who) -> bool
+    requires valid { IsValid (world store.old) }
+    requires kept { AreKept store.old turns.old.waits turns.old.marks }
+    ensures made { OnTrue result (IsReadyMove store.old (record { who = who; pick = None }) asks.Run
+        × IsStepTo store.old (record { who = who; pick = None }) asks.Run store.new Said.Nothing) }
+    ensures ended { OnTrue result (IsEnded store.old store.new None) }
+    ensures same { OnFalse result (store.new ≡ store.old) }
+    ensures valid { IsValid (world store.new) }
+    ensures kept { AreKept store.new turns.new.waits turns.new.marks }
+    ensures still { OnFalse result (standing turns.new.waits ≡ standing turns.old.waits) }
+{
+    store.names();
+    let ran = fk_turns_next::run(store, who);
+    // And so they do in the world that it leaves.
+    store.names();
+    match ran {
+        Ran::On => {
+            after_stay(turns, store, who);
+            true
+        }
+        Ran::Off => {
+            after_off(turns, store, who);
+            true
+        }
+        Ran::Not => proceed_stage(store, turns, who),
+    }
 }
 
 /// Makes the next stage of the user in a slot, where that sends words to a native server, as `fk_turns_next::say` does, and keeps the lists.

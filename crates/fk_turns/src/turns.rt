@@ -313,6 +313,13 @@ impl Turns {
         }
     }
 
+    /// Nobody is marked whom any change may free.
+    pub fn marks_nobody(&self) -> bool
+        ensures { OnTrue result (self.now.marks.ready ≡ []) }
+    {
+        self.marks.is_idle()
+    }
+
     /// A thread that is ready last or first goes last, where no change may free any that is queued; and whether that was so. Then nobody else need be
     /// looked at.
     pub fn turn(&mut self, who: Who) -> bool

@@ -26,6 +26,14 @@ put_back-requires-clause-running c =
     (OnTrue_at c.if-may_commit.true c.may_commit.ensures.may) in
     may.0.ready.0
 
+pub put_back-requires-clause-ready : goal.put_back-requires-clause-ready
+put_back-requires-clause-ready c =
+    let w = world_of c.args.k.now in
+    let l : Lease = record { thread = c.l.inside.thread; taken = c.l.inside.taken; copy = c.l.inside.copy; count = c.l.inside.count } in
+    let may : MayCommit w l c.args.left = subst (λ (x : Lease). MayCommit w x c.args.left) (sym c.l.view_is)
+    (OnTrue_at c.if-may_commit.true c.may_commit.ensures.may) in
+    may.0.ready.1
+
 pub put_back-requires-clause-there : goal.put_back-requires-clause-there
 put_back-requires-clause-there c =
     let w = world_of c.args.k.now in

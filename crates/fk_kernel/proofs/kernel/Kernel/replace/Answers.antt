@@ -1,4 +1,6 @@
-use Rattle.std.proofs.Common.{◌≡◌, ℕ, true, All, sym, ap, subst, ◌∙◌}
+use Rattle.std.proofs.Common.{◌≡◌, ℕ, true, All, None, sym, ap, subst, ◌∙◌}
+use Rattle.fk_model.specs.declared.moves.Ask.TheVariants as asks
+use Rattle.fk_model.specs.Moves.{IsReady}
 use Rattle.fk_model.specs.Objects.Mode.{Running}
 use Rattle.fk_model.specs.Places.{Path}
 use Rattle.fk_model.specs.Valid.{IsValid}
@@ -10,6 +12,7 @@ use Rattle.fk_store.specs.Paths.{path, place}
 use Rattle.fk_store.specs.World.{world}
 use Rattle.fk_steps.specs.Kept.{is_user_at}
 use Rattle.fk_steps.specs.Told.{IsStored}
+use Rattle.fk_steps.proofs.Went.{free_when_ready}
 use Rattle.laws_users.specs.Stood.{is_users_at}
 use Rattle.fk_kernel.specs.Replaced.{rewritten, IsPageThere}
 use Rattle.fk_kernel.proofs.Quietly.{replaced_stays, runs_at}
@@ -17,8 +20,8 @@ use Rattle.fk_kernel.proofs.Replacing.{valid-proceeded, valid-rewritten}
 use Rattle.fk_kernel.proofs.Rewrote.{leaves_whys, moved_rewritten, others_stay, quiet_rewritten, room_rewritten, user_running, user_stays}
 use Rattle.fk_kernel.proofs.kernel.Kernel.replace.Goals as goal
 
-pub after_plain-requires : goal.after_plain-requires
-after_plain-requires c =
+pub after_still-requires : goal.after_still-requires
+after_still-requires c =
     let m = c.self.inside.store in
     let was = c.self.inside.turns in
     let n = c.proceed.new.self in
@@ -44,12 +47,15 @@ after_plain-requires c =
     (valid-rewritten (path m) c.args.pages.now (world m) all c.self.invariant.valid) in
     let runs = runs_at m thread stored.born (rw (sym c.self.view_is) at c.requires.running) in
     let reasons = replaced_stays (world m) (world n) (path m) c.args.pages.now (place (path m) thread) c.args.regs.now c.args.pc is runs all in
+    let ready : IsReady (world m) (place (path m) thread) None asks.Run =
+    subst (λ (p : ℕ → Path). IsReady (world m) (place p thread) None asks.Run) (sym stored.born) (rw (sym c.self.view_is) at c.requires.ready) in
     let goes = moved_rewritten m n thread stored paths others user still left in
     record {
       valid = subst IsValid (sym c.proceed.ensures.world) (valid-proceeded (world c.rewrite.new.store) _ _ _ rewrites);
       quiet = λ so alone on. record {
         before = m;
         kept = c.self.invariant.kept;
+        free = free_when_ready m was.waits was.marks thread None c.self.invariant.valid stored.few c.self.invariant.kept ready;
         moved = goes;
         quiet = quiet_rewritten m n thread stored paths others user still left reasons;
       };
@@ -77,5 +83,5 @@ invariant_of-self c =
     (valid-rewritten (path m) c.args.pages.now (world m) all c.self.invariant.valid) in
     record {
       valid = subst IsValid (sym c.proceed.ensures.world) (valid-proceeded (world c.rewrite.new.store) _ _ _ valid);
-      kept = c.after_plain.ensures.kept;
+      kept = c.after_still.ensures.kept;
     }
