@@ -1,11 +1,11 @@
 //! The book of a run.
-ghost use Rattle.std.specs.Prelude.{◌≡◌, ◌≤◌, [], length, map, IfOk, OnOk, OnErr};
+ghost use Rattle.std.specs.Prelude.{◌≡◌, ◌≤◌, ◌<◌, [], length, map, IfOk, OnOk, OnErr};
 ghost use Rattle.std.specs.Bool.{OnTrue, OnFalse};
 ghost use Rattle.fk_core.specs.Served.{AllFit};
 ghost use Rattle.fk_books.specs.Shown.{IsSound, MayMove, MayBurst, moves_of, HasEnded};
 ghost use Rattle.fk_books.specs.Told.{Told, IsKept, IsSame, IsOneMore, HasMore, HasOneMore, TakesDue, GoesOn};
 
-use crate::playable::Playable;
+use crate::playable::{Lent, Playable};
 use fk_burst::{Leased, count};
 use fk_history::{History, Moves as Listed};
 use fk_model::{Move, NoMemory, Who};
@@ -22,8 +22,8 @@ const MOVES: u32 = 64;
 #[derive(Drop)]
 pub struct Book<C: Playable + Drop> {
     boot: Snapshot<C>,
-    core: C,
     history: History,
+    core: C,
     /// Whom the workers have out, so that none is leased twice. It is a hint alone.
     out: [Option<Who>; 8],
 }
@@ -204,19 +204,37 @@ impl<C: Playable + Drop> Book<C> {
 
     /// Renews the lease of a worker, of which the last one is back, and says whether it did: with the thread that moved last, or with another.
     /// Nothing else changes.
-    pub fn lease(&mut self, worker: u32, stays: bool, lease: &mut Leased) -> bool
+    pub fn lease(&mut self, worker: u32, stays: bool, lease: &mut Leased) -> Lent
         ensures same { IsSame C.shown self.old self.new }
     {
         let place = worker as usize % 8;
         let mut others = self.out;
         others[place] = None;
-        let leased = self.core.lease(&others, stays, lease);
-        let whose = if leased { Some(lease.thread()) } else { None };
+        let lent = self.core.lease(&others, stays, lease);
+        let whose = match lent {
+            Lent::Renewed => Some(lease.thread()),
+            Lent::AllOut | Lent::Refused => None,
+        };
+        self.has_out(place, whose);
+        lent
+    }
+
+    /// A worker has no lease out. Nothing else changes.
+    pub fn rest(&mut self, worker: u32)
+        ensures same { IsSame C.shown self.old self.new }
+    {
+        self.has_out(worker as usize % 8, None);
+    }
+
+    /// A worker has this out.
+    fn has_out(&mut self, place: usize, whose: Option<Who>)
+        requires place { place < 8 }
+        ensures same { IsSame C.shown self.old self.new }
+    {
         // What stays isn't written: the other workers look at it too.
         if self.out[place] != whose {
             self.out[place] = whose;
         }
-        leased
     }
 
     /// The moves of one turn at the lock by which a lease comes back: those of the lease, where it may be committed, and one more, while any is

@@ -2,7 +2,7 @@
 ghost use Rattle.fk_burst.specs.Commits.{CommitsSo};
 ghost use Rattle.fk_core.specs.Cores.{run_core};
 
-use crate::playable::Playable;
+use crate::playable::{Lent, Playable};
 use fk_burst::{Leased, commit_held, count};
 use fk_core::{Core, Kernel};
 use fk_jobs::Worker;
@@ -34,31 +34,18 @@ impl<S: Service + Drop, W: Worker + Drop> Playable for Core<S, W> {
         }
     }
 
-    fn lease(&self, out: &[Option<Who>; 8], stays: bool, lease: &mut Leased) -> bool {
+    fn lease(&self, out: &[Option<Who>; 8], stays: bool, lease: &mut Leased) -> Lent {
         // A job's moves come at every other plain one, so bursts would make it late.
         if self.jobs().current().is_some() {
-            return false;
+            return Lent::Refused;
         }
         if stays && renews(self, self.last_thread(), out, lease) {
-            return true;
+            return Lent::Renewed;
         }
         if self.kernel().store().next_birth() > MOST_SPACES {
-            return false;
+            return Lent::Refused;
         }
-        let mut after = None;
-        for _ in 0..8 {
-            let Some(who) = self.next_thread(after) else {
-                return false;
-            };
-            if !is_out(out, who) {
-                return lease.renew(self.kernel(), who);
-            }
-            if after == Some(who) {
-                return false;
-            }
-            after = Some(who);
-        }
-        false
+        lease_other(self, out, lease)
     }
 
     fn burst(&mut self, lease: &Leased) -> bool {
@@ -76,6 +63,38 @@ impl<S: Service + Drop, W: Worker + Drop> Playable for Core<S, W> {
             { commit_held(kernel, lease, left) },
         )
     }
+}
+
+/// A lease is renewed with the first of the ready that isn't out.
+fn lease_other<S: Service + Drop, W: Worker + Drop>(
+    core: &Core<S, W>,
+    out: &[Option<Who>; 8],
+    lease: &mut Leased,
+) -> Lent {
+    let mut after = None;
+    for _ in 0..8 {
+        let Some(who) = core.next_thread(after) else {
+            break;
+        };
+        if !is_out(out, who) {
+            return renewed(lease.renew(core.kernel(), who));
+        }
+        if after == Some(who) {
+            break;
+        }
+        after = Some(who);
+    }
+    // Whoever was looked at is out; where nobody was, nobody is ready.
+    if after.is_some() {
+        Lent::AllOut
+    } else {
+        Lent::Refused
+    }
+}
+
+/// What comes of it where somebody wasn't out.
+fn renewed(is: bool) -> Lent {
+    if is { Lent::Renewed } else { Lent::Refused }
 }
 
 /// A lease is renewed with this thread, unless it is out.

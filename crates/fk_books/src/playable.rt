@@ -8,6 +8,17 @@ use fk_burst::Leased;
 use fk_model::{Move, NoMemory, Who};
 use fk_responders::Table;
 
+/// What comes of asking for a lease.
+#[derive(Clone, Copy)]
+pub enum Lent {
+    /// It was renewed.
+    Renewed,
+    /// There is none, since all who are ready are out.
+    AllOut,
+    /// There is none for another reason.
+    Refused,
+}
+
 /// A core in which moves are made, one after the other.
 pub trait Playable {
     ghost shown: { Self → Shown };
@@ -39,7 +50,7 @@ pub trait Playable {
     /// Renews a lease, with a thread that is ready in running mode and not among these, and says whether it did: with the one that moved
     /// last, or with another; not while a job is left. Which one it is, and whether there is one, is a hint: a lease of any thread may
     /// be committed where it is as it was.
-    fn lease(&self, out: &[Option<Who>; 8], stays: bool, lease: &mut Leased) -> bool;
+    fn lease(&self, out: &[Option<Who>; 8], stays: bool, lease: &mut Leased) -> Lent;
 
     /// Makes the moves of a lease at once where it may be committed with what is left of the budget, and answers whether it did. Else all
     /// is as before.

@@ -21,14 +21,15 @@ use fk_rounds::{Kernel, Rounds, Services};
 /// A kernel with its native servers and its jobs, and how many moves it has made of how many.
 #[derive(Drop)]
 pub struct Core<S: Service + Drop, W: Worker + Drop> {
-    pub(crate) kernel: Kernel,
-    pub(crate) services: Services<S>,
-    pub(crate) jobs: Jobs<W>,
-    pub(crate) budget: u64,
+    /// What each move writes stands together, and first: where workers take turns it passes from one processor to another.
     pub(crate) events: u64,
     /// The thread that has moved last, after which the next is sought.
     pub(crate) last: Option<Who>,
+    pub(crate) budget: u64,
     pub(crate) rounds: Rounds,
+    pub(crate) kernel: Kernel,
+    pub(crate) services: Services<S>,
+    pub(crate) jobs: Jobs<W>,
     /// What a porter is told is laid here, so that no call on the way copies it.
     pub(crate) room: Room,
     /// The words that a job gives with its call are laid here.

@@ -27,9 +27,9 @@ const SERVING: usize = 1;
 const FRONT: usize = 2;
 
 // So many looks are made at most before a ticket is drawn, the first ones on the processor.
-const LOOKS: u32 = 128;
+const LOOKS: u32 = 384;
 
-const FIRST_LOOKS: u32 = 16;
+const FIRST_LOOKS: u32 = 256;
 
 // Between two of these.
 const PAUSE: u32 = 4;
@@ -111,7 +111,7 @@ impl<T: Counted> Ruled<T> {
     }
 
     // Waits a while until nobody has a turn. A ticket holds up all that are drawn behind it, also while its thread doesn't run; so who comes while
-    // another has its turn draws none yet. Who finds no free moment soon sleeps, so that few contend: each one more costs all the others time.
+    // another has its turn draws none yet. Who finds no free moment for the time of several turns sleeps, so that no processor is held for nothing.
     fn await_free<R: Wait>(&self, rt: &R) {
         for look in 0..LOOKS {
             if self.is_free() {
@@ -198,6 +198,11 @@ impl<T: Counted> Ruled<T> {
         let count = value.count();
         self.leave(seat, count);
         answer
+    }
+
+    /// Waits for a moment, without a turn.
+    pub fn rest<R: Wait>(&self, rt: &R) {
+        self.sleep(rt);
     }
 
     /// A new pass with one of this pass's parts, of which it has at least two. It knows what this one knows.

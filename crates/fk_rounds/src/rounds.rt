@@ -81,6 +81,10 @@ impl Rounds {
     pub fn hear(&mut self, heard: Option<Who>)
         ensures { self.new.heard ≡ heard }
     {
+        // Mostly nobody hears anything, and then nothing is written.
+        if heard.is_none() && self.heard.is_none() {
+            return;
+        }
         self.heard = heard;
     }
 

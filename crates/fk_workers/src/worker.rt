@@ -5,7 +5,7 @@ ghost use Rattle.fk_books.specs.Served.{AllFit};
 ghost use Rattle.fk_books.specs.Shown.{HasEnded};
 ghost use Rattle.fk_books.specs.Told.{Told, IsKept, IsSame, GoesOn};
 
-use fk_books::{Book, Gone, Leased, Playable, count, run};
+use fk_books::{Book, Gone, Leased, Lent, Playable, count, run};
 use fk_causes::Gate;
 use fk_model::{NoMemory, Who};
 use fk_responders::Table;
@@ -56,18 +56,21 @@ pub fn work<R: Wait, G: Gate, C: Playable + Drop>(
         if !done.more {
             return Ok(());
         }
-        make(&mut lease, done.leased, &mut plan);
+        make(&mut lease, done.lent, &mut plan);
+        if plan.waits() {
+            lock.rest(rt);
+        }
         turn = turn.wrapping_add(1);
     }
     unreachable!()
 }
 
-/// What comes of a turn: how many moves of a lease were committed, whether another move was made, and whether there is a lease for the next one.
+/// What comes of a turn: how many moves of a lease were committed, whether more may be made, and whether there is a lease for the next one.
 #[derive(Clone, Copy)]
 struct Done {
     moves: u64,
     more: bool,
-    leased: bool,
+    lent: Lent,
 }
 
 /// The moves of a turn, and then a lease for the next one, where one may be taken.
@@ -83,29 +86,37 @@ fn take_turn<C: Playable + Drop>(
     ensures goes { GoesOn book.old book.new }
     ensures ended { IfOk result (λ done. done.more ≡ false → HasEnded (C.shown book.new.core)) }
 {
-    let gone = go(book, table, lease, plan.held)?;
-    let leased = next_lease(book, worker, lease, gone.more, plan);
+    let gone = go(book, table, lease, plan)?;
+    let lent = next_lease(book, worker, lease, gone.more, plan);
     book.keeps();
     Ok(Done {
         moves: gone.moves,
         more: gone.more,
-        leased,
+        lent,
     })
 }
 
-/// The moves of a turn: those of the lease that comes back and one more, or some plain ones.
+/// The moves of a turn: those of the lease that comes back and one more, or some plain ones; none where the worker waits, since these would undo what
+/// others have out.
+#[tactic(auto, using(fk_books::proofs::Runs::goes_not))]
 fn go<C: Playable + Drop>(
     book: &mut Book<C>,
     table: &Table,
     lease: &Leased,
-    held: bool,
+    plan: &Plan,
 ) -> Result<Gone, NoMemory>
     requires fits { AllFit (map (λ r. r.rule) table.now.list.items) (C.shown book.old.boot).core.servers }
     ensures kept { IsKept C.shown book.new }
     ensures goes { GoesOn book.old book.new }
     ensures ended { IfOk result (λ gone. OnFalse gone.more (HasEnded (C.shown book.new.core))) }
 {
-    if held {
+    if plan.waits() {
+        book.keeps();
+        Ok(Gone {
+            moves: 0,
+            more: true,
+        })
+    } else if plan.held {
         let gone = book.go_burst(table, lease);
         book.keeps();
         gone
@@ -126,23 +137,26 @@ fn next_lease<C: Playable + Drop>(
     lease: &mut Leased,
     more: bool,
     plan: &Plan,
-) -> bool
+) -> Lent
     ensures same { IsSame C.shown book.old book.new }
 {
     if more && plan.rest == 0 {
         book.lease(worker, plan.stays < plan.most, lease)
     } else {
-        false
+        book.rest(worker);
+        Lent::Refused
     }
 }
 
 /// The instructions of a lease, without the lock, where there is one.
-fn make(lease: &mut Leased, leased: bool, plan: &mut Plan) {
-    if leased {
-        run(lease);
-        plan.made(lease.thread(), count(lease));
-    } else {
-        plan.pass();
+fn make(lease: &mut Leased, lent: Lent, plan: &mut Plan) {
+    match lent {
+        Lent::Renewed => {
+            run(lease);
+            plan.made(lease.thread(), count(lease));
+        }
+        Lent::AllOut => plan.wait(),
+        Lent::Refused => plan.pass(),
     }
 }
 
@@ -157,6 +171,9 @@ const STAYS: u32 = 8;
 
 /// Where none was found, twice as many, up to so many: who looks has to read what the other workers are writing.
 const MOST_STAYS: u32 = 512;
+
+/// So many turns in a row a worker waits at most where others have all who are ready out. One of them may have failed.
+const WAITS: u32 = 256;
 
 /// Which turns are with a lease. After a short burst 1, 2, 4 .. 16 turns go by without, after a long one none: so a run of messages pays little
 /// for leases.
@@ -174,6 +191,8 @@ struct Plan {
     most: u32,
     /// Whose the last one was.
     last: Option<Who>,
+    /// So many turns in a row the worker has waited.
+    waited: u32,
 }
 
 impl Plan {
@@ -185,12 +204,29 @@ impl Plan {
             stays: 0,
             most: STAYS,
             last: None,
+            waited: 0,
+        }
+    }
+
+    /// The next turn makes no move: all who are ready are out.
+    fn waits(&self) -> bool {
+        self.waited > 0
+    }
+
+    /// None could be had, since all who are ready are out. At times it makes moves nevertheless.
+    fn wait(&mut self) {
+        self.held = false;
+        if self.waited < WAITS {
+            self.waited += 1;
+        } else {
+            self.waited = 0;
         }
     }
 
     /// A turn goes by without a lease, or none could be had.
     fn pass(&mut self) {
         self.held = false;
+        self.waited = 0;
         if self.rest > 0 {
             self.rest -= 1;
         } else {
@@ -201,6 +237,7 @@ impl Plan {
     /// A burst of so many instructions of a thread was made.
     fn made(&mut self, thread: Who, count: u64) {
         self.held = true;
+        self.waited = 0;
         self.stay(thread);
         if count < SHORT {
             self.begin();
