@@ -95,8 +95,8 @@ fn ports_of(alloc: Global, servers: &[ServerEntry]) -> Result<Entries<Path>, NoM
 
 /// The store with which a scenario begins: its spaces with their pages of zeros and their programs,
 /// then its objects, of which the ports of servers are served, then where these lead, and then the porters
-/// of nesters, each in the order of the file. Spaces have birth numbers from 1 on, and the root 0. Its world is valid, a run may begin in it, and it can be saved.
-/// For want of memory there is none.
+/// of nesters, each in the order of the file. Spaces have birth numbers from 1 on, and the root 0. Its world is valid, a run may begin in it,
+/// and it can be saved. For want of memory there is none.
 pub fn first_store(alloc: Global, scenario: &Scenario) -> Result<Store, NoMemory>
     requires { KeepsScenario scenario.now }
     ensures world { IfOk result (λ store. world store ≡ booted scenario.now) }

@@ -47,8 +47,8 @@ fn rewrite(store: &mut Store, pages: &[BurstPage])
 }
 
 impl Kernel {
-    /// A thread that is ready in running mode goes on with these registers at this counter, and pages that are there get these words. All else stays, and each user's thread still
-    /// stands once, and none that is queued can move.
+    /// A thread that is ready in running mode goes on with these registers at this counter, and pages that are there get these words. All else
+    /// stays, and each user's thread still stands once, and none that is queued can move.
     pub fn replace(&mut self, thread: Who, regs: &[u64; 16], pc: u64, pages: &[BurstPage])
         requires running { is_running (thread_at (world_of self.old) (named (world_of self.old) thread)) ≡ true }
         requires ready { IsReady (world_of self.old) (named (world_of self.old) thread) None asks.Run }

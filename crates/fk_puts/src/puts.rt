@@ -7,7 +7,8 @@ ghost use Rattle.fk_causes.specs.declared.shelf.ShelfFail.TheVariants as fails;
 ghost use Rattle.fk_commands.specs.Files.{image_name, trace_name};
 ghost use Rattle.fk_puts.specs.Small.{AreSmall, IsSmall};
 ghost use Rattle.fk_words.specs.Commands.{uses_shelf, seen};
-ghost use Rattle.fk_puts.specs.Puts.{HasPut, HasPutSome, IsPut, KeepsButTrace, KeepsFiles, OpensEnd, PutImages, PutSomeImages, PutsEnd, PutsImage, PutsRun, PutsSome, PutsTrace};
+ghost use Rattle.fk_puts.specs.Puts.{HasPut, HasPutSome, IsPut, KeepsButTrace, KeepsFiles, OpensEnd};
+ghost use Rattle.fk_puts.specs.Puts.{PutImages, PutSomeImages, PutsEnd, PutsImage, PutsRun, PutsSome, PutsTrace};
 ghost use Rattle.fk_trace_text.specs.Trace as traces;
 
 use fk_causes::{Shelf, ShelfFail};
