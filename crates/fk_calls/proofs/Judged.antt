@@ -1,5 +1,6 @@
 -- Judged: the move of a thread that is judged.
-use Rattle.std.proofs.Common.{◌≡◌, ◌≤◌, ℕ, Bool, true, false, cond, ◌↔◌, IsTrue, IfOk, Result, Ok, Err, is_some, is_none, ◌&&◌, ◌||◌, List, [], ◌∷◌, length, Option, Some, None, option_map, IsSome, IfSome, refl, sym, ap, subst, ◌∙◌}
+use Rattle.std.proofs.Common.{◌≡◌, ◌≤◌, ℕ, Bool, true, false, cond, ◌↔◌, IsTrue, IfOk, Result, Ok, Err, is_some, is_none, ◌&&◌, ◌||◌, List, [], ◌∷◌}
+use Rattle.std.proofs.Common.{length, Option, Some, None, option_map, IsSome, IfSome, refl, sym, ap, subst, ◌∙◌}
 use Rattle.fk_model.specs.declared.moves.Ask.{Ask}
 use Rattle.fk_model.specs.declared.moves.Ask.TheVariants as asks
 use Rattle.fk_model.specs.declared.moves.Move.{Move}
@@ -12,7 +13,8 @@ use Rattle.fk_model.specs.declared.thread.Thread as threads_of
 use Rattle.fk_model.specs.Calls.{todo_of}
 use Rattle.fk_model.specs.Holds.{is_free, is_porter, is_unheld}
 use Rattle.fk_model.specs.LinkRows.{user_at}
-use Rattle.fk_model.specs.Moves.{allowed_row, call_row, chooses, closed, with_pick, goes_on, user_move, porter_at, porter_move, outcome, step, GoesAllowed, Step, stepped, IsReady}
+use Rattle.fk_model.specs.Moves.{allowed_row, call_row, chooses, closed, with_pick, goes_on, user_move, porter_at, porter_move, outcome, step}
+use Rattle.fk_model.specs.Moves.{GoesAllowed, Step, stepped, IsReady}
 use Rattle.fk_model.specs.Objects.{Mode, Thread, Body, kind_of, thread_of, and_then, holds}
 use Rattle.fk_model.specs.Objects.Mode.{Running, Calling, Halted, Native}
 use Rattle.fk_model.specs.Outcomes as outcomes

@@ -1,5 +1,6 @@
 -- Scans: who is ready among all objects, from one object on.
-use Rattle.std.proofs.Common.{◌≡◌, ℕ, ◌+◌, ◌-◌, ◌*◌, Bool, true, false, ◌&&◌, is_none, IsTrue, IsSome, [], ◌∷◌, Option, Some, None, is_some, option_map, refl, sym, subst}
+use Rattle.std.proofs.Common.{◌≡◌, ℕ, ◌+◌, ◌-◌, ◌*◌, Bool, true, false, ◌&&◌, is_none, IsTrue, IsSome, [], ◌∷◌, Option, Some, None, is_some}
+use Rattle.std.proofs.Common.{option_map, refl, sym, subst}
 use Rattle.std.specs.declared.cmp.Ordering.{Ordering}
 use Rattle.std.specs.declared.cmp.Ordering.TheVariants.{Less, Equal, Greater}
 use Rattle.std.specs.Ordering.{is_le, nat_cmp, ordering_then}

@@ -1,10 +1,12 @@
 -- Stands: whom a wait may take stands at a port of its set.
-use Rattle.std.proofs.Common.{◌≡◌, ◌≢◌, nat_le, ◌<◌, inl, inr, ℕ, Bool, true, false, cond, ◌&&◌, List, [], ◌∷◌, ◌++◌, count_by, Option, Some, None, option_map, is_some, IsSome, Result, Ok, Err, if◌then◌else◌, refl, ap, ◌∙◌, arith}
+use Rattle.std.proofs.Common.{◌≡◌, ◌≢◌, nat_le, ◌<◌, inl, inr, ℕ, Bool, true, false, cond, ◌&&◌, List, [], ◌∷◌, ◌++◌, count_by, Option, Some, None}
+use Rattle.std.proofs.Common.{option_map, is_some, IsSome, Result, Ok, Err, if◌then◌else◌, refl, ap, ◌∙◌, arith}
 use Rattle.std.proofs.lemmas.List.Sums.{sum_by-append, sum_by-cons}
 use Rattle.fk_model.specs.declared.names.Kind.TheVariants as kinds
 use Rattle.fk_model.specs.declared.stage.Stage.TheVariants.{Connect}
 use Rattle.fk_model.specs.Holds.{is_free, is_unheld}
-use Rattle.fk_model.specs.LinkRows.{new_talk, Candidate, Faulting, Connecting, Resuming, candidate, candidate_by, connecting, faulting, resuming, if_read, is_member, is_open, is_parked, port_named, slot_in_set, user_at}
+use Rattle.fk_model.specs.LinkRows.{new_talk, Candidate, Faulting, Connecting, Resuming, candidate, candidate_by, connecting, faulting, resuming}
+use Rattle.fk_model.specs.LinkRows.{if_read, is_member, is_open, is_parked, port_named, slot_in_set, user_at}
 use Rattle.fk_model.specs.declared.thread.Turn.TheVariants as turns
 use Rattle.fk_model.specs.Moves.{GoesAllowed}
 use Rattle.fk_model.specs.NativeRows.{accepts_found, accepts_thread, connects_here, parked_here, takes_up}
