@@ -82,6 +82,13 @@ impl Turns {
         &self.waits
     }
 
+    /// A thread stands.
+    pub fn knows(&self, who: Who) -> bool
+        ensures { result ≡ stands who self.now.waits }
+    {
+        self.waits.has(who)
+    }
+
     /// Makes room for one more thread. The lists stay.
     ///
     /// # Errors
@@ -99,6 +106,21 @@ impl Turns {
     {
         self.waits.reserve(1)?;
         self.marks.reserve(1)
+    }
+
+    /// Makes room for so many more threads. The lists stay.
+    ///
+    /// # Errors
+    ///
+    /// There is no memory for it.
+    pub fn reserve_for(&mut self, threads: u64) -> Result<(), NoMemory>
+        requires sound { IsSound self.old.waits self.old.marks }
+        ensures sound { IsSound self.new.waits self.new.marks }
+        ensures ready { self.new.waits.ready ≡ self.old.waits.ready }
+        ensures queued { self.new.waits.queued ≡ self.old.waits.queued }
+    {
+        self.waits.reserve(threads)?;
+        self.marks.reserve(threads)
     }
 
     /// There is room for one more thread.

@@ -79,6 +79,13 @@ pub none_there : (t : Threads) (thread : Who) (l : Pairs) → AreThere t l → i
 none_there t thread l there off =
     there.found thread ∙ key_by_off thread there.list (subst (λ (k : Pairs). is_there thread k ≡ false) (sym there.pairs) off)
 
+pub key_there : (t : Threads) (thread : Who) (key : ℕ) (l : Pairs) → AreThere t l → Some key ≡ key_at t.names.0 thread → is_there thread l ≡ true
+key_there t thread key l there some = by (is_there thread l) refl
+  where
+    by : (b : Bool) → is_there thread l ≡ b → is_there thread l ≡ true
+    by true e = e
+    by false e = let none : Some key ≡ None = some ∙ none_there t thread l there e in absurd (cc)
+
 pub has_seat : (t : Threads) (thread : Who) → Fits t thread → None ≡ key_at t.names.0 thread → HasSeat t.causes t.causes.ready
 has_seat t thread fits none =
     let there = fits.there in

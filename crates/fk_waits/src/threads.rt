@@ -1,7 +1,7 @@
 //! Threads by their names.
-ghost use Rattle.std.specs.Prelude.{◌≡◌, ◌+◌, ◌≤◌, ◌<◌, ◌^◌, [], ◌∷◌, ◌++◌, length, map, Option, None, IfOk, OnErr, OnOk};
+ghost use Rattle.std.specs.Prelude.{◌≡◌, ◌+◌, ◌≤◌, ◌<◌, ◌^◌, [], ◌∷◌, ◌++◌, length, map, Option, None, true, false, IfOk, OnErr, OnOk};
 ghost use Rattle.fk_waits_names.specs.Names.{key_at};
-ghost use Rattle.fk_waits.specs.Threads.{all_ready, besides, first_for, front_for, is_waiting, with_cause, with_name, AreThere};
+ghost use Rattle.fk_waits.specs.Threads.{all_ready, besides, first_for, front_for, is_there, is_waiting, with_cause, with_name, AreThere};
 ghost use Rattle.fk_waits.specs.Threads.{Fits, IsNobody, IsUnused, Pairs, Stand};
 
 use fk_model::{NoMemory, Who};
@@ -151,6 +151,16 @@ impl Threads {
     pub fn behind(&self, thread: Who) -> Option<Who> {
         let key = self.names.find(thread)?;
         self.causes.behind(key)
+    }
+
+    /// A thread stands.
+    pub fn has(&self, thread: Who) -> bool
+        ensures { (l : Pairs) → AreThere self.now l → result ≡ is_there thread l }
+    {
+        match self.names.find(thread) {
+            Some(_) => true,
+            None => false,
+        }
     }
 
     /// The first that waits for something, or that is ready.

@@ -141,6 +141,13 @@ impl Waits {
         self.threads.first(Some(cause))
     }
 
+    /// A thread stands in one of the lists.
+    pub fn has(&self, thread: Who) -> bool
+        ensures { result ≡ stands thread self.now }
+    {
+        self.threads.has(thread)
+    }
+
     /// The front of the ready goes last.
     pub fn pass(&mut self)
         ensures { self.new ≡ passed self.old }

@@ -272,6 +272,12 @@ module _ (l : List Name) (r low high middle : ℕ) (d : Name) (rising : IsRising
   pub half_below : (first second : ℕ) → first ≡ rank (get_or l middle d).who → second ≡ r → second ≤ first → IsHalved l r low middle
   half_below first second is to more = below (omega (arith, is, to, more))
 
+-- all come before, where the last does
+pub last_below : (l : List Name) (r at : ℕ) (d : Name) → IsRising l → at < length l → length l ≤ at + 1 → (first second : ℕ) →
+    first ≡ rank (get_or l at d).who → second ≡ r → first < second → (k : ℕ) (e : Name) → k < length l → rank (get_or l k e).who < r
+last_below l r at d rising here last first second is to less k e low =
+    (half_above l r 0 (length l) at d rising (halved_at_first l r) (omega arith) here first second is to less).before k e (omega (arith, low, last))
+
 -- ---- what a look answers
 
 pub place_found : (l : List Name) (at : ℕ) (who : Who) (o : Option ℕ) → IsPlace (rank who) l at → IsRising l →

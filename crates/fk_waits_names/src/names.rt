@@ -1,5 +1,6 @@
 //! Names in order.
 ghost use Rattle.std.specs.Prelude.{◌≡◌, ◌+◌, ◌≤◌, ◌<◌, ℕ, [], length, true, false, Some, None, IfSome, IsSome, OnOk, if◌then◌else◌, slice_index_or};
+ghost use Rattle.std.specs.Bool.{OnTrue};
 ghost use Rattle.fk_model.specs.declared.names.Who as names_of;
 ghost use Rattle.fk_waits_names.specs.Names.{is_same, key_at, rank, HasRoom, IsRising};
 
@@ -44,6 +45,38 @@ fn rank(who: Who) -> u64
 
 /// How many names come before one.
 fn place_of(items: &[Name], who: Who) -> usize
+    requires { IsRising items.now }
+    ensures slot { who.slot < 256 }
+    ensures within { result ≤ length items.now }
+    ensures before { (k : ℕ) (d : Name) → k < result → rank (slice_index_or items.now k d).who < rank who }
+    ensures behind { (k : ℕ) (d : Name) → result ≤ k → k < length items.now → rank who ≤ rank (slice_index_or items.now k d).who }
+{
+    // Names mostly come in order.
+    if comes_last(items, who) {
+        return items.len();
+    }
+    place_within(items, who)
+}
+
+/// All names come before one.
+fn comes_last(items: &[Name], who: Who) -> bool
+    requires { IsRising items.now }
+    ensures slot { who.slot < 256 }
+    ensures last { OnTrue result ((k : ℕ) (d : Name) → k < length items.now → rank (slice_index_or items.now k d).who < rank who) }
+{
+    let own = rank(who);
+    let many = items.len();
+    if many == 0 {
+        return true;
+    }
+    if rank(items[many - 1].who) < own {
+        return true;
+    }
+    false
+}
+
+/// The same by halving.
+fn place_within(items: &[Name], who: Who) -> usize
     requires { IsRising items.now }
     ensures slot { who.slot < 256 }
     ensures within { result ≤ length items.now }

@@ -1,6 +1,6 @@
 use Rattle.std.proofs.Common.{◌-◌}
 use Rattle.fk_waits_names.proofs.Order.{IsHalved}
-use Rattle.fk_waits_names.proofs.names.place_of.Given as goal
+use Rattle.fk_waits_names.proofs.names.place_within.Given as goal
 
 abbrev pub invariant-loop-low : goal.invariant-loop-low
 invariant-loop-low l = IsHalved l.items l.own l.low l.high
