@@ -1,5 +1,6 @@
 -- Roused: threads that are woken one after another.
-use Rattle.std.proofs.Common.{◌≡◌, ◌≤◌, ◌<◌, ◌||◌, ◌⊎◌, ◌==◌, ℕ, Bool, true, false, List, [], ◌∷◌, ◌++◌, length, Option, Some, None, if◌then◌else◌, inl, inr, refl, sym}
+use Rattle.std.proofs.Common.{◌≡◌, ◌≤◌, ◌<◌, ◌||◌, ◌⊎◌, ◌==◌, ℕ, Bool, true, false, List, [], ◌∷◌, ◌++◌, length, Option, Some, None, if◌then◌else◌}
+use Rattle.std.proofs.Common.{inl, inr, refl, sym}
 use Rattle.std.proofs.Common.{ap, subst, ◌∙◌, arith}
 use Rattle.std.proofs.lemmas.Bool.{eqb-true, or_from, or_right}
 use Rattle.std.specs.Bool.{OnTrue}
@@ -13,7 +14,8 @@ use Rattle.fk_waits_causes.proofs.Placed.{same_by}
 use Rattle.fk_turns.specs.Turns.{all_marks, waits_at, AreMet, IsFreed, IsLess, IsRoused, IsSound}
 use Rattle.fk_waits_woken.specs.Wakes.{those_at}
 use Rattle.fk_waits_woken.proofs.Wakes.{first_goes, first_stands}
-use Rattle.fk_turns.proofs.Woken.{cause_less, queued_less, queued_off, room_woken, stands_woken, waits_behind, waits_cause, waits_less, waits_more, waits_other, waits_split}
+use Rattle.fk_turns.proofs.Woken.{cause_less, queued_less, queued_off, room_woken, stands_woken, waits_behind, waits_cause, waits_less, waits_more}
+use Rattle.fk_turns.proofs.Woken.{waits_other, waits_split}
 
 pub less_none : (l : Lists) → IsLess l l
 less_none l = record { waiting = λ cause x is. is; queued = λ x is. is; causes = λ cause is. is; stays = λ cause x is. inl is }

@@ -259,7 +259,8 @@ stands_marked marks_of.Any n x cause marks there = stands_woken n x marks
 pub sound_parked : (mark : Mark) (n cause : Who) (waits marks : Lists) → stands n waits ≡ true → IsSound waits marks →
     IsSound (parked n cause waits) (marked_by cause mark n marks)
 sound_parked mark n cause waits marks there sound = record {
-  both = λ x. stands_marked mark n x cause marks (sound.both n ∙ there) ∙ ap (λ (t : Bool). is_same n x || t) (sound.both x) ∙ sym (stands_parked n x cause waits);
+  both = λ x. stands_marked mark n x cause marks (sound.both n ∙ there) ∙ ap (λ (t : Bool). is_same n x || t) (sound.both x)
+      ∙ sym (stands_parked n x cause waits);
 }
 
 pub sound_left : (n : Who) (waits marks : Lists) → IsSound waits marks → IsSound (left n waits) (left n marks)

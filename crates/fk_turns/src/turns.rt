@@ -344,6 +344,7 @@ impl Turns {
 
     /// A thread that is ready last or first goes last, where no change may free any that is queued; and whether that was so. Then nobody else need be
     /// looked at.
+    #[inline(always)]
     pub fn turn(&mut self, who: Who) -> bool
         requires sound { IsSound self.old.waits self.old.marks }
         ensures sound { IsSound self.new.waits self.new.marks }
@@ -372,6 +373,7 @@ impl Turns {
     }
 
     /// A thread that is ready first goes last; and whether it was.
+    #[inline(never)]
     fn go_last(&mut self, who: Who) -> bool
         requires sound { IsSound self.old.waits self.old.marks }
         ensures sound { IsSound self.new.waits self.new.marks }
