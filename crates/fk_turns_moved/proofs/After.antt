@@ -89,7 +89,8 @@ module _ (m n : Contents) (mover : Who) (touched : Touched) (waits marks roused 
       it = untold x (is_queued x told.queued) (λ e. clash (is_queued x now.queued) here (own.away x e)) (named.away x) in_told
 
       -- what may free it isn't told
-      key_untold : (key : Who) → is_same free_cause key ≡ false → waits_at key x (all_marks roused roused_marks).queued ≡ true → waits_at key x (all_marks told told_marks).queued ≡ true →
+      key_untold : (key : Who) → is_same free_cause key ≡ false → waits_at key x (all_marks roused roused_marks).queued ≡ true →
+          waits_at key x (all_marks told told_marks).queued ≡ true →
           is_told mover touched key ≡ false
       key_untold key some first second =
           untold key (is_queued x told.queued) (λ e. clash (is_queued x now.queued) here (own_freed.freed key e some x second))

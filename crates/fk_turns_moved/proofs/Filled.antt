@@ -40,12 +40,12 @@ pub record AreFilled (m : Contents) (waits marks : Lists) (next : Option Who) : 
   pub only : (who : Who) → stands who waits ≡ true → is_user_at m who ≡ true
   pub passed : ArePassed (IsLive m) (IsIn m waits) next
 
-pub filled_first : (m : Contents) (waits marks : Lists) (next : Option Who) → waits ≡ record { ready = []; queued = []; spare = 0 } → IsSound waits marks →
+pub filled_first : (m : Contents) (waits marks : Lists) (next : Option Who) → waits.ready ≡ [] → waits.queued ≡ [] → IsSound waits marks →
     IsFirstAfter who_cmp (IsLive m) None next → AreFilled m waits marks next
-filled_first m waits marks next is sound first = record {
+filled_first m waits marks next ready none sound first = record {
   sound = sound;
-  none = ap (λ (l : Lists). l.queued) is;
-  only = λ x here. let off : false ≡ true = ap (stands x) (sym is) ∙ here in absurd (cc);
+  none = none;
+  only = λ x here. let off : false ≡ true = (λ i. is_in x (sym ready i) || is_queued x (sym none i)) ∙ here in absurd (cc);
   passed = passed_first (IsLive m) (IsIn m waits) next first;
 }
 

@@ -21,12 +21,27 @@ pub fn of(alloc: Global, store: &Store) -> Result<Turns, NoMemory>
     ensures { IfOk result (λ turns. AreKept store.now turns.waits turns.marks) }
 {
     let mut turns = Turns::new(alloc)?;
+    // So the lists grow once, and not with each thread.
+    turns.reserve_for(users(store))?;
     let mut at = store.after(None);
     while let Some(who) = at {
         add(&mut turns, store, who)?;
         at = store.after(Some(who));
     }
     Ok(turns)
+}
+
+/// How many users' threads there are. It is a hint for how many there is to be room: nothing is said of it.
+fn users(store: &Store) -> u64 {
+    let mut many = 0u64;
+    let mut at = store.after(None);
+    while let Some(who) = at {
+        if is_user(store, who) {
+            many = many.wrapping_add(1);
+        }
+        at = store.after(Some(who));
+    }
+    many
 }
 
 /// A user's thread is ready.

@@ -1,11 +1,14 @@
-use Rattle.std.proofs.Common.{subst}
+use Rattle.std.proofs.Common.{ap, subst, ◌∙◌}
+use Rattle.fk_waits.specs.Lists.{Lists}
 use Rattle.fk_turns_moved.proofs.Filled.{filled_first, filled_more, kept_filled, AreFilled}
 use Rattle.fk_turns_moved.proofs.filling.of.Goals as goal
 
 pub loop-at-init : goal.loop-at-init
 loop-at-init c =
-    filled_first c.args.store.now c.in_ok-turns.turns.waits c.in_ok-turns.turns.marks c.after-at.result c.in_ok-turns.ensures.waits c.in_ok-turns.ensures.sound
-    c.after-at.ensures.first
+    let first = c.in_ok-turns.ensures.waits in
+    let room = c.in_ok-reserve_for.ensures in
+    filled_first c.args.store.now c.reserve_for.new.self.waits c.reserve_for.new.self.marks c.after-at.result
+    (room.ready ∙ ap (λ (l : Lists). l.ready) first) (room.queued ∙ ap (λ (l : Lists). l.queued) first) room.sound c.after-at.ensures.first
 
 pub loop-at-preserved : goal.loop-at-preserved
 loop-at-preserved c =

@@ -28,7 +28,8 @@ pub returns-in-Some-clause-freed : goal.returns-in-Some-clause-freed
 returns-in-Some-clause-freed c =
     let was = c.args.turns.now in
     let now = c.touch.new.turns in
-    subst (λ (o : Option Who). AreFreed (is_it o) (all_marks was.waits was.marks) (all_marks now.waits now.marks) now.waits) (sym c.in-Some.is) c.touch.ensures.freed
+    subst (λ (o : Option Who). AreFreed (is_it o) (all_marks was.waits was.marks) (all_marks now.waits now.marks) now.waits)
+    (sym c.in-Some.is) c.touch.ensures.freed
 
 pub returns-in-None-clause-freed : goal.returns-in-None-clause-freed
 returns-in-None-clause-freed c =

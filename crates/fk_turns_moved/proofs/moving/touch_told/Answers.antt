@@ -59,25 +59,29 @@ pub returns-in-Few-clause-freed : goal.returns-in-Few-clause-freed
 returns-in-Few-clause-freed c =
     let was = c.args.turns.now in
     let now = c.touch_few.new.turns in
-    subst (λ (t : Touched). AreFreed (is_named t) (all_marks was.waits was.marks) (all_marks now.waits now.marks) now.waits) (sym c.in-Few.is) c.touch_few.ensures.freed
+    subst (λ (t : Touched). AreFreed (is_named t) (all_marks was.waits was.marks) (all_marks now.waits now.marks) now.waits)
+    (sym c.in-Few.is) c.touch_few.ensures.freed
 
 pub returns-in-Makes-clause-freed : goal.returns-in-Makes-clause-freed
 returns-in-Makes-clause-freed c =
     let was = c.args.turns.now in
     let now = c.touch.new.turns in
-    subst (λ (t : Touched). AreFreed (is_named t) (all_marks was.waits was.marks) (all_marks now.waits now.marks) now.waits) (sym c.in-Makes.is) c.touch.ensures.freed
+    subst (λ (t : Touched). AreFreed (is_named t) (all_marks was.waits was.marks) (all_marks now.waits now.marks) now.waits)
+    (sym c.in-Makes.is) c.touch.ensures.freed
 
 pub returns-in-Dies-clause-freed : goal.returns-in-Dies-clause-freed
 returns-in-Dies-clause-freed c =
     let was = c.args.turns.now in
     let now = c.touch-in-Dies.new.turns in
-    subst (λ (t : Touched). AreFreed (is_named t) (all_marks was.waits was.marks) (all_marks now.waits now.marks) now.waits) (sym c.in-Dies.is) c.touch-in-Dies.ensures.freed
+    subst (λ (t : Touched). AreFreed (is_named t) (all_marks was.waits was.marks) (all_marks now.waits now.marks) now.waits)
+    (sym c.in-Dies.is) c.touch-in-Dies.ensures.freed
 
 pub returns-in-Moves-clause-freed : goal.returns-in-Moves-clause-freed
 returns-in-Moves-clause-freed c =
     let was = c.args.turns.now in
     let now = c.shift.new.turns in
-    subst (λ (t : Touched). AreFreed (is_named t) (all_marks was.waits was.marks) (all_marks now.waits now.marks) now.waits) (sym c.in-Moves.is) c.shift.ensures.freed
+    subst (λ (t : Touched). AreFreed (is_named t) (all_marks was.waits was.marks) (all_marks now.waits now.marks) now.waits)
+    (sym c.in-Moves.is) c.shift.ensures.freed
 
 pub returns-in-Any-clause-freed : goal.returns-in-Any-clause-freed
 returns-in-Any-clause-freed c =
