@@ -3,7 +3,8 @@ use Rattle.std.proofs.Common.{◌≡◌, ◌==◌, ◌||◌, ℕ, Bool, true, fa
 use Rattle.std.proofs.lemmas.Bool.{eqb-true}
 use Rattle.fk_model.specs.declared.stage.Stage.{Stage}
 use Rattle.fk_model.specs.declared.stage.Stage.TheVariants.{Create, Destroy, Rename, Search, Point, Clear, Locate, CountIn, GetState, SetState, GetPtr, SetPtr}
-use Rattle.fk_model.specs.declared.stage.Stage.TheVariants.{SpaceRelease, ThreadStop, ThreadGo, PageGive, PageTake, PageRead, PageNext, MutexTrylock, MutexUnlock, Disconnect}
+use Rattle.fk_model.specs.declared.stage.Stage.TheVariants.{SpaceRelease, ThreadStop, ThreadGo, PageGive, PageTake, PageRead, PageNext, MutexTrylock}
+use Rattle.fk_model.specs.declared.stage.Stage.TheVariants.{MutexUnlock, Disconnect}
 use Rattle.fk_model.specs.Calls.{todo_of, rest_of}
 use Rattle.fk_model.specs.Holds.{decider, is_free}
 use Rattle.fk_model.specs.LinkRows.{user_at}
@@ -64,7 +65,8 @@ module _ (g : List ℕ) where
 
   act_5 : (code == 5) ≡ true → BeginsWithAct (calling_mode g)
   unfolding todo_of
-  act_5 is = by_stage (Point (slice_index g 1) (slice_index g 2) (slice_index g 3) (slice_index g 4)) refl refl (let at = eqb-true (slice_index g 0) 5 is in rw at refl)
+  act_5 is = by_stage (Point (slice_index g 1) (slice_index g 2) (slice_index g 3) (slice_index g 4)) refl refl
+      (let at = eqb-true (slice_index g 0) 5 is in rw at refl)
 
   act_6 : (code == 6) ≡ true → BeginsWithAct (calling_mode g)
   unfolding todo_of
@@ -88,11 +90,13 @@ module _ (g : List ℕ) where
 
   act_11 : (code == 11) ≡ true → BeginsWithAct (calling_mode g)
   unfolding todo_of
-  act_11 is = by_stage (GetPtr (slice_index g 1) (slice_index g 2) (slice_index g 3) (slice_index g 4)) refl refl (let at = eqb-true (slice_index g 0) 11 is in rw at refl)
+  act_11 is = by_stage (GetPtr (slice_index g 1) (slice_index g 2) (slice_index g 3) (slice_index g 4)) refl refl
+      (let at = eqb-true (slice_index g 0) 11 is in rw at refl)
 
   act_12 : (code == 12) ≡ true → BeginsWithAct (calling_mode g)
   unfolding todo_of
-  act_12 is = by_stage (SetPtr (slice_index g 1) (slice_index g 2) (slice_index g 3) (slice_index g 4)) refl refl (let at = eqb-true (slice_index g 0) 12 is in rw at refl)
+  act_12 is = by_stage (SetPtr (slice_index g 1) (slice_index g 2) (slice_index g 3) (slice_index g 4)) refl refl
+      (let at = eqb-true (slice_index g 0) 12 is in rw at refl)
 
   act_14 : (code == 14) ≡ true → BeginsWithAct (calling_mode g)
   unfolding todo_of

@@ -6,4 +6,5 @@ pub mod Stepped
 pub mod Sends
 pub mod Acts
 pub mod Went
+pub mod Beside
 pub mod Known

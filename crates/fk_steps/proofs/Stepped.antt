@@ -37,7 +37,8 @@ use Rattle.fk_steps.proofs.Giving.{lacks_gives, stood_before}
 use Rattle.fk_steps.proofs.Went.{free_when_ready}
 
 -- what is no instruction
-pub never_quiet : (n : Contents) (mover : Who) (made : Bool) (touched : Touched) (waits marks : Lists) → OnTrue made (MayBeQuiet n mover false touched waits marks)
+pub never_quiet : (n : Contents) (mover : Who) (made : Bool) (touched : Touched) (waits marks : Lists) →
+    OnTrue made (MayBeQuiet n mover false touched waits marks)
 never_quiet n mover true touched waits marks = λ never alone on. absurd (cc)
 never_quiet n mover false touched waits marks = tt
 
@@ -48,7 +49,8 @@ pub kept_wider : (m : Contents) (waits marks now then_marks : Lists) → AreKept
 kept_wider m waits marks now then_marks kept wider = record {
   each = λ who. (λ i. is_in who (wider.ready i) || is_queued who (wider.queued i)) ∙ kept.each who;
   sound = wider.sound;
-  filed = λ who here. refiled m (all_marks waits marks) (all_marks now then_marks) who (kept.filed who (ap (is_queued who) (sym wider.queued) ∙ here)) (λ is. ap (is_in who) wider.marked ∙ is)
+  filed = λ who here. refiled m (all_marks waits marks) (all_marks now then_marks) who
+      (kept.filed who (ap (is_queued who) (sym wider.queued) ∙ here)) (λ is. ap (is_in who) wider.marked ∙ is)
       (λ key is. (λ i. waits_at key who (wider.keyed i ++ wider.queued i)) ∙ is);
 }
 

@@ -1,5 +1,6 @@
 -- Went: the lists after a move of a thread that runs on and touches nobody else.
-use Rattle.std.proofs.Common.{◌≡◌, ◌≤◌, ◌&&◌, ◌||◌, ◌==◌, ℕ, Bool, true, false, not, List, [], ◌∷◌, length, ◌⊎◌, ◌++◌, slice_index, Option, Some, None, is_none, option_map, inl, inr, refl, sym, ap}
+use Rattle.std.proofs.Common.{◌≡◌, ◌≤◌, ◌&&◌, ◌||◌, ◌==◌, ℕ, Bool, true, false, not, List, [], ◌∷◌, length, ◌⊎◌, ◌++◌, slice_index, Option, Some}
+use Rattle.std.proofs.Common.{None, is_none, option_map, inl, inr, refl, sym, ap}
 use Rattle.std.proofs.Common.{subst, ◌∙◌}
 use Rattle.std.proofs.lemmas.Bool.{and_parts, eqb-true, or_from, or_right}
 use Rattle.std.specs.Bool.{OnTrue, OnFalse}
@@ -105,7 +106,8 @@ module _ (w : World) (k : ℕ) (s : Path) (p : ℕ → Path) (ran : Bool) (t : t
       speaks_up : (talk : talks_of.Talk) → t.talk ≡ Some talk → t.mode ≡ modes.Calling → peer_by p talk.peer ≡ Service →
           BeginsWithSend (calling_mode t.regs) ⊎ BeginsWithOver (calling_mode t.regs) → IsMoveReady w (k ∷ s)
       speaks_up talk e calling peer (inl begins) =
-          sends_up w unheld k s (thread_by p t) (talk_by p talk) (place p talk.port) there (free modes.Calling calling refl) (rw calling begins) (rw e refl) peer
+          sends_up w unheld k s (thread_by p t) (talk_by p talk) (place p talk.port) there (free modes.Calling calling refl) (rw calling begins)
+          (rw e refl) peer
           refl
       speaks_up talk e calling peer (inr begins) =
           over_up w unheld k s (thread_by p t) (talk_by p talk) (place p talk.port) there (free modes.Calling calling refl) (rw calling begins) (rw e refl) peer
@@ -302,7 +304,8 @@ module _ (m n : Contents) (mover : Who) (touched : Touched) (alone : touches_onl
   left_hushed x whys.Barred other user filed is some = absurd (some refl)
 
 module _ (m n : Contents) (mover : Who) (touched : Touched) (alone : touches_only mover touched ≡ true) (waits marks now then_marks : Lists)
-    (kept : AreKept m waits marks) (moved : IsMoved m n mover touched) (turned : IsTurned mover waits marks now then_marks) (user : is_user_at n mover ≡ true) where
+    (kept : AreKept m waits marks) (moved : IsMoved m n mover touched) (turned : IsTurned mover waits marks now then_marks)
+    (user : is_user_at n mover ≡ true) where
   each_went : (x : Who) → stands x now ≡ is_user_at n x
   each_went x = ap (stands x) turned.turned ∙ stands_woken mover x waits ∙ by (is_same mover x) refl
     where

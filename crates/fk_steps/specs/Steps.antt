@@ -1,5 +1,6 @@
 -- Steps: what a move leaves of where threads stand.
-use Rattle.std.specs.Prelude.{◌≡◌, ◌≤◌, ◌⊎◌, ◌&&◌, ◌||◌, ◌==◌, ℕ, Bool, true, false, not, List, [], ◌∷◌, Option, Some, None, is_none, Result, Ok, Err, slice_index}
+use Rattle.std.specs.Prelude.{◌≡◌, ◌≤◌, ◌⊎◌, ◌&&◌, ◌||◌, ◌==◌, ℕ, Bool, true, false, not, List, [], ◌∷◌, Option, Some, None, is_none, Result, Ok, Err}
+use Rattle.std.specs.Prelude.{slice_index}
 use Rattle.fk_model.specs.declared.moves.Ask.{Ask}
 use Rattle.fk_model.specs.declared.moves.Move.{Move}
 use Rattle.fk_model.specs.declared.names.Who.{Who}
@@ -22,7 +23,7 @@ use Rattle.fk_store.specs.World.{world}
 use Rattle.fk_turns.specs.Turns.{all_marks, loud_cause, IsSound}
 use Rattle.fk_turns_told.specs.Kept.{is_user_at, AreKept}
 use Rattle.fk_turns_next.specs.Waiting.{IsPlaced, Standing}
-use Rattle.fk_turns_told.specs.Moved.{IsMoved}
+use Rattle.fk_turns_told.specs.Moved.{is_it, is_named, IsMoved}
 use Rattle.fk_turns_told.specs.Told.{name_after, runs_on_at, IsQuietTo}
 use Rattle.fk_waits.specs.Lists.{is_cause, is_queued, stands, woken, Lists}
 use Rattle.fk_waits_names.specs.Names.{is_same}
@@ -126,6 +127,17 @@ pub record IsQuietFrom (n : Contents) (mover : Who) (waits marks : Lists) : Type
 -- so it is where it was an instruction after which the thread runs on
 abbrev pub MayBeQuiet : Contents → Who → Bool → Touched → Lists → Lists → Type 0
 MayBeQuiet n mover ran touched waits marks = ran ≡ true → touched ≡ Few None None None → runs_on_at n mover ≡ true → IsQuietFrom n mover waits marks
+
+-- no user's thread is there, and none stands by that name
+abbrev pub IsApartAt : Contents → Who → Lists → Type 0
+IsApartAt n who waits = (stands who waits ≡ false) × (is_user_at n who ≡ false)
+
+abbrev pub IsOneApart : Contents → Who → Option Who → Lists → Type 0
+IsOneApart n mover name waits = (x : Who) → is_same mover x ≡ false → is_it name x ≡ true → IsApartAt n x waits
+
+-- so it is of all that a move touched, besides who moved
+abbrev pub AreApart : Contents → Who → Touched → Lists → Type 0
+AreApart n mover touched waits = (x : Who) → is_same mover x ≡ false → is_named touched x ≡ true → IsApartAt n x waits
 
 -- nobody is queued, or nobody whom any move may free
 abbrev pub IsCalm : Lists → Lists → Type 0

@@ -1,9 +1,8 @@
 //! Moves after which only who moved is looked at, and most often not even that.
 ghost use Rattle.std.specs.Prelude.{◌≡◌, [], true, None};
 ghost use Rattle.std.specs.Bool.{OnTrue, OnFalse};
-ghost use Rattle.fk_model.specs.Holds.{decider};
-ghost use Rattle.fk_model.specs.Places.{Path};
 ghost use Rattle.fk_model.specs.Valid.{IsValid};
+ghost use Rattle.fk_store.specs.Names.{at};
 ghost use Rattle.fk_store.specs.World.{world, place_of};
 ghost use Rattle.fk_turns.specs.Turns.{IsSound};
 ghost use Rattle.fk_waits_names.specs.Names as names_of;
@@ -13,12 +12,12 @@ ghost use Rattle.fk_turns_next.specs.Runs.{is_under_way_at};
 ghost use Rattle.fk_turns_next.specs.Waiting.{standing, ComesAfter, IsMoveReady, IsPlaced};
 ghost use Rattle.fk_steps.specs.Steps as steps_of;
 ghost use Rattle.fk_turns_told.specs.Told.{runs_on_at};
-ghost use Rattle.fk_steps.specs.Steps.{touches_only, IsCalm, IsGentle, IsQuietFrom, IsTurned, MayBeQuiet};
+ghost use Rattle.fk_steps.specs.Steps.{touches_only, AreApart, IsApartAt, IsCalm, IsGentle, IsOneApart, IsQuietFrom, IsTurned, MayBeQuiet};
 
-use fk_model::{Mode, Peer, Thread, Who};
+use fk_model::{Ask, Mode, Move, Peer, Thread, Who};
 use fk_store::Store;
 use fk_turns::Turns;
-use fk_turns_next::after;
+use fk_turns_next::{after, ready};
 use fk_wakes::Touched;
 
 /// A client sends words.
@@ -44,6 +43,9 @@ pub fn after_plain(turns: &mut Turns, store: &Store, mover: Who, touched: &Touch
     if is_quick(turns, store, mover, touched, ran) {
         return;
     }
+    if is_apart(turns, store, mover, touched) {
+        return;
+    }
     after(turns, store, mover, touched);
 }
 
@@ -64,20 +66,43 @@ pub fn after_on(turns: &mut Turns, store: &Store, mover: Who)
     after_off(turns, store, mover);
 }
 
-/// Nothing is held, and who moved went from first to last, and nobody else need be looked at; or all is as it was.
+/// Who moved can move, and went from first to last, and nobody else need be looked at; or all is as it was.
 #[inline(always)]
 fn turns_on(turns: &mut Turns, store: &Store, mover: Who) -> bool
+    requires valid { IsValid (world store.now) }
+    requires on { is_under_way_at store.now mover ≡ true }
     requires sound { IsSound turns.old.waits turns.old.marks }
     ensures sound { IsSound turns.new.waits turns.new.marks }
     ensures turned { OnTrue result (IsTurned mover turns.old.waits turns.old.marks turns.new.waits turns.new.marks) }
-    ensures unheld { OnTrue result ((q : Path) → decider (world store.now) q ≡ None) }
+    ensures up { OnTrue result (IsMoveReady (world store.now) (place_of store.now mover)) }
     ensures waits { OnFalse result (turns.new.waits ≡ turns.old.waits) }
     ensures marks { OnFalse result (turns.new.marks ≡ turns.old.marks) }
 {
-    if store.is_any_held() {
+    if !can_go_on(store, mover) {
         return false;
     }
     turns.turn(mover)
+}
+
+/// A thread that is under way can move: while nothing is held that needs no look.
+#[inline(always)]
+fn can_go_on(store: &Store, who: Who) -> bool
+    requires valid { IsValid (world store.now) }
+    requires on { is_under_way_at store.now who ≡ true }
+    ensures { OnTrue result (IsMoveReady (world store.now) (place_of store.now who)) }
+{
+    if store.is_any_held() {
+        return can_move(store, who);
+    }
+    true
+}
+
+/// A move of the user in a slot is ready, which picks nobody.
+fn can_move(store: &Store, who: Who) -> bool
+    requires valid { IsValid (world store.now) }
+    ensures { OnTrue result (IsMoveReady (world store.now) (place_of store.now who)) }
+{
+    ready(store, &Move { who, pick: None }, &Ask::Run)
 }
 
 /// The lists after any other instruction.
@@ -169,6 +194,118 @@ fn is_quick(turns: &mut Turns, store: &Store, mover: Who, touched: &Touched, ran
         return false;
     }
     turns.turn(mover)
+}
+
+/// Nobody is queued, and what was touched besides who moved is no user's thread and was none: then who moved and goes on went from first to last, and nobody
+/// need be looked at; or all is as it was.
+fn is_apart(turns: &mut Turns, store: &Store, mover: Who, touched: &Touched) -> bool
+    requires sound { IsSound turns.old.waits turns.old.marks }
+    ensures sound { IsSound turns.new.waits turns.new.marks }
+    ensures turned { OnTrue result (IsTurned mover turns.old.waits turns.old.marks turns.new.waits turns.new.marks) }
+    ensures none { OnTrue result (turns.old.waits.queued ≡ []) }
+    ensures apart { OnTrue result (AreApart store.now mover touched.now turns.old.waits) }
+    ensures named { OnTrue result (now_named mover touched.now ≡ mover) }
+    ensures up { OnTrue result (IsMoveReady (world store.now) (place_of store.now mover)) }
+    ensures user { OnTrue result (is_user_at store.now mover ≡ true) }
+    ensures waits { OnFalse result (turns.new.waits ≡ turns.old.waits) }
+    ensures marks { OnFalse result (turns.new.marks ≡ turns.old.marks) }
+{
+    if !is_none_queued(turns) {
+        return false;
+    }
+    if !are_apart(turns, store, mover, touched) {
+        return false;
+    }
+    if !goes_on(store, mover, false) {
+        return false;
+    }
+    turns.turn(mover)
+}
+
+/// What was touched besides who moved is no user's thread and was none, and who moved has its name still.
+fn are_apart(turns: &Turns, store: &Store, mover: Who, touched: &Touched) -> bool
+    ensures apart { OnTrue result (AreApart store.now mover touched.now turns.now.waits) }
+    ensures named { OnTrue result (now_named mover touched.now ≡ mover) }
+{
+    match *touched {
+        Touched::Few {
+            first,
+            second,
+            third,
+        } => are_few_apart(turns, store, mover, first, second, third),
+        Touched::Makes { object } => is_apart_at(turns, store, object),
+        Touched::Any => true,
+        Touched::Dies { object } => is_apart_at(turns, store, object),
+        Touched::Moves { object, slot } => {
+            if is_same(object, mover) {
+                return false;
+            }
+            is_shifted_apart(turns, store, object, slot)
+        }
+    }
+}
+
+/// So it is of these.
+fn are_few_apart(
+    turns: &Turns,
+    store: &Store,
+    mover: Who,
+    first: Option<Who>,
+    second: Option<Who>,
+    third: Option<Who>,
+) -> bool
+    ensures { OnTrue result (AreApart store.now mover (Touched.Few first second third) turns.now.waits) }
+{
+    if !is_one_apart(turns, store, mover, first) {
+        return false;
+    }
+    if !is_one_apart(turns, store, mover, second) {
+        return false;
+    }
+    is_one_apart(turns, store, mover, third)
+}
+
+/// So it is of this, if it is one.
+fn is_one_apart(turns: &Turns, store: &Store, mover: Who, name: Option<Who>) -> bool
+    ensures { OnTrue result (IsOneApart store.now mover name turns.now.waits) }
+{
+    match name {
+        Some(who) => {
+            if is_same(mover, who) {
+                return true;
+            }
+            is_apart_at(turns, store, who)
+        }
+        None => true,
+    }
+}
+
+/// So it is where an object stood and in the slot that it has now.
+fn is_shifted_apart(turns: &Turns, store: &Store, object: Who, slot: u8) -> bool
+    ensures from { OnTrue result (IsApartAt store.now object turns.now.waits) }
+    ensures to { OnTrue result (IsApartAt store.now (at object.space slot) turns.now.waits) }
+{
+    let to = Who {
+        space: object.space,
+        slot,
+    };
+    if !is_apart_at(turns, store, object) {
+        return false;
+    }
+    is_apart_at(turns, store, to)
+}
+
+/// No thread is there, and none stands by that name.
+fn is_apart_at(turns: &Turns, store: &Store, who: Who) -> bool
+    ensures { OnTrue result (IsApartAt store.now who turns.now.waits) }
+{
+    if turns.knows(who) {
+        return false;
+    }
+    match store.thread(who) {
+        Some(_) => false,
+        None => true,
+    }
 }
 
 /// It touched nobody else, and was an instruction, or nobody is queued, or nobody whom any move may free.

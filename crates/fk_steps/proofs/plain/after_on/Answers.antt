@@ -3,11 +3,11 @@ use Rattle.fk_turns_next.specs.Waiting.{ComesAfter}
 use Rattle.fk_turns_next.proofs.Placed.{placed_woken}
 use Rattle.fk_waits.specs.Lists.{Lists}
 use Rattle.fk_wakes.specs.declared.touching.Touched.TheVariants.{Few}
-use Rattle.fk_steps.proofs.Went.{kept_on, under_way_up, under_way_user}
+use Rattle.fk_steps.proofs.Went.{kept_on, under_way_user}
 use Rattle.fk_steps.proofs.plain.after_on.Goals as goal
 
 pub turns_on-requires : goal.turns_on-requires
-turns_on-requires c = record { sound = c.requires.comes.kept.sound }
+turns_on-requires c = record { valid = c.requires.valid; on = c.requires.on; sound = c.requires.comes.kept.sound }
 
 pub after_off-requires : goal.after_off-requires
 after_off-requires c =
@@ -28,11 +28,12 @@ returns-then-turns_on-clause-kept c =
     let was = c.args.turns.now in
     let now = c.turns_on.new.turns in
     let turned = rw c.if-turns_on.true at c.turns_on.ensures.turned in
-    kept_on n c.args.mover was.waits was.marks now.waits now.marks c.requires.quiet turned (under_way_user n c.args.mover c.requires.on) c.turns_on.ensures.sound
+    kept_on n c.args.mover was.waits was.marks now.waits now.marks c.requires.quiet turned
+    (under_way_user n c.args.mover c.requires.on) c.turns_on.ensures.sound
 
 pub returns-then-turns_on-clause-placed : goal.returns-then-turns_on-clause-placed
 returns-then-turns_on-clause-placed c user =
     let n = c.args.store.now in
     let turned = rw c.if-turns_on.true at c.turns_on.ensures.turned in
-    let unheld = rw c.if-turns_on.true at c.turns_on.ensures.unheld in
-    placed_woken n c.args.mover c.args.turns.now.waits c.turns_on.new.turns.waits turned.turned (under_way_up n c.args.mover c.requires.on unheld)
+    let up = rw c.if-turns_on.true at c.turns_on.ensures.up in
+    placed_woken n c.args.mover c.args.turns.now.waits c.turns_on.new.turns.waits turned.turned up

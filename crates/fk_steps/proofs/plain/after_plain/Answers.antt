@@ -1,27 +1,59 @@
-use Rattle.std.proofs.Common.{◌≡◌, true, sym, subst}
+use Rattle.std.proofs.Common.{◌≡◌, true, sym, subst, ◌∙◌}
 use Rattle.fk_model.specs.declared.names.Who.{Who}
 use Rattle.fk_turns_told.specs.Kept.{is_user_at}
-use Rattle.fk_turns_next.specs.Waiting.{standing, ComesAfter, IsPlaced}
+use Rattle.fk_turns_next.specs.Waiting.{standing, IsPlaced}
 use Rattle.fk_turns_next.proofs.Placed.{placed_woken}
-use Rattle.fk_waits.specs.Lists.{Lists}
+use Rattle.fk_steps.proofs.Beside.{comes_same, kept_beside}
 use Rattle.fk_steps.proofs.Went.{kept_quick, named_alone}
 use Rattle.fk_steps.proofs.plain.after_plain.Goals as goal
 
 pub is_quick-requires : goal.is_quick-requires
 is_quick-requires c = record { sound = c.requires.comes.kept.sound }
 
+pub is_apart-requires : goal.is_apart-requires
+is_apart-requires c = record { sound = c.is_quick.ensures.sound }
+
 pub after-requires : goal.after-requires
 after-requires c =
     let n = c.args.store.now in
     let was = c.args.turns.now in
-    let now = c.is_quick.new.turns in
+    let quick = c.is_quick.new.turns in
+    let now = c.is_apart.new.turns in
     let waits = rw c.if-is_quick.false at c.is_quick.ensures.waits in
     let marks = rw c.if-is_quick.false at c.is_quick.ensures.marks in
+    let then_waits = rw c.if-is_apart.false at c.is_apart.ensures.waits in
+    let then_marks = rw c.if-is_apart.false at c.is_apart.ensures.marks in
     record {
       valid = c.requires.valid;
-      comes = subst (λ (l : Lists). ComesAfter n c.args.mover c.args.touched.now l now.marks) (sym waits)
-          (subst (λ (l : Lists). ComesAfter n c.args.mover c.args.touched.now was.waits l) (sym marks) c.requires.comes);
+      comes = comes_same n c.args.mover c.args.touched.now was.waits was.marks now.waits now.marks (then_waits ∙ waits) (then_marks ∙ marks) c.requires.comes;
     }
+
+pub returns-then-is_apart-clause-kept : goal.returns-then-is_apart-clause-kept
+returns-then-is_apart-clause-kept c =
+    let n = c.args.store.now in
+    let was = c.args.turns.now in
+    let quick = c.is_quick.new.turns in
+    let now = c.is_apart.new.turns in
+    let waits = rw c.if-is_quick.false at c.is_quick.ensures.waits in
+    let marks = rw c.if-is_quick.false at c.is_quick.ensures.marks in
+    let turned = rw c.if-is_apart.true at c.is_apart.ensures.turned in
+    let none = rw c.if-is_apart.true at c.is_apart.ensures.none in
+    let apart = rw c.if-is_apart.true at c.is_apart.ensures.apart in
+    let user = rw c.if-is_apart.true at c.is_apart.ensures.user in
+    kept_beside n c.args.mover c.args.touched.now quick.waits quick.marks now.waits now.marks
+    (comes_same n c.args.mover c.args.touched.now was.waits was.marks quick.waits quick.marks waits marks c.requires.comes) apart none turned user
+    c.is_apart.ensures.sound
+
+pub returns-then-is_apart-clause-placed : goal.returns-then-is_apart-clause-placed
+returns-then-is_apart-clause-placed c =
+    let n = c.args.store.now in
+    let mover = c.args.mover in
+    let now = c.is_apart.new.turns in
+    let turned = rw c.if-is_apart.true at c.is_apart.ensures.turned in
+    let named = rw c.if-is_apart.true at c.is_apart.ensures.named in
+    let up = rw c.if-is_apart.true at c.is_apart.ensures.up in
+    subst (λ (w : Who). is_user_at n w ≡ true → IsPlaced n (standing now.waits) w) (sym named)
+    (λ user. placed_woken n mover c.is_quick.new.turns.waits now.waits turned.turned up)
 
 pub returns-then-is_quick-clause-kept : goal.returns-then-is_quick-clause-kept
 returns-then-is_quick-clause-kept c =
@@ -33,7 +65,8 @@ returns-then-is_quick-clause-kept c =
     let on = rw c.if-is_quick.true at c.is_quick.ensures.on in
     let turned = rw c.if-is_quick.true at c.is_quick.ensures.turned in
     let user = rw c.if-is_quick.true at c.is_quick.ensures.user in
-    kept_quick n c.args.mover c.args.ran c.args.touched.now was.waits was.marks now.waits now.marks c.requires.comes c.requires.quiet alone gentle on turned user
+    kept_quick n c.args.mover c.args.ran c.args.touched.now was.waits was.marks now.waits now.marks c.requires.comes c.requires.quiet alone gentle on
+    turned user
     c.is_quick.ensures.sound
 
 pub returns-then-is_quick-clause-placed : goal.returns-then-is_quick-clause-placed

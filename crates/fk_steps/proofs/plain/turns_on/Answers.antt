@@ -8,8 +8,8 @@ returns-clause-turned c =
     turned_if c.turn.result c.args.mover was.waits was.marks now.waits now.marks c.turn.ensures.turned c.turn.ensures.stood c.turn.ensures.none
     c.turn.ensures.marks
 
-pub returns-clause-unheld : goal.returns-clause-unheld
-returns-clause-unheld c = anyway c.turn.result (c.is_any_held.ensures c.if-is_any_held.false)
+pub returns-clause-up : goal.returns-clause-up
+returns-clause-up c = let up = rw c.if-not-can_go_on.false at c.can_go_on.ensures in anyway c.turn.result up
 
 pub returns-clause-marks : goal.returns-clause-marks
 returns-clause-marks c = off_anyway c.turn.result c.turn.ensures.marks

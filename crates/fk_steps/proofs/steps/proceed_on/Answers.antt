@@ -28,7 +28,8 @@ after_stay-requires c =
       valid = valid_true m n run asks.Run c.requires.valid c.names.ensures.few (run_fit m run) says.Nothing (has_run c.run-ran.result) c.run-ran.ensures.made
           c.run-ran.ensures.same;
       quiet = quiet_ran m n run c.requires.valid c.names.ensures.few (run_fit m run) c.names.ensures.born c.names-2.ensures.born c.names-2.ensures.few
-          (Few None None None) was.waits was.marks says.Nothing c.requires.kept (running_there m c.args.who ran) (under_way_going n c.args.who on) refl made.0 made.1 tells;
+          (Few None None None) was.waits was.marks says.Nothing c.requires.kept (running_there m c.args.who ran)
+          (under_way_going n c.args.who on) refl made.0 made.1 tells;
       comes = comes_ran m n run c.requires.valid c.names.ensures.few (run_fit m run) c.names.ensures.born c.names-2.ensures.born c.names-2.ensures.few
           (Few None None None) was.waits was.marks says.Nothing c.requires.kept refl made.0 made.1 tells;
       on = on;
