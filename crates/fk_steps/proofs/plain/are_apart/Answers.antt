@@ -42,7 +42,9 @@ returns-in-Dies-clause-named c =
 pub returns-else-is_same-clause-apart : goal.returns-else-is_same-clause-apart
 returns-else-is_same-clause-apart c =
     rw c.in-Moves.is
-    (both_true c.is_shifted_apart.result (shifted_apart c.args.store.now c.args.mover c.args.turns.now.waits c.in-Moves.object c.in-Moves.slot) c.is_shifted_apart.ensures.from c.is_shifted_apart.ensures.to)
+    (both_true c.is_shifted_apart.result
+    (shifted_apart c.args.store.now c.args.mover c.args.turns.now.waits c.in-Moves.object c.in-Moves.slot)
+    c.is_shifted_apart.ensures.from c.is_shifted_apart.ensures.to)
 
 pub returns-else-is_same-clause-named : goal.returns-else-is_same-clause-named
 returns-else-is_same-clause-named c =
