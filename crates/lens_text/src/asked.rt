@@ -1,5 +1,6 @@
 //! What the words of the command line ask for.
 use crate::problem::Problem;
+use crate::sheet::line_at;
 use fk_model::{is_name, plain_number_up_to};
 use std::alloc::{AllocError, Global};
 
@@ -58,17 +59,22 @@ const WORDS: [&str; 8] = [
     "--version",
 ];
 
+/// The place of the verb that shows images.
+const IMAGE: usize = 3;
+
 /// What is expected behind each.
-const BEHIND: [&str; 8] = [
-    "no word, or a name and a number of moves",
-    "a name, or a name and two moves",
-    "a name and a number of moves",
-    "one name or two",
-    "no word",
-    "a name",
-    "no word",
-    "no word",
-];
+const BEHIND: &str = "no word, or a name and a number of moves
+a name, or a name and two moves
+a name and a number of moves
+one name or two
+no word
+a name
+no word
+no word";
+
+/// What is expected of a word behind a verb: a number of moves, or a name.
+const EXPECTED: &str = "a number of moves, 0 to 1000000
+a name, 1 to 32 of a to z, 0 to 9 and _";
 
 /// The place of a word among those of the verbs.
 fn place_of(word: &str) -> Option<usize> {
@@ -105,39 +111,15 @@ fn wrong(line: Result<String, AllocError>) -> Problem {
     }
 }
 
-/// What is wrong with a word behind a verb, which has to be a name or a number of moves.
-fn fault_of(alloc: Global, word: &String, is_name_wanted: bool) -> Option<Problem> {
-    if is_name_wanted {
-        if is_name(word.as_bytes()) {
-            return None;
-        }
-        return Some(wrong(format!(in alloc;
-            "{word:?}: expected a name, 1 to 32 of a to z, 0 to 9 and _"
-        )));
-    }
-    match plain_number_up_to(MOST, word.as_bytes()) {
-        Some(_) => None,
-        None => Some(wrong(format!(in alloc;
-            "{word:?}: expected a number of moves, 0 to 1000000"
-        ))),
-    }
-}
-
-/// How many names stand behind a verb before its numbers of moves, at most.
-fn names_behind(verb: Verb) -> usize {
-    match verb {
-        Verb::Differences => 2,
-        _ => 1,
-    }
-}
-
-/// What is wrong with the first word behind a verb that isn't what is wanted there: a name, or two, and then numbers of moves.
-fn first_fault(alloc: Global, words: &[String], verb: Verb) -> Option<Problem> {
-    let names = names_behind(verb);
+/// What is wrong with the first word behind a verb that isn't what is wanted there: so many names at most, and then numbers of moves.
+fn first_fault(alloc: Global, words: &[String], names: usize) -> Option<Problem> {
     for (place, word) in words.iter().enumerate() {
-        let fault = fault_of(alloc, word, place < names);
-        if fault.is_some() {
-            return fault;
+        let is_name_wanted = place < names;
+        let is_count = plain_number_up_to(MOST, word.as_bytes()).is_some();
+        let is_right = (is_name_wanted & is_name(word.as_bytes())) | (!is_name_wanted & is_count);
+        if !is_right {
+            let expected = line_at(EXPECTED, is_name_wanted as u64);
+            return Some(wrong(format!(in alloc; "{word:?}: expected {expected}")));
         }
     }
     None
@@ -192,10 +174,11 @@ pub fn asked_in<'a>(alloc: Global, words: &'a [String]) -> Result<Asked<'a>, Pro
         return Err(wrong(format!(in alloc; "{word:?}: expected one of {verbs}")));
     };
     let Some(verb) = verb_with(place, rest.len()) else {
-        let behind = BEHIND.get(place).copied().unwrap_or("");
+        let behind = line_at(BEHIND, place as u64);
         return Err(wrong(format!(in alloc; "after {word}: expected {behind}")));
     };
-    match first_fault(alloc, rest, verb) {
+    // Two images may be named.
+    match first_fault(alloc, rest, 1 + (place == IMAGE) as usize) {
         Some(problem) => Err(problem),
         None => Ok(asked_of(verb, rest)),
     }

@@ -1,96 +1,107 @@
 //! Calls as text, by the registers that hold them: each stage that is left by its name, with its arguments as docs/CALLS.md names them.
-use crate::sheet::Sheet;
+use crate::sheet::{Sheet, line_at};
 use fk_model::{Stage, Todo};
 use fk_stages::words;
 
-/// The words of a stage that is asked for by this code: its name, and then the names of its arguments.
-fn form_of(code: u64) -> &'static str {
+/// The stages that are left of a call, by its code, with an `@` for each argument. Behind the last code there is an empty line.
+const FORMS: &str = "
+create s=@ x=@ kind=@
+destroy s=@ x=@
+rename s=@ x=@ y=@
+search s=@ from=@
+point s=@ x=@ s2=@ x2=@
+clear s=@ x=@
+locate reference=@ s=@
+count_in base=@ s=@ x=@
+get_state s=@ x=@ addr=@
+set_state s=@ x=@ addr=@
+get_ptr s=@ x=@ field=@ reference=@
+set_ptr s=@ x=@ field=@ reference=@
+space_hold s=@ x=@
+space_release s=@ x=@
+thread_stop h=@
+thread_go h=@
+page_give s=@ page=@ addr=@
+page_take s=@ page=@ addr=@
+page_read s=@ page=@ addr=@
+page_next s=@ from=@
+mutex_lock m=@
+mutex_trylock m=@
+mutex_unlock m=@
+cond_wait c=@ m=@
+cond_asleep c=@ m=@
+cond_signal c=@
+cond_broadcast c=@
+
+
+
+
+connect h=@
+connect h=@, send addr=@ count=@, over, receive addr=@ room=@
+send addr=@ count=@, over, receive addr=@ room=@
+over, receive addr=@ room=@
+receive addr=@ room=@
+send addr=@ count=@
+over
+disconnect
+
+
+
+
+
+
+
+
+wait set=@
+wait set=@, receive addr=@ room=@
+receive addr=@ room=@
+send addr=@ count=@
+over
+send addr=@ count=@, over, receive addr=@ room=@
+over, receive addr=@ room=@
+end
+fault_done
+
+
+
+link_set s=@ x=@ port=@ server=@
+link_park s=@ x=@ port=@
+fault_set s=@ x=@ port=@ taker=@
+fault_park s=@ x=@ port=@ taken=@
+hold_set s=@ x=@ thread=@
+space_make_held x=@
+";
+
+/// The arguments of the call with this code, in the order of its form.
+fn arguments(code: u64, registers: &[u64; 16]) -> [u64; 5] {
+    let r = registers;
     match code {
-        1 => "create s x kind",
-        2 => "destroy s x",
-        3 => "rename s x y",
-        4 => "search s from",
-        5 => "point s x s2 x2",
-        6 => "clear s x",
-        7 => "locate reference s",
-        8 => "count_in base s x",
-        9 => "get_state s x addr",
-        10 => "set_state s x addr",
-        11 => "get_ptr s x field reference",
-        12 => "set_ptr s x field reference",
-        13 => "space_hold s x",
-        14 => "space_release s x",
-        15 => "thread_stop h",
-        16 => "thread_go h",
-        17 => "page_give s page addr",
-        18 => "page_take s page addr",
-        19 => "page_read s page addr",
-        20 => "page_next s from",
-        _ => later_form_of(code),
+        34 | 37 | 51 | 53 => [r[2], r[3], r[4], r[5], 0],
+        35 | 36 | 50 | 54 => [r[4], r[5], 0, 0, 0],
+        49 => [r[1], r[4], r[5], 0, 0],
+        _ => [r[1], r[2], r[3], r[4], r[5]],
     }
 }
 
-/// The same of waits, talks, faults, and of what porters alone ask for.
-fn later_form_of(code: u64) -> &'static str {
-    match code {
-        21 => "mutex_lock m",
-        22 => "mutex_trylock m",
-        23 => "mutex_unlock m",
-        24 => "cond_wait c m",
-        25 => "cond_asleep c m",
-        26 => "cond_signal c",
-        27 => "cond_broadcast c",
-        32 => "connect h",
-        36 | 50 => "receive addr room",
-        37 | 51 => "send addr count",
-        38 | 52 => "over",
-        39 => "disconnect",
-        48 => "wait set",
-        55 => "end",
-        56 => "fault_done",
-        60 => "link_set s x port server",
-        61 => "link_park s x port",
-        62 => "fault_set s x port taker",
-        63 => "fault_park s x port taken",
-        64 => "hold_set s x thread",
-        65 => "space_make_held x",
-        _ => "",
+/// Adds stages that are left of the call with this code, by their form.
+fn push_form(sheet: &mut Sheet, form: &str, code: u64, registers: &[u64; 16]) {
+    if form.is_empty() {
+        return sheet.put_between("no call, ", code, "");
     }
-}
-
-/// The registers from a stage's first argument on.
-fn arguments(stage: u64, registers: &[u64; 16]) -> &[u64] {
-    match stage {
-        36 | 50 => &registers[4..],
-        37 | 51 => &registers[2..],
-        _ => &registers[1..],
-    }
+    sheet.fill_all(form, &arguments(code, registers));
 }
 
 /// Adds the first stage of the call with this code: its name, and each argument with its register.
 pub fn push_stage(sheet: &mut Sheet, code: u64, registers: &[u64; 16]) {
-    let stage = first_stage(code);
-    let form = form_of(stage);
-    if form.is_empty() {
-        return sheet.put_between("no call, ", stage, "");
-    }
-    let (name, names) = form.split_once(' ').unwrap_or((form, ""));
-    sheet.put(name);
-    push_arguments(sheet, names, arguments(stage, registers));
+    let form = line_at(FORMS, code);
+    let (first, _) = form.split_once(',').unwrap_or((form, ""));
+    push_form(sheet, first, code, registers);
 }
 
-/// Adds arguments by their names, each with its register.
-fn push_arguments(sheet: &mut Sheet, names: &str, registers: &[u64]) {
-    let mut later = names;
-    for register in registers {
-        if later.is_empty() {
-            break;
-        }
-        let (name, behind) = later.split_once(' ').unwrap_or((later, ""));
-        sheet.puts(&[" ", name]);
-        sheet.put_between("=", *register, "");
-        later = behind;
-    }
+/// Adds all stages that are left of the call that registers hold.
+pub fn push_call(sheet: &mut Sheet, registers: &[u64; 16]) {
+    let code = registers[0];
+    push_form(sheet, line_at(FORMS, code), code, registers);
 }
 
 /// The code of the first stage of a call, as a call of that stage alone.
@@ -103,34 +114,6 @@ pub fn first_stage(code: u64) -> u64 {
         53 => 51,
         54 => 52,
         other => other,
-    }
-}
-
-/// The code of the call that has the stages behind the first; none where there are none.
-fn later_stages(code: u64) -> Option<u64> {
-    match code {
-        33 => Some(34),
-        34 => Some(35),
-        35 => Some(36),
-        49 => Some(50),
-        53 => Some(54),
-        54 => Some(50),
-        _ => None,
-    }
-}
-
-/// Adds all stages that are left of the call that registers hold.
-pub fn push_call(sheet: &mut Sheet, registers: &[u64; 16]) {
-    let mut code = registers[0];
-    push_stage(sheet, code, registers);
-    // A call has four stages at most.
-    for _ in 0..3 {
-        let Some(later) = later_stages(code) else {
-            break;
-        };
-        sheet.put(", ");
-        push_stage(sheet, later, registers);
-        code = later;
     }
 }
 

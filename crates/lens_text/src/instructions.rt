@@ -1,98 +1,66 @@
 //! The instruction that a word holds, as text.
-use crate::sheet::Sheet;
+use crate::sheet::{Sheet, line_at};
 use fk_isa::decode;
 use fk_model::Instr;
 use fk_model::operation::{ADD, ADDI, CALL, HALT, JMP, JNZ, JZ, MOV, REM, SET};
 
-/// Which operands follow an operation's name.
-#[derive(Clone, Copy)]
-enum Shape {
-    Bare,
-    Number,
-    RegisterNumber,
-    TwoRegisters,
-    ThreeRegisters,
-    TwoRegistersNumber,
-}
+/// The operations by their numbers, with an `@` for each operand that follows the name; behind them that of a negative `addi`.
+const FORMS: &str = "halt
+set r@, @
+mov r@, r@
+add r@, r@, r@
+sub r@, r@, r@
+mul r@, r@, r@
+and r@, r@, r@
+or r@, r@, r@
+xor r@, r@, r@
+shl r@, r@, r@
+shr r@, r@, r@
+div r@, r@, r@
+rem r@, r@, r@
+load r@, r@, @
+store r@, r@, @
+jmp @
+jz r@, @
+jnz r@, @
+jlt r@, r@, @
+addi r@, r@, @
+call
+addi r@, r@, -@";
 
-/// The names of the operations by their numbers.
-const NAMES: [&str; 21] = [
-    "halt", "set", "mov", "add", "sub", "mul", "and", "or", "xor", "shl", "shr", "div", "rem",
-    "load", "store", "jmp", "jz", "jnz", "jlt", "addi", "call",
-];
+/// The form of an `addi` whose number is negative.
+const NEGATIVE: u64 = 21;
 
-fn shape_of(op: u8) -> Shape {
-    match op {
-        HALT | CALL => Shape::Bare,
-        JMP => Shape::Number,
-        SET | JZ | JNZ => Shape::RegisterNumber,
-        MOV => Shape::TwoRegisters,
-        ADD..=REM => Shape::ThreeRegisters,
-        _ => Shape::TwoRegistersNumber,
-    }
-}
-
-/// What an instruction has in the operands that its line leaves out.
-fn left_out(instr: Instr) -> u64 {
+/// What the line of an instruction is made of: its form, the operands that it has, and what the others hold. `addi` takes its number with a
+/// sign.
+fn line_of(instr: Instr) -> (u64, u64, u64, u64, u64) {
     let Instr { op, a, b, c, n } = instr;
-    let (a, b, c, n) = (a as u64, b as u64, c as u64, n as u64);
-    match shape_of(op) {
-        Shape::Bare => a | b | c | n,
-        Shape::Number => a | b | c,
-        Shape::RegisterNumber => b | c,
-        Shape::TwoRegisters => c | n,
-        Shape::ThreeRegisters => n,
-        Shape::TwoRegistersNumber => c,
+    let (form, a, b, c, n) = (op as u64, a as u64, b as u64, c as u64, n as u64);
+    match op {
+        HALT | CALL => (form, 0, 0, 0, a | b | c | n),
+        JMP => (form, n, 0, 0, a | b | c),
+        SET | JZ | JNZ => (form, a, n, 0, b | c),
+        MOV => (form, a, b, 0, c | n),
+        ADD..=REM => (form, a, b, c, n),
+        ADDI if n >= 0x8000_0000 => (NEGATIVE, a, b, 0x1_0000_0000u64.saturating_sub(n), c),
+        _ => (form, a, b, n, c),
     }
 }
 
-/// The instruction in a word that the assembler can make: what its operands leave out is 0.
-pub fn plain_instruction(word: u64) -> Option<Instr> {
-    let instr = decode(word)?;
-    if left_out(instr) == 0 {
-        Some(instr)
+/// The form and the operands of the instruction in a word that the assembler can make: the operands that its line leaves out are 0.
+pub fn plain_instruction(word: u64) -> Option<(u64, u64, u64, u64)> {
+    let (form, one, two, three, others) = line_of(decode(word)?);
+    if others == 0 {
+        Some((form, one, two, three))
     } else {
         None
     }
 }
 
-/// Adds registers behind a name.
-fn push_registers(sheet: &mut Sheet, registers: &[u8]) {
-    let mut gap = " r";
-    for register in registers {
-        sheet.put_between(gap, *register as u64, "");
-        gap = ", r";
-    }
-}
-
-/// Adds the last operand: `addi` takes it with a sign.
-fn push_number(sheet: &mut Sheet, gap: &str, op: u8, number: u32) {
-    sheet.put(gap);
-    if op == ADDI && number >= 0x8000_0000 {
-        sheet.put_between("-", 0u32.wrapping_sub(number) as u64, "");
-    } else {
-        sheet.number(number as u64);
-    }
-}
-
 /// Adds the instruction that a word holds, as a line of a program's text has it; of any other word `word` and its number.
 pub fn push_instruction(sheet: &mut Sheet, word: u64) {
-    let Some(Instr { op, a, b, c, n }) = plain_instruction(word) else {
-        return sheet.put_between("word ", word, "");
-    };
-    sheet.put(NAMES.get(op as usize).copied().unwrap_or("call"));
-    match shape_of(op) {
-        Shape::Bare => {}
-        Shape::Number => push_number(sheet, " ", op, n),
-        Shape::RegisterNumber => {
-            push_registers(sheet, &[a]);
-            push_number(sheet, ", ", op, n);
-        }
-        Shape::TwoRegisters => push_registers(sheet, &[a, b]),
-        Shape::ThreeRegisters => push_registers(sheet, &[a, b, c]),
-        Shape::TwoRegistersNumber => {
-            push_registers(sheet, &[a, b]);
-            push_number(sheet, ", ", op, n);
-        }
+    match plain_instruction(word) {
+        Some((form, one, two, three)) => sheet.fill(line_at(FORMS, form), one, two, three),
+        None => sheet.put_between("word ", word, ""),
     }
 }

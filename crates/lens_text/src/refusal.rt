@@ -1,36 +1,31 @@
 //! Why a text is no scenario.
 use crate::problem::{Problem, given};
+use crate::sheet::line_at;
 use std::alloc::Global;
 
-/// What was expected of a scenario, by the rule by which it is refused.
-fn expected(rule: u8) -> &'static str {
-    match rule {
-        1 => "a TOML document",
-        2 => "the keys of this section, each that has to be there, with values of their types",
-        3 => "numbers and lengths in their ranges",
-        4 => "well-formed paths and names, a kind and a rule that there are",
-        5 => "a space in one that is there, once, with / first; an object in a space that is there",
-        6 => "a slot that is free, and bound once",
-        7 => "a path that leads to what its field can hold",
-        8 => "a program that is there and is assembled",
-        9 => "a port of the file that has no set and no other server; an alias once",
-        10 =>
-            "a nester of the file; to save a subtree without nesters and servers, and no image twice",
-        _ => "a job that can be done",
-    }
-}
+/// What was expected of a scenario, by the rule by which it is refused, and by any other.
+const EXPECTED: &str = "a job that can be done
+a TOML document
+the keys of this section, each that has to be there, with values of their types
+numbers and lengths in their ranges
+well-formed paths and names, a kind and a rule that there are
+a space in one that is there, once, with / first; an object in a space that is there
+a slot that is free, and bound once
+a path that leads to what its field can hold
+a program that is there and is assembled
+a port of the file that has no set and no other server; an alias once
+a nester of the file; to save a subtree without nesters and servers, and no image twice
+a job that can be done";
 
-/// How a section is headed.
-fn heading(section: u8) -> &'static str {
-    match section {
-        2 => "[programs]",
-        3 => "[[space]]",
-        4 => "[[object]]",
-        5 => "[[server]]",
-        6 => "[[job]]",
-        _ => "top",
-    }
-}
+/// How the sections are headed by their numbers, and what any other is.
+const HEADINGS: &str = "top
+top
+[programs]
+[[space]]
+[[object]]
+[[server]]
+[[job]]
+top";
 
 /// The number of the line that begins an entry, where the text has it under a heading of its own, with a comment behind that at most.
 fn line_of(text: &str, heading: &str, index: u32) -> Option<u64> {
@@ -52,7 +47,8 @@ fn line_of(text: &str, heading: &str, index: u32) -> Option<u64> {
 /// That a scenario is refused, by a rule at the entry of a section with this index: the line of the entry, where that is found, else its
 /// place in its section.
 pub fn refused_scenario(alloc: Global, text: &[u8], rule: u8, section: u8, index: u32) -> Problem {
-    let (heading, expected) = (heading(section), expected(rule));
+    let heading = line_at(HEADINGS, section as u64);
+    let expected = line_at(EXPECTED, rule as u64);
     let line = match str::from_utf8(text) {
         Ok(text) => line_of(text, heading, index),
         Err(_) => None,

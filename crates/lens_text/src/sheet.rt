@@ -1,6 +1,19 @@
 //! Text that is written piece by piece.
 use std::alloc::{AllocError, Global};
 
+/// The line with this number of a list of lines, or its last where it has fewer.
+pub fn line_at(list: &'static str, number: u64) -> &'static str {
+    let mut later = list;
+    for _ in 0..number {
+        let Some((_, behind)) = later.split_once('\n') else {
+            break;
+        };
+        later = behind;
+    }
+    let (line, _) = later.split_once('\n').unwrap_or((later, ""));
+    line
+}
+
 /// A text that is written piece by piece. Where there is no memory for one, that shows when the whole is asked for, so that who writes
 /// has no answer to look at after each.
 #[derive(Drop)]
@@ -39,6 +52,13 @@ impl Sheet {
         }
     }
 
+    /// Adds three pieces.
+    pub fn put_three(&mut self, one: &str, two: &str, three: &str) {
+        self.put(one);
+        self.put(two);
+        self.put(three);
+    }
+
     /// Adds a piece behind what stands there, if something does.
     pub fn gap(&mut self, piece: &str) {
         if !self.is_empty() {
@@ -57,6 +77,31 @@ impl Sheet {
         if write!(self.text, "{number}{behind}").is_err() {
             self.is_short = true;
         }
+    }
+
+    /// Adds a form: a text in which each `@` stands for the next of these numbers.
+    pub fn fill_all(&mut self, form: &str, numbers: &[u64]) {
+        let mut later = form;
+        for number in numbers {
+            let Some((before, behind)) = later.split_once('@') else {
+                break;
+            };
+            self.put_between(before, *number, "");
+            later = behind;
+        }
+        self.put(later);
+    }
+
+    /// Adds a form of three numbers at most.
+    pub fn fill(&mut self, form: &str, one: u64, two: u64, three: u64) {
+        self.fill_all(form, &[one, two, three]);
+    }
+
+    /// Adds a path between a text and a form of three numbers at most.
+    pub fn line(&mut self, before: &str, path: &str, form: &str, one: u64, two: u64, three: u64) {
+        self.put(before);
+        self.put(path);
+        self.fill(form, one, two, three);
     }
 
     /// Adds what another has.

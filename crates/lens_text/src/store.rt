@@ -9,6 +9,6 @@ mod threads;
 mod tree;
 
 pub use names::{handled, names_of, object_named, path_text, push_path};
-pub use objects::{object_text, push_extent, root_text};
+pub use objects::{last_of, object_text, root_text};
 pub use threads::{push_at, push_thread, word_at};
 pub use tree::tree_text;

@@ -1,23 +1,25 @@
 //! The verb `words`.
 use crate::instructions::push_instruction;
 use crate::problem::{Problem, given};
-use crate::sheet::Sheet;
+use crate::sheet::{Sheet, line_at};
 use fk_asm::{AsmError, AsmFail, assemble};
 use std::alloc::{AllocError, Global};
+
+/// What was expected of a program's text, by the reason for which it is refused, and by any other.
+const EXPECTED: &str = "no more than 16384 words
+an operation with exactly its operands, behind a label's name at most
+a number from -2147483648 to 4294967295, or a label's name
+a register, r0 to r15
+a label that no earlier line defines
+a label that some line defines
+no more than 16384 words";
 
 /// Why a program's text is refused: the line, and what was expected there.
 fn refused(alloc: Global, fail: AsmFail) -> Problem {
     let AsmFail::Text(AsmError { line, reason }) = fail else {
         return Problem::NoMemory;
     };
-    let expected = match reason {
-        1 => "an operation with exactly its operands, behind a label's name at most",
-        2 => "a number from -2147483648 to 4294967295, or a label's name",
-        3 => "a register, r0 to r15",
-        4 => "a label that no earlier line defines",
-        5 => "a label that some line defines",
-        _ => "no more than 16384 words",
-    };
+    let expected = line_at(EXPECTED, reason as u64);
     given(format!(in alloc; "standard input, line {line}: expected {expected}"))
 }
 

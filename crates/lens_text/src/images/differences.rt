@@ -33,10 +33,10 @@ fn pass<'a>(
         second: behind_other,
     };
     if !rest.first.is_empty() && !in_second.contains(one) {
-        sheet.puts(&["- ", one, "\n"]);
+        sheet.put_three("- ", one, "\n");
         next.second = rest.second;
     } else if !rest.second.is_empty() && !in_first.contains(other) {
-        sheet.puts(&["+ ", other, "\n"]);
+        sheet.put_three("+ ", other, "\n");
         next.first = rest.first;
     }
     next

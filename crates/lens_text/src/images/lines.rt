@@ -11,31 +11,25 @@ fn shown_path(path: &str) -> &str {
     if path.is_empty() { "/" } else { path }
 }
 
-/// Adds the line of a space's holder, where it is held.
-fn push_holder(sheet: &mut Sheet, shown: &str, paths: &[String], holder: Link) {
+/// Adds the line of a space, and that of its holder, where it is held.
+fn push_head(sheet: &mut Sheet, shown: &str, paths: &[String], holder: Link) {
+    sheet.put_three("space ", shown, "\n");
     match holder {
         Link::Null => {}
-        holder => push_pointer(sheet, shown, "held by", paths, holder),
+        holder => push_pointer(sheet, shown, " held by ", paths, holder),
     }
 }
 
-/// Adds the lines of a space: its own, that of its holder where it is held, those of its objects, those of its pages.
-fn push_space(
-    sheet: &mut Sheet,
-    path: &str,
-    paths: &[String],
-    space: &SpaceRec,
-) -> Result<(), AllocError> {
+/// Adds the lines of a space: its own, that of its holder, those of its objects, those of its pages.
+fn push_space(sheet: &mut Sheet, path: &str, paths: &[String], space: &SpaceRec) {
     let shown = shown_path(path);
-    sheet.puts(&["space ", shown, "\n"]);
-    push_holder(sheet, shown, paths, space.holder);
+    push_head(sheet, shown, paths, space.holder);
     for object in space.objects.as_slice() {
-        push_object(sheet, path, paths, object)?;
+        push_object(sheet, path, paths, object);
     }
     for page in space.pages.as_slice() {
         push_page(sheet, shown, page);
     }
-    Ok(())
 }
 
 /// An image, space by space in its order.
@@ -52,7 +46,7 @@ pub fn text_of(alloc: Global, image: &Image) -> Result<String, AllocError> {
         let Some((space, rest)) = later.split_first() else {
             break;
         };
-        push_space(&mut sheet, path.as_str(), &paths, space)?;
+        push_space(&mut sheet, path.as_str(), &paths, space);
         later = rest;
     }
     sheet.done()

@@ -11,7 +11,7 @@ fn filled(words: &[u64; 64]) -> (usize, bool) {
     for at in 0..64usize {
         if words[at] != 0 {
             count = at + 1;
-            is_program = is_program || plain_instruction(words[at]).is_some();
+            is_program = is_program | plain_instruction(words[at]).is_some();
         }
     }
     (count, is_program)
@@ -19,8 +19,7 @@ fn filled(words: &[u64; 64]) -> (usize, bool) {
 
 /// Adds the line of a word.
 fn push_word(sheet: &mut Sheet, path: &str, address: u64, word: u64, is_program: bool) {
-    sheet.puts(&["word ", path]);
-    sheet.put_between(" ", address, " ");
+    sheet.line("word ", path, " @ ", address, 0, 0);
     if is_program {
         push_instruction(sheet, word);
     } else {
@@ -33,12 +32,18 @@ fn push_word(sheet: &mut Sheet, path: &str, address: u64, word: u64, is_program:
 /// isn't 0, and then each of these.
 pub fn push_page(sheet: &mut Sheet, path: &str, page: &PageRec) {
     let (count, is_program) = filled(&page.words);
-    sheet.puts(&["page ", path]);
-    sheet.put_between(" ", page.page as u64, ", words ");
-    sheet.put_between("", count as u64, " and then 0\n");
+    let number = page.page as u64;
+    sheet.line(
+        "page ",
+        path,
+        " @, words @ and then 0\n",
+        number,
+        count as u64,
+        0,
+    );
     for at in 0..64usize {
         if at < count {
-            let address = page.page as u64 * 64 + at as u64;
+            let address = number * 64 + at as u64;
             push_word(sheet, path, address, page.words[at], is_program);
         }
     }

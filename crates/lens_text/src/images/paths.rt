@@ -28,25 +28,25 @@ pub fn paths_of(alloc: Global, spaces: &[SpaceRec]) -> Result<Vec<String>, Alloc
 
 /// Adds where a pointer leads.
 fn push_link(sheet: &mut Sheet, paths: &[String], link: Link) {
-    match link {
-        Link::Null => sheet.put("null"),
-        Link::Dead => sheet.put("dead"),
-        Link::In { slot, space } => match paths.get(space as usize) {
-            Some(path) => {
-                sheet.put(path.as_str());
-                sheet.put_between("/", slot as u64, "");
-            }
-            None => sheet.put("nothing"),
-        },
-        Link::Out(slot) => sheet.put_between("out ", slot as u64, ""),
-        Link::Root => sheet.put("/"),
-        Link::Outside => sheet.put("outside"),
-    }
+    let text = match link {
+        Link::Null => "null",
+        Link::Dead => "dead",
+        Link::Root => "/",
+        Link::Outside => "outside",
+        Link::Out(slot) => return sheet.put_between("out ", slot as u64, ""),
+        Link::In { slot, space } => {
+            return match paths.get(space as usize) {
+                Some(path) => sheet.line("", path.as_str(), "/@", slot as u64, 0, 0),
+                None => sheet.put("nothing"),
+            };
+        }
+    };
+    sheet.put(text);
 }
 
-/// Adds the line of a pointer of a space or an object with this path, by what it is called.
+/// Adds the line of a pointer of a space or an object with this path, by what it is called, between blanks.
 pub fn push_pointer(sheet: &mut Sheet, path: &str, name: &str, paths: &[String], link: Link) {
-    sheet.puts(&["pointer ", path, " ", name, " "]);
+    sheet.put_three("pointer ", path, name);
     push_link(sheet, paths, link);
     sheet.put("\n");
 }

@@ -53,8 +53,8 @@ pub fn path_text(alloc: Global, store: &Store, who: Who) -> Result<String, Alloc
 /// Adds where a pointer leads, behind a text.
 pub fn push_pointer(sheet: &mut Sheet, store: &Store, before: &str, pointer: Ptr) {
     match pointer {
-        Ptr::Null => sheet.puts(&[before, "nothing"]),
-        Ptr::Dead => sheet.puts(&[before, "what was destroyed"]),
+        Ptr::Null => sheet.put_three(before, "nothing", ""),
+        Ptr::Dead => sheet.put_three(before, "what was destroyed", ""),
         Ptr::At(who) => push_path(sheet, store, before, who, ""),
     }
 }

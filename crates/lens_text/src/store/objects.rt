@@ -1,35 +1,35 @@
 //! Objects in words.
-use crate::sheet::Sheet;
+use crate::sheet::{Sheet, line_at};
 use crate::store::names::{push_path, push_pointer};
 use crate::store::threads::push_thread;
 use fk_model::{Body, Who};
 use fk_store::Store;
 use std::alloc::{AllocError, Global};
 
-/// Whether pages are written to.
-fn access_of(write: bool) -> &'static str {
-    if write { ", writable" } else { ", read only" }
-}
+/// Mappings that are only read, and those that are written to.
+const MAPPINGS: &str = "mapping of pages @ to @, read only, from page @
+mapping of pages @ to @, writable, from page @";
 
-/// Adds the pages from one on, behind a text.
-pub fn push_extent(sheet: &mut Sheet, before: &str, first: u8, count: u16, write: bool) {
-    let last = first as u64 + count.saturating_sub(1) as u64;
-    sheet.put_between(before, first as u64, " to ");
-    sheet.put_between("", last, access_of(write));
+/// The same of regions.
+const REGIONS: &str = "region of pages @ to @, read only
+region of pages @ to @, writable";
+
+/// The last of so many pages from one on.
+pub fn last_of(first: u8, count: u16) -> u64 {
+    first as u64 + count.saturating_sub(1) as u64
 }
 
 /// Adds a port, and who serves it.
 fn push_port(sheet: &mut Sheet, store: &Store, who: Who, set: Option<u8>, served: bool) {
-    sheet.put("port");
     match (served, set) {
         (true, _) => {
-            sheet.put(" with a native server");
+            sheet.put("port with a native server");
             if let Some(client) = store.client_at(who) {
                 push_path(sheet, store, ", whose client is ", client, "");
             }
         }
-        (false, Some(slot)) => sheet.put_between(" in the set of slot ", slot as u64, ""),
-        (false, None) => {}
+        (false, Some(slot)) => sheet.put_between("port in the set of slot ", slot as u64, ""),
+        (false, None) => sheet.put("port"),
     }
 }
 
@@ -77,8 +77,8 @@ fn push_pointing(sheet: &mut Sheet, store: &Store, body: &Body) {
             write,
             region,
         } => {
-            push_extent(sheet, "mapping of pages ", *first, *count, *write);
-            sheet.put_between(", from page ", *offset as u64, "");
+            let (form, last) = (line_at(MAPPINGS, *write as u64), last_of(*first, *count));
+            sheet.fill(form, *first as u64, last, *offset as u64);
             push_pointer(sheet, store, " on of region ", *region);
         }
         Body::Region {
@@ -87,7 +87,8 @@ fn push_pointing(sheet: &mut Sheet, store: &Store, body: &Body) {
             write,
             keeper,
         } => {
-            push_extent(sheet, "region of pages ", *first, *count, *write);
+            let (form, last) = (line_at(REGIONS, *write as u64), last_of(*first, *count));
+            sheet.fill(form, *first as u64, last, 0);
             push_pointer(sheet, store, ", kept by ", *keeper);
         }
         Body::Reference { to } => push_pointer(sheet, store, "reference to ", *to),

@@ -1,7 +1,7 @@
 //! Threads in words.
 use crate::calls::push_call;
 use crate::instructions::push_instruction;
-use crate::sheet::Sheet;
+use crate::sheet::{Sheet, line_at};
 use crate::statuses::halt_text;
 use crate::store::names::push_path;
 use fk_model::{Fault, Mode, Peer, Talk, Thread, Turn, Who};
@@ -31,8 +31,7 @@ pub fn push_at(sheet: &mut Sheet, store: &Store, who: Who, thread: &Thread) {
             push_call(sheet, &thread.regs);
         }
         Mode::Halted(code) => {
-            sheet.put_between("halted ", code as u64, "");
-            sheet.put_between(" at ", thread.pc, ": ");
+            sheet.fill("halted @ at @: ", code as u64, thread.pc, 0);
             sheet.put(halt_text(code));
         }
         Mode::Native => sheet.put("a porter"),
@@ -43,23 +42,18 @@ pub fn push_at(sheet: &mut Sheet, store: &Store, who: Who, thread: &Thread) {
 fn push_peer(sheet: &mut Sheet, store: &Store, before: &str, peer: Peer) {
     match peer {
         Peer::Thread(who) => push_path(sheet, store, before, who, ""),
-        Peer::Service => sheet.puts(&[before, "the port's native server"]),
-        Peer::Parked => sheet.puts(&[before, "nobody yet (parked)"]),
+        Peer::Service => sheet.put_three(before, "the port's native server", ""),
+        Peer::Parked => sheet.put_three(before, "nobody yet (parked)", ""),
     }
 }
 
-/// What a fault was raised by.
-fn what_of(write: bool) -> &'static str {
-    if write {
-        "; fault, write of page "
-    } else {
-        "; fault, read of page "
-    }
-}
+/// Faults by a read, and those by a write.
+const FAULTS: &str = "; fault, read of page @
+; fault, write of page @";
 
 /// Adds a fault.
 fn push_fault(sheet: &mut Sheet, store: &Store, fault: &Fault) {
-    sheet.put_between(what_of(fault.write), fault.page as u64, "");
+    sheet.fill(line_at(FAULTS, fault.write as u64), fault.page as u64, 0, 0);
     match fault.taker {
         None => push_path(sheet, store, ", raised at ", fault.port, ""),
         Some(taker) => {
@@ -69,20 +63,16 @@ fn push_fault(sheet: &mut Sheet, store: &Store, fault: &Fault) {
     }
 }
 
-/// Whose turn it is in a talk.
-fn turn_of(turn: Turn) -> &'static str {
-    match turn {
-        Turn::Client => ", client's turn, words moved ",
-        Turn::Server => ", server's turn, words moved ",
-    }
-}
-
 /// Adds a talk of a client, if there is one.
 fn push_talk(sheet: &mut Sheet, store: &Store, talk: Option<Talk>) {
     if let Some(talk) = talk {
         push_path(sheet, store, "; talk at ", talk.port, "");
         push_peer(sheet, store, " with ", talk.peer);
-        sheet.put_between(turn_of(talk.turn), talk.moved as u64, "");
+        let turn = match talk.turn {
+            Turn::Client => ", client's turn, words moved ",
+            Turn::Server => ", server's turn, words moved ",
+        };
+        sheet.put_between(turn, talk.moved as u64, "");
     }
 }
 
