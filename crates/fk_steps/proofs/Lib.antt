@@ -8,3 +8,4 @@ pub mod Acts
 pub mod Went
 pub mod Beside
 pub mod Known
+pub mod Unknown

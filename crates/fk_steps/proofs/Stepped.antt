@@ -32,7 +32,7 @@ use Rattle.fk_wakes.specs.declared.touching.Touched.{Touched}
 use Rattle.fk_wakes.specs.declared.touching.Touched.TheVariants.{Any, Dies, Few, Makes, Moves}
 use Rattle.fk_wakes.specs.Touches.{is_making}
 use Rattle.laws_machine.proofs.validity.Steps.{step_keeps_valid_lem}
-use Rattle.fk_steps.specs.Steps.{may_make, was_made, HasSeat, IsPut, IsQuietFrom, IsWider, MayBeQuiet}
+use Rattle.fk_steps.specs.Steps.{is_porter_at, may_make, was_made, ComesByPorter, HasSeat, IsPut, IsQuietFrom, IsWider, MayBeQuiet}
 use Rattle.fk_steps.proofs.Giving.{lacks_gives, stood_before}
 use Rattle.fk_steps.proofs.Went.{free_when_ready}
 
@@ -161,6 +161,16 @@ module _ (m n : Contents) (move : Move) (ask : Ask) (valid : IsValid (world m)) 
         by (Few first second third) e = tt
         by Any e = tt
         by (Dies object) e = tt
+
+    -- a porter's
+    pub comes_by : (waits marks : Lists) → AreKept m waits marks → (may_make m move ask ≡ true → HasSeat waits marks) → (told : Told) →
+        IsMade m move ask n (Some told) → TellsOf m move ask touched (Some told) → is_porter_at m move.who ≡ true →
+        ComesByPorter n move.who touched waits marks
+    unfolding comes
+    comes_by waits marks kept room told made tells porter = record {
+      comes = comes waits marks kept (seat_by waits marks kept room told.said made.1 tells) told.said made.0 made.1 tells;
+      porter = porter;
+    }
 
     pub comes_tried : {E : Type 0} (waits marks : Lists) (r : Result (Option Told) E) → AreKept m waits marks →
         (may_make m move ask ≡ true → HasSeat waits marks) → IfOk r (IsMade m move ask n) → IfOk r (TellsOf m move ask touched) →

@@ -10,7 +10,9 @@ use Rattle.fk_model.specs.declared.thread.Peer.TheVariants as peers
 use Rattle.fk_model.specs.declared.thread.Talk.{Talk}
 use Rattle.fk_model.specs.declared.thread.Mode.TheVariants as modes
 use Rattle.fk_model.specs.declared.thread.Thread as threads_of
-use Rattle.fk_model.specs.Objects.{holds}
+use Rattle.fk_model.specs.Holds.{is_porter}
+use Rattle.fk_model.specs.Objects.{Thread, holds}
+use Rattle.fk_model.specs.Searches.{thread_at}
 use Rattle.fk_turns_next.specs.Tellings.{Told}
 use Rattle.fk_model.specs.declared.moves.Ask.TheVariants as asks
 use Rattle.fk_model.specs.declared.stage.Stage.{Stage}
@@ -19,11 +21,11 @@ use Rattle.fk_store.specs.Contents.{Contents}
 use Rattle.fk_store.specs.Moves.{picked_by}
 use Rattle.fk_store.specs.Paths.{path, place}
 use Rattle.fk_store.specs.Threads.{todo_at}
-use Rattle.fk_store.specs.World.{world}
-use Rattle.fk_turns.specs.Turns.{all_marks, loud_cause, IsSound}
+use Rattle.fk_store.specs.World.{world, place_of}
+use Rattle.fk_turns.specs.Turns.{all_marks, loud_cause, AreMet, IsFreed, IsRoused, IsSound}
 use Rattle.fk_turns_told.specs.Kept.{is_user_at, AreKept}
-use Rattle.fk_turns_next.specs.Waiting.{IsPlaced, Standing}
-use Rattle.fk_turns_told.specs.Moved.{is_it, is_named, IsMoved}
+use Rattle.fk_turns_next.specs.Waiting.{ComesAfter, IsPlaced, Standing}
+use Rattle.fk_turns_told.specs.Moved.{is_it, is_named, is_put, IsMoved}
 use Rattle.fk_turns_told.specs.Told.{name_after, runs_on_at, IsQuietTo}
 use Rattle.fk_waits.specs.Lists.{is_cause, is_queued, stands, woken, Lists}
 use Rattle.fk_waits_names.specs.Names.{is_same}
@@ -138,6 +140,25 @@ IsOneApart n mover name waits = (x : Who) → is_same mover x ≡ false → is_i
 -- so it is of all that a move touched, besides who moved
 abbrev pub AreApart : Contents → Who → Touched → Lists → Type 0
 AreApart n mover touched waits = (x : Who) → is_same mover x ≡ false → is_named touched x ≡ true → IsApartAt n x waits
+
+-- none that a move touched stood, and what it put somewhere is no user's thread
+abbrev pub AreUnknown : Contents → Touched → Lists → Type 0
+AreUnknown n touched waits = (x : Who) → is_named touched x ≡ true → (stands x waits ≡ false) × (is_put touched x ≡ true → is_user_at n x ≡ false)
+
+-- a porter is there
+abbrev pub is_porter_at : Contents → Who → Bool
+is_porter_at m who = holds (λ (t : Thread). is_porter t.mode) (thread_at (world m) (place_of m who))
+
+-- the move was a porter's
+pub record ComesByPorter (n : Contents) (mover : Who) (touched : Touched) (waits marks : Lists) : Type 0 where
+  pub comes : ComesAfter n mover touched waits marks
+  pub porter : is_porter_at comes.before mover ≡ true
+
+-- whom these may free is ready, and all else is as it was
+pub record AreRousedAt (told : Who → Bool) (waits marks now then_marks : Lists) : Type 0 where
+  pub roused : IsRoused waits now
+  pub met : AreMet (all_marks waits marks) (all_marks now then_marks) now
+  pub freed : (key : Who) → told key ≡ true → IsFreed key (all_marks waits marks) now
 
 -- nobody is queued, or nobody whom any move may free
 abbrev pub IsCalm : Lists → Lists → Type 0

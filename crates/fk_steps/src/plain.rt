@@ -1,18 +1,21 @@
 //! Moves after which only who moved is looked at, and most often not even that.
-ghost use Rattle.std.specs.Prelude.{◌≡◌, [], true, None};
+ghost use Rattle.std.specs.Prelude.{◌≡◌, ◌||◌, [], true, false, None};
 ghost use Rattle.std.specs.Bool.{OnTrue, OnFalse};
 ghost use Rattle.fk_model.specs.Valid.{IsValid};
 ghost use Rattle.fk_store.specs.Names.{at};
 ghost use Rattle.fk_store.specs.World.{world, place_of};
-ghost use Rattle.fk_turns.specs.Turns.{IsSound};
+ghost use Rattle.fk_turns.specs.Turns.{all_marks, loud_cause, IsFreed, IsSound};
+ghost use Rattle.fk_model.specs.declared.names.Who as whos_of;
+ghost use Rattle.fk_waits.specs.Lists.{is_in, is_queued, stands};
 ghost use Rattle.fk_waits_names.specs.Names as names_of;
 ghost use Rattle.fk_turns_told.specs.Kept.{is_user_at, AreKept};
-ghost use Rattle.fk_turns_told.specs.Moved.{now_named};
+ghost use Rattle.fk_turns_told.specs.Moved.{is_it, now_named};
 ghost use Rattle.fk_turns_next.specs.Runs.{is_under_way_at};
 ghost use Rattle.fk_turns_next.specs.Waiting.{standing, ComesAfter, IsMoveReady, IsPlaced};
 ghost use Rattle.fk_steps.specs.Steps as steps_of;
 ghost use Rattle.fk_turns_told.specs.Told.{runs_on_at};
-ghost use Rattle.fk_steps.specs.Steps.{touches_only, AreApart, IsApartAt, IsCalm, IsGentle, IsOneApart, IsQuietFrom, IsTurned, MayBeQuiet};
+ghost use Rattle.fk_steps.specs.Steps.{touches_only, AreApart, AreRousedAt, AreUnknown, ComesByPorter, IsApartAt};
+ghost use Rattle.fk_steps.specs.Steps.{IsCalm, IsGentle, IsOneApart, IsQuietFrom, IsTurned, MayBeQuiet};
 
 use fk_model::{Ask, Mode, Move, Peer, Thread, Who};
 use fk_store::Store;
@@ -150,6 +153,132 @@ pub fn after_still(turns: &mut Turns, store: &Store, mover: Who, touched: &Touch
         return;
     }
     after(turns, store, mover, touched);
+}
+
+/// The lists after a porter's call. Where nothing that it touched stood or is a user's thread now, only whom it may have freed is looked at.
+#[inline(always)]
+pub fn after_call(turns: &mut Turns, store: &Store, mover: Who, touched: &Touched)
+    requires valid { IsValid (world store.now) }
+    requires comes { ComesByPorter store.now mover touched.now turns.old.waits turns.old.marks }
+    ensures kept { AreKept store.now turns.new.waits turns.new.marks }
+    ensures placed { is_user_at store.now (now_named mover touched.now) ≡ true
+        → IsPlaced store.now (standing turns.new.waits) (now_named mover touched.now) }
+{
+    if !are_unknown(turns, store, touched) {
+        after(turns, store, mover, touched);
+        return;
+    }
+    if is_none_queued(turns) {
+        return;
+    }
+    after_unknown(turns, store, mover, touched);
+}
+
+/// The same where nothing that it touched stood.
+#[inline(never)]
+fn after_unknown(turns: &mut Turns, store: &Store, mover: Who, touched: &Touched)
+    requires valid { IsValid (world store.now) }
+    requires comes { ComesByPorter store.now mover touched.now turns.old.waits turns.old.marks }
+    requires unknown { AreUnknown store.now touched.now turns.old.waits }
+    ensures kept { AreKept store.now turns.new.waits turns.new.marks }
+    ensures placed { is_user_at store.now (now_named mover touched.now) ≡ true
+        → IsPlaced store.now (standing turns.new.waits) (now_named mover touched.now) }
+{
+    match *touched {
+        Touched::Few {
+            first,
+            second,
+            third,
+        } => rouse_few(turns, first, second, third),
+        Touched::Makes { object } => rouse_few(turns, Some(object), None, None),
+        Touched::Any | Touched::Dies { .. } | Touched::Moves { .. } => {
+            after(turns, store, mover, touched);
+        }
+    }
+}
+
+/// Whom these may free is ready, and whom any move may.
+fn rouse_few(turns: &mut Turns, first: Option<Who>, second: Option<Who>, third: Option<Who>)
+    requires sound { IsSound turns.old.waits turns.old.marks }
+    ensures sound { IsSound turns.new.waits turns.new.marks }
+    ensures roused { AreRousedAt (λ x. is_it first x || (is_it second x || is_it third x))
+        turns.old.waits turns.old.marks turns.new.waits turns.new.marks }
+    ensures gone { (x : whos_of.Who) → is_in x turns.old.marks.ready ≡ true → is_queued x turns.new.waits.queued ≡ false }
+    ensures loud { IsFreed loud_cause (all_marks turns.old.waits turns.old.marks) turns.new.waits }
+{
+    turns.rouse_marked();
+    rouse_one(turns, first);
+    rouse_one(turns, second);
+    rouse_one(turns, third);
+}
+
+/// Whom this may free is ready, if it is one.
+fn rouse_one(turns: &mut Turns, name: Option<Who>)
+    requires sound { IsSound turns.old.waits turns.old.marks }
+    ensures sound { IsSound turns.new.waits turns.new.marks }
+    ensures roused { AreRousedAt (is_it name) turns.old.waits turns.old.marks turns.new.waits turns.new.marks }
+{
+    match name {
+        Some(who) => turns.rouse_at(who),
+        None => {}
+    }
+}
+
+/// Nothing that was touched stood, and what it put somewhere is no user's thread.
+fn are_unknown(turns: &Turns, store: &Store, touched: &Touched) -> bool
+    ensures { OnTrue result (AreUnknown store.now touched.now turns.now.waits) }
+{
+    match *touched {
+        Touched::Few {
+            first,
+            second,
+            third,
+        } => are_few_unknown(turns, first, second, third),
+        Touched::Makes { object } => is_apart_at(turns, store, object),
+        Touched::Any => true,
+        Touched::Dies { object } => is_unknown(turns, object),
+        Touched::Moves { object, slot } => is_shifted_apart(turns, store, object, slot),
+    }
+}
+
+/// None of these stood.
+fn are_few_unknown(
+    turns: &Turns,
+    first: Option<Who>,
+    second: Option<Who>,
+    third: Option<Who>,
+) -> bool
+    ensures first { OnTrue result ((x : whos_of.Who) → is_it first x ≡ true → stands x turns.now.waits ≡ false) }
+    ensures second { OnTrue result ((x : whos_of.Who) → is_it second x ≡ true → stands x turns.now.waits ≡ false) }
+    ensures third { OnTrue result ((x : whos_of.Who) → is_it third x ≡ true → stands x turns.now.waits ≡ false) }
+{
+    if !is_one_unknown(turns, first) {
+        return false;
+    }
+    if !is_one_unknown(turns, second) {
+        return false;
+    }
+    is_one_unknown(turns, third)
+}
+
+/// This didn't stand, if it is one.
+fn is_one_unknown(turns: &Turns, name: Option<Who>) -> bool
+    ensures { OnTrue result ((x : whos_of.Who) → is_it name x ≡ true → stands x turns.now.waits ≡ false) }
+{
+    match name {
+        Some(who) => is_unknown(turns, who),
+        None => true,
+    }
+}
+
+/// Nobody stands by this name.
+fn is_unknown(turns: &Turns, who: Who) -> bool
+    ensures { OnTrue result (stands who turns.now.waits ≡ false) }
+{
+    if turns.knows(who) {
+        return false;
+    }
+    true
 }
 
 /// It was an instruction of a thread that runs on, and nobody else need be looked at.

@@ -13,14 +13,14 @@ ghost use Rattle.fk_turns_next.specs.Tried.{tried_of, IsMade, HasEnded, IsTold, 
 ghost use Rattle.fk_turns_told.specs.Kept.{is_user_at, AreKept};
 ghost use Rattle.fk_turns_told.specs.Moved.{now_named};
 ghost use Rattle.fk_turns_next.specs.Waiting.{standing, ComesAfter, IsPlaced};
-ghost use Rattle.fk_steps.specs.Steps.{was_made, IsPut, MayBeQuiet};
+ghost use Rattle.fk_steps.specs.Steps.{was_made, ComesByPorter, IsPut, MayBeQuiet};
 
-use crate::plain::{after_off, after_on, after_plain, after_stay};
+use crate::plain::{after_call, after_off, after_on, after_plain, after_stay};
 use crate::room::{reserve_for, reserve_for_stage, seat_for};
 use fk_model::{Ask, Move, NoMemory, Said, Stage, Who};
 use fk_store::Store;
 use fk_turns::Turns;
-use fk_turns_next::{Ran, Sent, Told, after};
+use fk_turns_next::{Ran, Sent, Told};
 use fk_wakes::Touched;
 
 /// Makes a move where it is ready, as `fk_turns_next::attempt` does, and keeps the lists: who moved is in its place.
@@ -95,21 +95,6 @@ fn is_made(tried: &Result<Option<Told>, NoMemory>) -> bool
 }
 
 /// The lists after a move, if one was made.
-fn after_if(turns: &mut Turns, store: &Store, made: bool, mover: Who, touched: &Touched)
-    requires valid { IsValid (world store.now) }
-    requires comes { OnTrue made (ComesAfter store.now mover touched.now turns.old.waits turns.old.marks) }
-    requires kept { OnFalse made (AreKept store.now turns.old.waits turns.old.marks) }
-    ensures kept { AreKept store.now turns.new.waits turns.new.marks }
-    ensures placed { OnTrue made (is_user_at store.now (now_named mover touched.now) ≡ true
-        → IsPlaced store.now (standing turns.new.waits) (now_named mover touched.now)) }
-    ensures still { OnFalse made (standing turns.new.waits ≡ standing turns.old.waits) }
-{
-    if made {
-        after(turns, store, mover, touched);
-    }
-}
-
-/// The same after a move that most often touches nobody but who moved.
 #[inline(always)]
 fn after_plain_if(
     turns: &mut Turns,
@@ -130,6 +115,22 @@ fn after_plain_if(
 {
     if made {
         after_plain(turns, store, mover, touched, ran);
+    }
+}
+
+/// The lists after a porter's call, if it was made.
+#[inline(always)]
+fn after_call_if(turns: &mut Turns, store: &Store, made: bool, mover: Who, touched: &Touched)
+    requires valid { IsValid (world store.now) }
+    requires comes { OnTrue made (ComesByPorter store.now mover touched.now turns.old.waits turns.old.marks) }
+    requires kept { OnFalse made (AreKept store.now turns.old.waits turns.old.marks) }
+    ensures kept { AreKept store.now turns.new.waits turns.new.marks }
+    ensures placed { OnTrue made (is_user_at store.now (now_named mover touched.now) ≡ true
+        → IsPlaced store.now (standing turns.new.waits) (now_named mover touched.now)) }
+    ensures still { OnFalse made (standing turns.new.waits ≡ standing turns.old.waits) }
+{
+    if made {
+        after_call(turns, store, mover, touched);
     }
 }
 
@@ -167,7 +168,7 @@ pub fn call(
     let made = fk_turns_next::call(store, m, stage, words, told, &mut touched);
     // And so they do in the world that the move leaves.
     store.names();
-    after_if(turns, store, is_done(&made), m.who, &touched);
+    after_call_if(turns, store, is_done(&made), m.who, &touched);
     made
 }
 
