@@ -23,8 +23,8 @@ use Rattle.fk_steps.specs.Told.{IsQuietTo, IsStored}
 use Rattle.fk_steps.proofs.Known.{same_name, user_there}
 use Rattle.fk_waits.specs.Lists.{Lists}
 use Rattle.fk_waits_causes.proofs.Numbers.{clash}
-use Rattle.fk_waits_names.specs.Names.{is_same}
-use Rattle.fk_waits_names.proofs.Order.{same_who}
+use Rattle.fk_waits_causes.specs.Names.{is_same}
+use Rattle.fk_waits_causes.proofs.Order.{same_who}
 use Rattle.fk_wakes.specs.declared.touching.Touched.{Touched}
 use Rattle.fk_wakes.specs.declared.touching.Touched.TheVariants.{Few}
 use Rattle.fk_whys.specs.declared.whys.Why.{Why}

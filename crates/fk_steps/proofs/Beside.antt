@@ -10,14 +10,14 @@ use Rattle.fk_store.specs.Names.{at}
 use Rattle.fk_store.specs.World.{world, place_of}
 use Rattle.fk_turns.specs.Turns.{IsSound}
 use Rattle.fk_turns.proofs.Woken.{stands_woken}
-use Rattle.fk_turns_told.specs.Kept.{is_user_at, AreKept}
-use Rattle.fk_turns_told.specs.Moved.{is_it, is_named, now_named}
+use Rattle.fk_turns_moved.specs.Kept.{is_user_at, AreKept}
+use Rattle.fk_turns_moved.specs.Moved.{is_it, is_named, now_named}
 use Rattle.fk_turns_next.specs.Judgements.{IsReadyMove}
 use Rattle.fk_turns_next.specs.Waiting.{ComesAfter, IsMoveReady}
 use Rattle.fk_waits.specs.Lists.{is_queued, stands, without_queued, Lists}
 use Rattle.fk_waits_causes.proofs.Numbers.{clash}
-use Rattle.fk_waits_names.specs.Names.{is_same}
-use Rattle.fk_waits_names.proofs.Order.{same_who}
+use Rattle.fk_waits_causes.specs.Names.{is_same}
+use Rattle.fk_waits_causes.proofs.Order.{same_who}
 use Rattle.fk_wakes.specs.declared.touching.Touched.{Touched}
 use Rattle.fk_wakes.specs.declared.touching.Touched.TheVariants.{Any, Dies, Few, Makes, Moves}
 use Rattle.fk_steps.specs.Steps.{AreApart, IsApartAt, IsOneApart, IsTurned}

@@ -8,7 +8,7 @@ use Rattle.fk_model.specs.declared.stage.Stage.{Stage}
 use Rattle.fk_model.specs.declared.stage.Stage.TheVariants.{Create, PageGive, SpaceMakeHeld}
 use Rattle.fk_model.specs.Moves.{outcome, step}
 use Rattle.fk_model.specs.Objects.{Mode, Thread}
-use Rattle.fk_model.specs.Objects.Mode.{Calling, Halted, Native, Running}
+use Rattle.fk_model.specs.Objects.Mode.{Calling}
 use Rattle.fk_model.specs.Outcomes.{listed}
 use Rattle.fk_model.specs.Places.{Path}
 use Rattle.fk_model.specs.Searches.{depth, thread_at}
@@ -21,8 +21,8 @@ use Rattle.fk_store.specs.Threads.{todo_at, todo_of_mode, todo_of_thread}
 use Rattle.fk_store.specs.World.{world, place_of}
 use Rattle.fk_turns_next.specs.Judgements.{may_lack}
 use Rattle.fk_turns_next.specs.Rows.{first_takes_memory, takes_memory}
-use Rattle.fk_turns_told.specs.Kept.{is_user_at}
-use Rattle.fk_turns_told.proofs.Told.{user_there}
+use Rattle.fk_turns_moved.specs.Kept.{is_user_at}
+use Rattle.fk_turns_moved.proofs.Told.{user_there}
 use Rattle.laws_users.specs.Stood.{gives, gives_first, is_giving, is_users_at, put}
 use Rattle.laws_users.proofs.Gives.{gives_put_nothing}
 use Rattle.laws_users.proofs.Named.{names_stood}

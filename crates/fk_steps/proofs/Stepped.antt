@@ -14,18 +14,18 @@ use Rattle.fk_model.specs.Who.{space_born}
 use Rattle.fk_store.specs.Contents.{Contents}
 use Rattle.fk_store.specs.Moves.{picked_by}
 use Rattle.fk_store.specs.Paths.{path, place}
-use Rattle.fk_store.specs.World.{world, place_of}
+use Rattle.fk_store.specs.World.{world}
 use Rattle.fk_turns_next.specs.Tellings.{Told}
 use Rattle.fk_turns_next.specs.Judgements.{is_fit_move, may_lack, IsReadyMove, IsStepTo, TellsTouched}
 use Rattle.fk_turns_next.specs.Tried.{IsLacking, IsMade, IsUnready, TellsOf}
 use Rattle.fk_turns.specs.Turns.{all_marks, waits_at}
-use Rattle.fk_turns_told.specs.Kept.{is_user_at, AreKept}
-use Rattle.fk_turns_told.specs.Moved.{now_named, HasPlaceFor, HasRoom, IsLeft, IsMoved}
+use Rattle.fk_turns_moved.specs.Kept.{is_user_at, AreKept}
+use Rattle.fk_turns_moved.specs.Moved.{now_named, HasPlaceFor, HasRoom, IsLeft, IsMoved}
 use Rattle.fk_turns_next.specs.Waiting.{standing, ComesAfter, IsPlaced}
-use Rattle.fk_turns_told.specs.Told.{runs_on_at, IsMadeTo, IsRunning, IsStored, IsToldOf}
-use Rattle.fk_turns_told.proofs.After.{refiled}
-use Rattle.fk_turns_told.proofs.Quiet.{told_quiet}
-use Rattle.fk_turns_told.proofs.Told.{told_moves_leave, told_names}
+use Rattle.fk_turns_moved.specs.Told.{runs_on_at, IsMadeTo, IsRunning, IsStored, IsToldOf}
+use Rattle.fk_turns_moved.proofs.After.{refiled}
+use Rattle.fk_turns_moved.proofs.Quiet.{told_quiet}
+use Rattle.fk_turns_moved.proofs.Told.{told_moves_leave, told_names}
 use Rattle.fk_waits.specs.Lists.{is_in, is_queued, stands, Lists}
 use Rattle.fk_waits_causes.proofs.Numbers.{clash}
 use Rattle.fk_wakes.specs.declared.touching.Touched.{Touched}

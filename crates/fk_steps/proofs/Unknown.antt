@@ -26,13 +26,13 @@ use Rattle.fk_turns_next.specs.Judgements.{is_fit_move}
 use Rattle.fk_turns_next.specs.Tried.{IsMade, TellsOf}
 use Rattle.fk_turns.specs.Turns.{all_marks, free_cause, loud_cause, waits_at, AreMet, IsFreed, IsRoused, IsSound}
 use Rattle.fk_turns.proofs.Roused.{freed_later, gone_later, met_both, met_none, met_then, roused_none, roused_then}
-use Rattle.fk_turns_told.specs.Kept.{is_user_at, AreKept, IsFiled, IsFiledAs}
-use Rattle.fk_turns_told.specs.Moved.{is_it, is_named, is_put, is_told, is_wide, now_named, IsMoved}
+use Rattle.fk_turns_moved.specs.Kept.{is_user_at, AreKept, IsFiled, IsFiledAs}
+use Rattle.fk_turns_moved.specs.Moved.{is_it, is_named, is_put, is_told, is_wide, now_named, IsMoved}
 use Rattle.fk_waits.specs.Lists.{is_in, is_queued, stands, Lists}
 use Rattle.fk_waits_causes.proofs.Numbers.{clash}
 use Rattle.fk_waits_causes.proofs.Placed.{same_self}
-use Rattle.fk_waits_names.specs.Names.{is_same}
-use Rattle.fk_waits_names.proofs.Order.{same_who}
+use Rattle.fk_waits_causes.specs.Names.{is_same}
+use Rattle.fk_waits_causes.proofs.Order.{same_who}
 use Rattle.fk_wakes.specs.declared.touching.Touched.{Touched}
 use Rattle.fk_wakes.specs.declared.touching.Touched.TheVariants.{Any, Dies, Few, Makes, Moves}
 use Rattle.fk_whys.specs.declared.whys.Why.{Why}

@@ -28,16 +28,16 @@ use Rattle.fk_store.specs.Paths.{path, place}
 use Rattle.fk_store.specs.World.{world, place_of}
 use Rattle.fk_turns.specs.Turns.{all_marks, loud_cause, waits_at, IsSound}
 use Rattle.fk_turns.proofs.Woken.{queued_less, queued_off, stands_woken, waits_behind, waits_cause, waits_more, waits_other, waits_split}
-use Rattle.fk_turns_told.specs.Kept.{is_user_at, AreKept, IsFiled, IsFiledAs}
-use Rattle.fk_turns_told.specs.Moved.{is_it, is_named, is_told, is_wide, now_named, IsMoved}
-use Rattle.fk_turns_told.specs.Told.{is_going, runs_on_at, IsQuietTo, IsRunning}
+use Rattle.fk_turns_moved.specs.Kept.{is_user_at, AreKept, IsFiled, IsFiledAs}
+use Rattle.fk_turns_moved.specs.Moved.{is_it, is_named, is_told, is_wide, now_named, IsMoved}
+use Rattle.fk_turns_moved.specs.Told.{is_going, runs_on_at, IsQuietTo, IsRunning}
 use Rattle.fk_turns_next.specs.Runs.{is_under_way, is_under_way_at}
 use Rattle.fk_turns_next.specs.Waiting.{ComesAfter, IsMoveReady}
 use Rattle.fk_turns_next.proofs.Passed.{queued_unready}
 use Rattle.fk_waits.specs.Lists.{is_cause, is_in, is_queued, stands, without_queued, woken, Lists}
 use Rattle.fk_waits_causes.proofs.Numbers.{clash}
-use Rattle.fk_waits_names.specs.Names.{is_same}
-use Rattle.fk_waits_names.proofs.Order.{same_who}
+use Rattle.fk_waits_causes.specs.Names.{is_same}
+use Rattle.fk_waits_causes.proofs.Order.{same_who}
 use Rattle.fk_wakes.specs.declared.touching.Touched.{Touched}
 use Rattle.fk_wakes.specs.declared.touching.Touched.TheVariants.{Any, Dies, Few, Makes, Moves}
 use Rattle.fk_whys.specs.declared.whys.Why.{Why}

@@ -23,12 +23,12 @@ use Rattle.fk_store.specs.Paths.{path, place}
 use Rattle.fk_store.specs.Threads.{todo_at}
 use Rattle.fk_store.specs.World.{world, place_of}
 use Rattle.fk_turns.specs.Turns.{all_marks, loud_cause, AreMet, IsFreed, IsRoused, IsSound}
-use Rattle.fk_turns_told.specs.Kept.{is_user_at, AreKept}
+use Rattle.fk_turns_moved.specs.Kept.{is_user_at, AreKept}
 use Rattle.fk_turns_next.specs.Waiting.{ComesAfter, IsPlaced, Standing}
-use Rattle.fk_turns_told.specs.Moved.{is_it, is_named, is_put, IsMoved}
-use Rattle.fk_turns_told.specs.Told.{name_after, runs_on_at, IsQuietTo}
+use Rattle.fk_turns_moved.specs.Moved.{is_it, is_named, is_put, IsMoved}
+use Rattle.fk_turns_moved.specs.Told.{name_after, runs_on_at, IsQuietTo}
 use Rattle.fk_waits.specs.Lists.{is_cause, is_queued, stands, woken, Lists}
-use Rattle.fk_waits_names.specs.Names.{is_same}
+use Rattle.fk_waits_causes.specs.Names.{is_same}
 use Rattle.fk_wakes.specs.declared.touching.Touched.{Touched}
 use Rattle.fk_wakes.specs.declared.touching.Touched.TheVariants.{Few}
 

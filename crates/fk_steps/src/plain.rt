@@ -7,13 +7,13 @@ ghost use Rattle.fk_store.specs.World.{world, place_of};
 ghost use Rattle.fk_turns.specs.Turns.{all_marks, loud_cause, IsFreed, IsSound};
 ghost use Rattle.fk_model.specs.declared.names.Who as whos_of;
 ghost use Rattle.fk_waits.specs.Lists.{is_in, is_queued, stands};
-ghost use Rattle.fk_waits_names.specs.Names as names_of;
-ghost use Rattle.fk_turns_told.specs.Kept.{is_user_at, AreKept};
-ghost use Rattle.fk_turns_told.specs.Moved.{is_it, now_named};
+ghost use Rattle.fk_waits_causes.specs.Names as names_of;
+ghost use Rattle.fk_turns_moved.specs.Kept.{is_user_at, AreKept};
+ghost use Rattle.fk_turns_moved.specs.Moved.{is_it, now_named};
 ghost use Rattle.fk_turns_next.specs.Runs.{is_under_way_at};
 ghost use Rattle.fk_turns_next.specs.Waiting.{standing, ComesAfter, IsMoveReady, IsPlaced};
 ghost use Rattle.fk_steps.specs.Steps as steps_of;
-ghost use Rattle.fk_turns_told.specs.Told.{runs_on_at};
+ghost use Rattle.fk_turns_moved.specs.Told.{runs_on_at};
 ghost use Rattle.fk_steps.specs.Steps.{touches_only, AreApart, AreRousedAt, AreUnknown, ComesByPorter, IsApartAt};
 ghost use Rattle.fk_steps.specs.Steps.{IsCalm, IsGentle, IsOneApart, IsQuietFrom, IsTurned, MayBeQuiet};
 

@@ -10,8 +10,8 @@ ghost use Rattle.fk_turns_next.specs.Judgements.{is_fit_move, may_lack, IsEnded,
 ghost use Rattle.fk_turns_next.specs.Tellings as calls;
 ghost use Rattle.fk_turns_next.specs.Sayings.{told_by};
 ghost use Rattle.fk_turns_next.specs.Tried.{tried_of, IsMade, HasEnded, IsTold, IsToldPadded, IsUnready};
-ghost use Rattle.fk_turns_told.specs.Kept.{is_user_at, AreKept};
-ghost use Rattle.fk_turns_told.specs.Moved.{now_named};
+ghost use Rattle.fk_turns_moved.specs.Kept.{is_user_at, AreKept};
+ghost use Rattle.fk_turns_moved.specs.Moved.{now_named};
 ghost use Rattle.fk_turns_next.specs.Waiting.{standing, ComesAfter, IsPlaced};
 ghost use Rattle.fk_steps.specs.Steps.{was_made, ComesByPorter, IsPut, MayBeQuiet};
 

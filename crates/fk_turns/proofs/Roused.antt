@@ -5,15 +5,14 @@ use Rattle.std.proofs.Common.{ap, subst, ◌∙◌, arith}
 use Rattle.std.proofs.lemmas.Bool.{eqb-true, or_from, or_right}
 use Rattle.std.specs.Bool.{OnTrue}
 use Rattle.fk_model.specs.declared.names.Who.{Who}
-use Rattle.fk_waits_names.specs.Names.{is_same}
-use Rattle.fk_waits_names.proofs.Order.{same_who}
+use Rattle.fk_waits_causes.specs.Names.{is_same}
+use Rattle.fk_waits_causes.proofs.Order.{same_who}
 use Rattle.fk_waits.specs.Lists.{first_queued, first_ready, is_cause, is_in, is_queued, left, parked, stands, without, without_queued, woken, Lists, StandOnce}
 use Rattle.fk_waits.proofs.Listed.{front_stands}
 use Rattle.fk_waits_causes.proofs.Numbers.{clash}
 use Rattle.fk_waits_causes.proofs.Placed.{same_by}
 use Rattle.fk_turns.specs.Turns.{all_marks, waits_at, AreMet, IsFreed, IsLess, IsRoused, IsSound}
-use Rattle.fk_waits_woken.specs.Wakes.{those_at}
-use Rattle.fk_waits_woken.proofs.Wakes.{first_goes, first_stands}
+use Rattle.fk_turns.proofs.Firsts.{first_goes, first_stands, those_at}
 use Rattle.fk_turns.proofs.Woken.{cause_less, queued_less, queued_off, room_woken, stands_woken, waits_behind, waits_cause, waits_less, waits_more}
 use Rattle.fk_turns.proofs.Woken.{waits_other, waits_split}
 
@@ -179,7 +178,7 @@ at_last key cause n (q ∷ l) off = by (is_same q.0 key) (at_last key cause n l 
 pub fewer_parked : (key cause n : Who) (marks now : Lists) → is_same cause key ≡ false → StandOnce marks → Some n ≡ first_queued key marks.queued →
     now ≡ parked n cause marks → length (those_at key now.queued) < length (those_at key marks.queued)
 fewer_parked key cause n marks now off once first is =
-    let rest = ap (λ (k : List Who). length k) (first_goes key n marks.queued once.queued first).0 in
+    let rest = ap (λ (k : List Who). length k) (first_goes key n marks.queued once.queued first) in
     let here : length (those_at key now.queued) ≡ length (those_at key (without_queued n marks.queued)) =
     ap (λ (l : Lists). length (those_at key l.queued)) is
     ∙ ap (λ (k : List Who). length k) (at_last key cause n (without_queued n marks.queued) off) in

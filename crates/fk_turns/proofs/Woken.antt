@@ -4,8 +4,8 @@ use Rattle.std.proofs.Common.{ap, subst, ◌∙◌, arith}
 use Rattle.std.proofs.lemmas.Bool.{or_from, or_left, or_right}
 use Rattle.std.specs.Bool.{OnTrue}
 use Rattle.fk_model.specs.declared.names.Who.{Who}
-use Rattle.fk_waits_names.specs.Names.{is_same}
-use Rattle.fk_waits_names.proofs.Order.{same_who}
+use Rattle.fk_waits_causes.specs.Names.{is_same}
+use Rattle.fk_waits_causes.proofs.Order.{same_who}
 use Rattle.fk_waits.proofs.Last.{last_stands, last_woken}
 use Rattle.fk_waits.specs.Lists.{first_ready, is_cause, is_in, is_queued, left, Lists, parked, stands, without, without_queued, woken, IsLast, StandOnce}
 use Rattle.fk_turns.specs.declared.turns.Mark.{Mark}

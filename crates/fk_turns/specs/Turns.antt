@@ -1,7 +1,7 @@
 -- Turns: lists of threads, and marks of those whom any change may free.
 use Rattle.std.specs.Prelude.{◌≡◌, Bool, true, false, ◌&&◌, ◌||◌, ◌⊎◌, List, [], ◌∷◌, ◌++◌, if◌then◌else◌}
 use Rattle.fk_model.specs.declared.names.Who.{Who}
-use Rattle.fk_waits_names.specs.Names.{is_same}
+use Rattle.fk_waits_causes.specs.Names.{is_same}
 use Rattle.fk_waits.specs.Lists.{is_cause, is_in, is_queued, parked, stands, woken, Lists}
 use Rattle.fk_turns.specs.declared.turns.Mark.{Mark}
 use Rattle.fk_turns.specs.declared.turns.Mark.TheVariants as marks_of

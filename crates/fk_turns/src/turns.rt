@@ -2,7 +2,7 @@
 ghost use Rattle.std.specs.Prelude.{◌≡◌, ◌≤◌, ◌||◌, [], true, false, IfOk, OnOk, if◌then◌else◌};
 ghost use Rattle.std.specs.Bool.{OnTrue, OnFalse};
 ghost use Rattle.fk_model.specs.declared.names.Who as names_of;
-ghost use Rattle.fk_waits_names.specs.Names.{is_same};
+ghost use Rattle.fk_waits_causes.specs.Names.{is_same};
 ghost use Rattle.fk_waits.specs.Lists.{first_ready, is_cause, is_in, is_queued, left, parked, stands, woken};
 ghost use Rattle.fk_turns.specs.Turns as turns_of;
 ghost use Rattle.fk_turns.specs.declared.turns.Mark.TheVariants as marks_of;

@@ -11,8 +11,8 @@ use Rattle.fk_turns.specs.Turns.{IsSound}
 use Rattle.fk_turns.proofs.Woken.{stands_woken}
 use Rattle.fk_waits.specs.Lists.{is_in, is_queued, stands, woken, Lists}
 use Rattle.fk_waits_causes.proofs.Placed.{same_self}
-use Rattle.fk_waits_names.specs.Names.{is_same}
-use Rattle.fk_waits_names.proofs.Order.{same_who}
+use Rattle.fk_waits_causes.specs.Names.{is_same}
+use Rattle.fk_waits_causes.proofs.Order.{same_who}
 use Rattle.fk_turns_moved.specs.Kept.{is_user_at, AreKept}
 use Rattle.fk_turns_moved.proofs.Settled.{user_live}
 

@@ -18,8 +18,8 @@ use Rattle.fk_turns.specs.Turns.{all_marks, free_cause, loud_cause, marked_by, w
 use Rattle.fk_turns.proofs.Woken.{in_last, in_other, queued_last, queued_less, stands_parked, waits_behind, waits_more, waits_other, waits_split}
 use Rattle.fk_waits.specs.Lists.{is_in, is_queued, parked, stands, without, without_queued, woken, Lists}
 use Rattle.fk_waits_causes.proofs.Placed.{same_self}
-use Rattle.fk_waits_names.specs.Names.{is_same}
-use Rattle.fk_waits_names.proofs.Order.{same_who}
+use Rattle.fk_waits_causes.specs.Names.{is_same}
+use Rattle.fk_waits_causes.proofs.Order.{same_who}
 use Rattle.fk_whys.specs.declared.whys.Why.{Why}
 use Rattle.fk_whys.specs.declared.whys.Why.TheVariants as whys
 use Rattle.fk_whys.specs.Whys.{IsWhy}

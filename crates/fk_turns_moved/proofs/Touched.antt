@@ -10,8 +10,8 @@ use Rattle.fk_turns.proofs.Woken.{stands_left, stands_woken}
 use Rattle.fk_waits.specs.Lists.{is_queued, left, stands, woken, Lists}
 use Rattle.fk_waits_causes.proofs.Numbers.{clash}
 use Rattle.fk_waits_causes.proofs.Placed.{same_self}
-use Rattle.fk_waits_names.specs.Names.{is_same}
-use Rattle.fk_waits_names.proofs.Order.{same_who}
+use Rattle.fk_waits_causes.specs.Names.{is_same}
+use Rattle.fk_waits_causes.proofs.Order.{same_who}
 use Rattle.fk_wakes.specs.declared.touching.Touched.{Touched}
 use Rattle.fk_wakes.specs.declared.touching.Touched.TheVariants.{Any, Dies, Few, Makes, Moves}
 use Rattle.fk_turns_moved.specs.Kept.{is_user_at}

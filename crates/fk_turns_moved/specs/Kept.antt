@@ -9,7 +9,7 @@ use Rattle.fk_store.specs.Paths.{path}
 use Rattle.fk_store.specs.World.{world, place_of}
 use Rattle.fk_turns.specs.Turns.{all_marks, free_cause, loud_cause, waits_at, IsSound}
 use Rattle.fk_waits.specs.Lists.{is_in, is_queued, stands, Lists}
-use Rattle.fk_waits_names.specs.Names.{is_same}
+use Rattle.fk_waits_causes.specs.Names.{is_same}
 use Rattle.fk_whys.specs.declared.whys.Why.{Why}
 use Rattle.fk_whys.specs.declared.whys.Why.TheVariants as whys
 use Rattle.fk_whys.specs.Whys.{IsWhy}

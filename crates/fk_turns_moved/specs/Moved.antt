@@ -8,7 +8,7 @@ use Rattle.fk_store.specs.Paths.{path}
 use Rattle.fk_store.specs.World.{world, place_of}
 use Rattle.fk_turns.specs.Turns.{all_marks, loud_cause, waits_at, AreMet, IsFreed, IsLess}
 use Rattle.fk_waits.specs.Lists.{is_in, is_queued, stands, Lists}
-use Rattle.fk_waits_names.specs.Names.{is_same}
+use Rattle.fk_waits_causes.specs.Names.{is_same}
 use Rattle.fk_wakes.specs.declared.touching.Touched.{Touched}
 use Rattle.fk_wakes.specs.declared.touching.Touched.TheVariants.{Any, Dies, Few, Makes, Moves}
 use Rattle.fk_whys.specs.declared.whys.Why.{Why}

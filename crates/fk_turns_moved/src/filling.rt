@@ -1,7 +1,7 @@
 //! The first lists of a store.
 ghost use Rattle.std.specs.Prelude.{◌≡◌, ◌&&◌, ◌||◌, [], IfOk, OnOk};
 ghost use Rattle.fk_model.specs.declared.names.Who as names_of;
-ghost use Rattle.fk_waits_names.specs.Names.{is_same};
+ghost use Rattle.fk_waits_causes.specs.Names.{is_same};
 ghost use Rattle.fk_waits.specs.Lists.{stands};
 ghost use Rattle.fk_turns.specs.Turns.{IsSound};
 ghost use Rattle.fk_turns_moved.specs.Kept.{is_user_at, AreKept};

@@ -1,5 +1,5 @@
 -- Passed: those that are passed, and who is queued.
-use Rattle.std.proofs.Common.{◌≡◌, ◌&&◌, ◌||◌, ◌≤◌, ◌<◌, Bool, true, false, [], List, ◌∷◌, ◌++◌, length, Option, Some, arith}
+use Rattle.std.proofs.Common.{◌≡◌, ◌||◌, ◌≤◌, ◌<◌, Bool, true, false, [], List, ◌∷◌, ◌++◌, length, Option, Some, arith}
 use Rattle.std.proofs.Common.{append_assoc, refl, sym, ap, subst, ◌∙◌, if◌then◌else◌}
 use Rattle.std.proofs.lemmas.List.{append-nil}
 use Rattle.fk_model.specs.declared.moves.Ask.TheVariants as asks
@@ -11,10 +11,9 @@ use Rattle.fk_model.specs.Valid.{IsValid}
 use Rattle.fk_store.specs.Contents.{Contents}
 use Rattle.fk_store.specs.Paths.{path}
 use Rattle.fk_store.specs.World.{world, place_of}
-use Rattle.fk_waits.specs.Lists.{first_ready, is_in, is_queued, parked, stands, without, without_queued, Lists, StandOnce}
+use Rattle.fk_waits.specs.Lists.{first_ready, is_in, is_queued, parked, without, Lists, StandOnce}
 use Rattle.fk_waits.proofs.Listed.{without_none, without_none_queued}
 use Rattle.fk_waits_causes.proofs.Placed.{same_self}
-use Rattle.fk_waits_names.specs.Names.{is_same}
 use Rattle.fk_whys.proofs.Apart.{why_unready}
 use Rattle.fk_turns_moved.specs.Kept.{AreKept}
 use Rattle.fk_turns_moved.specs.Settled.{IsSettled}

@@ -7,8 +7,8 @@ use Rattle.fk_turns.specs.Turns.{all_marks, AreMet, IsLess, IsSound}
 use Rattle.fk_turns.proofs.Roused.{met_both}
 use Rattle.fk_turns.proofs.Woken.{stands_woken}
 use Rattle.fk_waits.specs.Lists.{is_queued, stands, without, without_queued, woken, Lists}
-use Rattle.fk_waits_names.specs.Names.{is_same}
-use Rattle.fk_waits_names.proofs.Order.{same_who}
+use Rattle.fk_waits_causes.specs.Names.{is_same}
+use Rattle.fk_waits_causes.proofs.Order.{same_who}
 use Rattle.fk_turns_moved.specs.Kept.{is_user_at, AreKept, IsFiled}
 use Rattle.fk_turns_moved.specs.Settled.{IsSettled}
 use Rattle.fk_turns_moved.proofs.After.{refiled_met}

@@ -4,7 +4,7 @@ use Rattle.std.proofs.Common.{Some, None}
 use Rattle.std.proofs.Common.{is_some, if◌then◌else◌, refl, sym, ap, subst, ◌∙◌, arith}
 use Rattle.std.proofs.lemmas.Bool.{or_left, or_parts}
 use Rattle.fk_model.specs.declared.names.Who.{Who}
-use Rattle.fk_waits_names.specs.Names.{is_same}
+use Rattle.fk_waits_causes.specs.Names.{is_same}
 use Rattle.fk_waits.specs.Lists.{first_queued, first_ready, is_cause, is_in, is_queued, left, Lists, new_name, passed, renamed, room_with, settled}
 use Rattle.fk_waits.specs.Lists.{stands}
 use Rattle.fk_waits.specs.Lists.{turned, without, without_queued, woken, AreOnce, StandOnce}
@@ -18,7 +18,7 @@ use Rattle.fk_waits.proofs.There.{besides_none}
 use Rattle.fk_waits.proofs.Renamed.{there_caused}
 use Rattle.fk_waits_causes.proofs.Numbers.{clash}
 use Rattle.fk_waits_causes.proofs.Placed.{same_self}
-use Rattle.fk_waits_names.proofs.Order.{same_who}
+use Rattle.fk_waits_causes.proofs.Order.{same_who}
 
 -- ---- as the nodes show it
 

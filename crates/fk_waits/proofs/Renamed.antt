@@ -3,8 +3,8 @@ use Rattle.std.proofs.Common.{◌≡◌, ◌||◌, ℕ, Bool, true, false, List,
 use Rattle.std.proofs.Common.{if◌then◌else◌, refl, sym, ap, subst, ◌∙◌}
 use Rattle.std.proofs.lemmas.Bool.{or_from, or_parts}
 use Rattle.fk_model.specs.declared.names.Who.{Who}
-use Rattle.fk_waits_names.specs.Names.{is_same}
-use Rattle.fk_waits_names.proofs.Order.{same_who}
+use Rattle.fk_waits_causes.specs.Names.{is_same}
+use Rattle.fk_waits_causes.proofs.Order.{same_who}
 use Rattle.fk_waits.specs.Lists.{new_name}
 use Rattle.fk_waits_causes.specs.Causes.{new_cause, recaused, Standing}
 use Rattle.fk_waits.specs.Threads.{is_there, key_of, pair_of, with_cause, with_name, Pairs, StandApart}

@@ -4,9 +4,9 @@ use Rattle.std.proofs.Common.{Option, Some, None}
 use Rattle.std.proofs.Common.{is_some, if◌then◌else◌, refl, sym, ap, subst, ◌∙◌, arith}
 use Rattle.std.proofs.lemmas.Bool.{eqb-true, or_left, or_right}
 use Rattle.fk_model.specs.declared.names.Who.{Who}
-use Rattle.fk_waits_names.specs.Names.{is_same, key_at, HasRoom}
-use Rattle.fk_waits_names.specs.declared.names.Name.{Name}
-use Rattle.fk_waits_names.proofs.Order.{same_who}
+use Rattle.fk_waits_causes.specs.Names.{is_same, key_at, HasRoom}
+use Rattle.fk_waits_causes.specs.declared.names.Name.{Name}
+use Rattle.fk_waits_causes.proofs.Order.{same_who}
 use Rattle.fk_waits_queues.specs.Places.{who_shown, Place}
 use Rattle.fk_waits_causes.specs.Causes.{among, cause_of, first_of, heads, is_same_cause, recaused, standing_of, AreStanding, HasSeat, HasStanding, Standing}
 use Rattle.fk_waits.specs.Threads.{besides, first_for, is_there, is_waited_for, is_waiting, key_of, pair_of, with_cause, with_name, AreThere, Fits}

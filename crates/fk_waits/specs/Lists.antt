@@ -1,7 +1,7 @@
 -- Lists: who is ready and who is queued, and what each call makes of it.
 use Rattle.std.specs.Prelude.{◌≡◌, ℕ, ◌+◌, ◌-◌, Bool, true, false, ◌||◌, ◌&&◌, List, [], ◌∷◌, ◌++◌, map, Option, Some, None, if◌then◌else◌}
 use Rattle.fk_model.specs.declared.names.Who.{Who}
-use Rattle.fk_waits_names.specs.Names.{is_same}
+use Rattle.fk_waits_causes.specs.Names.{is_same}
 use Rattle.fk_waits_causes.specs.Causes.{is_same_cause}
 
 -- the threads that are ready, in order; those that are queued, each behind its cause, in the order in which they were

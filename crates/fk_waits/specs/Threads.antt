@@ -2,7 +2,7 @@
 use Rattle.std.specs.Prelude.{◌≡◌, ◌+◌, ◌≤◌, ◌<◌, ◌^◌, ◌-◌, ℕ, Bool, false, ◌||◌, List, [], ◌∷◌, length, map, Option, Some, None, is_some, IfSome}
 use Rattle.std.specs.Prelude.{if◌then◌else◌}
 use Rattle.fk_model.specs.declared.names.Who.{Who}
-use Rattle.fk_waits_names.specs.Names.{is_same, key_at}
+use Rattle.fk_waits_causes.specs.Names.{is_same, key_at}
 use Rattle.fk_waits.specs.Lists.{IsLastFor, Lists, new_name}
 use Rattle.fk_waits_causes.specs.Causes.{is_same_cause, new_cause, standings, AreStanding, Standing}
 use Rattle.fk_waits.specs.declared.threads.Threads.{Threads}

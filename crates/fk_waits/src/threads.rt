@@ -1,12 +1,11 @@
 //! Threads by their names.
 ghost use Rattle.std.specs.Prelude.{◌≡◌, ◌+◌, ◌≤◌, ◌<◌, ◌^◌, [], ◌∷◌, ◌++◌, length, map, Option, None, true, false, IfOk, OnErr, OnOk};
-ghost use Rattle.fk_waits_names.specs.Names.{key_at};
+ghost use Rattle.fk_waits_causes.specs.Names.{key_at};
 ghost use Rattle.fk_waits.specs.Threads.{all_ready, besides, first_for, front_for, is_there, is_waiting, with_cause, with_name, AreThere};
 ghost use Rattle.fk_waits.specs.Threads.{Fits, IsNobody, IsUnused, Pairs, Stand};
 
 use fk_model::{NoMemory, Who};
-use fk_waits_causes::Causes;
-use fk_waits_names::Names;
+use fk_waits_causes::{Causes, Names};
 use std::alloc::Global;
 
 /// Threads that stand in queues, and are found by their names.

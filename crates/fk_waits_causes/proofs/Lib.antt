@@ -1,3 +1,4 @@
+pub mod Order
 pub mod Numbers
 pub mod Placed
 pub mod Moved

@@ -4,11 +4,11 @@ use Rattle.std.proofs.Common.{if◌then◌else◌, refl, sym, ap, subst, ◌∙�
 use Rattle.std.proofs.lemmas.Bool.{eqb-true}
 use Rattle.slab.specs.Slab.{Slab, slab_len}
 use Rattle.fk_model.specs.declared.names.Who.{Who}
-use Rattle.fk_waits_lists.specs.Nodes.{shown_at}
-use Rattle.fk_waits_lists.specs.declared.lists.Node.{Node}
-use Rattle.fk_waits_names.specs.Names.{is_same, key_at}
-use Rattle.fk_waits_names.specs.declared.names.Name.{Name}
-use Rattle.fk_waits_names.proofs.Order.{same_who}
+use Rattle.fk_waits_queues.specs.Nodes.{shown_at}
+use Rattle.fk_waits_queues.specs.declared.lists.Node.{Node}
+use Rattle.fk_waits_causes.specs.Names.{is_same, key_at}
+use Rattle.fk_waits_causes.specs.declared.names.Name.{Name}
+use Rattle.fk_waits_causes.proofs.Order.{same_who}
 use Rattle.fk_waits_queues.specs.Places.{who_shown, AllFiled, AreFiled, IsHead, Place}
 use Rattle.fk_waits_queues.specs.declared.queues.Queues.{Queues}
 use Rattle.fk_waits_causes.specs.Causes.{cause_of, new_cause, recaused, standing_of, ArePlaced}

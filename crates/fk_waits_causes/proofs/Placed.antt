@@ -4,12 +4,12 @@ use Rattle.std.proofs.Common.{if◌then◌else◌, refl, sym, ap, subst, ◌∙�
 use Rattle.std.proofs.lemmas.Bool.{eqb-true, or_parts, or_right}
 use Rattle.slab.specs.Slab.{Slab, slab_len}
 use Rattle.fk_model.specs.declared.names.Who.{Who}
-use Rattle.fk_waits_lists.specs.Chains.{IsNoneOf}
-use Rattle.fk_waits_lists.specs.Nodes.{shown_at}
-use Rattle.fk_waits_lists.specs.declared.lists.Node.{Node}
-use Rattle.fk_waits_names.specs.Names.{is_same, key_at}
-use Rattle.fk_waits_names.specs.declared.names.Name.{Name}
-use Rattle.fk_waits_names.proofs.Order.{same_who}
+use Rattle.fk_waits_queues.specs.Chains.{IsNoneOf}
+use Rattle.fk_waits_queues.specs.Nodes.{shown_at}
+use Rattle.fk_waits_queues.specs.declared.lists.Node.{Node}
+use Rattle.fk_waits_causes.specs.Names.{is_same, key_at}
+use Rattle.fk_waits_causes.specs.declared.names.Name.{Name}
+use Rattle.fk_waits_causes.proofs.Order.{same_who}
 use Rattle.fk_waits_queues.specs.Places.{first_at, in_queue, node_in, who_in, who_shown, AllFiled, AreFiled, IsHead, Place, SameHeads}
 use Rattle.fk_waits_queues.specs.declared.queues.Queues.{Queues}
 use Rattle.fk_waits_causes.specs.Causes.{among, heads, standing_of, ArePlaced}

@@ -4,16 +4,16 @@ use Rattle.std.proofs.Common.{if◌then◌else◌, refl, sym, ap, subst, ◌∙�
 use Rattle.std.proofs.lemmas.Bool.{eqb-true}
 use Rattle.slab.specs.Slab.{Slab}
 use Rattle.fk_model.specs.declared.names.Who.{Who}
-use Rattle.fk_waits_lists.specs.Nodes.{shown_at}
-use Rattle.fk_waits_lists.specs.declared.lists.Node.{Node}
-use Rattle.fk_waits_names.specs.Names.{is_same, key_at}
+use Rattle.fk_waits_queues.specs.Nodes.{shown_at}
+use Rattle.fk_waits_queues.specs.declared.lists.Node.{Node}
+use Rattle.fk_waits_causes.specs.Names.{is_same, key_at}
 use Rattle.fk_waits_queues.specs.Places.{first_at, places_from, who_shown, AllFiled, AreFiled, HasPlace, IsHead, Place}
 use Rattle.fk_waits_queues.proofs.Walk.{places_are}
 use Rattle.fk_waits_causes.specs.Causes.{cause_of, first_of, is_same_cause, standing_of, standings, ArePlaced, AreStanding, Standing}
 use Rattle.fk_waits_causes.specs.declared.causes.Causes.{Causes}
 use Rattle.fk_waits_causes.proofs.Numbers.{clash, unlike}
 use Rattle.fk_waits_causes.proofs.Placed.{key_same, none_key, same_by}
-use Rattle.fk_waits_names.proofs.Order.{same_who}
+use Rattle.fk_waits_causes.proofs.Order.{same_who}
 
 -- ---- a list of threads with one in its middle
 

@@ -3,9 +3,9 @@ use Rattle.std.proofs.Common.{◌≡◌, ◌≢◌, ◌≤◌, ◌+◌, ◌*◌,
 use Rattle.std.proofs.Common.{if◌then◌else◌, refl, sym, ap, subst, ◌∙◌, arith, eq-eqb}
 use Rattle.slab.specs.Slab.{slab_len, HasRoomFor}
 use Rattle.fk_model.specs.declared.names.Who.{Who}
-use Rattle.fk_waits_lists.specs.Nodes.{shown_at}
-use Rattle.fk_waits_names.specs.Names.{is_same, key_at, HasRoom}
-use Rattle.fk_waits_names.specs.declared.names.Name.{Name}
+use Rattle.fk_waits_queues.specs.Nodes.{shown_at}
+use Rattle.fk_waits_causes.specs.Names.{is_same, key_at, HasRoom}
+use Rattle.fk_waits_causes.specs.declared.names.Name.{Name}
 use Rattle.fk_waits_queues.specs.Places.{first_at, front_of as front_at, in_queue, place_at, who_shown, AreFiled, IsHead, Place, SameHeads, SameRoom}
 use Rattle.fk_waits_queues.specs.declared.queues.Queues.{Queues}
 use Rattle.fk_waits_queues.proofs.Places.{filed_middle}

@@ -2,8 +2,8 @@
 use Rattle.std.specs.Prelude.{◌≡◌, ◌≢◌, ◌+◌, ◌≤◌, ℕ, ◌==◌, Bool, true, false, ◌||◌, List, [], ◌∷◌, ◌++◌, length, map, Option, Some, None, if◌then◌else◌}
 use Rattle.slab.specs.Slab.{slab_len}
 use Rattle.fk_model.specs.declared.names.Who.{Who}
-use Rattle.fk_waits_lists.specs.Nodes.{shown_at}
-use Rattle.fk_waits_names.specs.Names.{is_same, key_at}
+use Rattle.fk_waits_queues.specs.Nodes.{shown_at}
+use Rattle.fk_waits_causes.specs.Names.{is_same, key_at}
 use Rattle.fk_waits_queues.specs.Places.{places_from, who_shown, AreFiled, IsHead, Place}
 use Rattle.fk_waits_causes.specs.declared.causes.Causes.{Causes}
 

@@ -1,11 +1,11 @@
 //! Queues by what their threads wait for.
 ghost use Rattle.std.specs.Prelude.{◌≡◌, ◌≢◌, ◌+◌, ◌≤◌, ◌<◌, ◌^◌, ◌==◌, ℕ, List, [], ◌∷◌, ◌++◌, length, map, not, is_some, None, Some, IfOk, OnErr, OnOk};
-ghost use Rattle.fk_waits_names.specs.Names.{key_at};
+ghost use Rattle.fk_waits_causes.specs.Names.{key_at};
 ghost use Rattle.fk_waits_queues.specs.Places.{first_at, AreFiled, Place};
 ghost use Rattle.fk_waits_causes.specs.Causes.{cause_of, first_of, front_of, recaused, AreStanding, HasSeat, HasStanding, Stand, Standing};
 
+use crate::names::Names;
 use fk_model::{NoMemory, Who};
-use fk_waits_names::Names;
 use fk_waits_queues::Queues;
 use std::alloc::Global;
 

@@ -4,10 +4,10 @@ use Rattle.std.proofs.Common.{map, Option, Some, None, is_some, IsSome, if◌the
 use Rattle.std.proofs.lemmas.Bool.{eqb-true}
 use Rattle.slab.specs.Slab.{Slab, ContainsKey}
 use Rattle.fk_model.specs.declared.names.Who.{Who}
-use Rattle.fk_waits_lists.specs.Chains.{AllAre, AreApart, IsNoneOf}
-use Rattle.fk_waits_lists.specs.Nodes.{prev_of, shown_at, AreDisjoint, IsListed}
-use Rattle.fk_waits_lists.specs.declared.lists.Node.{Node}
-use Rattle.fk_waits_lists.proofs.Chains.{apart-append}
+use Rattle.fk_waits_queues.specs.Chains.{AllAre, AreApart, IsNoneOf}
+use Rattle.fk_waits_queues.specs.Nodes.{prev_of, shown_at, AreDisjoint, IsListed}
+use Rattle.fk_waits_queues.specs.declared.lists.Node.{Node}
+use Rattle.fk_waits_queues.proofs.Chains.{apart-append}
 use Rattle.fk_waits_queues.specs.Places.{in_queue, AllFiled, AreFiled, AreLines, IsHead, Place}
 use Rattle.fk_waits_queues.specs.declared.queues.Queues.{Queues}
 use Rattle.fk_waits_queues.proofs.Places.{differs, keys_split, line_at, lines_joined, none_in_queue, one_head, IsAt}

@@ -2,10 +2,10 @@
 use Rattle.std.proofs.Common.{◌≡◌, ◌≢◌, ℕ, List, [], ◌∷◌, ◌++◌, map, Option, Some, None, is_some, sym, ap, subst, ◌∙◌}
 use Rattle.slab.specs.Slab.{Slab}
 use Rattle.fk_model.specs.declared.names.Who.{Who}
-use Rattle.fk_waits_lists.specs.Chains.{AreApart, IsNoneOf}
-use Rattle.fk_waits_lists.specs.Nodes.{shown_at, IsListed}
-use Rattle.fk_waits_lists.specs.declared.lists.Node.{Node}
-use Rattle.fk_waits_lists.proofs.Chains.{apart-without}
+use Rattle.fk_waits_queues.specs.Chains.{AreApart, IsNoneOf}
+use Rattle.fk_waits_queues.specs.Nodes.{shown_at, IsListed}
+use Rattle.fk_waits_queues.specs.declared.lists.Node.{Node}
+use Rattle.fk_waits_queues.proofs.Chains.{apart-without}
 use Rattle.fk_waits_queues.specs.Places.{in_queue, AllFiled, AreFiled, AreLines, IsHead, Place}
 use Rattle.fk_waits_queues.specs.declared.queues.Queues.{Queues}
 use Rattle.fk_waits_queues.proofs.Places.{keys_split, none_in_queue}

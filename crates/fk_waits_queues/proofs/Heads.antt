@@ -4,9 +4,9 @@ use Rattle.std.proofs.Common.{if◌then◌else◌, refl, sym, ap, subst, ◌∙�
 use Rattle.std.proofs.lemmas.Bool.{eqb-true}
 use Rattle.slab.specs.Slab.{Slab, get}
 use Rattle.fk_model.specs.declared.names.Who.{Who}
-use Rattle.fk_waits_lists.specs.Chains.{AreApart, IsNoneOf}
-use Rattle.fk_waits_lists.specs.Nodes.{shown_at, IsListed}
-use Rattle.fk_waits_lists.specs.declared.lists.Node.{Node}
+use Rattle.fk_waits_queues.specs.Chains.{AreApart, IsNoneOf}
+use Rattle.fk_waits_queues.specs.Nodes.{shown_at, IsListed}
+use Rattle.fk_waits_queues.specs.declared.lists.Node.{Node}
 use Rattle.fk_waits_queues.specs.Places.{in_queue, node_in, AllFiled, AreFiled, HasPlace, IsFiled, IsHead, Place, SameHeads}
 use Rattle.fk_waits_queues.specs.declared.queues.Queues.{Queues}
 use Rattle.fk_waits_queues.proofs.Places.{differs, filed_middle, keys_split, none_in_queue, one_head, IsAt}

@@ -1,10 +1,10 @@
 -- Kept: where threads stand once there is more room.
 use Rattle.std.proofs.Common.{◌≡◌, ℕ, List, [], ◌∷◌, map, refl, sym, subst}
 use Rattle.slab.specs.Slab.{Slab}
-use Rattle.fk_waits_lists.specs.Chains.{IsList}
-use Rattle.fk_waits_lists.specs.Nodes.{next_of, prev_of, IsListed}
-use Rattle.fk_waits_lists.specs.declared.lists.Node.{Node}
-use Rattle.fk_waits_lists.proofs.Chains.{same_everywhere}
+use Rattle.fk_waits_queues.specs.Chains.{IsList}
+use Rattle.fk_waits_queues.specs.Nodes.{next_of, prev_of, IsListed}
+use Rattle.fk_waits_queues.specs.declared.lists.Node.{Node}
+use Rattle.fk_waits_queues.proofs.Chains.{same_everywhere}
 use Rattle.fk_waits_queues.specs.Places.{in_queue, AllFiled, AreFiled, Place}
 use Rattle.fk_waits_queues.specs.declared.queues.Queues.{Queues}
 

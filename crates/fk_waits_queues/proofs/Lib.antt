@@ -1,3 +1,5 @@
+pub mod Chains
+pub mod Nodes
 pub mod Places
 pub mod Standing
 pub mod Turned

@@ -4,9 +4,9 @@ use Rattle.std.proofs.Common.{Option, Some, None, if◌then◌else◌, refl, sym
 use Rattle.std.proofs.lemmas.Bool.{eqb-true}
 use Rattle.slab.specs.Slab.{Slab}
 use Rattle.fk_model.specs.declared.names.Who.{Who}
-use Rattle.fk_waits_lists.specs.Chains.{AllAre, IsNoneOf}
-use Rattle.fk_waits_lists.specs.Nodes.{first_of, shown_at, AreDisjoint, IsListed}
-use Rattle.fk_waits_lists.specs.declared.lists.Node.{Node}
+use Rattle.fk_waits_queues.specs.Chains.{AllAre, IsNoneOf}
+use Rattle.fk_waits_queues.specs.Nodes.{first_of, shown_at, AreDisjoint, IsListed}
+use Rattle.fk_waits_queues.specs.declared.lists.Node.{Node}
 use Rattle.fk_waits_queues.specs.Places.{first_at, front_of, in_queue, who_shown, AllFiled, AreLines, IsFiled, IsHead, Place}
 
 -- ---- lists of places in two parts

@@ -2,10 +2,10 @@
 use Rattle.std.proofs.Common.{◌≡◌, ◌≢◌, ℕ, List, [], ◌∷◌, ◌++◌, Option, Some, None, option_map, is_some, IsSome, refl, sym, ap, ◌∙◌}
 use Rattle.slab.specs.Slab.{Slab, get, ContainsKey}
 use Rattle.fk_model.specs.declared.names.Who.{Who}
-use Rattle.fk_waits_lists.specs.Chains.{AllAre, AreApart, IsNoneOf}
-use Rattle.fk_waits_lists.specs.Nodes.{next_of, prev_of, shown_at, IsListed}
-use Rattle.fk_waits_lists.specs.declared.lists.Node.{Node}
-use Rattle.fk_waits_lists.proofs.Chains.{none-append, none-left, none-right, last_is, before_is, behind_is}
+use Rattle.fk_waits_queues.specs.Chains.{AllAre, AreApart, IsNoneOf}
+use Rattle.fk_waits_queues.specs.Nodes.{next_of, prev_of, shown_at, IsListed}
+use Rattle.fk_waits_queues.specs.declared.lists.Node.{Node}
+use Rattle.fk_waits_queues.proofs.Chains.{none-append, none-left, none-right, last_is, before_is, behind_is}
 use Rattle.fk_waits_queues.specs.Places.{StandsIn}
 
 -- what shows something is there

@@ -2,10 +2,10 @@
 use Rattle.std.proofs.Common.{◌≡◌, ◌≢◌, ℕ, List, [], ◌∷◌, ◌++◌, map, Option, Some, None, option_map, is_some, refl, sym, ap, subst, ◌∙◌, eq-eqb}
 use Rattle.slab.specs.Slab.{Slab, get, ContainsKey}
 use Rattle.fk_model.specs.declared.names.Who.{Who}
-use Rattle.fk_waits_lists.specs.Chains.{AllAre, AreApart, IsNoneOf}
-use Rattle.fk_waits_lists.specs.Nodes.{prev_of, shown_at, AreDisjoint, IsListed}
-use Rattle.fk_waits_lists.specs.declared.lists.Node.{Node}
-use Rattle.fk_waits_lists.proofs.Chains.{apart-append, apart-without}
+use Rattle.fk_waits_queues.specs.Chains.{AllAre, AreApart, IsNoneOf}
+use Rattle.fk_waits_queues.specs.Nodes.{prev_of, shown_at, AreDisjoint, IsListed}
+use Rattle.fk_waits_queues.specs.declared.lists.Node.{Node}
+use Rattle.fk_waits_queues.proofs.Chains.{apart-append, apart-without}
 use Rattle.fk_waits_queues.specs.Places.{in_queue, AllFiled, AreFiled, AreLines, HasLine, HasPlace, IsFiled, IsHead, Place, StandsIn}
 use Rattle.fk_waits_queues.specs.declared.queues.Queues.{Queues}
 use Rattle.fk_waits_queues.proofs.Places.{filed_middle, keys_split, line_at, lines_joined, one_head, queue_with, IsAt}

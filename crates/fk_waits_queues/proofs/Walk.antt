@@ -1,8 +1,8 @@
 -- Walk: the places of threads, as the nodes of the order show them one after another.
 use Rattle.std.proofs.Common.{◌≡◌, ℕ, List, [], ◌∷◌, ◌++◌, length, map, Option, refl, sym, ap, subst, ◌∙◌}
 use Rattle.fk_model.specs.declared.names.Who.{Who}
-use Rattle.fk_waits_lists.specs.Chains.{IsWay}
-use Rattle.fk_waits_lists.specs.Nodes.{next_of, prev_of, shown_at}
+use Rattle.fk_waits_queues.specs.Chains.{IsWay}
+use Rattle.fk_waits_queues.specs.Nodes.{next_of, prev_of, shown_at}
 use Rattle.fk_waits_queues.specs.Places.{node_in, place_at, places_from, who_in, AllFiled, AreFiled, IsFiled, Place}
 use Rattle.fk_waits_queues.specs.declared.queues.Queues.{Queues}
 use Rattle.fk_waits_queues.proofs.Places.{filed_middle}

@@ -2,9 +2,9 @@
 use Rattle.std.specs.Prelude.{◌≡◌, ℕ, zero, suc, ◌==◌, List, [], ◌∷◌, ◌++◌, map, Option, Some, None, IsSome, if◌then◌else◌}
 use Rattle.slab.specs.Slab.{Slab, ContainsKey}
 use Rattle.fk_model.specs.declared.names.Who.{Who}
-use Rattle.fk_waits_lists.specs.Chains.{AllAre, AreApart}
-use Rattle.fk_waits_lists.specs.Nodes.{next_of, shown_at, IsListed}
-use Rattle.fk_waits_lists.specs.declared.lists.Node.{Node}
+use Rattle.fk_waits_queues.specs.Chains.{AllAre, AreApart}
+use Rattle.fk_waits_queues.specs.Nodes.{next_of, shown_at, IsListed}
+use Rattle.fk_waits_queues.specs.declared.lists.Node.{Node}
 use Rattle.fk_waits_queues.specs.declared.queues.Queues.{Queues}
 
 -- where a thread stands: its node in the order, its node in a queue, and that queue's head

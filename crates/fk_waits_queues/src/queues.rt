@@ -2,13 +2,13 @@
 ghost use Rattle.std.specs.Prelude.{◌≡◌, ◌+◌, ◌≤◌, ℕ, List, [], ◌∷◌, ◌++◌};
 ghost use Rattle.std.specs.Prelude.{◌≢◌, Some, None, IfOk, OnOk};
 ghost use Rattle.slab.specs.Slab.{slab_len, HasRoomFor};
-ghost use Rattle.fk_waits_lists.specs.Chains.{IsNoneOf};
-ghost use Rattle.fk_waits_lists.specs.Nodes.{shown_at, IsListed, ShowsAs};
+ghost use Rattle.fk_waits_queues.specs.Chains.{IsNoneOf};
+ghost use Rattle.fk_waits_queues.specs.Nodes.{shown_at, IsListed, ShowsAs};
 ghost use Rattle.fk_waits_queues.specs.Places.{first_at, front_of, in_queue, place_at, AllFiled, AreFiled, AreLines, HasLine};
 ghost use Rattle.fk_waits_queues.specs.Places.{HasPlace, IsHead, IsKept, Place, SameHeads, SameRoom, StandsIn, node_in, who_shown};
 
+use crate::lists::{Node, alone, first, join, leave, remove, show};
 use fk_model::{NoMemory, Who};
-use fk_waits_lists::{Node, alone, first, join, leave, remove, show};
 use slab::Slab;
 use std::alloc::Global;
 

@@ -1,6 +1,6 @@
 use Rattle.std.proofs.Common.{◌≡◌, true, sym, subst, ◌∙◌}
 use Rattle.fk_model.specs.declared.names.Who.{Who}
-use Rattle.fk_turns_told.specs.Kept.{is_user_at}
+use Rattle.fk_turns_moved.specs.Kept.{is_user_at}
 use Rattle.fk_turns_next.specs.Waiting.{standing, IsPlaced}
 use Rattle.fk_turns_next.proofs.Placed.{placed_woken}
 use Rattle.fk_steps.proofs.Beside.{comes_same, kept_beside}

@@ -1,6 +1,6 @@
 use Rattle.fk_waits_causes.proofs.Numbers.{clash}
-use Rattle.fk_turns_told.specs.Kept.{is_user_at}
-use Rattle.fk_turns_told.specs.Moved.{now_named}
+use Rattle.fk_turns_moved.specs.Kept.{is_user_at}
+use Rattle.fk_turns_moved.specs.Moved.{now_named}
 use Rattle.fk_steps.proofs.Unknown.{kept_few, kept_made, mover_none}
 use Rattle.fk_steps.proofs.plain.after_unknown.Goals as goal
 

@@ -1,6 +1,6 @@
 use Rattle.std.proofs.Common.{◌||◌, false}
 use Rattle.fk_model.specs.declared.names.Who.{Who}
-use Rattle.fk_turns_told.specs.Moved.{is_it}
+use Rattle.fk_turns_moved.specs.Moved.{is_it}
 use Rattle.fk_steps.proofs.Unknown.{roused_at, roused_both}
 use Rattle.fk_steps.proofs.plain.rouse_few.Goals as goal
 

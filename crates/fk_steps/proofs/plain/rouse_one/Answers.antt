@@ -1,8 +1,8 @@
 use Rattle.std.proofs.Common.{subst}
 use Rattle.fk_model.specs.declared.names.Who.{Who}
 use Rattle.fk_turns.specs.Turns.{all_marks, IsFreed}
-use Rattle.fk_waits_names.specs.Names.{is_same}
-use Rattle.fk_waits_names.proofs.Order.{same_who}
+use Rattle.fk_waits_causes.specs.Names.{is_same}
+use Rattle.fk_waits_causes.proofs.Order.{same_who}
 use Rattle.fk_steps.proofs.Unknown.{roused_at, roused_nowhere}
 use Rattle.fk_steps.proofs.plain.rouse_one.Goals as goal
 

@@ -9,7 +9,7 @@ use Rattle.fk_store.specs.World.{world}
 use Rattle.fk_turns_next.specs.Judgements.{IsEnded, IsReadyMove, IsStepTo}
 use Rattle.fk_turns_next.specs.Runs.{has_run}
 use Rattle.fk_turns_next.specs.Waiting.{standing}
-use Rattle.fk_turns_told.specs.Kept.{AreKept}
+use Rattle.fk_turns_moved.specs.Kept.{AreKept}
 use Rattle.fk_wakes.specs.declared.touching.Touched.TheVariants.{Few}
 use Rattle.fk_steps.specs.Steps.{IsPut}
 use Rattle.fk_steps.proofs.Stepped.{comes_ran, put_true, quiet_ran, run_fit, valid_true}

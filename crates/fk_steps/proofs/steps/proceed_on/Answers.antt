@@ -1,4 +1,4 @@
-use Rattle.std.proofs.Common.{◌≡◌, None, true, refl, sym, subst}
+use Rattle.std.proofs.Common.{◌≡◌, None, refl, sym, subst}
 use Rattle.std.specs.Bool.{OnTrue, OnFalse}
 use Rattle.fk_model.specs.declared.moves.Ask.TheVariants as asks
 use Rattle.fk_model.specs.declared.moves.Move.{Move}
@@ -8,7 +8,7 @@ use Rattle.fk_store.specs.Contents.{Contents}
 use Rattle.fk_store.specs.World.{world}
 use Rattle.fk_turns_next.specs.Judgements.{IsEnded, IsReadyMove, IsStepTo}
 use Rattle.fk_turns_next.specs.Runs.{has_run}
-use Rattle.fk_turns_told.specs.Kept.{AreKept}
+use Rattle.fk_turns_moved.specs.Kept.{AreKept}
 use Rattle.fk_wakes.specs.declared.touching.Touched.TheVariants.{Few}
 use Rattle.fk_steps.proofs.Stepped.{comes_ran, quiet_ran, run_fit, valid_true}
 use Rattle.fk_steps.proofs.Went.{running_there, under_way_going}

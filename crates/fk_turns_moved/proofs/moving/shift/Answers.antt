@@ -2,7 +2,7 @@ use Rattle.std.proofs.Common.{◌||◌, sym, ◌∙◌}
 use Rattle.fk_model.specs.declared.names.Who.{Who}
 use Rattle.fk_turns.specs.Turns.{all_marks}
 use Rattle.fk_turns.proofs.Roused.{less_then}
-use Rattle.fk_waits_names.specs.Names.{is_same}
+use Rattle.fk_waits_causes.specs.Names.{is_same}
 use Rattle.fk_turns_moved.proofs.Touched.{freed_nobody, shifted_other, shifted_user, still_nobody}
 use Rattle.fk_turns_moved.proofs.moving.shift.Goals as goal
 

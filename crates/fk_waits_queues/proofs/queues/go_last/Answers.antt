@@ -1,6 +1,6 @@
 use Rattle.std.proofs.Common.{◌∷◌, ◌++◌}
 use Rattle.slab.specs.Slab.{ContainsKey}
-use Rattle.fk_waits_lists.specs.Chains.{AllAre}
+use Rattle.fk_waits_queues.specs.Chains.{AllAre}
 use Rattle.fk_waits_queues.proofs.Standing.{beside_there, kept, kept_all, last_there, apart_from, of_middle, without}
 use Rattle.fk_waits_queues.proofs.queues.go_last.Goals as goal
 

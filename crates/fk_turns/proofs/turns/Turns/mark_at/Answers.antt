@@ -1,7 +1,7 @@
 use Rattle.std.proofs.Common.{sym, ap, if◌then◌else◌, ◌∙◌}
 use Rattle.fk_waits.specs.Lists.{parked, stands, woken}
 use Rattle.fk_waits_causes.proofs.Numbers.{clash}
-use Rattle.fk_waits_names.specs.Names.{is_same}
+use Rattle.fk_waits_causes.specs.Names.{is_same}
 use Rattle.fk_turns.proofs.turns.Turns.mark_at.Goals as goal
 
 pub wake-requires : goal.wake-requires

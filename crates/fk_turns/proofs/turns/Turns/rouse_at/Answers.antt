@@ -1,7 +1,7 @@
 use Rattle.std.proofs.Common.{sym, ap, ◌∙◌}
 use Rattle.fk_waits.specs.Lists.{is_queued, Lists}
 use Rattle.fk_waits_causes.proofs.Numbers.{clash}
-use Rattle.fk_waits_names.specs.Names.{is_same}
+use Rattle.fk_waits_causes.specs.Names.{is_same}
 use Rattle.fk_turns.specs.Turns.{free_cause}
 use Rattle.fk_turns.proofs.Roused.{freed_both, met_none, met_still, roused_none, roused_then}
 use Rattle.fk_turns.proofs.turns.Turns.rouse_at.Goals as goal

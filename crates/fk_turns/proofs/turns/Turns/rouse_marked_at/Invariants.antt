@@ -1,5 +1,5 @@
 use Rattle.std.proofs.Common.{◌≡◌, length}
-use Rattle.fk_waits_woken.specs.Wakes.{those_at}
+use Rattle.fk_turns.proofs.Firsts.{those_at}
 use Rattle.fk_turns.specs.Turns.{AreMet, IsRoused, IsSound}
 use Rattle.fk_turns.proofs.turns.Turns.rouse_marked_at.Given as goal
 

@@ -1,7 +1,7 @@
 use Rattle.std.proofs.Common.{refl, sym, subst}
 use Rattle.fk_waits.specs.Lists.{stands, Lists}
 use Rattle.fk_waits_causes.proofs.Numbers.{clash}
-use Rattle.fk_waits_woken.proofs.Wakes.{fewer_left}
+use Rattle.fk_turns.proofs.Firsts.{fewer_left}
 use Rattle.fk_turns.specs.Turns.{IsSound}
 use Rattle.fk_turns.proofs.Roused.{at_stands, none_at, roused_by, roused_none}
 use Rattle.fk_turns.proofs.Woken.{sound_stays}

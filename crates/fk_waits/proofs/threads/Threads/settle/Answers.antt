@@ -1,5 +1,5 @@
 use Rattle.std.proofs.Common.{◌≡◌, sym, ap, subst, ◌∙◌}
-use Rattle.fk_waits_names.specs.Names.{key_at}
+use Rattle.fk_waits_causes.specs.Names.{key_at}
 use Rattle.fk_waits.specs.Threads.{AreThere, Fits}
 use Rattle.fk_waits.specs.declared.threads.Threads.{Threads}
 use Rattle.fk_waits.proofs.threads.Threads.settle.Goals as goal

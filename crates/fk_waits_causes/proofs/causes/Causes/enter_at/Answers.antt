@@ -1,5 +1,5 @@
 use Rattle.fk_waits_queues.specs.Places.{node_in}
-use Rattle.fk_waits_lists.specs.Nodes.{shown_at}
+use Rattle.fk_waits_queues.specs.Nodes.{shown_at}
 use Rattle.fk_waits_causes.proofs.Steps.{come_so, seat_lines, seat_order}
 use Rattle.fk_waits_causes.proofs.causes.Causes.enter_at.Goals as goal
 

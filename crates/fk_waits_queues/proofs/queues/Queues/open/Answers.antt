@@ -1,6 +1,6 @@
 use Rattle.std.proofs.Common.{[], Option, option_map, is_some, ap, ◌∙◌, ℕ}
 use Rattle.fk_model.specs.declared.names.Who.{Who}
-use Rattle.fk_waits_lists.specs.declared.lists.Node.{Node}
+use Rattle.fk_waits_queues.specs.declared.lists.Node.{Node}
 use Rattle.fk_waits_queues.proofs.Come.{opened}
 use Rattle.fk_waits_queues.proofs.Standing.{there_by}
 use Rattle.fk_waits_queues.proofs.queues.Queues.open.Goals as goal

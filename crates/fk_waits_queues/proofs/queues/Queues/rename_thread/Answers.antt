@@ -1,7 +1,7 @@
 use Rattle.std.proofs.Common.{◌≡◌, ℕ, true, Some, Option, is_some, sym, ap, subst}
 use Rattle.slab.specs.Slab.{get}
 use Rattle.fk_model.specs.declared.names.Who.{Who}
-use Rattle.fk_waits_lists.specs.declared.lists.Node.{Node}
+use Rattle.fk_waits_queues.specs.declared.lists.Node.{Node}
 use Rattle.fk_waits_queues.proofs.Heads.{heads_same, leads_away, read_apart, read_away, thread_named}
 use Rattle.fk_waits_queues.proofs.Standing.{there_by}
 use Rattle.fk_waits_queues.proofs.Turned.{never_gone, place_read}
