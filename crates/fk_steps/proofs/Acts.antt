@@ -49,94 +49,113 @@ module _ (g : List ℕ) where
 
   act_1 : (code == 1) ≡ true → BeginsWithAct (calling_mode g)
   unfolding todo_of
-  act_1 is = by_stage (Create (slice_index g 1) (slice_index g 2) (slice_index g 3)) refl refl (let at = eqb-true (slice_index g 0) 1 is in rw at refl)
+  act_1 is = by_stage (Create (slice_index g 1) (slice_index g 2) (slice_index g 3)) refl refl
+      (let at = eqb-true (slice_index g 0) 1 is in rw at (refl {a = Some (Create (slice_index g 1) (slice_index g 2) (slice_index g 3) ∷ [])}))
 
   act_2 : (code == 2) ≡ true → BeginsWithAct (calling_mode g)
   unfolding todo_of
-  act_2 is = by_stage (Destroy (slice_index g 1) (slice_index g 2)) refl refl (let at = eqb-true (slice_index g 0) 2 is in rw at refl)
+  act_2 is = by_stage (Destroy (slice_index g 1) (slice_index g 2)) refl refl
+      (let at = eqb-true (slice_index g 0) 2 is in rw at (refl {a = Some (Destroy (slice_index g 1) (slice_index g 2) ∷ [])}))
 
   act_3 : (code == 3) ≡ true → BeginsWithAct (calling_mode g)
   unfolding todo_of
-  act_3 is = by_stage (Rename (slice_index g 1) (slice_index g 2) (slice_index g 3)) refl refl (let at = eqb-true (slice_index g 0) 3 is in rw at refl)
+  act_3 is = by_stage (Rename (slice_index g 1) (slice_index g 2) (slice_index g 3)) refl refl
+      (let at = eqb-true (slice_index g 0) 3 is in rw at (refl {a = Some (Rename (slice_index g 1) (slice_index g 2) (slice_index g 3) ∷ [])}))
 
   act_4 : (code == 4) ≡ true → BeginsWithAct (calling_mode g)
   unfolding todo_of
-  act_4 is = by_stage (Search (slice_index g 1) (slice_index g 2)) refl refl (let at = eqb-true (slice_index g 0) 4 is in rw at refl)
+  act_4 is = by_stage (Search (slice_index g 1) (slice_index g 2)) refl refl
+      (let at = eqb-true (slice_index g 0) 4 is in rw at (refl {a = Some (Search (slice_index g 1) (slice_index g 2) ∷ [])}))
 
   act_5 : (code == 5) ≡ true → BeginsWithAct (calling_mode g)
   unfolding todo_of
   act_5 is = by_stage (Point (slice_index g 1) (slice_index g 2) (slice_index g 3) (slice_index g 4)) refl refl
-      (let at = eqb-true (slice_index g 0) 5 is in rw at refl)
+      (let at = eqb-true (slice_index g 0) 5 is in rw at (refl {a = Some (Point (slice_index g 1) (slice_index g 2) (slice_index g 3) (slice_index g 4) ∷ [])}))
 
   act_6 : (code == 6) ≡ true → BeginsWithAct (calling_mode g)
   unfolding todo_of
-  act_6 is = by_stage (Clear (slice_index g 1) (slice_index g 2)) refl refl (let at = eqb-true (slice_index g 0) 6 is in rw at refl)
+  act_6 is = by_stage (Clear (slice_index g 1) (slice_index g 2)) refl refl
+      (let at = eqb-true (slice_index g 0) 6 is in rw at (refl {a = Some (Clear (slice_index g 1) (slice_index g 2) ∷ [])}))
 
   act_7 : (code == 7) ≡ true → BeginsWithAct (calling_mode g)
   unfolding todo_of
-  act_7 is = by_stage (Locate (slice_index g 1) (slice_index g 2)) refl refl (let at = eqb-true (slice_index g 0) 7 is in rw at refl)
+  act_7 is = by_stage (Locate (slice_index g 1) (slice_index g 2)) refl refl
+      (let at = eqb-true (slice_index g 0) 7 is in rw at (refl {a = Some (Locate (slice_index g 1) (slice_index g 2) ∷ [])}))
 
   act_8 : (code == 8) ≡ true → BeginsWithAct (calling_mode g)
   unfolding todo_of
-  act_8 is = by_stage (CountIn (slice_index g 1) (slice_index g 2) (slice_index g 3)) refl refl (let at = eqb-true (slice_index g 0) 8 is in rw at refl)
+  act_8 is = by_stage (CountIn (slice_index g 1) (slice_index g 2) (slice_index g 3)) refl refl
+      (let at = eqb-true (slice_index g 0) 8 is in rw at (refl {a = Some (CountIn (slice_index g 1) (slice_index g 2) (slice_index g 3) ∷ [])}))
 
   act_9 : (code == 9) ≡ true → BeginsWithAct (calling_mode g)
   unfolding todo_of
-  act_9 is = by_stage (GetState (slice_index g 1) (slice_index g 2) (slice_index g 3)) refl refl (let at = eqb-true (slice_index g 0) 9 is in rw at refl)
+  act_9 is = by_stage (GetState (slice_index g 1) (slice_index g 2) (slice_index g 3)) refl refl
+      (let at = eqb-true (slice_index g 0) 9 is in rw at (refl {a = Some (GetState (slice_index g 1) (slice_index g 2) (slice_index g 3) ∷ [])}))
 
   act_10 : (code == 10) ≡ true → BeginsWithAct (calling_mode g)
   unfolding todo_of
-  act_10 is = by_stage (SetState (slice_index g 1) (slice_index g 2) (slice_index g 3)) refl refl (let at = eqb-true (slice_index g 0) 10 is in rw at refl)
+  act_10 is = by_stage (SetState (slice_index g 1) (slice_index g 2) (slice_index g 3)) refl refl
+      (let at = eqb-true (slice_index g 0) 10 is in rw at (refl {a = Some (SetState (slice_index g 1) (slice_index g 2) (slice_index g 3) ∷ [])}))
 
   act_11 : (code == 11) ≡ true → BeginsWithAct (calling_mode g)
   unfolding todo_of
   act_11 is = by_stage (GetPtr (slice_index g 1) (slice_index g 2) (slice_index g 3) (slice_index g 4)) refl refl
-      (let at = eqb-true (slice_index g 0) 11 is in rw at refl)
+      (let at = eqb-true (slice_index g 0) 11 is in rw at (refl {a = Some (GetPtr (slice_index g 1) (slice_index g 2) (slice_index g 3) (slice_index g 4) ∷ [])}))
 
   act_12 : (code == 12) ≡ true → BeginsWithAct (calling_mode g)
   unfolding todo_of
   act_12 is = by_stage (SetPtr (slice_index g 1) (slice_index g 2) (slice_index g 3) (slice_index g 4)) refl refl
-      (let at = eqb-true (slice_index g 0) 12 is in rw at refl)
+      (let at = eqb-true (slice_index g 0) 12 is in rw at (refl {a = Some (SetPtr (slice_index g 1) (slice_index g 2) (slice_index g 3) (slice_index g 4) ∷ [])}))
 
   act_14 : (code == 14) ≡ true → BeginsWithAct (calling_mode g)
   unfolding todo_of
-  act_14 is = by_stage (SpaceRelease (slice_index g 1) (slice_index g 2)) refl refl (let at = eqb-true (slice_index g 0) 14 is in rw at refl)
+  act_14 is = by_stage (SpaceRelease (slice_index g 1) (slice_index g 2)) refl refl
+      (let at = eqb-true (slice_index g 0) 14 is in rw at (refl {a = Some (SpaceRelease (slice_index g 1) (slice_index g 2) ∷ [])}))
 
   act_15 : (code == 15) ≡ true → BeginsWithAct (calling_mode g)
   unfolding todo_of
-  act_15 is = by_stage (ThreadStop (slice_index g 1)) refl refl (let at = eqb-true (slice_index g 0) 15 is in rw at refl)
+  act_15 is = by_stage (ThreadStop (slice_index g 1)) refl refl
+      (let at = eqb-true (slice_index g 0) 15 is in rw at (refl {a = Some (ThreadStop (slice_index g 1) ∷ [])}))
 
   act_16 : (code == 16) ≡ true → BeginsWithAct (calling_mode g)
   unfolding todo_of
-  act_16 is = by_stage (ThreadGo (slice_index g 1)) refl refl (let at = eqb-true (slice_index g 0) 16 is in rw at refl)
+  act_16 is = by_stage (ThreadGo (slice_index g 1)) refl refl
+      (let at = eqb-true (slice_index g 0) 16 is in rw at (refl {a = Some (ThreadGo (slice_index g 1) ∷ [])}))
 
   act_17 : (code == 17) ≡ true → BeginsWithAct (calling_mode g)
   unfolding todo_of
-  act_17 is = by_stage (PageGive (slice_index g 1) (slice_index g 2) (slice_index g 3)) refl refl (let at = eqb-true (slice_index g 0) 17 is in rw at refl)
+  act_17 is = by_stage (PageGive (slice_index g 1) (slice_index g 2) (slice_index g 3)) refl refl
+      (let at = eqb-true (slice_index g 0) 17 is in rw at (refl {a = Some (PageGive (slice_index g 1) (slice_index g 2) (slice_index g 3) ∷ [])}))
 
   act_18 : (code == 18) ≡ true → BeginsWithAct (calling_mode g)
   unfolding todo_of
-  act_18 is = by_stage (PageTake (slice_index g 1) (slice_index g 2) (slice_index g 3)) refl refl (let at = eqb-true (slice_index g 0) 18 is in rw at refl)
+  act_18 is = by_stage (PageTake (slice_index g 1) (slice_index g 2) (slice_index g 3)) refl refl
+      (let at = eqb-true (slice_index g 0) 18 is in rw at (refl {a = Some (PageTake (slice_index g 1) (slice_index g 2) (slice_index g 3) ∷ [])}))
 
   act_19 : (code == 19) ≡ true → BeginsWithAct (calling_mode g)
   unfolding todo_of
-  act_19 is = by_stage (PageRead (slice_index g 1) (slice_index g 2) (slice_index g 3)) refl refl (let at = eqb-true (slice_index g 0) 19 is in rw at refl)
+  act_19 is = by_stage (PageRead (slice_index g 1) (slice_index g 2) (slice_index g 3)) refl refl
+      (let at = eqb-true (slice_index g 0) 19 is in rw at (refl {a = Some (PageRead (slice_index g 1) (slice_index g 2) (slice_index g 3) ∷ [])}))
 
   act_20 : (code == 20) ≡ true → BeginsWithAct (calling_mode g)
   unfolding todo_of
-  act_20 is = by_stage (PageNext (slice_index g 1) (slice_index g 2)) refl refl (let at = eqb-true (slice_index g 0) 20 is in rw at refl)
+  act_20 is = by_stage (PageNext (slice_index g 1) (slice_index g 2)) refl refl
+      (let at = eqb-true (slice_index g 0) 20 is in rw at (refl {a = Some (PageNext (slice_index g 1) (slice_index g 2) ∷ [])}))
 
   act_22 : (code == 22) ≡ true → BeginsWithAct (calling_mode g)
   unfolding todo_of
-  act_22 is = by_stage (MutexTrylock (slice_index g 1)) refl refl (let at = eqb-true (slice_index g 0) 22 is in rw at refl)
+  act_22 is = by_stage (MutexTrylock (slice_index g 1)) refl refl
+      (let at = eqb-true (slice_index g 0) 22 is in rw at (refl {a = Some (MutexTrylock (slice_index g 1) ∷ [])}))
 
   act_23 : (code == 23) ≡ true → BeginsWithAct (calling_mode g)
   unfolding todo_of
-  act_23 is = by_stage (MutexUnlock (slice_index g 1)) refl refl (let at = eqb-true (slice_index g 0) 23 is in rw at refl)
+  act_23 is = by_stage (MutexUnlock (slice_index g 1)) refl refl
+      (let at = eqb-true (slice_index g 0) 23 is in rw at (refl {a = Some (MutexUnlock (slice_index g 1) ∷ [])}))
 
   act_39 : (code == 39) ≡ true → BeginsWithAct (calling_mode g)
   unfolding todo_of
-  act_39 is = by_stage Disconnect refl refl (let at = eqb-true (slice_index g 0) 39 is in rw at refl)
+  act_39 is = by_stage Disconnect refl refl
+      (let at = eqb-true (slice_index g 0) 39 is in rw at (refl {a = Some (Disconnect ∷ [])}))
 
   of_first : acts_first code ≡ true → BeginsWithAct (calling_mode g)
   of_first is =

@@ -1,6 +1,6 @@
 -- Sends: who sends words to a native server, or passes the turn to it, can move, while nothing is held.
-use Rattle.std.proofs.Common.{◌≡◌, ◌==◌, ◌&&◌, ◌||◌, ℕ, Bool, true, false, if◌then◌else◌, List, [], ◌∷◌, Option, Some, None, Ok, Err, unwrap_or, slice_index}
-use Rattle.std.proofs.Common.{◌⊎◌, inl, inr, refl, sym, ap, ◌∙◌}
+use Rattle.std.proofs.Common.{◌≡◌, ◌==◌, ◌||◌, ℕ, Bool, true, false, if◌then◌else◌, List, [], ◌∷◌, Option, Some, None, Ok, Err, unwrap_or, slice_index}
+use Rattle.std.proofs.Common.{◌⊎◌, inl, inr, refl, ap, ◌∙◌}
 use Rattle.std.proofs.lemmas.Bool.{eqb-true}
 use Rattle.fk_model.specs.declared.stage.Stage.{Stage}
 use Rattle.fk_model.specs.declared.stage.Stage.TheVariants.{ClientSend, ClientOver, ClientReceive}
@@ -68,19 +68,23 @@ unfolding todo_of
 begins_over g is = by (slice_index g 0 == 38) refl is
   where
     by : (b : Bool) → (slice_index g 0 == 38) ≡ b → (b || slice_index g 0 == 35) ≡ true → BeginsWithOver (calling_mode g)
-    by true e is = over_stages g [] (let at = eqb-true (slice_index g 0) 38 e in rw at refl)
+    by true e is = over_stages g [] (let at = eqb-true (slice_index g 0) 38 e in rw at (refl {a = Some (ClientOver ∷ [])}))
     by false e is =
-        over_stages g (ClientReceive (slice_index g 4) (slice_index g 5) ∷ []) (let at = eqb-true (slice_index g 0) 35 is in rw at refl)
+        over_stages g (ClientReceive (slice_index g 4) (slice_index g 5) ∷ [])
+        (let at = eqb-true (slice_index g 0) 35 is in rw at (refl {a = Some (ClientOver ∷ ClientReceive (slice_index g 4) (slice_index g 5) ∷ [])}))
 
 begins_send : (g : List ℕ) → begins_with_send (slice_index g 0) ≡ true → BeginsWithSend (calling_mode g)
 unfolding todo_of
 begins_send g is = by (slice_index g 0 == 37) refl is
   where
     by : (b : Bool) → (slice_index g 0 == 37) ≡ b → (b || slice_index g 0 == 34) ≡ true → BeginsWithSend (calling_mode g)
-    by true e is = by_stages g (slice_index g 2) (slice_index g 3) [] (let at = eqb-true (slice_index g 0) 37 e in rw at refl)
+    by true e is =
+        by_stages g (slice_index g 2) (slice_index g 3) []
+        (let at = eqb-true (slice_index g 0) 37 e in rw at (refl {a = Some (ClientSend (slice_index g 2) (slice_index g 3) ∷ [])}))
     by false e is =
         by_stages g (slice_index g 2) (slice_index g 3) (ClientOver ∷ ClientReceive (slice_index g 4) (slice_index g 5) ∷ [])
-        (let at = eqb-true (slice_index g 0) 34 is in rw at refl)
+        (let at = eqb-true (slice_index g 0) 34 is in
+        rw at (refl {a = Some (ClientSend (slice_index g 2) (slice_index g 3) ∷ ClientOver ∷ ClientReceive (slice_index g 4) (slice_index g 5) ∷ [])}))
 
 pub begins : (g : List ℕ) → speaks (slice_index g 0) ≡ true → BeginsWithSend (calling_mode g) ⊎ BeginsWithOver (calling_mode g)
 begins g is = by (begins_with_send (slice_index g 0)) refl is

@@ -1,4 +1,3 @@
-use Rattle.std.proofs.Common.{◌∙◌, ap}
 use Rattle.fk_steps.proofs.Went.{length_none}
 use Rattle.fk_steps.proofs.plain.is_none_queued.Goals as goal
 
