@@ -42,25 +42,26 @@ pub fn stage(store: &mut Store, who: Who, touched: &mut Touched) -> bool
     ensures same { OnFalse result (store.new ≡ store.old) }
 {
     // Nobody else is judged for it.
-    if !may_be_silent(store, who) {
-        return false;
-    }
-    make_silently(store, who, touched)
-}
-
-/// The same of one who may be about to make such a stage.
-#[inline(never)]
-fn make_silently(store: &mut Store, who: Who, touched: &mut Touched) -> bool
-    requires valid { IsValid (world store.old) }
-    ensures made { OnTrue result (IsReadyMove store.old (record { who = who; pick = None }) asks.Run
-        × IsStepTo store.old (record { who = who; pick = None }) asks.Run store.new says.Nothing) }
-    ensures ended { OnTrue result (IsEnded store.old store.new None) }
-    ensures touched { OnTrue result (TellsTouched store.old (record { who = who; pick = None }) asks.Run touched.new) }
-    ensures same { OnFalse result (store.new ≡ store.old) }
-{
-    match stage_of(store, who) {
+    match silent_stage(store, who) {
         Some(stage) => make_stage(store, who, &stage, touched),
         None => false,
+    }
+}
+
+/// The next stage of the free user in a slot, where that may be such a one.
+#[inline(always)]
+fn silent_stage(store: &Store, who: Who) -> Option<Stage>
+    ensures free { IsSome result → is_free_at (world store.now) (place (path store.now) who) ≡ true }
+    ensures space { IsSome result → IsSpace store.now who.space }
+    ensures at { IfSome result (λ stage. IsAtStage (world store.now) (place (path store.now) who) stage) }
+{
+    let thread = free_user(store, who)?;
+    if !is_on_objects(thread.regs[0]) {
+        return None;
+    }
+    match next_of(thread) {
+        Doing::Stage(stage) => Some(stage),
+        Doing::Instruction | Doing::Nothing => None,
     }
 }
 
@@ -79,7 +80,7 @@ pub fn stage_of(store: &Store, who: Who) -> Option<Stage>
 }
 
 /// Makes this stage of a free user, the first of its call. It is judged where it stands, so that no answer of the judge is handed on.
-#[inline(always)]
+#[inline(never)]
 fn make_stage(store: &mut Store, who: Who, stage: &Stage, touched: &mut Touched) -> bool
     requires valid { IsValid (world store.old) }
     requires free { is_free_at (world store.old) (place (path store.old) who) ≡ true }
@@ -105,15 +106,6 @@ fn make_stage(store: &mut Store, who: Who, stage: &Stage, touched: &mut Touched)
             carry_silently(store, caller, &verdict)
         }
         Some(_) => false,
-    }
-}
-
-/// A user may be about to make such a stage.
-#[inline(always)]
-fn may_be_silent(store: &Store, who: Who) -> bool {
-    match store.thread(who) {
-        Some(thread) => is_on_objects(thread.regs[0]),
-        None => false,
     }
 }
 
