@@ -36,6 +36,7 @@ pub fn doing_of(store: &Store, who: Who) -> Doing
 }
 
 /// What a thread does next.
+#[inline(always)]
 pub fn next_of(thread: &Thread) -> Doing
     ensures { (w : World) (x : Path) (p : ℕ → Path) → Some (thread_by p thread.now) ≡ thread_at w x → IsDoing w x result }
 {
@@ -50,6 +51,7 @@ pub fn next_of(thread: &Thread) -> Doing
 }
 
 /// The first stage of the call that the registers name, if they name one.
+#[inline(always)]
 fn first_stage(registers: &[u64; 16]) -> Option<Stage>
     ensures { first_of (todo_of registers.now) ≡ result }
 {

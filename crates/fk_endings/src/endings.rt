@@ -138,6 +138,7 @@ fn left_at(store: &Store, object: Who) -> Option<Who>
 }
 
 /// By a verdict.
+#[inline(always)]
 fn left_by_verdict(store: &Store, verdict: &Verdict) -> Option<Who>
     requires live { IsRenamed store.now verdict.now }
     ensures port { IsLeft (world store.now) (path store.now) verdict.now (option_map (place (path store.now)) result) }
@@ -163,6 +164,7 @@ fn left_by_verdict(store: &Store, verdict: &Verdict) -> Option<Who>
 
 /// The port whose native server loses its client by what a verdict does; none where each that has one
 /// keeps one.
+#[inline(always)]
 pub fn ended_by(store: &Store, caller: Caller, verdict: &Verdict) -> Option<Who>
     requires valid { IsValid (world store.now) }
     requires fits { IsVerdict store.now caller verdict.now }

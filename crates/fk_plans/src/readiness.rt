@@ -178,6 +178,7 @@ fn is_effect_allowed(store: &Store, me: Who, effect: &Effect) -> bool
 }
 
 /// The freezing rule allows what a verdict does.
+#[inline(always)]
 fn is_verdict_allowed(store: &Store, caller: Caller, verdict: &Verdict) -> bool
     requires fits { IsVerdict store.now caller verdict.now }
     ensures { IsTrue result ↔ IsVerdictAllowed (world store.now) (place (path store.now) caller.who) (path store.now) verdict.now }
@@ -201,6 +202,7 @@ fn is_verdict_allowed(store: &Store, caller: Caller, verdict: &Verdict) -> bool
 }
 
 /// Whether a stage with this verdict may pick so.
+#[inline(always)]
 fn may_pick(chooses: bool, pick: Option<Who>, verdict: &Verdict) -> bool
     ensures { result ≡ may_pick chooses pick verdict.now }
 {
@@ -225,6 +227,7 @@ fn may_pick(chooses: bool, pick: Option<Who>, verdict: &Verdict) -> bool
 /// Whether a free user, or a porter, who is judged so is ready: it picks somebody only where its
 /// stage chooses and isn't refused, and the freezing rule allows all that it does.
 #[tactic(auto, using(crate::proofs::Ready::never_picks))]
+#[inline(always)]
 pub fn is_ready(
     store: &Store,
     caller: Caller,

@@ -5,6 +5,7 @@ ghost use Rattle.fk_model.specs.Calls.{calls, named_by, stages_of, todo_of};
 use fk_model::{Stage, Todo};
 
 /// Those of a call upon objects: codes 1 to 14.
+#[inline(always)]
 fn named_object_call(registers: &[u64; 16]) -> Option<Todo>
     ensures { option_map stages_of result ≡ named_by (take 14 calls) (slice_index registers.now 0) registers.now }
 {
@@ -44,6 +45,7 @@ fn named_object_call(registers: &[u64; 16]) -> Option<Todo>
 }
 
 /// Those of a call upon threads, pages, mutexes and conditions: codes 15 to 27.
+#[inline(always)]
 fn named_thread_call(registers: &[u64; 16]) -> Option<Todo>
     ensures { option_map stages_of result ≡ named_by (take 13 (drop 14 calls)) (slice_index registers.now 0) registers.now }
 {
@@ -80,6 +82,7 @@ fn named_thread_call(registers: &[u64; 16]) -> Option<Todo>
 }
 
 /// Those of a client's call: codes 32 to 39.
+#[inline(always)]
 fn named_client_call(registers: &[u64; 16]) -> Option<Todo>
     ensures { option_map stages_of result ≡ named_by (take 8 (drop 27 calls)) (slice_index registers.now 0) registers.now }
 {
@@ -106,6 +109,7 @@ fn named_client_call(registers: &[u64; 16]) -> Option<Todo>
 }
 
 /// Those of a server's call: codes 48 to 56.
+#[inline(always)]
 fn named_server_call(registers: &[u64; 16]) -> Option<Todo>
     ensures { option_map stages_of result ≡ named_by (take 9 (drop 35 calls)) (slice_index registers.now 0) registers.now }
 {
@@ -133,6 +137,7 @@ fn named_server_call(registers: &[u64; 16]) -> Option<Todo>
 }
 
 /// Those of a porter's call: codes 60 to 65.
+#[inline(always)]
 fn named_porter_call(registers: &[u64; 16]) -> Option<Todo>
     ensures { option_map stages_of result ≡ named_by (drop 44 calls) (slice_index registers.now 0) registers.now }
 {
@@ -166,6 +171,7 @@ fn named_porter_call(registers: &[u64; 16]) -> Option<Todo>
 
 /// The stages that the registers name. None exactly where the first register holds no call's code.
 #[tactic(auto, unfolding(fk_model::specs::Calls::todo_of))]
+#[inline(always)]
 pub fn todo(registers: &[u64; 16]) -> Option<Todo>
     ensures { option_map stages_of result ≡ todo_of registers.now }
 {

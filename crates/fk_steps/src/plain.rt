@@ -521,6 +521,7 @@ fn is_same(one: Who, other: Who) -> bool
 }
 
 /// A user's thread runs, or after what was no instruction is in a call that waits for nobody, and nothing keeps it, as far as is seen at once.
+#[inline(always)]
 fn goes_on(store: &Store, who: Who, ran: bool) -> bool
     ensures up { OnTrue result (IsMoveReady (world store.now) (place_of store.now who)) }
     ensures user { OnTrue result (is_user_at store.now who ≡ true) }

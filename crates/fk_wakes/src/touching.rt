@@ -45,6 +45,7 @@ pub enum Touched {
 }
 
 /// The object that a deed changes; none where it changes a page.
+#[inline(always)]
 pub fn changed(deed: &Deed) -> Option<Who>
     ensures by { result ≡ changed_by deed.now }
 {
@@ -71,6 +72,7 @@ pub fn changed(deed: &Deed) -> Option<Who>
 }
 
 /// These objects alone.
+#[inline(always)]
 fn few(first: Option<Who>, second: Option<Who>, third: Option<Who>) -> Touched
     ensures { result ≡ Touched.Few first second third }
 {
@@ -82,6 +84,7 @@ fn few(first: Option<Who>, second: Option<Who>, third: Option<Who>) -> Touched
 }
 
 /// Which objects a plan changes.
+#[inline(always)]
 fn planned(plan: &Plan) -> Touched
     ensures { result ≡ touches.planned plan.now }
 {
@@ -102,6 +105,7 @@ fn planned(plan: &Plan) -> Touched
 }
 
 /// Which objects a verdict changes besides its caller.
+#[inline(always)]
 fn judged(verdict: &Verdict) -> Touched
     ensures { result ≡ touches.judged verdict.now }
 {
@@ -134,6 +138,7 @@ pub fn touched_by_plan(plan: &Plan) -> Touched
 }
 
 /// Which objects the move of a caller changes besides the caller, where it is judged so.
+#[inline(always)]
 pub fn touched_by_move(verdict: &Verdict) -> Touched
     ensures by { result ≡ touches.judged verdict.now }
     ensures names { (m : Contents) (c : callers.Caller) (words : List ℕ) (chooses : Bool) (pick : Option names_of.Who) (x : Path)
