@@ -133,6 +133,7 @@ fn row(
 
 /// A stage that is for the other kind of caller. Mutexes, conditions and talks are for users alone,
 /// but for waiting and the end of a fault.
+#[inline(always)]
 fn is_denied(caller: Caller, stage: &Stage) -> bool
     ensures { (p : ℕ → Path) (words : List ℕ) → result ≡ machine.is_denied (caller_by p caller words) stage.now }
 {

@@ -4,20 +4,22 @@ ghost use Rattle.std.specs.Prelude.{◌≡◌, [], true, false, None, IsSome, If
 ghost use Rattle.std.specs.Bool.{OnTrue, OnFalse};
 ghost use Rattle.fk_model.specs.declared.moves.Ask.TheVariants as asks;
 ghost use Rattle.fk_model.specs.declared.moves.Said.TheVariants as says;
-ghost use Rattle.fk_model.specs.Moves.{closed, stepped};
+ghost use Rattle.fk_model.specs.Moves.{allowed_row, closed, stepped};
 ghost use Rattle.fk_model.specs.ObjectRows.{told_with};
 ghost use Rattle.fk_model.specs.Outcomes.Said.{Nothing};
 ghost use Rattle.fk_model.specs.Places.{same_path};
 ghost use Rattle.fk_model.specs.Valid.{IsValid};
+ghost use Rattle.fk_store.specs.Moves.{picked_by};
 ghost use Rattle.fk_store.specs.Paths.{path, place};
 ghost use Rattle.fk_store.specs.Threads.{is_free_at};
 ghost use Rattle.fk_store.specs.World.{world, IsLive, IsSpace};
 ghost use Rattle.fk_plans.specs.Destroys.{destroyed, IsDying};
 ghost use Rattle.fk_plans.specs.Plans.{caller_by};
 ghost use Rattle.fk_plans.specs.Renames.{renames, IsMoving};
-ghost use Rattle.fk_plans.specs.Verdicts.{outcome_by, IsVerdict};
+ghost use Rattle.fk_plans.specs.Verdicts.{outcome_by, IsSureVerdict, IsVerdict};
 ghost use Rattle.fk_calls.specs.Doings.{IsAtStage};
 ghost use Rattle.fk_calls.specs.Judgements.{IsEnded, IsReadyMove, IsStepTo, TellsTouched};
+ghost use Rattle.fk_calls.specs.Rows.{takes_memory};
 
 use crate::codes::is_on_objects;
 use crate::doing::{Doing, next_of};
@@ -79,9 +81,96 @@ pub fn stage_of(store: &Store, who: Who) -> Option<Stage>
     }
 }
 
-/// Makes this stage of a free user, the first of its call. It is judged where it stands, so that no answer of the judge is handed on.
-#[inline(never)]
+/// Makes this stage of a free user, the first of its call. What is made and destroyed has functions of its own, in which only its row stands, so that no
+/// verdict is handed on.
+#[inline(always)]
 fn make_stage(store: &mut Store, who: Who, stage: &Stage, touched: &mut Touched) -> bool
+    requires valid { IsValid (world store.old) }
+    requires free { is_free_at (world store.old) (place (path store.old) who) ≡ true }
+    requires space { IsSpace store.old who.space }
+    requires at { IsAtStage (world store.old) (place (path store.old) who) stage.now }
+    ensures made { OnTrue result (IsReadyMove store.old (record { who = who; pick = None }) asks.Run
+        × IsStepTo store.old (record { who = who; pick = None }) asks.Run store.new says.Nothing) }
+    ensures ended { OnTrue result (IsEnded store.old store.new None) }
+    ensures touched { OnTrue result (TellsTouched store.old (record { who = who; pick = None }) asks.Run touched.new) }
+    ensures same { OnFalse result (store.new ≡ store.old) }
+{
+    match *stage {
+        Stage::Create { s, x, kind } => make_create(store, who, s, x, kind, touched),
+        Stage::Destroy { s, x } => make_destroy(store, who, s, x, touched),
+        _ => make_other(store, who, stage, touched),
+    }
+}
+
+/// The same of the stage that makes an object.
+#[inline(never)]
+fn make_create(
+    store: &mut Store,
+    who: Who,
+    s: u64,
+    x: u64,
+    kind: u64,
+    touched: &mut Touched,
+) -> bool
+    requires valid { IsValid (world store.old) }
+    requires free { is_free_at (world store.old) (place (path store.old) who) ≡ true }
+    requires space { IsSpace store.old who.space }
+    requires at { IsAtStage (world store.old) (place (path store.old) who) (Stage.Create s x kind) }
+    ensures made { OnTrue result (IsReadyMove store.old (record { who = who; pick = None }) asks.Run
+        × IsStepTo store.old (record { who = who; pick = None }) asks.Run store.new says.Nothing) }
+    ensures ended { OnTrue result (IsEnded store.old store.new None) }
+    ensures touched { OnTrue result (TellsTouched store.old (record { who = who; pick = None }) asks.Run touched.new) }
+    ensures same { OnFalse result (store.new ≡ store.old) }
+{
+    let caller = Caller {
+        who,
+        is_porter: false,
+    };
+    let stage = Stage::Create { s, x, kind };
+    match rows::judged(store, caller, &[], &stage, None) {
+        Ok(Verdict::Done(Plan::Makes { object, kind }, Answers::Nothing)) => {
+            let verdict = Verdict::Done(Plan::Makes { object, kind }, Answers::Nothing);
+            make_verdict(store, who, &stage, &verdict, touched)
+        }
+        _ => false,
+    }
+}
+
+/// The same of the stage that destroys an object.
+#[inline(never)]
+fn make_destroy(store: &mut Store, who: Who, s: u64, x: u64, touched: &mut Touched) -> bool
+    requires valid { IsValid (world store.old) }
+    requires free { is_free_at (world store.old) (place (path store.old) who) ≡ true }
+    requires space { IsSpace store.old who.space }
+    requires at { IsAtStage (world store.old) (place (path store.old) who) (Stage.Destroy s x) }
+    ensures made { OnTrue result (IsReadyMove store.old (record { who = who; pick = None }) asks.Run
+        × IsStepTo store.old (record { who = who; pick = None }) asks.Run store.new says.Nothing) }
+    ensures ended { OnTrue result (IsEnded store.old store.new None) }
+    ensures touched { OnTrue result (TellsTouched store.old (record { who = who; pick = None }) asks.Run touched.new) }
+    ensures same { OnFalse result (store.new ≡ store.old) }
+{
+    let caller = Caller {
+        who,
+        is_porter: false,
+    };
+    let stage = Stage::Destroy { s, x };
+    match rows::judged(store, caller, &[], &stage, None) {
+        Ok(Verdict::Destroys { object, last }) => {
+            make_verdict(
+                store,
+                who,
+                &stage,
+                &Verdict::Destroys { object, last },
+                touched,
+            )
+        }
+        _ => false,
+    }
+}
+
+/// The same of any stage.
+#[inline(never)]
+fn make_other(store: &mut Store, who: Who, stage: &Stage, touched: &mut Touched) -> bool
     requires valid { IsValid (world store.old) }
     requires free { is_free_at (world store.old) (place (path store.old) who) ≡ true }
     requires space { IsSpace store.old who.space }
@@ -96,20 +185,54 @@ fn make_stage(store: &mut Store, who: Who, stage: &Stage, touched: &mut Touched)
         who,
         is_porter: false,
     };
-    let verdict = rows::judge(store, caller, &[], stage, None);
-    if !is_ready(store, caller, rows::chooses(stage), None, &verdict) {
+    match rows::judged(store, caller, &[], stage, None) {
+        Ok(verdict) => make_verdict(store, who, stage, &verdict, touched),
+        Err(_) => false,
+    }
+}
+
+/// Makes this stage of a free user, the first of its call, which is judged so.
+#[inline(always)]
+fn make_verdict(
+    store: &mut Store,
+    who: Who,
+    stage: &Stage,
+    verdict: &Verdict,
+    touched: &mut Touched,
+) -> bool
+    requires valid { IsValid (world store.old) }
+    requires free { is_free_at (world store.old) (place (path store.old) who) ≡ true }
+    requires space { IsSpace store.old who.space }
+    requires at { IsAtStage (world store.old) (place (path store.old) who) stage.now }
+    requires row { let c = caller_by (path store.old) (record { who = who; is_porter = false }) [] in
+        outcome_by (world store.old) (path store.old) c verdict.now
+        ≡ allowed_row (world store.old) c (picked_by (path store.old) None) stage.now }
+    requires fits { IsVerdict store.old (record { who = who; is_porter = false }) verdict.now }
+    requires sure { takes_memory false stage.now ≡ false → IsSureVerdict verdict.now }
+    ensures made { OnTrue result (IsReadyMove store.old (record { who = who; pick = None }) asks.Run
+        × IsStepTo store.old (record { who = who; pick = None }) asks.Run store.new says.Nothing) }
+    ensures ended { OnTrue result (IsEnded store.old store.new None) }
+    ensures touched { OnTrue result (TellsTouched store.old (record { who = who; pick = None }) asks.Run touched.new) }
+    ensures same { OnFalse result (store.new ≡ store.old) }
+{
+    let caller = Caller {
+        who,
+        is_porter: false,
+    };
+    if !is_ready(store, caller, rows::chooses(stage), None, verdict) {
         return false;
     }
-    match ended_by(store, caller, &verdict) {
+    match ended_by(store, caller, verdict) {
         None => {
-            *touched = touched_by_move(&verdict);
-            carry_silently(store, caller, &verdict)
+            *touched = touched_by_move(verdict);
+            carry_silently(store, caller, verdict)
         }
         Some(_) => false,
     }
 }
 
 /// Carries out a verdict on a user's stage, where it tells nothing, and answers whether it did. For want of memory it doesn't.
+#[inline(always)]
 fn carry_silently(store: &mut Store, caller: Caller, verdict: &Verdict) -> bool
     requires user { caller.is_porter ≡ false }
     requires live { IsLive store.old caller.who }
@@ -131,6 +254,7 @@ fn carry_silently(store: &mut Store, caller: Caller, verdict: &Verdict) -> bool
 }
 
 /// Does all of a plan, and then the caller's stage is done.
+#[inline(always)]
 fn finish_silently(store: &mut Store, caller: Caller, plan: &Plan, answers: Answers) -> bool
     requires user { caller.is_porter ≡ false }
     requires live { IsLive store.old caller.who }
@@ -140,7 +264,9 @@ fn finish_silently(store: &mut Store, caller: Caller, plan: &Plan, answers: Answ
         ≡ record { world = world store.new; said = Nothing }) }
     ensures same { OnFalse result (store.new ≡ store.old) }
 {
-    match carry_all(store, caller, &[], plan) {
+    // A copy is handed on, so that the verdict needn't stand in memory.
+    let copy = *plan;
+    match carry_all(store, caller, &[], &copy) {
         Ok(()) => {
             finish(store, caller.who, answers);
             true
@@ -150,6 +276,7 @@ fn finish_silently(store: &mut Store, caller: Caller, plan: &Plan, answers: Answ
 }
 
 /// Destroys an object, where no native server is told of it.
+#[inline(always)]
 fn destroy_silently(store: &mut Store, caller: Caller, object: Who, last: bool) -> bool
     requires user { caller.is_porter ≡ false }
     requires live { IsLive store.old caller.who }
@@ -169,6 +296,7 @@ fn destroy_silently(store: &mut Store, caller: Caller, object: Who, last: bool) 
 }
 
 /// Destroys an object of which no native server is told, and then the caller's stage may be done.
+#[inline(always)]
 fn destroy_untold(store: &mut Store, caller: Caller, object: Who, last: bool)
     requires user { caller.is_porter ≡ false }
     requires live { IsLive store.old caller.who }
