@@ -1,5 +1,5 @@
 //! Moves after which only who moved is looked at, and most often not even that.
-ghost use Rattle.std.specs.Prelude.{◌≡◌, ◌||◌, [], true, false, None};
+ghost use Rattle.std.specs.Prelude.{◌≡◌, ◌||◌, ◌&&◌, [], true, false, None, not};
 ghost use Rattle.std.specs.Bool.{OnTrue, OnFalse};
 ghost use Rattle.fk_model.specs.Valid.{IsValid};
 ghost use Rattle.fk_store.specs.Names.{at};
@@ -327,6 +327,7 @@ fn is_quick(turns: &mut Turns, store: &Store, mover: Who, touched: &Touched, ran
 
 /// Nobody is queued, and what was touched besides who moved is no user's thread and was none: then who moved and goes on went from first to last, and nobody
 /// need be looked at; or all is as it was.
+#[inline(always)]
 fn is_apart(turns: &mut Turns, store: &Store, mover: Who, touched: &Touched) -> bool
     requires sound { IsSound turns.old.waits turns.old.marks }
     ensures sound { IsSound turns.new.waits turns.new.marks }
@@ -352,6 +353,7 @@ fn is_apart(turns: &mut Turns, store: &Store, mover: Who, touched: &Touched) -> 
 }
 
 /// What was touched besides who moved is no user's thread and was none, and who moved has its name still.
+#[inline(always)]
 fn are_apart(turns: &Turns, store: &Store, mover: Who, touched: &Touched) -> bool
     ensures apart { OnTrue result (AreApart store.now mover touched.now turns.now.waits) }
     ensures named { OnTrue result (now_named mover touched.now ≡ mover) }
@@ -375,6 +377,7 @@ fn are_apart(turns: &Turns, store: &Store, mover: Who, touched: &Touched) -> boo
 }
 
 /// So it is of these.
+#[inline(always)]
 fn are_few_apart(
     turns: &Turns,
     store: &Store,
@@ -395,6 +398,7 @@ fn are_few_apart(
 }
 
 /// So it is of this, if it is one.
+#[inline(always)]
 fn is_one_apart(turns: &Turns, store: &Store, mover: Who, name: Option<Who>) -> bool
     ensures { OnTrue result (IsOneApart store.now mover name turns.now.waits) }
 {
@@ -425,6 +429,7 @@ fn is_shifted_apart(turns: &Turns, store: &Store, object: Who, slot: u8) -> bool
 }
 
 /// No thread is there, and none stands by that name.
+#[inline(always)]
 fn is_apart_at(turns: &Turns, store: &Store, who: Who) -> bool
     ensures { OnTrue result (IsApartAt store.now who turns.now.waits) }
 {
@@ -537,19 +542,21 @@ fn goes_on(store: &Store, who: Who, ran: bool) -> bool
 }
 
 /// It isn't stopped and has no fault, and runs, or is in such a call.
+#[inline(always)]
 fn keeps_on(thread: &Thread, ran: bool) -> bool
     ensures { result ≡ steps_of.keeps_on ran thread.now }
 {
-    thread.stops == 0 && (thread.fault.is_none() && goes_in(thread.mode, !ran && is_busy(thread)))
+    thread.stops == 0 && (thread.fault.is_none() && goes_in(thread, ran))
 }
 
 /// It runs, or is in such a call.
-fn goes_in(mode: Mode, busy: bool) -> bool
-    ensures { result ≡ steps_of.goes_in mode busy }
+#[inline(always)]
+fn goes_in(thread: &Thread, ran: bool) -> bool
+    ensures { result ≡ steps_of.goes_in thread.now.mode (not ran && steps_of.is_busy thread.now) }
 {
-    match mode {
+    match thread.mode {
         Mode::Running => true,
-        Mode::Calling => busy,
+        Mode::Calling => !ran && is_busy(thread),
         Mode::Halted(_) => false,
         Mode::Native => false,
     }
