@@ -12,6 +12,7 @@ use fk_threads::Answers;
 /// A new object of a kind's number in an empty slot: 1 to 9 are a mutex, a condition, a mapping, a
 /// region, a port, a set of ports, a space, a thread and a reference.
 #[tactic(auto, unfolding(fk_model::specs::ObjectRows::create))]
+#[inline(always)]
 pub fn create(store: &Store, caller: Caller, s: u64, x: u64, kind: u64) -> Result<Verdict, u8>
     requires space { IsSpace store.now caller.who.space }
     ensures { Judges store.now caller result (λ w c. rows.create w c s x kind) }

@@ -53,6 +53,7 @@ fn is_above(store: &Store, object: Who, space: u32) -> bool
 }
 
 /// A space is an object that is there, or lies beneath it.
+#[inline(always)]
 fn holds_space(store: &Store, object: Who, space: u32) -> bool
     requires space { IsSpace store.now space }
     requires live { IsLive store.now object }
@@ -65,6 +66,7 @@ fn holds_space(store: &Store, object: Who, space: u32) -> bool
 }
 
 /// A name is that of an object that is there.
+#[inline(always)]
 fn is_named(store: &Store, who: Who, object: Who) -> bool
     requires live { IsLive store.now object }
     ensures { result ≡ same_path (placed (path store.now) who) (placed (path store.now) object) }
@@ -75,6 +77,7 @@ fn is_named(store: &Store, who: Who, object: Who) -> bool
 /// One stage destroys one object: the first at or beneath the named one, by lowest slots down, in
 /// which nothing stands. The call is done with the named object itself.
 #[tactic(auto, unfolding(fk_model::specs::ObjectRows::destroy))]
+#[inline(always)]
 pub fn destroy(store: &Store, caller: Caller, s: u64, x: u64) -> Result<Verdict, u8>
     requires space { IsSpace store.now caller.who.space }
     requires valid { IsValid (world store.now) }

@@ -129,6 +129,7 @@ fn is_deed_allowed(store: &Store, me: Who, deed: &Deed) -> bool
 }
 
 /// The freezing rule allows all of a plan.
+#[inline(always)]
 fn is_plan_allowed(store: &Store, me: Who, plan: &Plan) -> bool
     ensures { result ≡ is_plan_allowed (world store.now) (place (path store.now) me) (path store.now) plan.now }
 {

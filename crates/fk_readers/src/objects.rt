@@ -21,6 +21,7 @@ use fk_store::Store;
 
 /// The object in a slot of a space.
 #[tactic(auto, unfolding(fk_model::specs::Readers::object_in))]
+#[inline(always)]
 pub fn object_in(store: &Store, caller: Caller, space: u32, k: u64) -> Result<&Body, u8>
     ensures body { (words : List ℕ) → mapped (λ b. body_by (path store.now) b.now) result
         ≡ readers.object_in (world store.now) (caller_by (path store.now) caller words) anything (path store.now space) k }

@@ -73,6 +73,7 @@ pub fn cond_in(store: &Store, caller: Caller, space: u32, k: u64) -> Result<(), 
 
 /// A place: the caller's own space, or the space of a handle.
 #[tactic(auto, using(crate::proofs::Spaces::space_there), unfolding(fk_model::specs::Readers::space_argument, fk_model::specs::Readers::handle))]
+#[inline(always)]
 pub fn place(store: &Store, caller: Caller, s: u64) -> Result<u32, u8>
     requires own { IsSpace store.now caller.who.space }
     ensures live { IfOk result (IsSpace store.now) }

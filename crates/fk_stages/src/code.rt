@@ -42,6 +42,7 @@ fn code_of_talks_stage(stage: &Stage) -> u64
 }
 
 /// The code of a call of one stage: 1 to 27, 32, 36 to 39, 48, 50 to 52, 55, 56, 60 to 65.
+#[inline(always)]
 pub fn code_of_stage(stage: &Stage) -> u64
     ensures { result ≡ calls.code_of_stage stage.now }
 {

@@ -30,6 +30,7 @@ pub enum Answers {
 }
 
 /// The code of a call without its first stage; none where that is its last.
+#[inline(always)]
 fn code_after(code: u64) -> Option<u64>
     ensures { result ≡ code_after code }
 {
@@ -97,6 +98,7 @@ fn ended_well(thread: &Thread, answers: Answers) -> [u64; 16]
 /// The first stage of a thread's call is done, with answers that leave the arguments of its later
 /// stages. The call ends where it was the last. What is in no call stays as it is.
 #[tactic(auto, using(fk_store::proofs::changing::ThreadLaws::kind_thread, crate::proofs::FinishLaws::finish_nobody))]
+#[inline(always)]
 pub fn finish(store: &mut Store, who: Who, answers: Answers)
     requires apart { LeaveArguments answers (todo_at (world store.old) (place (path store.old) who)) }
     ensures world { world store.new ≡ apply (Alter (place (path store.old) who) (Finish (listed answers))) (world store.old) }
