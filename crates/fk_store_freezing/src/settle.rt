@@ -23,6 +23,7 @@ pub fn make_room(frozen: &mut Frozen, body: &Body)
 
 /// If a space stands there, it is told of if it is held, and its mark and those beneath it are as they
 /// must be. All others are.
+#[inline(always)]
 pub fn settle(bodies: &Bodies, frozen: &mut Frozen, held: &mut Held, who: Who, body: &Body)
     requires known { AreKnown bodies.now }
     requires here { map.get bodies.now who ≡ Some body.now }

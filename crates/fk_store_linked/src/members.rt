@@ -35,6 +35,7 @@ fn has_members(marks: &[bool; 32], group: u8) -> bool
 }
 
 /// The ports of a group of slots of the object's space are swept.
+#[inline(never)]
 fn sweep_group(objects: &mut Objects, group: u8, sweep: Sweep)
     requires { group < 16 }
     ensures { Maps objects.old objects.new (members_in sweep objects.old (group * 16) (group * 16 + 16)) }
