@@ -1,6 +1,6 @@
 -- Endings: which native server has lost its client, by its port's name.
 use Rattle.std.proofs.Common.{◌≡◌, ◌≤◌, Bool, true, false, ◌&&◌, is_some, is_none, Option, Some, None, Result, Ok, Err, IfOk, IfSome, IsSome}
-use Rattle.std.proofs.Common.{option_map, List, ℕ, refl, sym, ap, subst, ◌∙◌}
+use Rattle.std.proofs.Common.{List, ℕ, refl, ap, subst, ◌∙◌}
 use Rattle.std.specs.Bool.{OnTrue}
 use Rattle.fk_model.specs.declared.moves.Ask.{Ask}
 use Rattle.fk_model.specs.declared.moves.Ask.TheVariants as asks
@@ -14,7 +14,6 @@ use Rattle.fk_model.specs.Places.{Path, same_path}
 use Rattle.fk_model.specs.Searches.{client_at, depth}
 use Rattle.fk_model.specs.Valid.{IsValid}
 use Rattle.fk_model.specs.Who.{event_of, named, space_born}
-use Rattle.fk_model.specs.World.{World}
 use Rattle.fk_model.proofs.walks.PlaceLaws.{same_path_eq}
 use Rattle.fk_store.specs.Contents.{Contents}
 use Rattle.fk_store.specs.Moves.{picked_by, said_by}

@@ -1,6 +1,6 @@
 -- Kept: a move that isn't made leaves a kernel as it was.
-use Rattle.std.proofs.Common.{◌≡◌, Bool, true, false, Option, Some, None, Result, Ok, Err, IfOk, IfSome, IfNone, OnErr, IsSome, refl, subst}
-use Rattle.std.specs.Bool.{OnTrue, OnFalse}
+use Rattle.std.proofs.Common.{◌≡◌, Bool, true, false, Option, Some, None, Result, Ok, Err, IfOk, IfNone, OnErr}
+use Rattle.std.specs.Bool.{OnFalse}
 use Rattle.fk_model.specs.declared.moves.Ask.{Ask}
 use Rattle.fk_model.specs.declared.moves.Move.{Move}
 use Rattle.fk_model.specs.Who.{event_of, space_born}
@@ -8,7 +8,6 @@ use Rattle.fk_store.specs.Contents.{Contents}
 use Rattle.fk_store.specs.Paths.{path}
 use Rattle.fk_store.specs.World.{world}
 use Rattle.fk_steps.specs.Tellings.{Told}
-use Rattle.fk_steps.specs.Judgements.{IsReadyMove}
 use Rattle.fk_steps.specs.Tried.{IsUnready}
 use Rattle.fk_steps.specs.Steps.{was_made}
 use Rattle.fk_steps.specs.Waiting.{Standing}

@@ -4,12 +4,10 @@ use Rattle.fk_model.specs.declared.moves.Ask.{Ask}
 use Rattle.fk_model.specs.declared.moves.Move.{Move}
 use Rattle.fk_model.specs.declared.moves.Said.{Said}
 use Rattle.fk_model.specs.Moves.{IsReady}
-use Rattle.fk_model.specs.Runs.{Event}
 use Rattle.fk_model.specs.Who.{space_born, event_of}
-use Rattle.fk_model.specs.World.{World}
 use Rattle.fk_store.specs.Contents.{Contents}
-use Rattle.fk_store.specs.Moves.{picked_by, said_by}
-use Rattle.fk_store.specs.Paths.{path, place}
+use Rattle.fk_store.specs.Moves.{said_by}
+use Rattle.fk_store.specs.Paths.{path}
 use Rattle.fk_store.specs.World.{world}
 use Rattle.fk_steps.specs.Tellings.{Told}
 use Rattle.fk_steps.specs.Judgements.{is_fit_move, IsReadyMove, IsStepTo}

@@ -116,6 +116,8 @@ impl Turns {
     pub fn reserve_for(&mut self, threads: u64) -> Result<(), NoMemory>
         requires sound { IsSound self.old.waits self.old.marks }
         ensures sound { IsSound self.new.waits self.new.marks }
+        ensures waits { OnOk result (threads ≤ self.new.waits.spare) }
+        ensures marks { OnOk result (threads ≤ self.new.marks.spare) }
         ensures ready { self.new.waits.ready ≡ self.old.waits.ready }
         ensures queued { self.new.waits.queued ≡ self.old.waits.queued }
     {

@@ -6,7 +6,7 @@ use Rattle.slab.proofs.SlabLemmas.{Updates-with_value}
 use Rattle.fk_waits_queues.specs.Chains.{put_at, IsList, IsNoneOf}
 use Rattle.fk_waits_queues.specs.Nodes.{next_in, prev_in, next_of, prev_of, AreDisjoint, IsListed}
 use Rattle.fk_waits_queues.specs.declared.lists.Node.{Node}
-use Rattle.fk_waits_queues.proofs.Chains.{put-same, put-other, same_everywhere, joins_last, leaves_list, list_agrees, others_stay, last_is, before_is, behind_is}
+use Rattle.fk_waits_queues.proofs.Chains.{put-same, same_everywhere, joins_last, leaves_list, list_agrees, others_stay, last_is, before_is, behind_is}
 
 -- one node stands right before another now
 pub record AreLinked (old new : Slab Node) (before behind : ℕ) : Type 0 where

@@ -1,7 +1,7 @@
-use Rattle.std.proofs.Common.{sym, ◌∙◌, ap}
+use Rattle.std.proofs.Common.{ap}
 use Rattle.fk_steps.proofs.Ahead.{IsAhead, ahead_next}
 use Rattle.fk_kernel.specs.Kernels.{Kept}
-use Rattle.fk_kernel.proofs.Scans.{IsUpBetween, all_ahead, idle_between, none_past}
+use Rattle.fk_kernel.proofs.Scans.{IsUpBetween, all_ahead}
 use Rattle.fk_kernel.proofs.kernel.Kernel.ready_between.Goals as goal
 
 pub loop-at-init : goal.loop-at-init

@@ -4,10 +4,9 @@ use Rattle.fk_model.specs.Moves.{IsReady}
 use Rattle.fk_model.specs.Objects.Mode.{Running}
 use Rattle.fk_model.specs.Places.{Path}
 use Rattle.fk_model.specs.Valid.{IsValid}
-use Rattle.fk_model.specs.World.{World, apply}
+use Rattle.fk_model.specs.World.{apply}
 use Rattle.fk_model.specs.World.Change.{Alter}
 use Rattle.fk_model.specs.World.Edit.{Proceed}
-use Rattle.fk_store.specs.Contents.{Contents}
 use Rattle.fk_store.specs.Paths.{path, place}
 use Rattle.fk_store.specs.World.{world}
 use Rattle.fk_steps.specs.Kept.{is_user_at}
