@@ -106,7 +106,7 @@ impl<S: Service + Drop, W: Worker + Drop> Core<S, W> {
     }
 
     /// Makes the move of the job whose turn it is and whose time has come, where it is ready.
-    #[inline(never)]
+    #[inline(always)]
     fn go_due(&mut self, table: &Table) -> Result<Option<Move>, NoMemory>
         requires few { self.old.events < self.old.budget }
         requires timely { is_timely self.old.jobs self.old.events ≡ true }
@@ -132,6 +132,7 @@ impl<S: Service + Drop, W: Worker + Drop> Core<S, W> {
     }
 
     /// Makes the move of the job whose turn it is, at an even number of moves, where it is due and ready and its time has come.
+    #[inline(always)]
     fn go_first(&mut self, table: &Table) -> Result<Option<Move>, NoMemory>
         requires fits { AllFit (map (λ r. r.rule) table.now.list.items) self.old.services.list }
         requires come { IsGoing self.old }
@@ -150,6 +151,7 @@ impl<S: Service + Drop, W: Worker + Drop> Core<S, W> {
     }
 
     /// Makes the same job's move at any number of moves below the budget, where its time has come. Whether it is ready is judged once.
+    #[inline(always)]
     fn go_timely(&mut self, table: &Table) -> Result<Option<Move>, NoMemory>
         requires fits { AllFit (map (λ r. r.rule) table.now.list.items) self.old.services.list }
         requires come { IsGoing self.old }
@@ -165,6 +167,7 @@ impl<S: Service + Drop, W: Worker + Drop> Core<S, W> {
     }
 
     /// Makes the job's move whose time has come, or else that of whoever comes next.
+    #[inline(always)]
     fn go_late(&mut self, table: &Table) -> Result<Option<Move>, NoMemory>
         requires fits { AllFit (map (λ r. r.rule) table.now.list.items) self.old.services.list }
         requires come { IsGoing self.old }
@@ -179,8 +182,9 @@ impl<S: Service + Drop, W: Worker + Drop> Core<S, W> {
         }
     }
 
-    /// The same, where none of those few has a ready move that go before the job.
-    fn go_few(&mut self, table: &Table) -> Result<Option<Move>, NoMemory>
+    /// The same, where some of those few may have a ready move that go before the job.
+    #[inline(never)]
+    fn go_few_others(&mut self, table: &Table) -> Result<Option<Move>, NoMemory>
         requires fits { AllFit (map (λ r. r.rule) table.now.list.items) self.old.services.list }
         requires come { IsGoing self.old }
         ensures made { IsAdvancedOrOver self.old.jobs.jobs self.old.budget (run_core self.old) (run_core self.new) result }
@@ -195,7 +199,24 @@ impl<S: Service + Drop, W: Worker + Drop> Core<S, W> {
         Ok(Some(m))
     }
 
+    /// The same. Mostly a job is alone, and then nobody is looked for.
+    #[inline(always)]
+    fn go_few(&mut self, table: &Table) -> Result<Option<Move>, NoMemory>
+        requires fits { AllFit (map (λ r. r.rule) table.now.list.items) self.old.services.list }
+        requires come { IsGoing self.old }
+        ensures made { IsAdvancedOrOver self.old.jobs.jobs self.old.budget (run_core self.old) (run_core self.new) result }
+        ensures fits { AllFit (map (λ r. r.rule) table.now.list.items) self.new.services.list }
+        ensures budget { self.new.budget ≡ self.old.budget }
+        ensures jobs { self.new.jobs.jobs ≡ self.old.jobs.jobs }
+    {
+        if self.is_quiet() {
+            return self.go_late(table);
+        }
+        self.go_few_others(table)
+    }
+
     /// The same, where the thread that moved last doesn't go on.
+    #[inline(always)]
     fn go_between(&mut self, table: &Table) -> Result<Option<Move>, NoMemory>
         requires fits { AllFit (map (λ r. r.rule) table.now.list.items) self.old.services.list }
         requires come { IsGoing self.old }

@@ -123,6 +123,12 @@ impl<S: Service + Drop, W: Worker + Drop> Core<S, W> {
         }
     }
 
+    /// Whether there is no server, and no thread that may be ready. It is a hint: nothing is said of it.
+    #[inline(always)]
+    pub(crate) fn is_quiet(&self) -> bool {
+        self.services.len() == 0 && self.kernel.waits().next().is_none()
+    }
+
     /// A move that is ready. There is none exactly where none is ready or the budget is used.
     ///
     /// At an even number of moves the job whose turn it is goes first, where it is due and ready. Else the thread that

@@ -345,6 +345,7 @@ impl<S: Service + Drop, W: Worker + Drop> Core<S, W> {
     }
 
     /// The same of a job's move whose time has come.
+    #[inline(always)]
     pub(crate) fn go_timely_job(&mut self, table: &Table, m: &Move) -> Result<bool, NoMemory>
         requires job { is_porter self.old.jobs m.now.who ≡ true }
         requires few { self.old.events < self.old.budget }
