@@ -9,6 +9,7 @@
 //! one line exactly where there is one. So a text is the trace of one list of legal moves at most.
 #![tactic(auto)]
 
+mod numbers;
 mod reading;
 mod writing;
 

@@ -4,6 +4,7 @@ ghost use Rattle.std.specs.Option.{option_map};
 ghost use Rattle.fk_trace_text.specs.Trace.{first_line, BeginsWith, BeginsWithNone, HasNoFirstLine};
 ghost use Rattle.fk_trace_text.specs.Reading as steps;
 
+use crate::numbers::number_before;
 use fk_model::{Move, Who, plain_number_up_to};
 
 fn index_of(byte: u8, text: &[u8]) -> Option<usize>
@@ -62,10 +63,8 @@ pub fn after_first_line(text: &[u8]) -> Option<&[u8]>
 fn first_lone(text: &[u8]) -> Option<(Move, &[u8])>
     ensures { IfSome result (λ first. BeginsWith text.now first.0 first.1.now) }
 {
-    let (front, rest) = cut_at(b'.', text)?;
-    let (back, after) = cut_at(b'\n', rest)?;
-    let space = plain_number_up_to(4_294_967_295, front)?;
-    let slot = plain_number_up_to(255, back)?;
+    let (space, rest) = number_before(b'.', 4_294_967_295, text)?;
+    let (slot, after) = number_before(b'\n', 255, rest)?;
     let who = Who {
         space: space as u32,
         slot: slot as u8,
