@@ -3,13 +3,19 @@ use crate::problem::{Problem, given};
 use fk_causes::{ReadError, Shelf, ShelfFail, Source, read_all};
 use std::alloc::Global;
 
-/// The bytes of a file.
+/// The bytes of the file with this name and this ending.
 ///
 /// # Errors
 ///
 /// `Given` where there is no such file, `Outside` where it can't be read, and `NoMemory`.
-pub fn file_of<H: Shelf>(alloc: Global, shelf: &mut H, file: &str) -> Result<Vec<u8>, Problem> {
-    match shelf.get(file) {
+pub fn file_of<H: Shelf>(
+    alloc: Global,
+    shelf: &mut H,
+    name: &str,
+    ending: &str,
+) -> Result<Vec<u8>, Problem> {
+    let file = format!(in alloc; "{name}{ending}")?;
+    match shelf.get(file.as_str()) {
         Ok(Some(bytes)) => Ok(bytes),
         Ok(None) => Err(given(format!(in alloc;
             "{file}: expected a file of this name in the current folder"

@@ -45,13 +45,6 @@ impl Sheet {
         }
     }
 
-    /// Adds pieces.
-    pub fn puts(&mut self, pieces: &[&str]) {
-        for piece in pieces {
-            self.put(*piece);
-        }
-    }
-
     /// Adds three pieces.
     pub fn put_three(&mut self, one: &str, two: &str, three: &str) {
         self.put(one);
@@ -64,11 +57,6 @@ impl Sheet {
         if !self.is_empty() {
             self.put(piece);
         }
-    }
-
-    /// Adds a number.
-    pub fn number(&mut self, number: u64) {
-        self.put_between("", number, "");
     }
 
     /// Adds a number between two texts.

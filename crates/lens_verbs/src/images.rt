@@ -7,29 +7,28 @@ use fk_model::JobSpec;
 use lens_text::{Problem, file_of, given};
 use std::alloc::Global;
 
-/// Why the bytes of a file are no image.
-fn no_image(alloc: Global, file: &str, name: &str, status: &Status) -> Problem {
+/// Why the bytes of the file of a name are no image.
+fn no_image(alloc: Global, name: &str, status: &Status) -> Problem {
     match status {
         Status::BadImage { offset, .. } => given(format!(in alloc;
-            "{file}, offset {offset}: expected an image; lens image {name} says more"
+            "{name}.img, offset {offset}: expected an image; lens image {name} says more"
         )),
         _ => Problem::NoMemory,
     }
 }
 
 /// The image that the bytes of the file of a name are.
-fn valid_of(alloc: Global, file: &str, name: &str, bytes: &[u8]) -> Result<ValidImage, Problem> {
+fn valid_of(alloc: Global, name: &str, bytes: &[u8]) -> Result<ValidImage, Problem> {
     match image_of(alloc, name, bytes) {
         Ok(image) => Ok(ValidImage::new(alloc, image)?),
-        Err(status) => Err(no_image(alloc, file, name, &status)),
+        Err(status) => Err(no_image(alloc, name, &status)),
     }
 }
 
 /// The image that the shelf has under a name.
 fn image_in<H: Shelf>(alloc: Global, shelf: &mut H, name: &str) -> Result<ValidImage, Problem> {
-    let file = format!(in alloc; "{name}.img")?;
-    let bytes = file_of(alloc, shelf, file.as_str())?;
-    valid_of(alloc, file.as_str(), name, &bytes)
+    let bytes = file_of(alloc, shelf, name, ".img")?;
+    valid_of(alloc, name, &bytes)
 }
 
 /// The image that a job behind others needs of the shelf: that of a restore which none of them makes.

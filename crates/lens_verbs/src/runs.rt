@@ -28,14 +28,13 @@ fn trace_of<'a>(asked: Asked<'_>, bytes: &'a [u8]) -> Option<Trace<'a>> {
     })
 }
 
-/// Watches the run of a scenario, with images for its jobs, by the trace in a file, which has these bytes, as far as is asked for.
+/// Watches the run of a scenario, with images for its jobs, by the trace with these bytes, as far as is asked for.
 fn watch_asked(
     alloc: Global,
     asked: Asked<'_>,
     table: &Table,
     scenario: &Scenario,
     images: &[Option<ValidImage>],
-    file: &str,
     bytes: &[u8],
     show: &mut Show,
 ) -> Result<(), Problem>
@@ -44,7 +43,7 @@ fn watch_asked(
 {
     let trace = trace_of(asked, bytes);
     let stop = watch(alloc, table, scenario, images, trace, show)?;
-    match stop_fault(alloc, asked, file, stop) {
+    match stop_fault(alloc, asked, stop) {
         Some(problem) => Err(problem),
         None => Ok(()),
     }
@@ -57,34 +56,30 @@ fn shown(
     table: &Table,
     scenario: &Scenario,
     images: &[Option<ValidImage>],
-    file: &str,
     bytes: &[u8],
 ) -> Result<String, Problem>
     requires keeps { KeepsScenario scenario.now }
     requires rules { HasRules (map (λ r. r.rule) table.now.list.items) scenario.now }
 {
     let mut show = show_of(alloc, asked);
-    match watch_asked(
-        alloc, asked, table, scenario, images, file, bytes, &mut show,
-    ) {
+    match watch_asked(alloc, asked, table, scenario, images, bytes, &mut show) {
         Ok(()) => Ok(text_of(show, asked.name)?),
         Err(problem) => Err(problem),
     }
 }
 
-/// Shows what is asked for of a run of the scenario that a text is, by the trace in a file, which has these bytes.
+/// Shows what is asked for of a run of the scenario that a text is, by the trace with these bytes.
 fn show_scenario<H: Shelf>(
     alloc: Global,
     asked: Asked<'_>,
     table: &Table,
     text: &[u8],
     shelf: &mut H,
-    file: &str,
     bytes: &[u8],
 ) -> Result<String, Problem> {
     let scenario = scenario_of(alloc, table, text)?;
     let images = images_for(alloc, shelf, scenario.jobs.as_slice())?;
-    shown(alloc, asked, table, &scenario, &images, file, bytes)
+    shown(alloc, asked, table, &scenario, &images, bytes)
 }
 
 /// Shows what is asked for of a run of a scenario's text.
@@ -101,10 +96,8 @@ pub fn show_run<H: Shelf>(
     shelf: &mut H,
 ) -> Result<String, Problem> {
     if matches!(asked.verb, Verb::First) {
-        return show_scenario(alloc, asked, table, text, shelf, "", &[]);
+        return show_scenario(alloc, asked, table, text, shelf, &[]);
     }
-    let name = asked.name;
-    let file = format!(in alloc; "{name}.trc")?;
-    let bytes = file_of(alloc, shelf, file.as_str())?;
-    show_scenario(alloc, asked, table, text, shelf, file.as_str(), &bytes)
+    let bytes = file_of(alloc, shelf, asked.name, ".trc")?;
+    show_scenario(alloc, asked, table, text, shelf, &bytes)
 }

@@ -74,15 +74,15 @@ pub fn text_of(show: Show, name: &str) -> Result<String, AllocError> {
     }
 }
 
-/// What is wrong where a run by the trace in a file stopped, by what is asked for.
-pub fn stop_fault(alloc: Global, asked: Asked<'_>, file: &str, stop: Stop) -> Option<Problem> {
-    let end = asked.end;
+/// What is wrong where a run by a trace stopped, by what is asked for.
+pub fn stop_fault(alloc: Global, asked: Asked<'_>, stop: Stop) -> Option<Problem> {
+    let (name, end) = (asked.name, asked.end);
     match (asked.verb, stop) {
         (Verb::Page, Stop::Unready { .. } | Stop::Budget { .. }) => None,
         (Verb::Why, Stop::Unready { index, .. }) if index == end => None,
         (Verb::Tree | Verb::Why, Stop::Ended) => {
-            Some(given(format!(in alloc; "{file}: expected {end} moves or more")))
+            Some(given(format!(in alloc; "{name}.trc: expected {end} moves or more")))
         }
-        _ => trace_problem(alloc, file, stop),
+        _ => trace_problem(alloc, name, stop),
     }
 }

@@ -20,14 +20,14 @@ fn place_of(stop: Stop) -> Option<(u64, &'static str)> {
     }
 }
 
-/// What is wrong with the trace, where a run stops at one of its lines. The line of the first move is the second.
-pub fn trace_problem(alloc: Global, file: &str, stop: Stop) -> Option<Problem> {
+/// What is wrong with the trace of this name, where a run stops at one of its lines. The line of the first move is the second.
+pub fn trace_problem(alloc: Global, name: &str, stop: Stop) -> Option<Problem> {
     if let Stop::Unready { index, .. } = stop {
         let line = index.saturating_add(2);
         return Some(given(format!(in alloc;
-            "{file}, line {line}: expected a move that is ready; lens why with {index} says why it isn't"
+            "{name}.trc, line {line}: expected a move that is ready; lens why with {index} says why it isn't"
         )));
     }
     let (line, what) = place_of(stop)?;
-    Some(given(format!(in alloc; "{file}, line {line}: expected {what}")))
+    Some(given(format!(in alloc; "{name}.trc, line {line}: expected {what}")))
 }

@@ -18,13 +18,13 @@ a number, slot, kind, mode or tag in its range
 a pointer to something that this field can hold
 the end of the file";
 
-/// Why the bytes of a file spell no image: the offset of the first fault, and what was expected there.
-fn refused(alloc: Global, file: &str, fail: ReadFail) -> Problem {
+/// Why the bytes of the file of a name spell no image: the offset of the first fault, and what was expected there.
+fn refused(alloc: Global, name: &str, fail: ReadFail) -> Problem {
     let ReadFail::Image(ImageError { offset, reason }) = fail else {
         return Problem::NoMemory;
     };
     let expected = line_at(EXPECTED, reason as u64);
-    given(format!(in alloc; "{file}, offset {offset}: expected {expected}"))
+    given(format!(in alloc; "{name}.img, offset {offset}: expected {expected}"))
 }
 
 /// Shows the image with this name.
@@ -33,11 +33,10 @@ fn refused(alloc: Global, file: &str, fail: ReadFail) -> Problem {
 ///
 /// `Given` where the shelf has none, or bytes that spell none, `Outside` where its file can't be read, and `NoMemory`.
 pub fn show_image<H: Shelf>(alloc: Global, name: &str, shelf: &mut H) -> Result<String, Problem> {
-    let file = format!(in alloc; "{name}.img")?;
-    let bytes = file_of(alloc, shelf, file.as_str())?;
+    let bytes = file_of(alloc, shelf, name, ".img")?;
     match read(alloc, &bytes) {
         Ok(image) => Ok(text_of(alloc, &image)?),
-        Err(fail) => Err(refused(alloc, file.as_str(), fail)),
+        Err(fail) => Err(refused(alloc, name, fail)),
     }
 }
 

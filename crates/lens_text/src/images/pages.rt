@@ -23,7 +23,7 @@ fn push_word(sheet: &mut Sheet, path: &str, address: u64, word: u64, is_program:
     if is_program {
         push_instruction(sheet, word);
     } else {
-        sheet.number(word);
+        sheet.put_between("", word, "");
     }
     sheet.put("\n");
 }
