@@ -12,8 +12,11 @@ pub type Objects = BTreeMap<String, String>;
 fn push_change(changes: &mut Sheet, path: &str, words: Option<&str>) {
     changes.gap(",");
     match words {
-        Some(words) => changes.puts(&["[\"", path, "\",\"", words, "\"]"]),
-        None => changes.puts(&["[\"", path, "\",null]"]),
+        Some(words) => {
+            changes.put_three("[\"", path, "\",\"");
+            changes.put_three(words, "\"]", "");
+        }
+        None => changes.put_three("[\"", path, "\",null]"),
     }
 }
 

@@ -73,11 +73,6 @@ fn pending_of(alloc: Global, seen: Seen<'_>, one: &Move) -> Result<Pending, Allo
     Ok(pending)
 }
 
-/// What stands before a move's line, behind these.
-fn head_of(moves: &Sheet) -> &'static str {
-    if moves.is_empty() { "[\"" } else { ",\n[\"" }
-}
-
 /// What stands behind a move's changes.
 fn tail_of(is_fault: bool) -> &'static str {
     if is_fault { "],\"fault\"]" } else { "],\"\"]" }
@@ -85,7 +80,8 @@ fn tail_of(is_fault: bool) -> &'static str {
 
 /// Adds the line of a move that was made, with what it has changed.
 fn push_move(sheet: &mut Sheet, seen: Seen<'_>, one: &Move, pending: &Pending, changes: &Sheet) {
-    sheet.put(head_of(sheet));
+    sheet.gap(",\n");
+    sheet.put("[\"");
     push_step(sheet, seen, one, &pending.begun, GAP);
     sheet.put(GAP);
     sheet.add(&pending.others);
@@ -135,14 +131,14 @@ impl Page {
     /// For want of memory.
     pub fn text(&self, name: &str) -> Result<String, AllocError> {
         let mut page = Sheet::new(self.alloc);
-        page.puts(&[STYLE, BODY, "{\"name\":\"", name, "\",\"end\":\""]);
-        page.put(self.end);
+        page.put_three(STYLE, BODY, "{\"name\":\"");
+        page.put_three(name, "\",\"end\":\"", self.end);
         page.put("\",\"first\":[");
         page.add(&self.first);
         page.put("],\"moves\":[\n");
         page.add(&self.moves);
-        page.put("\n]}\n");
-        page.puts(&[STATES, LANES, BOXES, KEYS]);
+        page.put_three("\n]}\n", STATES, LANES);
+        page.put_three(BOXES, KEYS, "");
         page.done()
     }
 

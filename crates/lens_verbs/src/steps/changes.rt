@@ -5,12 +5,11 @@ use lens_text::{Sheet, halt_text, push_path, status_text};
 
 /// Adds the registers that differ, as `r1=5 r2=0`.
 fn push_registers(sheet: &mut Sheet, before: &[u64; 16], after: &[u64; 16]) {
-    let mut gap = "r";
+    let mut form = "r@=@";
     for number in 0..16usize {
         if before[number] != after[number] {
-            sheet.put_between(gap, number as u64, "=");
-            sheet.number(after[number]);
-            gap = " r";
+            sheet.fill(form, number as u64, after[number], 0);
+            form = " r@=@";
         }
     }
 }
@@ -34,7 +33,7 @@ pub fn push_changed(sheet: &mut Sheet, store: &Store, mover: Who, who: Who, befo
 fn push_mode(sheet: &mut Sheet, before: Mode, after: &Thread) {
     match (before, after.mode) {
         (Mode::Calling, Mode::Running) => {
-            sheet.puts(&["; the call ends, ", status_text(after.regs[0])]);
+            sheet.put_three("; the call ends, ", status_text(after.regs[0]), "");
         }
         (Mode::Running, Mode::Halted(code)) => {
             sheet.put_between("; it halts ", code as u64, ", ");

@@ -1,7 +1,7 @@
 //! A line a move.
 use crate::steps::moves::{Begun, begin, push_step};
 use fk_first::Seen;
-use fk_model::{Move, Who};
+use fk_model::Move;
 use lens_text::Sheet;
 use std::alloc::{AllocError, Global};
 
@@ -14,18 +14,11 @@ pub struct Steps {
     begun: Option<Begun>,
 }
 
-/// Adds a place as a trace has it.
-fn push_who(sheet: &mut Sheet, who: Who) {
-    sheet.put_between("", who.space as u64, ".");
-    sheet.number(who.slot as u64);
-}
-
 /// Adds the line of a move that was made, the trace's own first.
 fn push_line(sheet: &mut Sheet, seen: Seen<'_>, one: &Move, begun: &Begun) {
-    push_who(sheet, one.who);
+    sheet.fill("@.@", one.who.space as u64, one.who.slot as u64, 0);
     if let Some(pick) = one.pick {
-        sheet.put(" ");
-        push_who(sheet, pick);
+        sheet.fill(" @.@", pick.space as u64, pick.slot as u64, 0);
     }
     sheet.put_between("\t", seen.events.saturating_sub(1), "\t");
     push_step(sheet, seen, one, begun, "\t");

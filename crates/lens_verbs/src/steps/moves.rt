@@ -67,8 +67,8 @@ pub fn begin(alloc: Global, seen: Seen<'_>, one: &Move) -> Result<Begun, AllocEr
 fn push_did(sheet: &mut Sheet, store: &Store, one: &Move, begun: &Begun) {
     match (begun.sending, store.thread(one.who)) {
         (Some(count), Some(after)) => {
-            sheet.put_between("send ", count.saturating_sub(after.regs[3]), " of ");
-            sheet.put_between("", count, " words");
+            let went = count.saturating_sub(after.regs[3]);
+            sheet.fill("send @ of @ words", went, count, 0);
             sheet.add(&begun.whom);
         }
         _ => sheet.add(&begun.act),

@@ -43,7 +43,7 @@ pub fn hold_over(store: &Store, who: Who) -> Option<Hold> {
 
 /// Adds a hold behind a text, with what its holder is at.
 pub fn push_hold(sheet: &mut Sheet, store: &Store, before: &str, hold: Hold) {
-    sheet.puts(&[before, "the hold of "]);
+    sheet.put_three(before, "the hold of ", "");
     push_place(sheet, store, hold.holder);
     push_path(sheet, store, " on ", hold.space, "");
 }
