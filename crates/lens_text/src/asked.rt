@@ -42,7 +42,7 @@ pub struct Asked<'a> {
 }
 
 /// What there is, where a word is wrong.
-const VERBS: &str = "tree, steps, why, image, words, page, --help, --version";
+const VERBS: &str = "one of tree, steps, why, image, words, page, --help, --version";
 
 /// The most moves that a scenario's budget allows.
 const MOST: u64 = 1_000_000;
@@ -103,12 +103,17 @@ fn verb_with(place: usize, count: usize) -> Option<Verb> {
     }
 }
 
-/// That the words are no verb.
+/// That the words are no verb, with a line that says so.
 fn wrong(line: Result<String, AllocError>) -> Problem {
     match line {
         Ok(line) => Problem::Words(line),
         Err(_) => Problem::NoMemory,
     }
+}
+
+/// That a word isn't what was expected.
+fn wrong_word(alloc: Global, word: &String, expected: &str) -> Problem {
+    wrong(format!(in alloc; "{word:?}: expected {expected}"))
 }
 
 /// What is wrong with the first word behind a verb that isn't what is wanted there: so many names at most, and then numbers of moves.
@@ -119,42 +124,35 @@ fn first_fault(alloc: Global, words: &[String], names: usize) -> Option<Problem>
         let is_right = (is_name_wanted & is_name(word.as_bytes())) | (!is_name_wanted & is_count);
         if !is_right {
             let expected = line_at(EXPECTED, is_name_wanted as u64);
-            return Some(wrong(format!(in alloc; "{word:?}: expected {expected}")));
+            return Some(wrong_word(alloc, word, expected));
         }
     }
     None
 }
 
-/// A word behind a verb as a name, where there is one.
-fn name_at<'a>(words: &'a [String], place: usize) -> &'a str {
+/// A word behind a verb, where there is one.
+fn word_at<'a>(words: &'a [String], place: usize) -> &'a str {
     match words.get(place) {
         Some(word) => word.as_str(),
         None => "",
     }
 }
 
-/// A word behind a verb as a number of moves, where it is one.
-fn count_at(words: &[String], place: usize) -> Option<u64> {
-    plain_number_up_to(MOST, words.get(place)?.as_bytes())
-}
-
-/// The first move that is shown, and before which a run is to stop.
-fn moves_of(verb: Verb, words: &[String]) -> (u64, u64) {
-    match (verb, count_at(words, 1), count_at(words, 2)) {
+/// What a verb with these words behind it asks for.
+fn asked_of<'a>(verb: Verb, words: &'a [String]) -> Asked<'a> {
+    let other = word_at(words, 1);
+    let one = plain_number_up_to(MOST, other.as_bytes());
+    let two = plain_number_up_to(MOST, word_at(words, 2).as_bytes());
+    let (first, end) = match (verb, one, two) {
         (Verb::Tree | Verb::Why, Some(count), _) => (0, count),
         (Verb::Steps, Some(first), Some(last)) => (first, last.saturating_add(1)),
         (Verb::Steps, _, _) => (0, MOST),
         _ => (0, u64::MAX),
-    }
-}
-
-/// What a verb with these words behind it asks for.
-fn asked_of<'a>(verb: Verb, words: &'a [String]) -> Asked<'a> {
-    let (first, end) = moves_of(verb, words);
+    };
     Asked {
         verb,
-        name: name_at(words, 0),
-        other: name_at(words, 1),
+        name: word_at(words, 0),
+        other,
         first,
         end,
     }
@@ -166,12 +164,12 @@ fn asked_of<'a>(verb: Verb, words: &'a [String]) -> Asked<'a> {
 ///
 /// `Words` where they are no verb, and `NoMemory`.
 pub fn asked_in<'a>(alloc: Global, words: &'a [String]) -> Result<Asked<'a>, Problem> {
-    let verbs = VERBS;
     let Some((word, rest)) = words.split_first() else {
-        return Err(wrong(format!(in alloc; "expected one of {verbs}")));
+        let verbs = VERBS;
+        return Err(wrong(format!(in alloc; "expected {verbs}")));
     };
     let Some(place) = place_of(word.as_str()) else {
-        return Err(wrong(format!(in alloc; "{word:?}: expected one of {verbs}")));
+        return Err(wrong_word(alloc, word, VERBS));
     };
     let Some(verb) = verb_with(place, rest.len()) else {
         let behind = line_at(BEHIND, place as u64);

@@ -1,7 +1,11 @@
 //! The source, and the files of the shelf.
-use crate::problem::{Problem, given};
+use crate::faults::{given, unread};
+use crate::problem::Problem;
 use fk_causes::{ReadError, Shelf, ShelfFail, Source, read_all};
 use std::alloc::Global;
+
+/// What the source is called.
+pub const SOURCE: &str = "standard input";
 
 /// The bytes of the file with this name and this ending.
 ///
@@ -17,12 +21,11 @@ pub fn file_of<H: Shelf>(
     let file = format!(in alloc; "{name}{ending}")?;
     match shelf.get(file.as_str()) {
         Ok(Some(bytes)) => Ok(bytes),
-        Ok(None) => Err(given(format!(in alloc;
-            "{file}: expected a file of this name in the current folder"
-        ))),
-        Err(ShelfFail::Failed) => {
-            Err(Problem::Outside(format!(in alloc; "{file} can't be read")?))
+        Ok(None) => {
+            let expected = ": expected a file of this name in the current folder";
+            Err(given(alloc, file.as_str(), "", 0, 0, expected))
         }
+        Err(ShelfFail::Failed) => Err(unread(alloc, file.as_str())),
         Err(ShelfFail::NoMemory) => Err(Problem::NoMemory),
     }
 }
@@ -35,14 +38,11 @@ pub fn file_of<H: Shelf>(
 pub fn source_text<R: Source>(alloc: Global, source: &mut R) -> Result<Vec<u8>, Problem> {
     match read_all(alloc, source) {
         Ok(text) => Ok(text),
-        Err(ReadError::TooLong) => Err(given(String::from_str(
-            alloc,
-            "standard input: expected no more than 1048576 bytes",
-        ))),
-        Err(ReadError::ReadFault) => {
-            let line = String::from_str(alloc, "standard input can't be read")?;
-            Err(Problem::Outside(line))
+        Err(ReadError::TooLong) => {
+            let expected = ": expected no more than 1048576 bytes";
+            Err(given(alloc, SOURCE, "", 0, 0, expected))
         }
+        Err(ReadError::ReadFault) => Err(unread(alloc, SOURCE)),
         Err(ReadError::NoMemory) => Err(Problem::NoMemory),
     }
 }

@@ -12,6 +12,7 @@
 
 mod asked;
 mod calls;
+mod faults;
 mod files;
 mod images;
 mod instructions;
@@ -24,15 +25,16 @@ mod words;
 
 pub use asked::{Asked, Verb, asked_in};
 pub use calls::{first_stage, push_asked, push_stage};
+pub use faults::{given, told};
 pub use files::{file_of, source_text};
 pub use images::{show_differences, show_image};
 pub use instructions::push_instruction;
-pub use problem::{Problem, given};
+pub use problem::Problem;
 pub use refusal::refused_scenario;
 pub use sheet::Sheet;
 pub use statuses::{halt_text, status_text};
 pub use store::{
-    handled, names_of, object_named, object_text, path_text, push_at, push_path, push_thread,
-    root_text, tree_text, word_at,
+    handled, names_of, object_named, push_at, push_home, push_named, push_object, push_path,
+    push_thread, push_tree, word_at,
 };
 pub use words::words_text;

@@ -35,14 +35,6 @@ impl Problem {
     }
 }
 
-/// That what was given can't be shown, with a line that says so.
-pub fn given(line: Result<String, AllocError>) -> Problem {
-    match line {
-        Ok(line) => Problem::Given(line),
-        Err(_) => Problem::NoMemory,
-    }
-}
-
 impl From<NoMemory> for Problem {
     fn from(_: NoMemory) -> Problem {
         Problem::NoMemory

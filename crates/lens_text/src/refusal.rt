@@ -1,6 +1,7 @@
 //! Why a text is no scenario.
-use crate::problem::{Problem, given};
-use crate::sheet::line_at;
+use crate::faults::told;
+use crate::problem::Problem;
+use crate::sheet::{Sheet, line_at};
 use std::alloc::Global;
 
 /// What was expected of a scenario, by the rule by which it is refused, and by any other.
@@ -28,7 +29,10 @@ top
 top";
 
 /// The number of the line that begins an entry, where the text has it under a heading of its own, with a comment behind that at most.
-fn line_of(text: &str, heading: &str, index: u32) -> Option<u64> {
+fn line_of(text: &[u8], heading: &str, index: u32) -> Option<u64> {
+    let Ok(text) = str::from_utf8(text) else {
+        return None;
+    };
     let mut number = 0u64;
     let mut passed = 0u32;
     for line in text.lines() {
@@ -48,17 +52,15 @@ fn line_of(text: &str, heading: &str, index: u32) -> Option<u64> {
 /// place in its section.
 pub fn refused_scenario(alloc: Global, text: &[u8], rule: u8, section: u8, index: u32) -> Problem {
     let heading = line_at(HEADINGS, section as u64);
-    let expected = line_at(EXPECTED, rule as u64);
-    let line = match str::from_utf8(text) {
-        Ok(text) => line_of(text, heading, index),
-        Err(_) => None,
-    };
-    match line {
-        Some(line) => given(format!(in alloc;
-            "standard input, line {line}, {heading} {index}: expected {expected}"
-        )),
-        None => given(format!(in alloc;
-            "standard input, {heading}, entry {index}: expected {expected}"
-        )),
+    let mut sheet = Sheet::new(alloc);
+    sheet.put("standard input, ");
+    match line_of(text, heading, index) {
+        Some(line) => {
+            sheet.put_between("line ", line, ", ");
+            sheet.line("", heading, " @", index as u64, 0, 0);
+        }
+        None => sheet.line("", heading, ", entry @", index as u64, 0, 0),
     }
+    sheet.put_three(": expected ", line_at(EXPECTED, rule as u64), "");
+    told(sheet)
 }

@@ -1,5 +1,12 @@
 //! Text that is written piece by piece.
-use std::alloc::{AllocError, Global};
+use crate::problem::Problem;
+use fk_model::NoMemory;
+use std::alloc::Global;
+
+/// The first line of a text, and what is behind it.
+pub fn first_line<'a>(text: &'a str) -> (&'a str, &'a str) {
+    text.split_once('\n').unwrap_or((text, ""))
+}
 
 /// The line with this number of a list of lines, or its last where it has fewer.
 pub fn line_at(list: &'static str, number: u64) -> &'static str {
@@ -10,8 +17,7 @@ pub fn line_at(list: &'static str, number: u64) -> &'static str {
         };
         later = behind;
     }
-    let (line, _) = later.split_once('\n').unwrap_or((later, ""));
-    line
+    first_line(later).0
 }
 
 /// A text that is written piece by piece. Where there is no memory for one, that shows when the whole is asked for, so that who writes
@@ -52,9 +58,9 @@ impl Sheet {
         self.put(three);
     }
 
-    /// Adds a piece behind what stands there, if something does.
-    pub fn gap(&mut self, piece: &str) {
-        if !self.is_empty() {
+    /// Adds a piece behind what was added since the text had this length, if something was.
+    pub fn gap(&mut self, start: usize, piece: &str) {
+        if self.text.len() > start {
             self.put(piece);
         }
     }
@@ -92,6 +98,14 @@ impl Sheet {
         self.fill(form, one, two, three);
     }
 
+    /// Adds the row of a word: the line that assembles to it, its address and its 16 digits.
+    pub fn put_row(&mut self, line: &Sheet, address: usize, word: u64) {
+        let text = line.text.as_str();
+        if line.is_short | write!(self.text, "{text:<30} ; {address:>5} {word:016x}\n").is_err() {
+            self.is_short = true;
+        }
+    }
+
     /// Adds what another has.
     pub fn add(&mut self, other: &Sheet) {
         self.put(other.text.as_str());
@@ -105,9 +119,17 @@ impl Sheet {
         self.is_short = true;
     }
 
-    /// Whether nothing stands there.
-    pub fn is_empty(&self) -> bool {
-        self.text.is_empty()
+    /// The length of what stands there.
+    pub fn len(&self) -> usize {
+        self.text.len()
+    }
+
+    /// What another has; that there was no memory for a piece of it is noted here.
+    pub fn taken(&mut self, other: Sheet) -> String {
+        if other.is_short {
+            self.is_short = true;
+        }
+        other.text
     }
 
     /// Whether all stands there that was added.
@@ -115,12 +137,8 @@ impl Sheet {
     /// # Errors
     ///
     /// There was no memory for a piece.
-    pub fn checked(&self) -> Result<(), AllocError> {
-        if self.is_short {
-            Err(AllocError)
-        } else {
-            Ok(())
-        }
+    pub fn checked(&self) -> Result<(), NoMemory> {
+        if self.is_short { Err(NoMemory) } else { Ok(()) }
     }
 
     /// The whole.
@@ -128,8 +146,11 @@ impl Sheet {
     /// # Errors
     ///
     /// There was no memory for a piece.
-    pub fn done(self) -> Result<String, AllocError> {
-        self.checked()?;
-        Ok(self.text)
+    pub fn done(self) -> Result<String, Problem> {
+        if self.is_short {
+            Err(Problem::NoMemory)
+        } else {
+            Ok(self.text)
+        }
     }
 }

@@ -4,31 +4,22 @@ use fk_commands::{Status, image_of};
 use fk_finish::ValidImage;
 use fk_first::maker_of;
 use fk_model::JobSpec;
-use lens_text::{Problem, file_of, given};
+use lens_text::{Problem, Sheet, file_of, told};
 use std::alloc::Global;
 
-/// Why the bytes of the file of a name are no image.
-fn no_image(alloc: Global, name: &str, status: &Status) -> Problem {
-    match status {
-        Status::BadImage { offset, .. } => given(format!(in alloc;
-            "{name}.img, offset {offset}: expected an image; lens image {name} says more"
-        )),
-        _ => Problem::NoMemory,
-    }
-}
-
 /// The image that the bytes of the file of a name are.
-fn valid_of(alloc: Global, name: &str, bytes: &[u8]) -> Result<ValidImage, Problem> {
+fn image_in(alloc: Global, name: &str, bytes: &[u8]) -> Result<Option<ValidImage>, Problem> {
     match image_of(alloc, name, bytes) {
-        Ok(image) => Ok(ValidImage::new(alloc, image)?),
-        Err(status) => Err(no_image(alloc, name, &status)),
+        Ok(image) => Ok(Some(ValidImage::new(alloc, image)?)),
+        Err(Status::BadImage { offset, .. }) => {
+            let mut line = Sheet::new(alloc);
+            let form = ".img, offset @: expected an image; lens image ";
+            line.line("", name, form, offset, 0, 0);
+            line.put_three(name, " says more", "");
+            Err(told(line))
+        }
+        Err(_) => Err(Problem::NoMemory),
     }
-}
-
-/// The image that the shelf has under a name.
-fn image_in<H: Shelf>(alloc: Global, shelf: &mut H, name: &str) -> Result<ValidImage, Problem> {
-    let bytes = file_of(alloc, shelf, name, ".img")?;
-    valid_of(alloc, name, &bytes)
 }
 
 /// The image that a job behind others needs of the shelf: that of a restore which none of them makes.
@@ -41,10 +32,12 @@ fn image_for<H: Shelf>(
     let JobSpec::Restore { image, .. } = job else {
         return Ok(None);
     };
-    match maker_of(before, image.as_str()) {
-        Some(_) => Ok(None),
-        None => Ok(Some(image_in(alloc, shelf, image.as_str())?)),
+    let name = image.as_str();
+    if maker_of(before, name).is_some() {
+        return Ok(None);
     }
+    let bytes = file_of(alloc, shelf, name, ".img")?;
+    image_in(alloc, name, &bytes)
 }
 
 /// The images that jobs need of the shelf, in their order: one for each, or none.

@@ -1,7 +1,6 @@
 //! Runs whose native servers reply by the three responders.
 ghost use Rattle.std.specs.Prelude.{◌≡◌, ◌≤◌, length};
 ghost use Rattle.fk_model.specs.Answers.{answer, reply_words};
-ghost use Rattle.fk_model.specs.declared.moves.Rule.TheVariants as rules;
 
 use crate::runs::show_run;
 use fk_causes::Shelf;
@@ -9,6 +8,27 @@ use fk_model::{Reply, Rule};
 use fk_responders::{Responder, Table, echo, feed, sum};
 use lens_text::{Asked, Problem};
 use std::alloc::Global;
+
+/// The name of a rule.
+pub fn rule_name(rule: Rule) -> &'static str {
+    match rule {
+        Rule::Echo => "echo",
+        Rule::Feed => "feed",
+        Rule::Sum => "sum",
+    }
+}
+
+/// The reply of a rule to a request.
+fn reply_by(rule: Rule, config: &[u64], position: u64, request: &[u64]) -> Reply
+    requires few { length request.now ≤ 64 }
+    ensures answer { reply_words result ≡ answer rule config.now position request.now }
+{
+    match rule {
+        Rule::Echo => echo(request),
+        Rule::Feed => feed(config, position),
+        Rule::Sum => sum(request),
+    }
+}
 
 /// Shows what is asked for of a run of a scenario's text.
 ///
@@ -22,36 +42,18 @@ pub fn show<H: Shelf>(
     shelf: &mut H,
 ) -> Result<String, Problem> {
     let mut list = Vec::new(alloc);
-    list.push(Responder::new(
-        String::from_str(alloc, "echo")?,
-        Rule::Echo,
-        Box::new(
-            alloc,
-            |_config: &[u64], _position: u64, request: &[u64]| -> Reply
-                requires { length request.now ≤ 64 }
-                ensures { reply_words result ≡ answer rules.Echo _config.now _position request.now }
-            { echo(request) },
-        )?,
-    ))?;
-    list.push(Responder::new(
-        String::from_str(alloc, "feed")?,
-        Rule::Feed,
-        Box::new(
-            alloc,
-            |config: &[u64], position: u64, _request: &[u64]| -> Reply
-                ensures { reply_words result ≡ answer rules.Feed config.now position _request.now }
-            { feed(config, position) },
-        )?,
-    ))?;
-    list.push(Responder::new(
-        String::from_str(alloc, "sum")?,
-        Rule::Sum,
-        Box::new(
-            alloc,
-            |_config: &[u64], _position: u64, request: &[u64]| -> Reply
-                ensures { reply_words result ≡ answer rules.Sum _config.now _position request.now }
-            { sum(request) },
-        )?,
-    ))?;
+    for rule in [Rule::Echo, Rule::Feed, Rule::Sum] {
+        list.push(Responder::new(
+            String::from_str(alloc, rule_name(rule))?,
+            rule,
+            Box::new(
+                alloc,
+                move |config: &[u64], position: u64, request: &[u64]| -> Reply
+                    requires { length request.now ≤ 64 }
+                    ensures { reply_words result ≡ answer rule config.now position request.now }
+                { reply_by(rule, config, position, request) },
+            )?,
+        ))?;
+    }
     show_run(alloc, asked, &Table { list }, text, shelf)
 }

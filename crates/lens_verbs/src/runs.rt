@@ -4,7 +4,8 @@ ghost use Rattle.fk_scenario.specs.Kept.{KeepsScenario, HasRules};
 
 use crate::images::images_for;
 use crate::scenarios::scenario_of;
-use crate::shows::{Show, show_of, stop_fault, text_of};
+use crate::shows::show_of;
+use crate::stops::stop_fault;
 use fk_causes::Shelf;
 use fk_finish::ValidImage;
 use fk_first::{Trace, watch};
@@ -13,43 +14,8 @@ use fk_scenario::Scenario;
 use lens_text::{Asked, Problem, Verb, file_of};
 use std::alloc::Global;
 
-/// What is looked at of a trace with these bytes; none where what stands at the beginning is asked for.
-fn trace_of<'a>(asked: Asked<'_>, bytes: &'a [u8]) -> Option<Trace<'a>> {
-    let most = asked.end;
-    let looks_ahead = match asked.verb {
-        Verb::First => return None,
-        Verb::Why => true,
-        _ => false,
-    };
-    Some(Trace {
-        bytes,
-        most,
-        looks_ahead,
-    })
-}
-
-/// Watches the run of a scenario, with images for its jobs, by the trace with these bytes, as far as is asked for.
-fn watch_asked(
-    alloc: Global,
-    asked: Asked<'_>,
-    table: &Table,
-    scenario: &Scenario,
-    images: &[Option<ValidImage>],
-    bytes: &[u8],
-    show: &mut Show,
-) -> Result<(), Problem>
-    requires keeps { KeepsScenario scenario.now }
-    requires rules { HasRules (map (λ r. r.rule) table.now.list.items) scenario.now }
-{
-    let trace = trace_of(asked, bytes);
-    let stop = watch(alloc, table, scenario, images, trace, show)?;
-    match stop_fault(alloc, asked, stop) {
-        Some(problem) => Err(problem),
-        None => Ok(()),
-    }
-}
-
-/// Shows what is asked for of that run.
+/// Shows what is asked for of the run of a scenario, with images for its jobs, by the trace with these bytes; of a trace that isn't looked at
+/// where what stands at the beginning is asked for.
 fn shown(
     alloc: Global,
     asked: Asked<'_>,
@@ -61,25 +27,30 @@ fn shown(
     requires keeps { KeepsScenario scenario.now }
     requires rules { HasRules (map (λ r. r.rule) table.now.list.items) scenario.now }
 {
+    let trace = match asked.verb {
+        Verb::First => None,
+        verb => Some(Trace {
+            bytes,
+            most: asked.end,
+            looks_ahead: matches!(verb, Verb::Why),
+        }),
+    };
     let mut show = show_of(alloc, asked);
-    match watch_asked(alloc, asked, table, scenario, images, bytes, &mut show) {
-        Ok(()) => Ok(text_of(show, asked.name)?),
-        Err(problem) => Err(problem),
+    match watch(alloc, table, scenario, images, trace, &mut show) {
+        Ok(stop) => match stop_fault(alloc, asked, stop) {
+            Some(problem) => Err(problem),
+            None => show.sheet.done(),
+        },
+        Err(_) => Err(Problem::NoMemory),
     }
 }
 
-/// Shows what is asked for of a run of the scenario that a text is, by the trace with these bytes.
-fn show_scenario<H: Shelf>(
-    alloc: Global,
-    asked: Asked<'_>,
-    table: &Table,
-    text: &[u8],
-    shelf: &mut H,
-    bytes: &[u8],
-) -> Result<String, Problem> {
-    let scenario = scenario_of(alloc, table, text)?;
-    let images = images_for(alloc, shelf, scenario.jobs.as_slice())?;
-    shown(alloc, asked, table, &scenario, &images, bytes)
+/// The bytes of the trace that is asked for; none where what stands at the beginning is.
+fn bytes_of<H: Shelf>(alloc: Global, asked: Asked<'_>, shelf: &mut H) -> Result<Vec<u8>, Problem> {
+    match asked.verb {
+        Verb::First => Ok(Vec::new(alloc)),
+        _ => file_of(alloc, shelf, asked.name, ".trc"),
+    }
 }
 
 /// Shows what is asked for of a run of a scenario's text.
@@ -95,9 +66,8 @@ pub fn show_run<H: Shelf>(
     text: &[u8],
     shelf: &mut H,
 ) -> Result<String, Problem> {
-    if matches!(asked.verb, Verb::First) {
-        return show_scenario(alloc, asked, table, text, shelf, &[]);
-    }
-    let bytes = file_of(alloc, shelf, asked.name, ".trc")?;
-    show_scenario(alloc, asked, table, text, shelf, &bytes)
+    let bytes = bytes_of(alloc, asked, shelf)?;
+    let scenario = scenario_of(alloc, table, text)?;
+    let images = images_for(alloc, shelf, scenario.jobs.as_slice())?;
+    shown(alloc, asked, table, &scenario, &images, &bytes)
 }

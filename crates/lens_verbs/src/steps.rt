@@ -10,6 +10,6 @@ mod lines;
 mod moves;
 mod servers;
 
-pub use acts::{peer_of, push_act, push_named};
+pub use acts::{peer_of, push_act};
 pub use lines::Steps;
 pub use moves::{Begun, begin, push_step};

@@ -2,24 +2,8 @@
 use crate::help::{HELP, VERSION};
 use crate::responders::show;
 use fk_causes::{Shelf, Source};
-use lens_text::{
-    Asked, Problem, Verb, asked_in, show_differences, show_image, source_text, words_text,
-};
+use lens_text::{Problem, Verb, asked_in, show_differences, show_image, source_text, words_text};
 use std::alloc::Global;
-
-/// Shows what is asked for of the source: a program, or a scenario's run.
-fn show_source<R: Source, H: Shelf>(
-    alloc: Global,
-    asked: Asked<'_>,
-    source: &mut R,
-    shelf: &mut H,
-) -> Result<String, Problem> {
-    let text = source_text(alloc, source)?;
-    match asked.verb {
-        Verb::Words => words_text(alloc, &text),
-        _ => show(alloc, asked, &text, shelf),
-    }
-}
 
 /// What the words of the command line ask to be shown, over the bytes of the source and the files of the shelf.
 ///
@@ -39,6 +23,12 @@ pub fn lens_top<R: Source, H: Shelf>(
         Verb::Version => Ok(String::from_str(alloc, VERSION)?),
         Verb::Image => show_image(alloc, asked.name, shelf),
         Verb::Differences => show_differences(alloc, asked.name, asked.other, shelf),
-        _ => show_source(alloc, asked, source, shelf),
+        _ => {
+            let text = source_text(alloc, source)?;
+            match asked.verb {
+                Verb::Words => words_text(alloc, &text),
+                _ => show(alloc, asked, &text, shelf),
+            }
+        }
     }
 }

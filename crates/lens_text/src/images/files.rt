@@ -1,9 +1,10 @@
 //! Images of the shelf.
+use crate::faults::given;
 use crate::files::file_of;
-use crate::images::differences::{Rest, lone_lines};
-use crate::images::lines::text_of;
-use crate::problem::{Problem, given};
-use crate::sheet::line_at;
+use crate::images::differences::{lines_of, push_differences};
+use crate::images::lines::push_image;
+use crate::problem::Problem;
+use crate::sheet::{Sheet, line_at};
 use fk_causes::Shelf;
 use fk_codec::{ImageError, ReadFail, read};
 use std::alloc::Global;
@@ -18,15 +19,6 @@ a number, slot, kind, mode or tag in its range
 a pointer to something that this field can hold
 the end of the file";
 
-/// Why the bytes of the file of a name spell no image: the offset of the first fault, and what was expected there.
-fn refused(alloc: Global, name: &str, fail: ReadFail) -> Problem {
-    let ReadFail::Image(ImageError { offset, reason }) = fail else {
-        return Problem::NoMemory;
-    };
-    let expected = line_at(EXPECTED, reason as u64);
-    given(format!(in alloc; "{name}.img, offset {offset}: expected {expected}"))
-}
-
 /// Shows the image with this name.
 ///
 /// # Errors
@@ -35,8 +27,17 @@ fn refused(alloc: Global, name: &str, fail: ReadFail) -> Problem {
 pub fn show_image<H: Shelf>(alloc: Global, name: &str, shelf: &mut H) -> Result<String, Problem> {
     let bytes = file_of(alloc, shelf, name, ".img")?;
     match read(alloc, &bytes) {
-        Ok(image) => Ok(text_of(alloc, &image)?),
-        Err(fail) => Err(refused(alloc, name, fail)),
+        Ok(image) => {
+            let mut sheet = Sheet::new(alloc);
+            push_image(&mut sheet, &image);
+            sheet.done()
+        }
+        Err(ReadFail::Image(ImageError { offset, reason })) => {
+            let expected = line_at(EXPECTED, reason as u64);
+            let form = ".img, offset @: expected ";
+            Err(given(alloc, name, form, offset, 0, expected))
+        }
+        Err(ReadFail::NoMemory) => Err(Problem::NoMemory),
     }
 }
 
@@ -54,9 +55,15 @@ pub fn show_differences<H: Shelf>(
 ) -> Result<String, Problem> {
     let first = show_image(alloc, name, shelf)?;
     let second = show_image(alloc, other, shelf)?;
-    let texts = Rest {
-        first: first.as_str(),
-        second: second.as_str(),
-    };
-    Ok(lone_lines(alloc, texts)?)
+    let mut sheet = Sheet::new(alloc);
+    let in_first = lines_of(&mut sheet, first.as_str());
+    let in_second = lines_of(&mut sheet, second.as_str());
+    push_differences(
+        &mut sheet,
+        first.as_str(),
+        second.as_str(),
+        &in_first,
+        &in_second,
+    );
+    sheet.done()
 }

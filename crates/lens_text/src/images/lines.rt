@@ -4,26 +4,16 @@ use crate::images::pages::push_page;
 use crate::images::paths::{paths_of, push_pointer};
 use crate::sheet::Sheet;
 use fk_image::{Image, Link, SpaceRec};
-use std::alloc::{AllocError, Global};
 
-/// The path of a space as it is shown: the root's is empty.
-fn shown_path(path: &str) -> &str {
-    if path.is_empty() { "/" } else { path }
-}
-
-/// Adds the line of a space, and that of its holder, where it is held.
-fn push_head(sheet: &mut Sheet, shown: &str, paths: &[String], holder: Link) {
+/// Adds the lines of a space: its own, that of its holder, where it is held, those of its objects, those of its pages. The root's path is
+/// empty.
+fn push_space(sheet: &mut Sheet, path: &str, paths: &[String], space: &SpaceRec) {
+    let shown = if path.is_empty() { "/" } else { path };
     sheet.put_three("space ", shown, "\n");
-    match holder {
+    match space.holder {
         Link::Null => {}
         holder => push_pointer(sheet, shown, " held by ", paths, holder),
     }
-}
-
-/// Adds the lines of a space: its own, that of its holder, those of its objects, those of its pages.
-fn push_space(sheet: &mut Sheet, path: &str, paths: &[String], space: &SpaceRec) {
-    let shown = shown_path(path);
-    push_head(sheet, shown, paths, space.holder);
     for object in space.objects.as_slice() {
         push_object(sheet, path, paths, object);
     }
@@ -32,22 +22,16 @@ fn push_space(sheet: &mut Sheet, path: &str, paths: &[String], space: &SpaceRec)
     }
 }
 
-/// An image, space by space in its order.
-///
-/// # Errors
-///
-/// For want of memory.
-pub fn text_of(alloc: Global, image: &Image) -> Result<String, AllocError> {
+/// Adds an image, space by space in its order.
+pub fn push_image(sheet: &mut Sheet, image: &Image) {
     let spaces = image.spaces.as_slice();
-    let paths = paths_of(alloc, spaces)?;
-    let mut sheet = Sheet::new(alloc);
+    let paths = paths_of(sheet, spaces);
     let mut later = spaces;
     for path in &paths {
         let Some((space, rest)) = later.split_first() else {
             break;
         };
-        push_space(&mut sheet, path.as_str(), &paths, space);
+        push_space(sheet, path.as_str(), &paths, space);
         later = rest;
     }
-    sheet.done()
 }

@@ -17,34 +17,22 @@ fn filled(words: &[u64; 64]) -> (usize, bool) {
     (count, is_program)
 }
 
-/// Adds the line of a word.
-fn push_word(sheet: &mut Sheet, path: &str, address: u64, word: u64, is_program: bool) {
-    sheet.line("word ", path, " @ ", address, 0, 0);
-    if is_program {
-        push_instruction(sheet, word);
-    } else {
-        sheet.put_between("", word, "");
-    }
-    sheet.put("\n");
-}
-
 /// Adds the lines of a page of the space that is shown by this path: how many of its words there are up to the last one that
 /// isn't 0, and then each of these.
 pub fn push_page(sheet: &mut Sheet, path: &str, page: &PageRec) {
     let (count, is_program) = filled(&page.words);
     let number = page.page as u64;
-    sheet.line(
-        "page ",
-        path,
-        " @, words @ and then 0\n",
-        number,
-        count as u64,
-        0,
-    );
+    let form = " @, words @ and then 0\n";
+    sheet.line("page ", path, form, number, count as u64, 0);
     for at in 0..64usize {
         if at < count {
-            let address = number * 64 + at as u64;
-            push_word(sheet, path, address, page.words[at], is_program);
+            sheet.line("word ", path, " @ ", number * 64 + at as u64, 0, 0);
+            if is_program {
+                push_instruction(sheet, page.words[at]);
+            } else {
+                sheet.put_between("", page.words[at], "");
+            }
+            sheet.put("\n");
         }
     }
 }

@@ -1,12 +1,41 @@
 //! The lines of a thread.
 use crate::calls::push_call;
 use crate::images::paths::push_pointer;
-use crate::sheet::Sheet;
+use crate::sheet::{Sheet, line_at};
 use crate::statuses::halt_text;
-use fk_image::{FaultRec, ThreadRec};
+use fk_image::ThreadRec;
 
-/// Adds what a thread is at, behind its path.
-fn push_mode(sheet: &mut Sheet, thread: &ThreadRec) {
+/// Whose turn a talk is at, a server's or its client's.
+const TURNS: &str = " server's turn, words moved @
+ client's turn, words moved @";
+
+/// Faults by a read, and those by a write.
+const FAULTS: &str = " read of page @
+ write of page @";
+
+/// Adds the lines of a thread's talk and of its fault.
+fn push_dealings(sheet: &mut Sheet, path: &str, paths: &[String], thread: &ThreadRec) {
+    if let Some(talk) = thread.talk {
+        let form = line_at(TURNS, (talk.turn == 1) as u64);
+        sheet.line("talk ", path, form, talk.moved as u64, 0, 0);
+        sheet.put("\n");
+        push_pointer(sheet, path, " talk at ", paths, talk.port);
+        push_pointer(sheet, path, " talk with ", paths, talk.server);
+    }
+    if let Some(fault) = thread.fault {
+        let form = line_at(FAULTS, (fault.write == 1) as u64);
+        sheet.line("fault ", path, form, fault.page as u64, 0, 0);
+        sheet.put("\n");
+        push_pointer(sheet, path, " fault at ", paths, fault.port);
+        if let Some(taker) = fault.taker {
+            push_pointer(sheet, path, " fault taken by ", paths, taker);
+        }
+    }
+}
+
+/// Adds the lines of a thread: its own with what it is at, that of its stops, those of its registers that aren't 0, its talk and its fault.
+pub fn push_thread(sheet: &mut Sheet, path: &str, paths: &[String], thread: &ThreadRec) {
+    sheet.line("thread ", path, " at @", thread.pc, 0, 0);
     match thread.mode {
         0 => sheet.put(", running\n"),
         1 => {
@@ -19,56 +48,14 @@ fn push_mode(sheet: &mut Sheet, thread: &ThreadRec) {
             sheet.put_three(halt_text(thread.code), "\n", "");
         }
     }
-}
-
-/// Adds the lines of the registers that aren't 0.
-fn push_registers(sheet: &mut Sheet, path: &str, registers: &[u64; 16]) {
-    for number in 0..16usize {
-        if registers[number] != 0 {
-            let value = registers[number];
-            sheet.line("register ", path, " r@ @\n", number as u64, value, 0);
-        }
-    }
-}
-
-/// Adds the lines of a thread's talk and of its fault.
-fn push_dealings(sheet: &mut Sheet, path: &str, paths: &[String], thread: &ThreadRec) {
-    if let Some(talk) = thread.talk {
-        let form = if talk.turn == 1 {
-            " client's turn, words moved @\n"
-        } else {
-            " server's turn, words moved @\n"
-        };
-        sheet.line("talk ", path, form, talk.moved as u64, 0, 0);
-        push_pointer(sheet, path, " talk at ", paths, talk.port);
-        push_pointer(sheet, path, " talk with ", paths, talk.server);
-    }
-    if let Some(fault) = thread.fault {
-        push_fault(sheet, path, paths, fault);
-    }
-}
-
-/// Adds the lines of a thread's fault.
-fn push_fault(sheet: &mut Sheet, path: &str, paths: &[String], fault: FaultRec) {
-    let form = if fault.write == 1 {
-        " write of page @\n"
-    } else {
-        " read of page @\n"
-    };
-    sheet.line("fault ", path, form, fault.page as u64, 0, 0);
-    push_pointer(sheet, path, " fault at ", paths, fault.port);
-    if let Some(taker) = fault.taker {
-        push_pointer(sheet, path, " fault taken by ", paths, taker);
-    }
-}
-
-/// Adds the lines of a thread: its own, that of its stops, those of its registers, its talk and its fault.
-pub fn push_thread(sheet: &mut Sheet, path: &str, paths: &[String], thread: &ThreadRec) {
-    sheet.line("thread ", path, " at @", thread.pc, 0, 0);
-    push_mode(sheet, thread);
     if thread.stops > 0 {
         sheet.line("stops ", path, " @\n", thread.stops as u64, 0, 0);
     }
-    push_registers(sheet, path, &thread.regs);
+    for number in 0..16usize {
+        let value = thread.regs[number];
+        if value != 0 {
+            sheet.line("register ", path, " r@ @\n", number as u64, value, 0);
+        }
+    }
     push_dealings(sheet, path, paths, thread);
 }

@@ -3,23 +3,23 @@ use crate::sheet::Sheet;
 use fk_model::limits::OWN_SPACE;
 use fk_model::{Body, Ptr, Who};
 use fk_store::Store;
-use std::alloc::{AllocError, Global};
 use std::collections::BTreeMap;
 
 /// The slots from the root down to an object.
-fn slots_of(alloc: Global, store: &Store, who: Who) -> Result<Vec<u8>, AllocError> {
-    let mut slots = Vec::new(alloc);
-    slots.push(who.slot)?;
-    let mut space = who.space;
+fn slots_of(sheet: &mut Sheet, store: &Store, who: Who) -> Vec<u8> {
+    let mut slots = Vec::new(sheet.alloc());
+    let mut next = Some(who);
     for _ in 0..u64::MAX {
-        let Some(home) = store.home(space) else {
+        let Some(one) = next else {
             break;
         };
-        slots.push(home.slot)?;
-        space = home.space;
+        if slots.push(one.slot).is_err() {
+            sheet.lack();
+        }
+        next = store.home(one.space);
     }
     slots.reverse();
-    Ok(slots)
+    slots
 }
 
 /// Adds the path that slots are.
@@ -32,22 +32,16 @@ pub fn push_slots(sheet: &mut Sheet, slots: &[u8]) {
 /// Adds the path of an object from the root, between two texts.
 pub fn push_path(sheet: &mut Sheet, store: &Store, before: &str, who: Who, behind: &str) {
     sheet.put(before);
-    match slots_of(sheet.alloc(), store, who) {
-        Ok(slots) => push_slots(sheet, &slots),
-        Err(_) => sheet.lack(),
-    }
+    let slots = slots_of(sheet, store, who);
+    push_slots(sheet, &slots);
     sheet.put(behind);
 }
 
-/// The path of an object from the root.
-///
-/// # Errors
-///
-/// For want of memory.
-pub fn path_text(alloc: Global, store: &Store, who: Who) -> Result<String, AllocError> {
-    let mut sheet = Sheet::new(alloc);
-    push_path(&mut sheet, store, "", who, "");
-    sheet.done()
+/// Adds the path of an object behind a text, where there is one.
+pub fn push_named(sheet: &mut Sheet, store: &Store, before: &str, who: Option<Who>) {
+    if let Some(who) = who {
+        push_path(sheet, store, before, who, "");
+    }
 }
 
 /// Adds where a pointer leads, behind a text.
@@ -86,16 +80,20 @@ pub fn object_named(store: &Store, space: u32, place: u64, slot: u64) -> Option<
     }
 }
 
-/// All objects but the root, by their paths: each space before what lies in it, and what lies in one by rising slot.
-pub fn names_of(alloc: Global, store: &Store) -> Result<BTreeMap<Vec<u8>, Who>, AllocError> {
-    let mut names = BTreeMap::new(alloc);
+/// All objects but the root, by their paths: each space before what lies in it, and what lies in one by rising slot. Where there is no
+/// memory for them, the sheet notes that.
+pub fn names_of(sheet: &mut Sheet, store: &Store) -> BTreeMap<Vec<u8>, Who> {
+    let mut names = BTreeMap::new(sheet.alloc());
     let mut last = None;
     for _ in 0..u64::MAX {
         let Some(who) = store.after(last) else {
             break;
         };
-        names.insert(slots_of(alloc, store, who)?, who)?;
+        let slots = slots_of(sheet, store, who);
+        if names.insert(slots, who).is_err() {
+            sheet.lack();
+        }
         last = Some(who);
     }
-    Ok(names)
+    names
 }

@@ -4,7 +4,7 @@ use crate::instructions::push_instruction;
 use crate::sheet::{Sheet, line_at};
 use crate::statuses::halt_text;
 use crate::store::names::push_path;
-use fk_model::{Fault, Mode, Peer, Talk, Thread, Turn, Who};
+use fk_model::{Mode, Peer, Thread, Turn, Who};
 use fk_store::{Reach, Store};
 
 /// The word at an address of a space, if its page is there.
@@ -51,21 +51,16 @@ fn push_peer(sheet: &mut Sheet, store: &Store, before: &str, peer: Peer) {
 const FAULTS: &str = "; fault, read of page @
 ; fault, write of page @";
 
-/// Adds a fault.
-fn push_fault(sheet: &mut Sheet, store: &Store, fault: &Fault) {
-    sheet.fill(line_at(FAULTS, fault.write as u64), fault.page as u64, 0, 0);
-    match fault.taker {
-        None => push_path(sheet, store, ", raised at ", fault.port, ""),
-        Some(taker) => {
-            push_path(sheet, store, ", at ", fault.port, "");
-            push_peer(sheet, store, ", taken by ", taker);
-        }
+/// Adds a thread behind a text: what it does next, how often it is stopped, its talk as a client, its fault.
+pub fn push_thread(sheet: &mut Sheet, store: &Store, before: &str, who: Who, thread: &Thread) {
+    sheet.put(before);
+    push_at(sheet, store, who, thread);
+    match thread.stops {
+        0 => {}
+        1 => sheet.put("; stopped once"),
+        stops => sheet.put_between("; stopped ", stops as u64, " times"),
     }
-}
-
-/// Adds a talk of a client, if there is one.
-fn push_talk(sheet: &mut Sheet, store: &Store, talk: Option<Talk>) {
-    if let Some(talk) = talk {
+    if let Some(talk) = thread.talk {
         push_path(sheet, store, "; talk at ", talk.port, "");
         push_peer(sheet, store, " with ", talk.peer);
         let turn = match talk.turn {
@@ -74,24 +69,14 @@ fn push_talk(sheet: &mut Sheet, store: &Store, talk: Option<Talk>) {
         };
         sheet.put_between(turn, talk.moved as u64, "");
     }
-}
-
-/// Adds how often a thread is stopped.
-fn push_stops(sheet: &mut Sheet, stops: u64) {
-    match stops {
-        0 => {}
-        1 => sheet.put("; stopped once"),
-        _ => sheet.put_between("; stopped ", stops, " times"),
-    }
-}
-
-/// Adds a thread behind a text: what it does next, how often it is stopped, its talk as a client, its fault.
-pub fn push_thread(sheet: &mut Sheet, store: &Store, before: &str, who: Who, thread: &Thread) {
-    sheet.put(before);
-    push_at(sheet, store, who, thread);
-    push_stops(sheet, thread.stops as u64);
-    push_talk(sheet, store, thread.talk);
     if let Some(fault) = &thread.fault {
-        push_fault(sheet, store, fault);
+        sheet.fill(line_at(FAULTS, fault.write as u64), fault.page as u64, 0, 0);
+        match fault.taker {
+            None => push_path(sheet, store, ", raised at ", fault.port, ""),
+            Some(taker) => {
+                push_path(sheet, store, ", at ", fault.port, "");
+                push_peer(sheet, store, ", taken by ", taker);
+            }
+        }
     }
 }

@@ -4,7 +4,6 @@ use crate::store::names::{names_of, push_slots};
 use crate::store::objects::{push_home, push_object};
 use fk_model::Who;
 use fk_store::Store;
-use std::alloc::{AllocError, Global};
 
 /// Adds the line of an object, by two blanks further in than that of its space.
 fn push_line(sheet: &mut Sheet, store: &Store, slots: &[u8], who: Who) {
@@ -19,20 +18,13 @@ fn push_line(sheet: &mut Sheet, store: &Store, slots: &[u8], who: Who) {
     sheet.put("\n");
 }
 
-/// All of a store, an object a line: each space before what lies in it, and what lies in one by rising slot.
-///
-/// # Errors
-///
-/// For want of memory.
-pub fn tree_text(alloc: Global, store: &Store) -> Result<String, AllocError> {
-    let names = names_of(alloc, store)?;
-    let mut sheet = Sheet::new(alloc);
+/// Adds all of a store, an object a line: each space before what lies in it, and what lies in one by rising slot.
+pub fn push_tree(sheet: &mut Sheet, store: &Store) {
     // The root stands in no slot.
     sheet.put("/ ");
-    push_home(&mut sheet, store, 0, None);
+    push_home(sheet, store, 0, None);
     sheet.put("\n");
-    for (slots, who) in &names {
-        push_line(&mut sheet, store, slots.as_slice(), *who);
+    for (slots, who) in &names_of(sheet, store) {
+        push_line(sheet, store, slots.as_slice(), *who);
     }
-    sheet.done()
 }

@@ -3,43 +3,33 @@ use fk_model::{Mode, Thread, Who};
 use fk_store::Store;
 use lens_text::{Sheet, halt_text, push_path, status_text};
 
-/// Adds the registers that differ, as `r1=5 r2=0`.
-fn push_registers(sheet: &mut Sheet, before: &[u64; 16], after: &[u64; 16]) {
-    let mut form = "r@=@";
-    for number in 0..16usize {
-        if before[number] != after[number] {
-            sheet.fill(form, number as u64, after[number], 0);
-            form = " r@=@";
-        }
-    }
-}
-
-/// Adds the registers of a thread that have changed, behind its path where it isn't the mover.
-pub fn push_changed(sheet: &mut Sheet, store: &Store, mover: Who, who: Who, before: &Thread) {
+/// Adds the registers of a thread that have changed, as `r1=5 r2=0`, behind its path where it isn't the mover, and behind those of others that begin at this
+/// place.
+pub fn push_changed(
+    sheet: &mut Sheet,
+    start: usize,
+    store: &Store,
+    mover: Who,
+    who: Who,
+    before: &Thread,
+) {
     let Some(after) = store.thread(who) else {
         return;
     };
     if before.regs == after.regs {
         return;
     }
-    sheet.gap("; ");
+    sheet.gap(start, "; ");
     if who != mover {
         push_path(sheet, store, "", who, " ");
     }
-    push_registers(sheet, &before.regs, &after.regs);
-}
-
-/// Adds how a mover's call ended, or how it halted.
-fn push_mode(sheet: &mut Sheet, before: Mode, after: &Thread) {
-    match (before, after.mode) {
-        (Mode::Calling, Mode::Running) => {
-            sheet.put_three("; the call ends, ", status_text(after.regs[0]), "");
+    let mut form = "r@=@";
+    for number in 0..16usize {
+        let value = after.regs[number];
+        if before.regs[number] != value {
+            sheet.fill(form, number as u64, value, 0);
+            form = " r@=@";
         }
-        (Mode::Running, Mode::Halted(code)) => {
-            sheet.put_between("; it halts ", code as u64, ", ");
-            sheet.put(halt_text(code));
-        }
-        _ => {}
     }
 }
 
@@ -49,7 +39,16 @@ pub fn push_ending(sheet: &mut Sheet, store: &Store, who: Who, before: &Thread) 
     let Some(after) = store.thread(who) else {
         return sheet.put("; it is gone from there");
     };
-    push_mode(sheet, before.mode, after);
+    match (before.mode, after.mode) {
+        (Mode::Calling, Mode::Running) => {
+            sheet.put_three("; the call ends, ", status_text(after.regs[0]), "");
+        }
+        (Mode::Running, Mode::Halted(code)) => {
+            sheet.put_between("; it halts ", code as u64, ", ");
+            sheet.put(halt_text(code));
+        }
+        _ => {}
+    }
     if let (None, Some(fault)) = (before.fault, after.fault) {
         sheet.put_between("; it misses page ", fault.page as u64, "");
         push_path(sheet, store, ", a fault at ", fault.port, "");

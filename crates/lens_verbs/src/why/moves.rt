@@ -1,9 +1,9 @@
 //! Why a move of a trace isn't ready.
 use crate::steps::push_act;
-use crate::why::jobs::push_porter;
+use crate::why::jobs::push_job;
 use crate::why::reasons::{Lockers, push_reason};
 use fk_first::{Ready, Seen};
-use fk_model::{Body, Mode, Move, Thread, Who};
+use fk_model::{Body, Mode, Move, Who};
 use lens_text::{Sheet, halt_text, push_path};
 
 /// Adds a pick in words, behind a text.
@@ -12,18 +12,6 @@ fn push_pick(sheet: &mut Sheet, seen: Seen<'_>, before: &str, pick: Option<Who>)
     match pick {
         Some(pick) => push_path(sheet, seen.store, "with the pick ", pick, ""),
         None => sheet.put("without a pick"),
-    }
-}
-
-/// Adds why a thread's move isn't ready, where the thread has no ready move.
-fn push_thread(sheet: &mut Sheet, seen: Seen<'_>, lockers: &Lockers, one: &Move, thread: &Thread) {
-    match thread.mode {
-        Mode::Native => push_porter(sheet, seen, lockers, one.who),
-        Mode::Halted(code) => {
-            sheet.put_between("has halted ", code as u64, ", ");
-            sheet.put(halt_text(code));
-        }
-        _ => push_reason(sheet, seen.store, lockers, one.who, thread),
     }
 }
 
@@ -39,7 +27,17 @@ fn push_move_reason(
         (Some(Body::Thread(_)), Some(pick)) => {
             push_pick(sheet, seen, "it has a ready move, but ", *pick);
         }
-        (Some(Body::Thread(thread)), None) => push_thread(sheet, seen, lockers, one, thread),
+        (Some(Body::Thread(thread)), None) => match thread.mode {
+            Mode::Native => match seen.job {
+                Some(job) if job.porter == one.who => push_job(sheet, seen, lockers, job),
+                _ => sheet.put("it isn't the turn of a job of it"),
+            },
+            Mode::Halted(code) => {
+                sheet.put_between("has halted ", code as u64, ", ");
+                sheet.put(halt_text(code));
+            }
+            _ => push_reason(sheet, seen.store, lockers, one.who, thread),
+        },
         (Some(Body::Port { served: true, .. }), _) => {
             sheet.put("its native server has no such act now");
         }

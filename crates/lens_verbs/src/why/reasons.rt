@@ -2,9 +2,9 @@
 use crate::why::handles::stage_of;
 use crate::why::holds::{barred, hold_of, push_hold, push_holds};
 use crate::why::places::{hold_on, push_whereabouts};
-use crate::why::talks::{push_client, push_fault, push_port};
+use crate::why::talks::{push_client, push_port};
 use crate::why::touched::changed_by;
-use fk_model::{Thread, Who};
+use fk_model::{Peer, Thread, Who};
 use fk_store::Store;
 use lens_text::{Sheet, handled, object_named, push_path};
 use std::collections::BTreeMap;
@@ -25,24 +25,19 @@ fn push_mutex(sheet: &mut Sheet, store: &Store, lockers: &Lockers, mutex: Who) {
     }
 }
 
-/// Adds who keeps a space from being held.
-fn push_held(sheet: &mut Sheet, store: &Store, space: Who) {
-    match hold_of(store, space) {
-        Some(hold) => {
-            push_path(sheet, store, "waits until ", space, " is released");
-            push_whereabouts(sheet, store, " by ", hold.holder);
-        }
-        None => {
-            let before = "waits until a porter releases a space beneath ";
-            push_path(sheet, store, before, space, "");
-        }
-    }
-}
-
 /// Adds why a stage that names an object isn't ready.
 fn push_named(sheet: &mut Sheet, store: &Store, lockers: &Lockers, named: Who, stage: u64) {
     match stage {
-        13 => push_held(sheet, store, named),
+        13 => match hold_of(store, named) {
+            Some(hold) => {
+                push_path(sheet, store, "waits until ", named, " is released");
+                push_whereabouts(sheet, store, " by ", hold.holder);
+            }
+            None => {
+                let before = "waits until a porter releases a space beneath ";
+                push_path(sheet, store, before, named, "");
+            }
+        },
         21 => push_mutex(sheet, store, lockers, named),
         25 => {
             let before = "sleeps until the condition ";
@@ -69,29 +64,8 @@ fn named_by(store: &Store, who: Who, registers: &[u64; 16], stage: u64) -> Optio
     }
 }
 
-/// Adds why a stage isn't ready that no hold is known to bar.
-fn push_open(
-    sheet: &mut Sheet,
-    store: &Store,
-    lockers: &Lockers,
-    who: Who,
-    registers: &[u64; 16],
-    stage: u64,
-) {
-    match stage {
-        36 | 37 | 38 => push_client(sheet, store, who),
-        50 | 51 | 52 => match store.client_of(who) {
-            Some(client) => push_whereabouts(sheet, store, "waits for its client ", client),
-            None => sheet.put("has no client"),
-        },
-        _ => match named_by(store, who, registers, stage) {
-            Some(named) => push_named(sheet, store, lockers, named, stage),
-            None => push_holds(sheet, store),
-        },
-    }
-}
-
-/// Adds why the stage with this code, asked for with these registers by a thread that is free or by a porter, isn't ready.
+/// Adds why the stage with this code, asked for with these registers by a thread that is free or by a porter, isn't ready: the hold that
+/// is known to bar it, or who is waited for.
 pub fn push_blocked(
     sheet: &mut Sheet,
     store: &Store,
@@ -101,13 +75,21 @@ pub fn push_blocked(
     stage: u64,
 ) {
     let changed = changed_by(store, who, registers, stage);
-    match barred(store, who, &changed) {
-        Some((touched, hold)) => {
+    match (barred(store, who, &changed), stage) {
+        (Some((touched, hold)), _) => {
             push_path(sheet, store, "would change ", touched, "");
             push_hold(sheet, store, " or lead there, which ", hold);
             sheet.put(" bars");
         }
-        None => push_open(sheet, store, lockers, who, registers, stage),
+        (None, 36 | 37 | 38) => push_client(sheet, store, who),
+        (None, 50 | 51 | 52) => match store.client_of(who) {
+            Some(client) => push_whereabouts(sheet, store, "waits for its client ", client),
+            None => sheet.put("has no client"),
+        },
+        (None, _) => match named_by(store, who, registers, stage) {
+            Some(named) => push_named(sheet, store, lockers, named, stage),
+            None => push_holds(sheet, store),
+        },
     }
 }
 
@@ -116,12 +98,22 @@ pub fn push_reason(sheet: &mut Sheet, store: &Store, lockers: &Lockers, who: Who
     if thread.stops > 0 {
         return sheet.put_between("is stopped, and needs ", thread.stops as u64, " thread_go");
     }
-    match (&thread.fault, hold_on(store, who), stage_of(thread)) {
-        (Some(fault), _, _) => push_fault(sheet, store, fault),
-        (None, Some(hold), _) => push_hold(sheet, store, "is kept still by ", hold),
-        (None, None, Some(stage)) => {
-            push_blocked(sheet, store, lockers, who, &thread.regs, stage);
-        }
-        (None, None, None) => push_holds(sheet, store),
+    if let Some(fault) = &thread.fault {
+        let port = fault.port;
+        return match fault.taker {
+            None => push_port(sheet, store, "waits until its fault at ", port, " is taken"),
+            Some(Peer::Thread(taker)) => {
+                push_whereabouts(sheet, store, "waits until its fault is done by ", taker);
+            }
+            Some(_) => {
+                let before = "waits until its parked fault at ";
+                push_port(sheet, store, before, port, " is taken up");
+            }
+        };
+    }
+    match (hold_on(store, who), stage_of(thread)) {
+        (Some(hold), _) => push_hold(sheet, store, "is kept still by ", hold),
+        (None, Some(stage)) => push_blocked(sheet, store, lockers, who, &thread.regs, stage),
+        (None, None) => push_holds(sheet, store),
     }
 }

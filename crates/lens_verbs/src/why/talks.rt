@@ -1,7 +1,7 @@
 //! Who could end a wait for somebody else.
 use crate::why::handles::stage_of;
 use crate::why::places::push_whereabouts;
-use fk_model::{Body, Fault, Peer, Thread, Who};
+use fk_model::{Body, Peer, Thread, Who};
 use fk_store::Store;
 use lens_text::{Sheet, handled, push_path};
 
@@ -54,8 +54,9 @@ fn push_server(sheet: &mut Sheet, store: &Store, set: Who) {
     }
 }
 
-/// Adds who could take what stands at a port.
-fn push_takers(sheet: &mut Sheet, store: &Store, port: Who) {
+/// Adds a port between two texts, and who could take what stands there.
+pub fn push_port(sheet: &mut Sheet, store: &Store, before: &str, port: Who, behind: &str) {
+    push_path(sheet, store, before, port, behind);
     match store.at(port) {
         Some(Body::Port { served: true, .. }) => match store.client_at(port) {
             Some(client) => {
@@ -77,29 +78,6 @@ fn push_takers(sheet: &mut Sheet, store: &Store, port: Who) {
         }
         Some(Body::Port { .. }) => sheet.put("; the port is in no set, so nobody can take it"),
         _ => sheet.put("; there is no port"),
-    }
-}
-
-/// Adds a port between two texts, and who could take what stands there.
-pub fn push_port(sheet: &mut Sheet, store: &Store, before: &str, port: Who, behind: &str) {
-    push_path(sheet, store, before, port, behind);
-    push_takers(sheet, store, port);
-}
-
-/// Adds a fault, and who could end it.
-pub fn push_fault(sheet: &mut Sheet, store: &Store, fault: &Fault) {
-    match fault.taker {
-        None => {
-            let before = "waits until its fault at ";
-            push_port(sheet, store, before, fault.port, " is taken");
-        }
-        Some(Peer::Thread(taker)) => {
-            push_whereabouts(sheet, store, "waits until its fault is done by ", taker);
-        }
-        Some(_) => {
-            let before = "waits until its parked fault at ";
-            push_port(sheet, store, before, fault.port, " is taken up");
-        }
     }
 }
 

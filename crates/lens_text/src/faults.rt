@@ -1,0 +1,28 @@
+//! That something can't be shown, in a line.
+use crate::problem::Problem;
+use crate::sheet::Sheet;
+use std::alloc::Global;
+
+/// That what was given can't be shown, with the line that says so.
+pub fn told(line: Sheet) -> Problem {
+    match line.done() {
+        Ok(line) => Problem::Given(line),
+        Err(problem) => problem,
+    }
+}
+
+/// That what was given can't be shown: of which file, where in it by a form of two numbers, and what was expected there.
+pub fn given(alloc: Global, file: &str, form: &str, one: u64, two: u64, expected: &str) -> Problem {
+    let mut line = Sheet::new(alloc);
+    line.line("", file, form, one, two, 0);
+    line.put(expected);
+    told(line)
+}
+
+/// That something can't be read.
+pub fn unread(alloc: Global, what: &str) -> Problem {
+    match format!(in alloc; "{what} can't be read") {
+        Ok(line) => Problem::Outside(line),
+        Err(_) => Problem::NoMemory,
+    }
+}
