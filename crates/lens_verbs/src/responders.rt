@@ -21,7 +21,7 @@ pub fn rule_name(rule: Rule) -> &'static str {
 /// The reply of a rule to a request.
 fn reply_by(rule: Rule, config: &[u64], position: u64, request: &[u64]) -> Reply
     requires few { length request.now ≤ 64 }
-    ensures answer { reply_words result ≡ answer rule config.now position request.now }
+    ensures { reply_words result ≡ answer rule config.now position request.now }
 {
     match rule {
         Rule::Echo => echo(request),

@@ -4,44 +4,50 @@ ghost use Rattle.fk_scenario.specs.Kept.{KeepsScenario, HasRules};
 
 use crate::images::images_for;
 use crate::scenarios::scenario_of;
-use crate::shows::show_of;
+use crate::shows::{Show, show_of};
 use crate::stops::stop_fault;
 use fk_causes::Shelf;
 use fk_finish::ValidImage;
 use fk_first::{Trace, watch};
 use fk_responders::Table;
 use fk_scenario::Scenario;
-use lens_text::{Asked, Problem, Verb, file_of};
+use lens_text::{Asked, Problem, Sheet, Verb, file_of};
 use std::alloc::Global;
+use std::mem;
 
-/// Shows what is asked for of the run of a scenario, with images for its jobs, by the trace with these bytes; of a trace that isn't looked at
-/// where what stands at the beginning is asked for.
-fn shown(
+/// What is looked at of a trace with these bytes; none where what stands at the beginning is asked for.
+fn trace_of<'a>(asked: Asked<'_>, bytes: &'a [u8]) -> Option<Trace<'a>> {
+    let most = asked.end;
+    let looks_ahead = match asked.verb {
+        Verb::First => return None,
+        Verb::Why => true,
+        _ => false,
+    };
+    Some(Trace {
+        bytes,
+        most,
+        looks_ahead,
+    })
+}
+
+/// Watches the run of a scenario, with images for its jobs, by the trace with these bytes, as far as is asked for, and takes what is shown.
+fn watched(
     alloc: Global,
     asked: Asked<'_>,
     table: &Table,
     scenario: &Scenario,
     images: &[Option<ValidImage>],
     bytes: &[u8],
+    show: &mut Show,
 ) -> Result<String, Problem>
     requires keeps { KeepsScenario scenario.now }
     requires rules { HasRules (map (λ r. r.rule) table.now.list.items) scenario.now }
 {
-    let trace = match asked.verb {
-        Verb::First => None,
-        verb => Some(Trace {
-            bytes,
-            most: asked.end,
-            looks_ahead: matches!(verb, Verb::Why),
-        }),
-    };
-    let mut show = show_of(alloc, asked);
-    match watch(alloc, table, scenario, images, trace, &mut show) {
-        Ok(stop) => match stop_fault(alloc, asked, stop) {
-            Some(problem) => Err(problem),
-            None => show.sheet.done(),
-        },
-        Err(_) => Err(Problem::NoMemory),
+    let trace = trace_of(asked, bytes);
+    let stop = watch(alloc, table, scenario, images, trace, show)?;
+    match stop_fault(alloc, asked, stop) {
+        Some(problem) => Err(problem),
+        None => mem::replace(&mut show.sheet, Sheet::new(alloc)).done(),
     }
 }
 
@@ -69,5 +75,6 @@ pub fn show_run<H: Shelf>(
     let bytes = bytes_of(alloc, asked, shelf)?;
     let scenario = scenario_of(alloc, table, text)?;
     let images = images_for(alloc, shelf, scenario.jobs.as_slice())?;
-    shown(alloc, asked, table, &scenario, &images, &bytes)
+    let mut show = show_of(alloc, asked);
+    watched(alloc, asked, table, &scenario, &images, &bytes, &mut show)
 }

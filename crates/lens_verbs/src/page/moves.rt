@@ -60,6 +60,14 @@ fn push_move(sheet: &mut Sheet, seen: Seen<'_>, one: &Move, pending: &Pending, c
     }
 }
 
+/// Notes what the move that was made may have changed, and adds what it has changed.
+fn note_move(changes: &mut Sheet, known: &mut Objects, store: &Store, few: Option<Few>) {
+    match few {
+        Some(names) => note_few(changes, known, store, &names),
+        None => note_all(changes, known, store),
+    }
+}
+
 impl Page {
     /// Begins the page of a trace with this name. Nothing is known yet.
     pub fn new(sheet: &mut Sheet, name: &str) -> Page {
@@ -108,10 +116,7 @@ impl Page {
     pub fn after(&mut self, alloc: Global, seen: Seen<'_>, one: &Move) {
         if let Some(pending) = &self.pending {
             let mut changes = Sheet::new(alloc);
-            match pending.few {
-                Some(names) => note_few(&mut changes, &mut self.known, seen.store, &names),
-                None => note_all(&mut changes, &mut self.known, seen.store),
-            }
+            note_move(&mut changes, &mut self.known, seen.store, pending.few);
             push_move(&mut self.moves, seen, one, pending, &changes);
         }
     }
