@@ -95,7 +95,7 @@ fn is_made(tried: &Result<Option<Told>, NoMemory>) -> bool
 }
 
 /// The lists after a move, if one was made.
-#[inline(always)]
+#[inline(never)]
 fn after_plain_if(
     turns: &mut Turns,
     store: &Store,
