@@ -89,6 +89,16 @@ none_at cause (q ∷ l) none = by (is_same q.0 cause) refl none (λ rest. none_a
     by true e is rest = let not_so : None ≡ Some q.1 = rw e at is in absurd (cc)
     by false e is rest = or_from (is_same q.0 cause) (is_cause cause l) e (rest (rw e at is))
 
+-- and who is first at something waits for it
+pub some_at : (cause n : Who) (l : List (Who × Who)) → Some n ≡ first_queued cause l → is_cause cause l ≡ true
+some_at cause n [] some = absurd (cc)
+some_at cause n (q ∷ l) some = by (is_same q.0 cause) refl some (λ rest. some_at cause n l rest)
+  where
+    by : (t : Bool) → is_same q.0 cause ≡ t → Some n ≡ (if is_same q.0 cause then Some q.1 else first_queued cause l) →
+        (Some n ≡ first_queued cause l → is_cause cause l ≡ true) → (is_same q.0 cause || is_cause cause l) ≡ true
+    by true e is rest = rw e refl
+    by false e is rest = or_right (is_same q.0 cause) (is_cause cause l) (rest (rw e at is))
+
 pub none_ready : (l : List Who) → None ≡ first_ready l → l ≡ []
 none_ready [] is = refl
 none_ready (x ∷ l) is = absurd (cc)

@@ -2,7 +2,7 @@
 use Rattle.std.proofs.Common.{◌≡◌, ◌≤◌, ◌+◌, ◌-◌, ◌&&◌, ◌||◌, ◌⊎◌, inl, inr, Bool, true, false, List, [], ◌∷◌, ◌++◌, Some, if◌then◌else◌, refl, sym}
 use Rattle.std.proofs.Common.{ap, subst, ◌∙◌, arith}
 use Rattle.std.proofs.lemmas.Bool.{or_from, or_left, or_right}
-use Rattle.std.specs.Bool.{OnTrue}
+use Rattle.std.specs.Bool.{OnTrue, OnFalse}
 use Rattle.fk_model.specs.declared.names.Who.{Who}
 use Rattle.fk_waits_causes.specs.Names.{is_same}
 use Rattle.fk_waits_causes.proofs.Order.{same_who}
@@ -147,20 +147,15 @@ waits_split key x (q ∷ l) k is = by (is_same q.0 key && is_same q.1 x) refl (�
     by true e rest here = inl (or_left (is_same q.0 key && is_same q.1 x) (waits_at key x l) e)
     by false e rest here = of (rest here)
 
--- nothing is a cause in either list
-cause_off : (cause : Who) (l k : List (Who × Who)) → is_cause cause l ≡ false → is_cause cause k ≡ false → is_cause cause (l ++ k) ≡ false
-cause_off cause [] k none other = other
-cause_off cause (q ∷ l) k none other = by (is_same q.0 cause) refl (λ rest. cause_off cause l k rest other) none
+-- a cause in either list
+pub cause_in_both : (cause : Who) (l k : List (Who × Who)) → is_cause cause (l ++ k) ≡ (is_cause cause l || is_cause cause k)
+cause_in_both cause [] k = refl
+cause_in_both cause (q ∷ l) k = by (is_same q.0 cause) (cause_in_both cause l k)
   where
-    by : (t : Bool) → is_same q.0 cause ≡ t → (is_cause cause l ≡ false → is_cause cause (l ++ k) ≡ false) → (t || is_cause cause l) ≡ false →
-        (is_same q.0 cause || is_cause cause (l ++ k)) ≡ false
-    by true e rest here = absurd (cc)
-    by false e rest here = or_from (is_same q.0 cause) (is_cause cause (l ++ k)) e (rest here)
-
-pub cause_in_neither : (cause : Who) (l k : List (Who × Who)) (b : Bool) → is_cause cause l ≡ false → OnTrue b (is_cause cause k ≡ false) →
-    OnTrue b (is_cause cause (l ++ k) ≡ false)
-cause_in_neither cause l k false none other = tt
-cause_in_neither cause l k true none other = cause_off cause l k none other
+    by : (t : Bool) → is_cause cause (l ++ k) ≡ (is_cause cause l || is_cause cause k) →
+        (t || is_cause cause (l ++ k)) ≡ ((t || is_cause cause l) || is_cause cause k)
+    by true rest = refl
+    by false rest = rest
 
 -- who waits at something is queued, and that is a cause
 pub waits_queued : (cause x : Who) (l : List (Who × Who)) → waits_at cause x l ≡ true → is_queued x l ≡ true
@@ -330,3 +325,11 @@ on_true false p = tt
 pub both_room : (P Q : Type 0) (b : Bool) → P → OnTrue b Q → OnTrue b (P × Q)
 both_room P Q true p q = (p, q)
 both_room P Q false p q = tt
+
+pub either_full : (P Q : Type 0) (b : Bool) → OnFalse b Q → OnFalse b (P ⊎ Q)
+either_full P Q true q = tt
+either_full P Q false q = inr q
+
+pub on_false : (P Q : Type 0) (b : Bool) → OnFalse b Q → OnFalse b (P → Q)
+on_false P Q true q = tt
+on_false P Q false q = λ p. q

@@ -1,5 +1,5 @@
 //! Turns.
-ghost use Rattle.std.specs.Prelude.{◌≡◌, ◌≤◌, ◌||◌, [], true, false, IfOk, OnOk, if◌then◌else◌};
+ghost use Rattle.std.specs.Prelude.{◌≡◌, ◌≢◌, ◌≤◌, ◌⊎◌, [], true, false, not, IfOk, OnOk, if◌then◌else◌};
 ghost use Rattle.std.specs.Bool.{OnTrue, OnFalse};
 ghost use Rattle.fk_model.specs.declared.names.Who as names_of;
 ghost use Rattle.fk_waits_causes.specs.Names.{is_same};
@@ -127,7 +127,8 @@ impl Turns {
 
     /// There is room for one more thread.
     pub fn has_seat(&self) -> bool
-        ensures { OnTrue result ((1 ≤ self.now.waits.spare) × (1 ≤ self.now.marks.spare)) }
+        ensures room { OnTrue result ((1 ≤ self.now.waits.spare) × (1 ≤ self.now.marks.spare)) }
+        ensures full { OnFalse result ((self.now.waits.spare ≡ 0) ⊎ (self.now.marks.spare ≡ 0)) }
     {
         if self.waits.has_room() {
             self.marks.has_room()
@@ -319,7 +320,7 @@ impl Turns {
 
     /// Nobody is queued whom any move of another may free but an instruction.
     pub fn is_hushed(&self) -> bool
-        ensures { OnTrue result (is_cause loud_cause (all_marks self.now.waits self.now.marks).queued ≡ false) }
+        ensures { is_cause loud_cause (all_marks self.now.waits self.now.marks).queued ≡ not result }
     {
         match self.marks.first(LOUD) {
             Some(_) => false,
@@ -329,7 +330,7 @@ impl Turns {
 
     /// Nobody is queued at what is no object but where these are marked.
     fn is_none_there(&self) -> bool
-        ensures { OnTrue result (is_cause loud_cause self.now.waits.queued ≡ false) }
+        ensures { is_cause loud_cause self.now.waits.queued ≡ not result }
     {
         match self.waits.first(LOUD) {
             Some(_) => false,
@@ -339,7 +340,8 @@ impl Turns {
 
     /// Nobody is marked whom any change may free.
     pub fn marks_nobody(&self) -> bool
-        ensures { OnTrue result (self.now.marks.ready ≡ []) }
+        ensures none { OnTrue result (self.now.marks.ready ≡ []) }
+        ensures some { OnFalse result (self.now.marks.ready ≢ []) }
     {
         self.marks.is_idle()
     }
@@ -355,6 +357,7 @@ impl Turns {
         ensures none { OnTrue result (self.old.marks.ready ≡ []) }
         ensures marks { self.new.marks ≡ self.old.marks }
         ensures same { OnFalse result (self.new.waits ≡ self.old.waits) }
+        ensures other { OnFalse result (self.old.marks.ready ≡ [] → turns_of.is_front who self.old.waits.ready ≡ false) }
     {
         if !self.marks.is_idle() {
             return false;
@@ -383,6 +386,7 @@ impl Turns {
         ensures stood { OnTrue result (stands who self.old.waits ≡ true) }
         ensures marks { self.new.marks ≡ self.old.marks }
         ensures same { OnFalse result (self.new.waits ≡ self.old.waits) }
+        ensures other { OnFalse result (turns_of.is_front who self.old.waits.ready ≡ false) }
     {
         if !self.is_front(who) {
             return false;

@@ -1,9 +1,9 @@
 -- Last: who was put last of all stands last until it goes or another comes.
-use Rattle.std.proofs.Common.{◌≡◌, ◌≤◌, ◌<◌, ◌-◌, ℕ, not, nat_lt, length, arith, ◌||◌, ◌&&◌, Bool, true, false, List, [], ◌∷◌, ◌++◌, map, Option}
+use Rattle.std.proofs.Common.{◌≡◌, ◌≢◌, ◌≤◌, ◌<◌, ◌-◌, ℕ, not, nat_lt, length, arith, ◌||◌, ◌&&◌, Bool, true, false, List, [], ◌∷◌, ◌++◌, map, Option}
 use Rattle.std.proofs.Common.{Some, None, IfSome, if◌then◌else◌, refl, sym, ap, subst, ◌∙◌}
 use Rattle.std.proofs.lemmas.Bool.{ltb-false, or_left, or_right}
 use Rattle.std.proofs.lemmas.Bool.Decides.{Decides-ltb}
-use Rattle.std.specs.Bool.{OnTrue}
+use Rattle.std.specs.Bool.{OnTrue, OnFalse}
 use Rattle.fk_model.specs.declared.names.Who.{Who}
 use Rattle.fk_waits_causes.specs.Names.{is_same}
 use Rattle.fk_waits_causes.proofs.Order.{same_who}
@@ -177,6 +177,13 @@ room_left len seats spare at = by (nat_lt len seats) refl
     by true e = let less : len < seats = (Decides-ltb len seats).0 e in rw e (omega (arith, less, at))
     by false e = rw e tt
 
+pub none_left : (len seats spare : ℕ) → seats - len ≡ spare → OnFalse (nat_lt len seats) (spare ≡ 0)
+none_left len seats spare at = by (nat_lt len seats) refl
+  where
+    by : (t : Bool) → nat_lt len seats ≡ t → OnFalse (nat_lt len seats) (spare ≡ 0)
+    by true e = rw e tt
+    by false e = let most : seats ≤ len = ltb-false len seats e in rw e (omega (arith, most, at))
+
 all_queued : (l : Pairs) → length l ≤ length (are_queued l) → are_ready l ≡ []
 all_queued [] many = refl
 all_queued ((who, None) ∷ l) many = let few = queued_few l in absurd (omega (arith, many, few))
@@ -188,3 +195,17 @@ nobody_ready l queued len many count = by (nat_lt queued len) refl
     by : (t : Bool) → nat_lt queued len ≡ t → OnTrue (not (nat_lt queued len)) (are_ready l ≡ [])
     by true e = rw e tt
     by false e = let least : len ≤ queued = ltb-false queued len e in rw e (all_queued l (omega (arith, least, many, count)))
+
+queued_all : (l : Pairs) → are_ready l ≡ [] → length l ≤ length (are_queued l)
+queued_all [] none = omega (arith)
+queued_all ((who, None) ∷ l) none = absurd (cc)
+queued_all ((who, Some cause) ∷ l) none = let rest = queued_all l none in omega (arith, rest)
+
+pub some_ready : (l : Pairs) (queued len : ℕ) → len ≡ length l → queued ≡ length (are_queued l) → OnFalse (not (nat_lt queued len)) (are_ready l ≢ [])
+some_ready l queued len many count = by (nat_lt queued len) refl
+  where
+    by : (t : Bool) → nat_lt queued len ≡ t → OnFalse (not (nat_lt queued len)) (are_ready l ≢ [])
+    by true e =
+        let less : queued < len = (Decides-ltb queued len).0 e in
+        rw e (λ none. let all = queued_all l none in absurd (omega (arith, all, less, many, count)))
+    by false e = rw e tt

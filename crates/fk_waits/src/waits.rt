@@ -1,6 +1,6 @@
 //! The lists of those who wait.
-ghost use Rattle.std.specs.Prelude.{◌≡◌, ◌≤◌, ◌+◌, ◌-◌, ◌<◌, ◌^◌, [], length, false, true, IfOk, OnOk, if◌then◌else◌};
-ghost use Rattle.std.specs.Bool.{OnTrue};
+ghost use Rattle.std.specs.Prelude.{◌≡◌, ◌≢◌, ◌≤◌, ◌+◌, ◌-◌, ◌<◌, ◌^◌, [], length, false, true, IfOk, OnOk, if◌then◌else◌};
+ghost use Rattle.std.specs.Bool.{OnTrue, OnFalse};
 ghost use Rattle.fk_waits_causes.specs.Causes.{is_same_cause};
 ghost use Rattle.fk_waits.specs.Lists as lists;
 ghost use Rattle.fk_waits.specs.Lists.{Lists, first_queued, first_ready, is_cause, left, parked, passed, renamed, settled, stands, woken, IsLast};
@@ -186,14 +186,16 @@ impl Waits {
 
     /// There is room for one more.
     pub fn has_room(&self) -> bool
-        ensures { OnTrue result (1 ≤ self.now.spare) }
+        ensures room { OnTrue result (1 ≤ self.now.spare) }
+        ensures full { OnFalse result (self.now.spare ≡ 0) }
     {
         self.threads.len() < self.threads.seats()
     }
 
     /// Nobody is ready.
     pub fn is_idle(&self) -> bool
-        ensures { OnTrue result (self.now.ready ≡ []) }
+        ensures none { OnTrue result (self.now.ready ≡ []) }
+        ensures some { OnFalse result (self.now.ready ≢ []) }
     {
         !(self.queued < self.threads.len() as u64)
     }
