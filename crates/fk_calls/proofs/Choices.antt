@@ -1,11 +1,11 @@
 -- Choices: whom a user may pick.
-use Rattle.std.proofs.Common.{◌≡◌, ℕ, Bool, true, false, cond, List, [], ◌∷◌, Option, Some, None, is_some, IsSome, Result, Ok, Err, refl, ap}
+use Rattle.std.proofs.Common.{◌≡◌, ℕ, Bool, true, false, cond, List, [], ◌∷◌, Option, Some, None, is_some, Result, Ok, Err, refl, ap}
 use Rattle.fk_model.specs.declared.moves.Ask.TheVariants as asks
 use Rattle.fk_model.specs.declared.stage.Stage.{Stage}
 use Rattle.fk_model.specs.declared.stage.Stage.TheVariants.{CondSignal, Wait}
 use Rattle.fk_model.specs.declared.statuses.status.TheConstants.{LINKED}
 use Rattle.fk_model.specs.Holds.{is_free, is_unheld}
-use Rattle.fk_model.specs.LinkRows.{Candidate, candidate, candidate_by, portset_of, takes_picked, user_at, wait}
+use Rattle.fk_model.specs.LinkRows.{Candidate, candidate, candidate_by, portset_of, user_at, wait}
 use Rattle.fk_model.specs.Moves.{allowed_row, call_row, chooses, closed, with_pick, goes_on, user_move, outcome, IsReady}
 use Rattle.fk_model.specs.Objects.{Mode, Thread, and_then}
 use Rattle.fk_model.specs.Objects.Mode.{Running, Calling, Halted, Native}

@@ -15,7 +15,7 @@ ghost use Rattle.fk_store.specs.Threads.{is_free_at};
 ghost use Rattle.fk_store.specs.World.{world, IsLive, IsSpace};
 ghost use Rattle.fk_plans.specs.Hearers.{IsPadded};
 ghost use Rattle.fk_plans.specs.Plans.{caller_by};
-ghost use Rattle.fk_plans.specs.Verdicts.{outcome_by, words_told, AreWords, IsVerdict};
+ghost use Rattle.fk_plans.specs.Verdicts.{outcome_by, AreWords, IsVerdict};
 ghost use Rattle.fk_wakes.specs.Touches.{is_making};
 ghost use Rattle.fk_calls.specs.Doings.{IsAtStage};
 ghost use Rattle.fk_calls.specs.Judgements.{IsEnded, IsHeardBy, IsReadyMove, IsStepTo, TellsTouched};

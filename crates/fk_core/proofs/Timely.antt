@@ -1,5 +1,5 @@
 -- Timely: a job whose time has come is due.
-use Rattle.std.proofs.Common.{◌≡◌, ℕ, ◌≤◌, ◌⊎◌, nat_le, true, Option, Some, None, is_some, inl, inr, refl}
+use Rattle.std.proofs.Common.{◌≡◌, ℕ, ◌≤◌, ◌⊎◌, true, Option, Some, None, is_some, inl, inr, refl}
 use Rattle.std.proofs.lemmas.Bool.{leb-true}
 use Rattle.fk_model.specs.World.{World}
 use Rattle.laws_house.specs.Houses.{Job, State}

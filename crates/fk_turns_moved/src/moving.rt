@@ -1,10 +1,9 @@
 //! What a move does to the lists.
-ghost use Rattle.std.specs.Prelude.{◌≡◌, ◌≤◌, ◌||◌, true, false, [], if◌then◌else◌};
+ghost use Rattle.std.specs.Prelude.{◌≡◌, ◌||◌, true, false, [], if◌then◌else◌};
 ghost use Rattle.fk_model.specs.declared.names.Who as names_of;
 ghost use Rattle.fk_store.specs.Contents.{Contents};
-ghost use Rattle.fk_store.specs.Names.{at};
 ghost use Rattle.fk_waits_causes.specs.Names.{is_same};
-ghost use Rattle.fk_waits.specs.Lists.{is_cause, is_in, is_queued, stands};
+ghost use Rattle.fk_waits.specs.Lists.{is_queued, stands};
 ghost use Rattle.fk_turns.specs.Turns.{all_marks, AreMet, IsLess, IsSound};
 ghost use Rattle.fk_turns_moved.specs.Kept.{is_user_at, AreKept};
 ghost use Rattle.fk_turns_moved.specs.Moved.{is_it, is_named, is_wide, AreFreed, AreRoused, HasPlace, HasRoom, HasRoomFor, IsMoved, IsTouched};

@@ -1,5 +1,5 @@
 //! Queues by what their threads wait for.
-ghost use Rattle.std.specs.Prelude.{◌≡◌, ◌≢◌, ◌+◌, ◌≤◌, ◌<◌, ◌^◌, ◌==◌, ℕ, List, [], ◌∷◌, ◌++◌, length, map, not, is_some, None, Some, IfOk, OnErr, OnOk};
+ghost use Rattle.std.specs.Prelude.{◌≡◌, ◌≢◌, ◌+◌, ◌≤◌, ◌<◌, ◌^◌, ◌==◌, List, [], ◌∷◌, ◌++◌, length, map, not, is_some, None, Some, IfOk, OnErr, OnOk};
 ghost use Rattle.fk_waits_causes.specs.Names.{key_at};
 ghost use Rattle.fk_waits_queues.specs.Places.{first_at, AreFiled, Place};
 ghost use Rattle.fk_waits_causes.specs.Causes.{cause_of, first_of, front_of, recaused, AreStanding, HasSeat, HasStanding, Stand, Standing};

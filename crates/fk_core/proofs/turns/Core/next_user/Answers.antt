@@ -1,6 +1,5 @@
 use Rattle.fk_rounds.specs.Kernels.{world_of as world}
 use Rattle.fk_rounds.specs.Events.{IsReadyBesides}
-use Rattle.fk_rounds.specs.Moments.{AreUsersIdle}
 use Rattle.fk_rounds.proofs.Acting.{runs-other, if-some, if-none}
 use Rattle.fk_rounds.proofs.Asking.{others_ready}
 use Rattle.fk_core.specs.Cores.{run_core, IsReadyMove}
