@@ -5,11 +5,10 @@
 //! all jobs of the file, none of which has begun (`specs/First.antt`), and that a run may begin there.
 //!
 //! `watch` makes the moves of a trace from there on, each of which was ready, and shows a watcher what stands before and after each. It promises
-//! no more than that it ends. `Images` holds what its jobs need of a shelf, so that who watches lets no image go itself.
+//! no more than that it ends.
 #![tactic(auto)]
 
 mod first;
-mod images;
 mod plans;
 mod ready;
 mod seen;
@@ -18,7 +17,6 @@ mod watching;
 pub use first::first_core;
 pub use fk_boot::Kernel;
 pub use fk_core::Core;
-pub use images::{Images, jobs_of};
 pub use plans::{maker_of, plans_of};
 pub use seen::{Job, Ready, Seen, Stop, Trace, Watcher};
 pub use watching::watch;
