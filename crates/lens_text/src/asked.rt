@@ -1,8 +1,8 @@
 //! What the words of the command line ask for.
 use crate::problem::Problem;
-use crate::sheet::line_at;
+use crate::sheet::{Sheet, line_at};
 use fk_model::{is_name, plain_number_up_to};
-use std::alloc::{AllocError, Global};
+use std::alloc::Global;
 
 /// What is asked for.
 #[derive(Clone, Copy)]
@@ -86,48 +86,19 @@ fn place_of(word: &str) -> Option<usize> {
     None
 }
 
-/// The verb whose word has this place, with so many words behind it.
-fn verb_with(place: usize, count: usize) -> Option<Verb> {
-    match (place, count) {
-        (0, 0) => Some(Verb::First),
-        (0, 2) => Some(Verb::Tree),
-        (1, 1 | 3) => Some(Verb::Steps),
-        (2, 2) => Some(Verb::Why),
-        (3, 1) => Some(Verb::Image),
-        (3, 2) => Some(Verb::Differences),
-        (4, 0) => Some(Verb::Words),
-        (5, 1) => Some(Verb::Page),
-        (6, 0) => Some(Verb::Help),
-        (7, 0) => Some(Verb::Version),
-        _ => None,
-    }
-}
-
-/// That the words are no verb, with a line that says so.
-fn wrong(line: Result<String, AllocError>) -> Problem {
-    match line {
-        Ok(line) => Problem::Words(line),
-        Err(_) => Problem::NoMemory,
-    }
-}
-
-/// That a word isn't what was expected.
-fn wrong_word(alloc: Global, word: &String, expected: &str) -> Problem {
-    wrong(format!(in alloc; "{word:?}: expected {expected}"))
-}
-
-/// What is wrong with the first word behind a verb that isn't what is wanted there: so many names at most, and then numbers of moves.
-fn first_fault(alloc: Global, words: &[String], names: usize) -> Option<Problem> {
+/// Whether each word behind a verb is what is wanted there: so many names at most, and then numbers of moves. Of the first that isn't the
+/// line says so.
+fn are_right(line: &mut Sheet, words: &[String], names: usize) -> bool {
     for (place, word) in words.iter().enumerate() {
         let is_name_wanted = place < names;
         let is_count = plain_number_up_to(MOST, word.as_bytes()).is_some();
         let is_right = (is_name_wanted & is_name(word.as_bytes())) | (!is_name_wanted & is_count);
         if !is_right {
-            let expected = line_at(EXPECTED, is_name_wanted as u64);
-            return Some(wrong_word(alloc, word, expected));
+            line.put_wrong(word, line_at(EXPECTED, is_name_wanted as u64));
+            return false;
         }
     }
-    None
+    true
 }
 
 /// A word behind a verb, where there is one.
@@ -158,26 +129,53 @@ fn asked_of<'a>(verb: Verb, words: &'a [String]) -> Asked<'a> {
     }
 }
 
+/// What words ask for. Where they ask for nothing, the line says why.
+fn asked_by<'a>(line: &mut Sheet, words: &'a [String]) -> Option<Asked<'a>> {
+    let Some((word, rest)) = words.split_first() else {
+        line.put_three("expected ", VERBS, "");
+        return None;
+    };
+    let Some(place) = place_of(word.as_str()) else {
+        line.put_wrong(word, VERBS);
+        return None;
+    };
+    let verb = match (place, rest.len()) {
+        (0, 0) => Verb::First,
+        (0, 2) => Verb::Tree,
+        (1, 1 | 3) => Verb::Steps,
+        (2, 2) => Verb::Why,
+        (3, 1) => Verb::Image,
+        (3, 2) => Verb::Differences,
+        (4, 0) => Verb::Words,
+        (5, 1) => Verb::Page,
+        (6, 0) => Verb::Help,
+        (7, 0) => Verb::Version,
+        _ => {
+            line.put_three("after ", word.as_str(), ": expected ");
+            line.put(line_at(BEHIND, place as u64));
+            return None;
+        }
+    };
+    // Two images may be named.
+    if are_right(line, rest, 1 + (place == IMAGE) as usize) {
+        Some(asked_of(verb, rest))
+    } else {
+        None
+    }
+}
+
 /// What words ask for.
 ///
 /// # Errors
 ///
 /// `Words` where they are no verb, and `NoMemory`.
 pub fn asked_in<'a>(alloc: Global, words: &'a [String]) -> Result<Asked<'a>, Problem> {
-    let Some((word, rest)) = words.split_first() else {
-        let verbs = VERBS;
-        return Err(wrong(format!(in alloc; "expected {verbs}")));
-    };
-    let Some(place) = place_of(word.as_str()) else {
-        return Err(wrong_word(alloc, word, VERBS));
-    };
-    let Some(verb) = verb_with(place, rest.len()) else {
-        let behind = line_at(BEHIND, place as u64);
-        return Err(wrong(format!(in alloc; "after {word}: expected {behind}")));
-    };
-    // Two images may be named.
-    match first_fault(alloc, rest, 1 + (place == IMAGE) as usize) {
-        Some(problem) => Err(problem),
-        None => Ok(asked_of(verb, rest)),
+    let mut line = Sheet::new(alloc);
+    if let Some(asked) = asked_by(&mut line, words) {
+        return Ok(asked);
+    }
+    match line.done() {
+        Ok(line) => Err(Problem::Words(line)),
+        Err(problem) => Err(problem),
     }
 }

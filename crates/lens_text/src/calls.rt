@@ -72,23 +72,18 @@ hold_set s=@ x=@ thread=@
 space_make_held x=@
 ";
 
-/// The arguments of the call with this code, in the order of its form.
-fn arguments(code: u64, registers: &[u64; 16]) -> [u64; 5] {
-    let r = registers;
-    match code {
-        34 | 37 | 51 | 53 => [r[2], r[3], r[4], r[5], 0],
-        35 | 36 | 50 | 54 => [r[4], r[5], 0, 0, 0],
-        49 => [r[1], r[4], r[5], 0, 0],
-        _ => [r[1], r[2], r[3], r[4], r[5]],
-    }
-}
-
-/// Adds stages that are left of the call with this code, by their form.
+/// Adds stages that are left of the call with this code, by their form: where the first is one of later stages, the registers of those
+/// before it are none of its arguments.
 fn push_form(sheet: &mut Sheet, form: &str, code: u64, registers: &[u64; 16]) {
     if form.is_empty() {
         return sheet.put_between("no call, ", code, "");
     }
-    sheet.fill_all(form, &arguments(code, registers));
+    match code {
+        34 | 37 | 51 | 53 => sheet.fill_all(form, &registers[2..6]),
+        35 | 36 | 50 | 54 => sheet.fill_all(form, &registers[4..6]),
+        49 => sheet.fill(form, registers[1], registers[4], registers[5]),
+        _ => sheet.fill_all(form, &registers[1..6]),
+    }
 }
 
 /// Adds the first stage of the call with this code: its name, and each argument with its register.

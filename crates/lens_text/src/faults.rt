@@ -19,10 +19,12 @@ pub fn given(alloc: Global, file: &str, form: &str, one: u64, two: u64, expected
     told(line)
 }
 
-/// That something can't be read.
-pub fn unread(alloc: Global, what: &str) -> Problem {
-    match format!(in alloc; "{what} can't be read") {
+/// That what has this name and this ending can't be read.
+pub fn unread(alloc: Global, name: &str, ending: &str) -> Problem {
+    let mut line = Sheet::new(alloc);
+    line.put_three(name, ending, " can't be read");
+    match line.done() {
         Ok(line) => Problem::Outside(line),
-        Err(_) => Problem::NoMemory,
+        Err(problem) => problem,
     }
 }

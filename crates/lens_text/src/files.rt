@@ -18,14 +18,17 @@ pub fn file_of<H: Shelf>(
     name: &str,
     ending: &str,
 ) -> Result<Vec<u8>, Problem> {
-    let file = format!(in alloc; "{name}{ending}")?;
-    match shelf.get(file.as_str()) {
+    let found = {
+        let file = format!(in alloc; "{name}{ending}")?;
+        shelf.get(file.as_str())
+    };
+    match found {
         Ok(Some(bytes)) => Ok(bytes),
         Ok(None) => {
             let expected = ": expected a file of this name in the current folder";
-            Err(given(alloc, file.as_str(), "", 0, 0, expected))
+            Err(given(alloc, name, ending, 0, 0, expected))
         }
-        Err(ShelfFail::Failed) => Err(unread(alloc, file.as_str())),
+        Err(ShelfFail::Failed) => Err(unread(alloc, name, ending)),
         Err(ShelfFail::NoMemory) => Err(Problem::NoMemory),
     }
 }
@@ -42,7 +45,7 @@ pub fn source_text<R: Source>(alloc: Global, source: &mut R) -> Result<Vec<u8>, 
             let expected = ": expected no more than 1048576 bytes";
             Err(given(alloc, SOURCE, "", 0, 0, expected))
         }
-        Err(ReadError::ReadFault) => Err(unread(alloc, SOURCE)),
+        Err(ReadError::ReadFault) => Err(unread(alloc, SOURCE, "")),
         Err(ReadError::NoMemory) => Err(Problem::NoMemory),
     }
 }

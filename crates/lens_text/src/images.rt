@@ -10,4 +10,5 @@ mod pages;
 mod paths;
 mod threads;
 
+pub use differences::push_differences;
 pub use files::{show_differences, show_image};

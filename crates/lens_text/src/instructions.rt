@@ -31,12 +31,14 @@ addi r@, r@, -@";
 /// The form of an `addi` whose number is negative.
 const NEGATIVE: u64 = 21;
 
-/// What the line of an instruction is made of: its form, the operands that it has, and what the others hold. `addi` takes its number with a
-/// sign.
-fn line_of(instr: Instr) -> (u64, u64, u64, u64, u64) {
-    let Instr { op, a, b, c, n } = instr;
+/// The form and the operands of the instruction in a word that the assembler can make: the operands that its line leaves out are 0. `addi`
+/// takes its number with a sign.
+pub fn plain_instruction(word: u64) -> Option<(u64, u64, u64, u64)> {
+    let Some(Instr { op, a, b, c, n }) = decode(word) else {
+        return None;
+    };
     let (form, a, b, c, n) = (op as u64, a as u64, b as u64, c as u64, n as u64);
-    match op {
+    let (form, one, two, three, others) = match op {
         HALT | CALL => (form, 0, 0, 0, a | b | c | n),
         JMP => (form, n, 0, 0, a | b | c),
         SET | JZ | JNZ => (form, a, n, 0, b | c),
@@ -44,12 +46,7 @@ fn line_of(instr: Instr) -> (u64, u64, u64, u64, u64) {
         ADD..=REM => (form, a, b, c, n),
         ADDI if n >= 0x8000_0000 => (NEGATIVE, a, b, 0x1_0000_0000u64.saturating_sub(n), c),
         _ => (form, a, b, n, c),
-    }
-}
-
-/// The form and the operands of the instruction in a word that the assembler can make: the operands that its line leaves out are 0.
-pub fn plain_instruction(word: u64) -> Option<(u64, u64, u64, u64)> {
-    let (form, one, two, three, others) = line_of(decode(word)?);
+    };
     if others == 0 {
         Some((form, one, two, three))
     } else {

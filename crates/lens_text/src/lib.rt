@@ -27,7 +27,7 @@ pub use asked::{Asked, Verb, asked_in};
 pub use calls::{first_stage, push_asked, push_stage};
 pub use faults::{given, told};
 pub use files::{file_of, source_text};
-pub use images::{show_differences, show_image};
+pub use images::{push_differences, show_differences, show_image};
 pub use instructions::push_instruction;
 pub use problem::Problem;
 pub use refusal::refused_scenario;

@@ -54,13 +54,15 @@ pub fn refused_scenario(alloc: Global, text: &[u8], rule: u8, section: u8, index
     let heading = line_at(HEADINGS, section as u64);
     let mut sheet = Sheet::new(alloc);
     sheet.put("standard input, ");
-    match line_of(text, heading, index) {
+    let gap = match line_of(text, heading, index) {
         Some(line) => {
             sheet.put_between("line ", line, ", ");
-            sheet.line("", heading, " @", index as u64, 0, 0);
+            " "
         }
-        None => sheet.line("", heading, ", entry @", index as u64, 0, 0),
-    }
-    sheet.put_three(": expected ", line_at(EXPECTED, rule as u64), "");
+        None => ", entry ",
+    };
+    sheet.put(heading);
+    sheet.put_between(gap, index as u64, ": expected ");
+    sheet.put(line_at(EXPECTED, rule as u64));
     told(sheet)
 }

@@ -106,6 +106,13 @@ impl Sheet {
         }
     }
 
+    /// Adds that a word, which stands in quotes, isn't what was expected.
+    pub fn put_wrong(&mut self, word: &String, expected: &str) {
+        if write!(self.text, "{word:?}: expected {expected}").is_err() {
+            self.is_short = true;
+        }
+    }
+
     /// Adds what another has.
     pub fn add(&mut self, other: &Sheet) {
         self.put(other.text.as_str());

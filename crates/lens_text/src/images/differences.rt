@@ -3,7 +3,7 @@ use crate::sheet::{Sheet, first_line};
 use std::collections::BTreeSet;
 
 /// The lines of a text. Where there is no memory for them, the sheet notes that.
-pub fn lines_of<'a>(sheet: &mut Sheet, text: &'a str) -> BTreeSet<&'a str> {
+fn lines_of<'a>(sheet: &mut Sheet, text: &'a str) -> BTreeSet<&'a str> {
     let mut lines = BTreeSet::new(sheet.alloc());
     for line in text.lines() {
         if lines.insert(line).is_err() {
@@ -13,15 +13,11 @@ pub fn lines_of<'a>(sheet: &mut Sheet, text: &'a str) -> BTreeSet<&'a str> {
     lines
 }
 
-/// Adds the lines that one of two texts with these lines has alone: those that the second lacks behind `-`, those that the first lacks
-/// behind `+`. A line that both have is passed in both.
-pub fn push_differences(
-    sheet: &mut Sheet,
-    first: &str,
-    second: &str,
-    in_first: &BTreeSet<&str>,
-    in_second: &BTreeSet<&str>,
-) {
+/// Adds the lines that one of two texts has alone: those that the second lacks behind `-`, those that the first lacks behind `+`. A line
+/// that both have is passed in both.
+pub fn push_differences(sheet: &mut Sheet, first: &str, second: &str) {
+    let in_first = lines_of(sheet, first);
+    let in_second = lines_of(sheet, second);
     let (mut later, mut others) = (first, second);
     for _ in 0..u64::MAX {
         let (line, behind) = first_line(later);

@@ -1,7 +1,7 @@
 //! Images of the shelf.
 use crate::faults::given;
 use crate::files::file_of;
-use crate::images::differences::{lines_of, push_differences};
+use crate::images::differences::push_differences;
 use crate::images::lines::push_image;
 use crate::problem::Problem;
 use crate::sheet::{Sheet, line_at};
@@ -25,8 +25,11 @@ the end of the file";
 ///
 /// `Given` where the shelf has none, or bytes that spell none, `Outside` where its file can't be read, and `NoMemory`.
 pub fn show_image<H: Shelf>(alloc: Global, name: &str, shelf: &mut H) -> Result<String, Problem> {
-    let bytes = file_of(alloc, shelf, name, ".img")?;
-    match read(alloc, &bytes) {
+    let found = {
+        let bytes = file_of(alloc, shelf, name, ".img")?;
+        read(alloc, &bytes)
+    };
+    match found {
         Ok(image) => {
             let mut sheet = Sheet::new(alloc);
             push_image(&mut sheet, &image);
@@ -56,14 +59,6 @@ pub fn show_differences<H: Shelf>(
     let first = show_image(alloc, name, shelf)?;
     let second = show_image(alloc, other, shelf)?;
     let mut sheet = Sheet::new(alloc);
-    let in_first = lines_of(&mut sheet, first.as_str());
-    let in_second = lines_of(&mut sheet, second.as_str());
-    push_differences(
-        &mut sheet,
-        first.as_str(),
-        second.as_str(),
-        &in_first,
-        &in_second,
-    );
+    push_differences(&mut sheet, first.as_str(), second.as_str());
     sheet.done()
 }

@@ -6,70 +6,56 @@ use crate::store::last_of;
 use fk_image::{ObjectRec, Rec};
 
 /// Mappings that are only read, and those that are written to.
-const MAPPINGS: &str = "mapping | pages @ to @, read only, from the region's page @ on
-mapping | pages @ to @, writable, from the region's page @ on";
+const MAPPINGS: &str = " pages @ to @, read only, from the region's page @ on
+ pages @ to @, writable, from the region's page @ on";
 
 /// The same of regions.
-const REGIONS: &str = "region | pages @ to @, read only
-region | pages @ to @, writable";
+const REGIONS: &str = " pages @ to @, read only
+ pages @ to @, writable";
 
-/// The line of an object with a bar for its path, and the numbers of that form.
-fn form_of(body: &Rec) -> (&'static str, u64, u64, u64) {
-    match body {
-        Rec::Mutex { locked: 1 } => ("mutex | locked", 0, 0, 0),
-        Rec::Mutex { .. } => ("mutex |", 0, 0, 0),
-        Rec::Cond => ("cond |", 0, 0, 0),
-        Rec::Portset => ("portset |", 0, 0, 0),
-        Rec::Port { set: 0 } => ("port |", 0, 0, 0),
-        Rec::Port { set } => (
-            "port | in the set of slot @",
-            (*set as u64).saturating_sub(1),
-            0,
-            0,
-        ),
+/// Adds the lines of an object in a space with this path: its own, and that of its one pointer, where it has one; of a thread all of its lines.
+pub fn push_object(sheet: &mut Sheet, space: &str, paths: &[String], object: &ObjectRec) {
+    let owned = path_in(sheet, space, object.slot);
+    let path = owned.as_str();
+    match &object.body {
+        Rec::Mutex { locked: 1 } => sheet.put_three("mutex ", path, " locked\n"),
+        Rec::Mutex { .. } => sheet.put_three("mutex ", path, "\n"),
+        Rec::Cond => sheet.put_three("cond ", path, "\n"),
+        Rec::Portset => sheet.put_three("portset ", path, "\n"),
+        Rec::Port { set: 0 } => sheet.put_three("port ", path, "\n"),
+        Rec::Port { set } => {
+            let slot = (*set as u64).saturating_sub(1);
+            sheet.line("port ", path, " in the set of slot @\n", slot, 0, 0);
+        }
         Rec::Mapping {
             first,
             count,
             offset,
             write,
-            ..
+            region,
         } => {
             let form = line_at(MAPPINGS, (*write == 1) as u64);
-            (form, *first as u64, last_of(*first, *count), *offset as u64)
+            let last = last_of(*first, *count);
+            sheet.line("mapping ", path, form, *first as u64, last, *offset as u64);
+            sheet.put("\n");
+            push_pointer(sheet, path, " region ", paths, *region);
         }
         Rec::Region {
             first,
             count,
             write,
-            ..
+            keeper,
         } => {
             let form = line_at(REGIONS, (*write == 1) as u64);
-            (form, *first as u64, last_of(*first, *count), 0)
+            let last = last_of(*first, *count);
+            sheet.line("region ", path, form, *first as u64, last, 0);
+            sheet.put("\n");
+            push_pointer(sheet, path, " keeper ", paths, *keeper);
         }
-        Rec::Thread(_) => ("thread |", 0, 0, 0),
-        Rec::Reference { .. } => ("reference |", 0, 0, 0),
-    }
-}
-
-/// Adds the line of an object that is no thread, and that of its one pointer, where it has one.
-fn push_body(sheet: &mut Sheet, path: &str, paths: &[String], body: &Rec) {
-    let (form, one, two, three) = form_of(body);
-    let (kind, state) = form.split_once('|').unwrap_or((form, ""));
-    sheet.line(kind, path, state, one, two, three);
-    sheet.put("\n");
-    match body {
-        Rec::Mapping { region, .. } => push_pointer(sheet, path, " region ", paths, *region),
-        Rec::Region { keeper, .. } => push_pointer(sheet, path, " keeper ", paths, *keeper),
-        Rec::Reference { to } => push_pointer(sheet, path, " to ", paths, *to),
-        _ => {}
-    }
-}
-
-/// Adds the lines of an object in a space with this path.
-pub fn push_object(sheet: &mut Sheet, space: &str, paths: &[String], object: &ObjectRec) {
-    let path = path_in(sheet, space, object.slot);
-    match &object.body {
-        Rec::Thread(thread) => push_thread(sheet, path.as_str(), paths, thread.get()),
-        body => push_body(sheet, path.as_str(), paths, body),
+        Rec::Thread(thread) => push_thread(sheet, path, paths, thread.get()),
+        Rec::Reference { to } => {
+            sheet.put_three("reference ", path, "\n");
+            push_pointer(sheet, path, " to ", paths, *to);
+        }
     }
 }

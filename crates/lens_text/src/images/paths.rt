@@ -4,13 +4,10 @@ use fk_image::{Link, SpaceRec};
 
 /// The path of what lies in a slot of the space with this path. Where there is no memory for it, the sheet notes that.
 pub fn path_in(sheet: &mut Sheet, space: &str, slot: u8) -> String {
-    match format!(in sheet.alloc(); "{space}/{slot}") {
-        Ok(path) => path,
-        Err(_) => {
-            sheet.lack();
-            String::new(sheet.alloc())
-        }
-    }
+    let mut path = Sheet::new(sheet.alloc());
+    path.put(space);
+    path.put_between("/", slot as u64, "");
+    sheet.taken(path)
 }
 
 /// The paths of spaces, each behind the one in which it lies. The root's is empty.
@@ -32,15 +29,14 @@ pub fn paths_of(sheet: &mut Sheet, spaces: &[SpaceRec]) -> Vec<String> {
 pub fn push_pointer(sheet: &mut Sheet, path: &str, name: &str, paths: &[String], link: Link) {
     sheet.put_three("pointer ", path, name);
     match link {
-        Link::Null => sheet.put("null"),
-        Link::Dead => sheet.put("dead"),
-        Link::Root => sheet.put("/"),
-        Link::Outside => sheet.put("outside"),
-        Link::Out(slot) => sheet.put_between("out ", slot as u64, ""),
+        Link::Null => sheet.put("null\n"),
+        Link::Dead => sheet.put("dead\n"),
+        Link::Root => sheet.put("/\n"),
+        Link::Outside => sheet.put("outside\n"),
+        Link::Out(slot) => sheet.put_between("out ", slot as u64, "\n"),
         Link::In { slot, space } => match paths.get(space as usize) {
-            Some(path) => sheet.line("", path.as_str(), "/@", slot as u64, 0, 0),
-            None => sheet.put("nothing"),
+            Some(path) => sheet.line("", path.as_str(), "/@\n", slot as u64, 0, 0),
+            None => sheet.put("nothing\n"),
         },
     }
-    sheet.put("\n");
 }

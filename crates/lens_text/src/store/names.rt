@@ -22,18 +22,12 @@ fn slots_of(sheet: &mut Sheet, store: &Store, who: Who) -> Vec<u8> {
     slots
 }
 
-/// Adds the path that slots are.
-pub fn push_slots(sheet: &mut Sheet, slots: &[u8]) {
-    for slot in slots {
-        sheet.put_between("/", *slot as u64, "");
-    }
-}
-
 /// Adds the path of an object from the root, between two texts.
 pub fn push_path(sheet: &mut Sheet, store: &Store, before: &str, who: Who, behind: &str) {
     sheet.put(before);
-    let slots = slots_of(sheet, store, who);
-    push_slots(sheet, &slots);
+    for slot in &slots_of(sheet, store, who) {
+        sheet.put_between("/", *slot as u64, "");
+    }
     sheet.put(behind);
 }
 
@@ -62,10 +56,10 @@ pub fn handled(store: &Store, space: u32, slot: u64) -> Option<Who> {
         space,
         slot: slot as u8,
     };
-    match store.at(who)? {
-        Body::Reference { to: Ptr::At(to) } => Some(*to),
-        Body::Reference { .. } => None,
-        _ => Some(who),
+    match store.at(who) {
+        Some(Body::Reference { to: Ptr::At(to) }) => Some(*to),
+        Some(Body::Reference { .. }) | None => None,
+        Some(_) => Some(who),
     }
 }
 
@@ -74,8 +68,9 @@ pub fn object_named(store: &Store, space: u32, place: u64, slot: u64) -> Option<
     if place == OWN_SPACE {
         return handled(store, space, slot);
     }
-    match store.at(handled(store, space, place)?)? {
-        Body::Space { birth, .. } => handled(store, *birth, slot),
+    let home = handled(store, space, place)?;
+    match store.at(home) {
+        Some(Body::Space { birth, .. }) => handled(store, *birth, slot),
         _ => None,
     }
 }

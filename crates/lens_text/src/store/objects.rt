@@ -51,13 +51,6 @@ pub fn push_object(sheet: &mut Sheet, store: &Store, who: Who, body: &Body) {
         Body::Port { .. } => sheet.put("port"),
         Body::Space { birth, holder } => push_home(sheet, store, *birth, *holder),
         Body::Thread(thread) => push_thread(sheet, store, "thread ", who, thread),
-        body => push_pointing(sheet, store, body),
-    }
-}
-
-/// Adds the same of mappings, regions and references.
-fn push_pointing(sheet: &mut Sheet, store: &Store, body: &Body) {
-    match body {
         Body::Mapping {
             first,
             count,
@@ -65,7 +58,8 @@ fn push_pointing(sheet: &mut Sheet, store: &Store, body: &Body) {
             write,
             region,
         } => {
-            let (form, last) = (line_at(MAPPINGS, *write as u64), last_of(*first, *count));
+            let form = line_at(MAPPINGS, *write as u64);
+            let last = last_of(*first, *count);
             sheet.fill(form, *first as u64, last, *offset as u64);
             push_pointer(sheet, store, " on of region ", *region);
         }
@@ -75,11 +69,10 @@ fn push_pointing(sheet: &mut Sheet, store: &Store, body: &Body) {
             write,
             keeper,
         } => {
-            let (form, last) = (line_at(REGIONS, *write as u64), last_of(*first, *count));
-            sheet.fill(form, *first as u64, last, 0);
+            let form = line_at(REGIONS, *write as u64);
+            sheet.fill(form, *first as u64, last_of(*first, *count), 0);
             push_pointer(sheet, store, ", kept by ", *keeper);
         }
         Body::Reference { to } => push_pointer(sheet, store, "reference to ", *to),
-        _ => sheet.put("another object"),
     }
 }

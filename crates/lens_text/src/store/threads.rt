@@ -9,11 +9,12 @@ use fk_store::{Reach, Store};
 
 /// The word at an address of a space, if its page is there.
 pub fn word_at(store: &Store, space: u32, address: u64) -> Option<u64> {
-    let Reach::Home { space, page } = store.reach_word(space, address, false) else {
-        return None;
-    };
-    let words = store.page(space, page)?;
-    Some(words[(address % 64) as usize])
+    if let Reach::Home { space, page } = store.reach_word(space, address, false) {
+        if let Some(words) = store.page(space, page) {
+            return Some(words[(address % 64) as usize]);
+        }
+    }
+    None
 }
 
 /// Adds what a thread does next: the instruction, or what is left of its call.

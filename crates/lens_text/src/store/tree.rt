@@ -1,6 +1,6 @@
 //! The tree of spaces.
 use crate::sheet::Sheet;
-use crate::store::names::{names_of, push_slots};
+use crate::store::names::{names_of, push_path};
 use crate::store::objects::{push_home, push_object};
 use fk_model::Who;
 use fk_store::Store;
@@ -10,7 +10,7 @@ fn push_line(sheet: &mut Sheet, store: &Store, slots: &[u8], who: Who) {
     for _ in slots {
         sheet.put("  ");
     }
-    push_slots(sheet, slots);
+    push_path(sheet, store, "", who, "");
     if let Some(body) = store.at(who) {
         sheet.put(" ");
         push_object(sheet, store, who, body);
