@@ -30,7 +30,7 @@ impl Watcher for Show {
             How::Tree => {}
             How::Steps(steps) => steps.before(self.sheet.alloc(), seen, one),
             How::Why(why) => why.before(seen.store, one.who),
-            How::Page(page) => page.before(self.sheet.alloc(), seen, one),
+            How::Page(page) => page.before(&mut self.sheet, seen, one),
         }
         Ok(())
     }
@@ -40,7 +40,7 @@ impl Watcher for Show {
             How::Tree => {}
             How::Steps(steps) => steps.after(&mut self.sheet, seen, one),
             How::Why(why) => why.after(&mut self.sheet, seen.store, one.who),
-            How::Page(page) => page.after(self.sheet.alloc(), seen, one),
+            How::Page(page) => page.steps.after(&mut self.sheet, seen, one),
         }
         self.sheet.checked()
     }

@@ -1,104 +1,50 @@
-//! What stands in a store as the page has it, and what has changed of it.
-use fk_model::Who;
+//! What has changed of what stands in a store.
+use crate::steps::peer_of;
+use fk_model::{Mode, Move, Who};
 use fk_store::Store;
-use lens_text::{Sheet, push_home, push_object, push_path};
+use lens_text::{Sheet, first_stage, handled, push_object, push_path};
 use std::collections::BTreeMap;
 
-/// Objects in words by their paths. What is gone has no words.
-pub type Objects = BTreeMap<String, String>;
+/// The line that was last written of each object that is or was there; at first an empty one.
+pub type Known = BTreeMap<Who, String>;
 
-/// Adds an object and its words, or that it is gone.
-fn push_change(changes: &mut Sheet, path: &str, words: &str) {
-    changes.gap(0, ",");
-    changes.put_three("[\"", path, "\",");
-    if words.is_empty() {
-        changes.put("null]");
-    } else {
-        changes.put_three("\"", words, "\"]");
-    }
+/// Whom a move may change, where these are few: the mover, its pick, another.
+pub type Few = (Who, Who, Who);
+
+/// Whom a move may change, where these are few: the mover, its pick, and of a call its talk's other side or the mutex that it names. None where
+/// it may change more.
+pub fn few_changed(store: &Store, one: &Move) -> Option<Few> {
+    let who = one.who;
+    let other = match store.thread(who) {
+        Some(thread) => match (thread.mode, first_stage(thread.regs[0])) {
+            (Mode::Running, _) => None,
+            // Words go and the turn passes, or a server waits.
+            (Mode::Calling, 36..=38 | 48..=52) => peer_of(store, who, thread),
+            // Mutexes.
+            (Mode::Calling, 21..=23) => handled(store, who.space, thread.regs[1]),
+            _ => return None,
+        },
+        // A native server acts.
+        None => store.client_at(who),
+    };
+    Some((who, one.pick.unwrap_or(who), other.unwrap_or(who)))
 }
 
-/// The words that are known of an object.
-fn words_in<'a>(known: &'a Objects, path: &str) -> &'a str {
-    match known.get(path) {
-        Some(words) => words.as_str(),
-        None => "",
-    }
-}
-
-/// The path of an object, or of the root where it is none, and its words; no words where nothing stands there.
-fn entry_of(changes: &mut Sheet, store: &Store, who: Option<Who>) -> (String, String) {
-    let mut path = Sheet::new(changes.alloc());
-    let mut words = Sheet::new(changes.alloc());
-    match who {
-        Some(who) => {
-            push_path(&mut path, store, "", who, "");
-            if let Some(body) = store.at(who) {
-                push_object(&mut words, store, who, body);
+/// Adds the lines of those of these objects that aren't as they were last written. That of what is gone has no path.
+pub fn push_objects(sheet: &mut Sheet, known: &mut Known, store: &Store, names: &[Who]) {
+    for who in names {
+        if let Some(last) = known.get_mut(who) {
+            let mut line = Sheet::new(sheet.alloc());
+            line.fill("=@.@", who.space as u64, who.slot as u64, 0);
+            if let Some(body) = store.at(*who) {
+                push_path(&mut line, store, "\t", *who, "\t");
+                push_object(&mut line, store, *who, body);
             }
-        }
-        None => {
-            path.put("/");
-            push_home(&mut words, store, 0, None);
-        }
-    }
-    (changes.taken(path), changes.taken(words))
-}
-
-/// Notes what stands in these slots, and adds what has changed of it.
-pub fn note_few(changes: &mut Sheet, known: &mut Objects, store: &Store, names: &[Option<Who>]) {
-    for name in names {
-        if name.is_some() {
-            let (path, words) = entry_of(changes, store, *name);
-            if words_in(known, path.as_str()) != words.as_str() {
-                push_change(changes, path.as_str(), words.as_str());
-                if known.insert(path, words).is_err() {
-                    changes.lack();
-                }
+            let line = sheet.taken(line);
+            if last.as_str() != line.as_str() {
+                sheet.put_three(line.as_str(), "\n", "");
+                *last = line;
             }
         }
     }
-}
-
-/// All that stands in a store, the root first.
-fn all_of(changes: &mut Sheet, store: &Store) -> Objects {
-    let mut all = BTreeMap::new(changes.alloc());
-    let mut last = None;
-    for _ in 0..u64::MAX {
-        let (path, words) = entry_of(changes, store, last);
-        if all.insert(path, words).is_err() {
-            changes.lack();
-        }
-        last = store.after(last);
-        if last.is_none() {
-            break;
-        }
-    }
-    all
-}
-
-/// Adds what stands and isn't known so.
-fn push_new(changes: &mut Sheet, known: &Objects, all: &Objects) {
-    for (path, words) in all {
-        if words_in(known, path.as_str()) != words.as_str() {
-            push_change(changes, path.as_str(), words.as_str());
-        }
-    }
-}
-
-/// Adds what is known and doesn't stand.
-fn push_gone(changes: &mut Sheet, known: &Objects, all: &Objects) {
-    for (path, words) in known {
-        if !words.is_empty() && !all.contains_key(path.as_str()) {
-            push_change(changes, path.as_str(), "");
-        }
-    }
-}
-
-/// Notes all that stands in a store, and adds what has changed of it.
-pub fn note_all(changes: &mut Sheet, known: &mut Objects, store: &Store) {
-    let all = all_of(changes, store);
-    push_new(changes, known, &all);
-    push_gone(changes, known, &all);
-    *known = all;
 }

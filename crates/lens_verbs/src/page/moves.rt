@@ -1,141 +1,76 @@
 //! The page's data, move by move.
-use crate::page::changes::{Objects, note_all, note_few};
-use crate::page::reach::{Few, few_changed};
-use crate::page::template::{BODY, BOXES, KEYS, LANES, STATES, STYLE};
-use crate::steps::{Begun, begin, peer_of, push_step};
+use crate::page::changes::{Few, Known, few_changed, push_objects};
+use crate::page::template::{HEAD, SCRIPT};
+use crate::steps::Steps;
 use fk_first::{Seen, Stop};
-use fk_model::{Mode, Move, Who};
+use fk_model::{Move, Who};
 use fk_store::Store;
-use lens_text::{Sheet, push_named};
-use std::alloc::Global;
+use lens_text::{Sheet, push_home};
 use std::collections::BTreeMap;
-
-/// What is known before a move.
-#[derive(Drop)]
-struct Pending {
-    begun: Begun,
-    /// Its pick and the other side of its talk, with a gap between them.
-    others: Sheet,
-    is_fault: bool,
-    /// Whom the move may change; none where these may be many.
-    few: Option<Few>,
-}
 
 /// Watches a run and writes its page.
 #[derive(Drop)]
 pub struct Page {
-    known: Objects,
-    first: Sheet,
-    moves: Sheet,
-    pending: Option<Pending>,
-}
-
-/// Between two texts of a move.
-const GAP: &str = "\",\"";
-
-/// Whether somebody has a fault.
-fn has_fault(store: &Store, who: Option<Who>) -> bool {
-    match who {
-        Some(who) => match store.thread(who) {
-            Some(thread) => thread.fault.is_some(),
-            None => false,
-        },
-        None => false,
-    }
-}
-
-/// Adds the line of a move that was made, with what it has changed.
-fn push_move(sheet: &mut Sheet, seen: Seen<'_>, one: &Move, pending: &Pending, changes: &Sheet) {
-    sheet.gap(0, ",\n");
-    sheet.put("[\"");
-    push_step(sheet, seen, one, &pending.begun, GAP);
-    sheet.put(GAP);
-    sheet.add(&pending.others);
-    sheet.put("\",[");
-    sheet.add(changes);
-    if pending.is_fault {
-        sheet.put("],\"fault\"]");
-    } else {
-        sheet.put("],\"\"]");
-    }
-}
-
-/// Notes what the move that was made may have changed, and adds what it has changed.
-fn note_move(changes: &mut Sheet, known: &mut Objects, store: &Store, few: Option<Few>) {
-    match few {
-        Some(names) => note_few(changes, known, store, &names),
-        None => note_all(changes, known, store),
-    }
+    /// A line a move.
+    pub steps: Steps,
+    known: Known,
+    /// The names of all that is known.
+    names: Vec<Who>,
+    /// Whom the last move may have changed; none where these may be many.
+    few: Option<Few>,
 }
 
 impl Page {
     /// Begins the page of a trace with this name. Nothing is known yet.
     pub fn new(sheet: &mut Sheet, name: &str) -> Page {
-        sheet.put_three(STYLE, BODY, "{\"name\":\"");
-        sheet.put_three(name, "\",\"end\":\"", "");
+        sheet.put_three(HEAD, name, "\n");
         Page {
+            steps: Steps::new(sheet, 0, u64::MAX),
             known: BTreeMap::new(sheet.alloc()),
-            first: Sheet::new(sheet.alloc()),
-            moves: Sheet::new(sheet.alloc()),
-            pending: None,
+            names: Vec::new(sheet.alloc()),
+            few: None,
         }
     }
 
-    /// Notes what stands at the beginning, where that isn't done yet.
-    fn note_first(&mut self, store: &Store) {
-        if self.known.is_empty() {
-            note_all(&mut self.first, &mut self.known, store);
+    /// Adds what isn't as it was before the last move, and at first all.
+    fn push_changes(&mut self, sheet: &mut Sheet, store: &Store) {
+        if let Some((mover, pick, other)) = self.few {
+            return push_objects(sheet, &mut self.known, store, &[mover, pick, other]);
         }
-    }
-
-    /// It sees what stands before a move.
-    pub fn before(&mut self, alloc: Global, seen: Seen<'_>, one: &Move) {
-        self.note_first(seen.store);
-        let store = seen.store;
-        // The other side of the talk in which the move is made: of a call, or of a native server's act.
-        let peer = match store.thread(one.who) {
-            Some(thread) => match thread.mode {
-                Mode::Calling => peer_of(store, one.who, thread),
-                _ => None,
-            },
-            None => store.client_at(one.who),
-        };
-        let mut others = Sheet::new(alloc);
-        push_named(&mut others, store, "", one.pick);
-        others.put(GAP);
-        push_named(&mut others, store, "", peer);
-        self.pending = Some(Pending {
-            begun: begin(alloc, seen, one),
-            others,
-            is_fault: has_fault(store, one.pick) | has_fault(store, peer),
-            few: few_changed(store, one),
-        });
-    }
-
-    /// It sees what stands after that move, and adds its line with what it has changed.
-    pub fn after(&mut self, alloc: Global, seen: Seen<'_>, one: &Move) {
-        if let Some(pending) = &self.pending {
-            let mut changes = Sheet::new(alloc);
-            note_move(&mut changes, &mut self.known, seen.store, pending.few);
-            push_move(&mut self.moves, seen, one, pending, &changes);
+        sheet.put("=/\t/\t");
+        push_home(sheet, store, 0, None);
+        sheet.put("\n");
+        let mut next = store.after(None);
+        for _ in 0..u64::MAX {
+            let Some(who) = next else {
+                break;
+            };
+            if !self.known.contains_key(&who) {
+                let line = String::new(sheet.alloc());
+                if self.known.insert(who, line).is_err() | self.names.push(who).is_err() {
+                    sheet.lack();
+                }
+            }
+            next = store.after(next);
         }
+        push_objects(sheet, &mut self.known, store, &self.names);
     }
 
-    /// It sees what stands where the run stops, and writes the page.
+    /// It sees what stands before a move, and adds what the one before has changed.
+    pub fn before(&mut self, sheet: &mut Sheet, seen: Seen<'_>, one: &Move) {
+        self.push_changes(sheet, seen.store);
+        self.steps.before(sheet.alloc(), seen, one);
+        self.few = few_changed(seen.store, one);
+    }
+
+    /// It sees what stands where the run stops, adds what the last move has changed, and says why no further one was made.
     pub fn stops(&mut self, sheet: &mut Sheet, seen: Seen<'_>, stop: Stop) {
-        self.note_first(seen.store);
+        self.push_changes(sheet, seen.store);
         let end = match stop {
             Stop::Unready { .. } => "the trace goes on with a move that isn't ready",
-            Stop::Misspelled { .. } => "the trace goes on with a line that is no move",
             Stop::Budget { .. } => "the trace goes on, but the budget is used",
-            Stop::NoTrace => "this is no trace",
-            Stop::Enough | Stop::Ended => "the trace has no further move",
+            _ => "the trace has no further move",
         };
-        sheet.put_three(end, "\",\"first\":[", "");
-        sheet.add(&self.first);
-        sheet.put("],\"moves\":[\n");
-        sheet.add(&self.moves);
-        sheet.put_three("\n]}\n", STATES, LANES);
-        sheet.put_three(BOXES, KEYS, "");
+        sheet.put_three(end, SCRIPT, "");
     }
 }

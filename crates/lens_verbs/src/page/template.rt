@@ -1,7 +1,7 @@
 //! The page but for its data: its style, its body and its script.
 
-/// The head of the page, up to the end of its style.
-pub const STYLE: &str = "<!DOCTYPE html>
+/// The page before its data: its style and its body.
+pub const HEAD: &str = "<!DOCTYPE html>
 <html lang='en'>
 <head>
 <meta charset='utf-8'>
@@ -51,10 +51,7 @@ canvas { display: block; }
   canvas { max-width: 100%; margin: 0 !important; }
   .thing { break-inside: avoid; }
 }
-";
-
-/// The body of the page, up to its data.
-pub const BODY: &str = "</style>
+</style>
 </head>
 <body>
 <header>
@@ -89,16 +86,16 @@ pub const BODY: &str = "</style>
 <h2 id='when'></h2>
 <div id='boxes'></div>
 </main>
-<script type='application/json' id='data'>
+<script type='text/plain' id='data'>
 ";
 
-/// The script: the states before each move, the lanes and the bars.
-pub const STATES: &str = "</script>
+/// The page behind its data: its script. It reads the data, makes the states before each move, the lanes and the bars, draws these, says what a
+/// move does, shows the boxes, and takes keys and buttons.
+pub const SCRIPT: &str = "
+</script>
 <script>
 'use strict';
-const D = JSON.parse(document.getElementById('data').textContent);
 const get = id => document.getElementById(id);
-const moves = D.moves, count = moves.length, LANE = 18, EVERY = 256;
 const colour = { running: '#2f9e6b', calling: '#3a72c4', fault: '#c8452f', still: '#d99a1c', halted: '#9aa2ad', job: '#8a5bb5', none: '#e6e9ed' };
 const isLane = text => text.startsWith('thread ') || text.startsWith('port with a native server');
 const holder = text => { const found = / held by ([/0-9]+)/.exec(text); return found && text.startsWith('space') ? found[1] : null; };
@@ -119,6 +116,48 @@ function whom(text) {
   const found = /; fault, .* (?:raised at|taken by) ([^;]+)/.exec(text) || /^thread calling at [0-9]+: ([^,;]+)/.exec(text);
   return found ? found[1] : '';
 }
+
+// The other side of the talk in which somebody moves: of a native server's act its client; of a call the talk's other thread or, of a native
+// server, the port; of a call of a server its client, or whose fault it has taken.
+function otherSide(state, who) {
+  const text = state.get(who) || '', client = /, whose client is ([/0-9]+)/.exec(text), talk = /; talk at ([/0-9]+) with ([^,]+)/.exec(text);
+  if (client) return client[1];
+  if (!text.startsWith('thread calling')) return '';
+  if (talk) return talk[2].startsWith('/') ? talk[2] : talk[2].startsWith('the port') ? talk[1] : '';
+  for (const [path, other] of state) if (other.includes(' with ' + who + ',') || other.endsWith(' taken by ' + who)) return path;
+  return '';
+}
+
+// The data are lines, with tabs between their parts: the trace's name; the lines of `lens steps`; before the first move and behind each, of each
+// object that isn't as it was, = with the birth number of its space and its slot (=/ for the root), its path and what it is at, or nothing
+// more where it is gone; at last why the run ends. Of a move is kept who made it, what that did, the registers, what servers were told, its
+// pick, the other side, what has changed by paths (null for what is gone), and whether its pick or the other side has a fault.
+const D = (function read() {
+  const lines = get('data').textContent.trim().split(String.fromCharCode(10)), data = { name: lines[0], end: '', first: [], moves: [] };
+  const state = new Map(), pathOf = new Map();
+  let objects = [], into = data.first;
+  const changes = () => {
+    const now = new Map();
+    for (const [id] of objects) if (pathOf.has(id)) now.set(pathOf.get(id), null);
+    for (const [id, path, text] of objects) if (path) { now.set(path, text); pathOf.set(id, path); } else pathOf.delete(id);
+    objects = [];
+    const changed = [...now].filter(([path, text]) => text !== (state.has(path) ? state.get(path) : null));
+    for (const [path, text] of changed) if (text === null) state.delete(path); else state.set(path, text);
+    return changed;
+  };
+  for (const line of lines.slice(2)) {
+    const parts = line.split(String.fromCharCode(9));
+    if (line.startsWith('=')) { objects.push(parts); continue; }
+    into.push(...changes());
+    if (parts.length === 1) { data.end = line; continue; }
+    const [ids, , who, act, changed, told] = parts, pick = pathOf.get('=' + ids.split(' ')[1]) || '', other = otherSide(state, who);
+    const fault = [pick, other].some(path => mode(state.get(path)) === 'fault');
+    into = [];
+    data.moves.push([who, act, changed, told, pick, other, into, fault]);
+  }
+  return data;
+})();
+const moves = D.moves, count = moves.length, LANE = 18, EVERY = 256;
 
 // Paths in their order: a space before what lies in it, slots by their numbers.
 const slots = path => path === '/' ? [] : path.slice(1).split('/').map(Number);
@@ -174,11 +213,7 @@ const laneOf = new Map(), lanes = [], spans = new Map();
 })();
 const bars = [...spans.keys()].sort();
 
-";
-
-/// The script: the lanes are drawn.
-pub const LANES: &str =
-    "const wide = get('wide'), canvas = get('canvas'), pen = canvas.getContext('2d');
+const wide = get('wide'), canvas = get('canvas'), pen = canvas.getContext('2d');
 const rows = lanes.length + bars.length;
 // The whole run is seen at first, where it fits.
 let at = 0, chosen = 0, step = Math.max(1, Math.min(24, Math.floor(wide.clientWidth / Math.max(1, count))));
@@ -247,16 +282,13 @@ function drawArrows(from, to) {
     const [who, , , , pick, peer] = moves[k], other = laneOf.get(pick || peer);
     if (other === undefined || other === laneOf.get(who)) continue;
     const x = k * step + step / 2, a = laneOf.get(who) * LANE + LANE / 2, b = other * LANE + LANE / 2, d = b > a ? -4 : 4;
-    pen.strokeStyle = pen.fillStyle = moves[k][7] === 'fault' ? colour.fault : '#5d6775';
+    pen.strokeStyle = pen.fillStyle = moves[k][7] ? colour.fault : '#5d6775';
     pen.beginPath(); pen.moveTo(x, a); pen.lineTo(x, b); pen.stroke();
     pen.beginPath(); pen.moveTo(x, b); pen.lineTo(x - 3, b + d); pen.lineTo(x + 3, b + d); pen.fill();
   }
 }
 
-";
-
-/// The script: what is said of a move, and the boxes.
-pub const BOXES: &str = "function say(state) {
+function say(state) {
   const lines = [];
   if (at < count) {
     const [who, act, changed, told] = moves[at];
@@ -305,10 +337,7 @@ function boxes(state) {
   get('boxes').innerHTML = out.join('').replace(/`/g, String.fromCharCode(34));
 }
 
-";
-
-/// The script: keys and buttons.
-pub const KEYS: &str = "let due = false;
+let due = false;
 function show() {
   if (due) return;
   due = true;
