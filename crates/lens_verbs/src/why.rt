@@ -4,9 +4,8 @@
 //! that; of a porter only where it is its job's turn; and of a trace's move that isn't ready, why it isn't. A mutex doesn't keep who
 //! locked it: the run so far tells.
 
-mod handles;
+mod blocked;
 mod holds;
-mod jobs;
 mod lines;
 mod moves;
 mod places;

@@ -4,61 +4,36 @@ use fk_model::{Body, Who};
 use fk_store::Store;
 use lens_text::{Sheet, push_path};
 
-/// A hold: the space and its holder.
-#[derive(Clone, Copy)]
-pub struct Hold {
-    pub space: Who,
-    pub holder: Who,
-}
-
-/// The hold of a space.
-pub fn hold_of(store: &Store, space: Who) -> Option<Hold> {
-    match store.at(space)? {
-        Body::Space {
-            holder: Some(holder),
-            ..
-        } => Some(Hold {
-            space,
-            holder: *holder,
-        }),
+/// Who holds a space.
+pub fn holder_of(store: &Store, space: Who) -> Option<Who> {
+    match store.at(space) {
+        Some(Body::Space { holder, .. }) => *holder,
         _ => None,
     }
 }
 
-/// The hold that decides over an object: the outermost one of its space, of those above, and of itself.
-pub fn hold_over(store: &Store, who: Who) -> Option<Hold> {
-    let mut found = hold_of(store, who);
-    let mut space = who.space;
+/// The space whose hold decides over an object: the outermost one that is held of its space, of those above, and of itself.
+pub fn held_over(store: &Store, object: Option<Who>) -> Option<Who> {
+    let mut found = None;
+    let mut next = object;
     for _ in 0..u64::MAX {
-        let Some(home) = store.home(space) else {
+        let Some(one) = next else {
             break;
         };
-        if let Some(hold) = hold_of(store, home) {
-            found = Some(hold);
+        if let Some(_) = holder_of(store, one) {
+            found = next;
         }
-        space = home.space;
+        next = store.home(one.space);
     }
     found
 }
 
-/// Adds a hold behind a text, with what its holder is at.
-pub fn push_hold(sheet: &mut Sheet, store: &Store, before: &str, hold: Hold) {
-    sheet.put_three(before, "the hold of ", "");
-    push_place(sheet, store, hold.holder);
-    push_path(sheet, store, " on ", hold.space, "");
-}
-
-/// The first of these that the hold of another bars from being changed, with that hold.
-pub fn barred(store: &Store, who: Who, touched: &[Option<Who>]) -> Option<(Who, Hold)> {
-    for one in touched {
-        if let Some(one) = one {
-            match hold_over(store, *one) {
-                Some(hold) if hold.holder != who => return Some((*one, hold)),
-                _ => {}
-            }
-        }
+/// Adds the hold of a space behind a text, with what its holder is at, where it is held.
+pub fn push_hold(sheet: &mut Sheet, store: &Store, before: &str, space: Who) {
+    if let Some(holder) = holder_of(store, space) {
+        push_place(sheet, store, before, holder);
+        push_path(sheet, store, " on ", space, "");
     }
-    None
 }
 
 /// Adds all holds, since some one bars what a move would change.
@@ -69,9 +44,7 @@ pub fn push_holds(sheet: &mut Sheet, store: &Store) {
         let Some(who) = store.after(last) else {
             break;
         };
-        if let Some(hold) = hold_of(store, who) {
-            push_hold(sheet, store, "; there is ", hold);
-        }
+        push_hold(sheet, store, "; there is the hold of ", who);
         last = Some(who);
     }
 }

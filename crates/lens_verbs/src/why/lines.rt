@@ -1,12 +1,10 @@
 //! Of each thread that isn't ready, why.
-use crate::why::handles::mutex_of;
-use crate::why::jobs::push_job;
 use crate::why::moves::push_move;
 use crate::why::reasons::{Lockers, push_reason};
 use fk_first::{Ready, Seen, Stop};
 use fk_model::{Mode, Who};
 use fk_store::Store;
-use lens_text::{Sheet, names_of, push_asked, push_at, push_path};
+use lens_text::{Sheet, handled, names_of, push_asked, push_at, push_path};
 use std::alloc::Global;
 use std::collections::BTreeMap;
 
@@ -14,31 +12,32 @@ use std::collections::BTreeMap;
 #[derive(Drop)]
 pub struct Why {
     lockers: Lockers,
-    /// The mutex that the mover is about to lock.
+    /// The mutex that the mover names, where it isn't locked. Where it is after the move, that has locked it.
     locking: Option<Who>,
 }
 
 /// Adds the line of a thread that isn't ready; of a porter, where its job is the one whose turn it is.
 fn push_thread(sheet: &mut Sheet, seen: Seen<'_>, lockers: &Lockers, who: Who) {
-    let Some(thread) = seen.store.thread(who) else {
+    let store = seen.store;
+    let Some(thread) = store.thread(who) else {
         return;
     };
-    match (thread.mode, seen.job) {
-        (Mode::Native, Some(job)) if job.porter == who => {
-            push_path(sheet, seen.store, "", who, " a porter, ");
-            push_asked(sheet, &job.stage);
-            sheet.put(": ");
-            push_job(sheet, seen, lockers, job);
-        }
-        (Mode::Native, _) => return,
-        (mode, _) => {
-            push_path(sheet, seen.store, "", who, " ");
-            push_at(sheet, seen.store, who, thread);
-            if !matches!(mode, Mode::Halted(_)) {
-                sheet.put(": ");
-                push_reason(sheet, seen.store, lockers, who, thread);
+    match thread.mode {
+        Mode::Native => match seen.job {
+            Some(job) if job.porter == who => {
+                push_path(sheet, store, "", who, " a porter, ");
+                push_asked(sheet, &job.stage);
             }
+            _ => return,
+        },
+        _ => {
+            push_path(sheet, store, "", who, " ");
+            push_at(sheet, store, who, thread);
         }
+    }
+    if !matches!(thread.mode, Mode::Halted(_)) {
+        sheet.put(": ");
+        push_reason(sheet, seen, lockers, who, thread);
     }
     sheet.put("\n");
 }
@@ -54,14 +53,23 @@ impl Why {
 
     /// It sees what stands before a move of somebody.
     pub fn before(&mut self, store: &Store, mover: Who) {
-        self.locking = mutex_of(store, mover);
+        self.locking = None;
+        if let Some(thread) = store.thread(mover) {
+            if let Some(mutex) = handled(store, mover.space, thread.regs[1]) {
+                if let Some(false) = store.mutex(mutex) {
+                    self.locking = Some(mutex);
+                }
+            }
+        }
     }
 
     /// It sees what stands after that move, and notes who has locked a mutex.
     pub fn after(&mut self, sheet: &mut Sheet, store: &Store, mover: Who) {
         if let Some(mutex) = self.locking {
-            if store.mutex(mutex) == Some(true) && self.lockers.insert(mutex, mover).is_err() {
-                sheet.lack();
+            if let Some(true) = store.mutex(mutex) {
+                if self.lockers.insert(mutex, mover).is_err() {
+                    sheet.lack();
+                }
             }
         }
     }

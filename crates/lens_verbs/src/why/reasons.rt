@@ -1,100 +1,49 @@
 //! Why a thread has no ready move.
-use crate::why::handles::stage_of;
-use crate::why::holds::{barred, hold_of, push_hold, push_holds};
-use crate::why::places::{hold_on, push_whereabouts};
-use crate::why::talks::{push_client, push_port};
-use crate::why::touched::changed_by;
-use fk_model::{Peer, Thread, Who};
-use fk_store::Store;
-use lens_text::{Sheet, handled, object_named, push_path};
+use crate::why::blocked::push_blocked;
+use crate::why::holds::{held_over, push_hold, push_holds};
+use crate::why::places::push_whereabouts;
+use crate::why::talks::push_port;
+use fk_first::Seen;
+use fk_model::{Mode, Peer, Thread, Todo, Who};
+use fk_stages::words;
+use lens_text::{Sheet, halt_text};
 use std::collections::BTreeMap;
 
 /// Who has locked a mutex last, by what the run so far tells.
 pub type Lockers = BTreeMap<Who, Who>;
 
-/// Adds that a mutex is locked, and by whom.
-fn push_mutex(sheet: &mut Sheet, store: &Store, lockers: &Lockers, mutex: Who) {
-    let behind = " is unlocked, which ";
-    push_path(sheet, store, "waits until the mutex ", mutex, behind);
-    match lockers.get(&mutex) {
-        Some(locker) => {
-            push_whereabouts(sheet, store, "", *locker);
-            sheet.put(" locked");
-        }
-        None => sheet.put("no move so far locked"),
-    }
-}
-
-/// Adds why a stage that names an object isn't ready.
-fn push_named(sheet: &mut Sheet, store: &Store, lockers: &Lockers, named: Who, stage: u64) {
-    match stage {
-        13 => match hold_of(store, named) {
-            Some(hold) => {
-                push_path(sheet, store, "waits until ", named, " is released");
-                push_whereabouts(sheet, store, " by ", hold.holder);
+/// Adds why the job of a porter doesn't go on, where it is its turn.
+fn push_job(sheet: &mut Sheet, seen: Seen<'_>, lockers: &Lockers, porter: Who) {
+    match seen.job {
+        Some(job) if job.porter == porter => {
+            if !job.is_at_work & (job.at > seen.events) {
+                let behind = " moves, or where nobody else can move";
+                return sheet.put_between("its job begins after ", job.at, behind);
             }
-            None => {
-                let before = "waits until a porter releases a space beneath ";
-                push_path(sheet, store, before, named, "");
-            }
-        },
-        21 => push_mutex(sheet, store, lockers, named),
-        25 => {
-            let before = "sleeps until the condition ";
-            push_path(sheet, store, before, named, " is signalled");
+            let registers = words(&Todo::One(job.stage), &[0; 16]);
+            push_blocked(sheet, seen.store, lockers, porter, &registers);
         }
-        32 => {
-            let before = "waits until its connect to ";
-            push_port(sheet, store, before, named, " is accepted");
-        }
-        48 => {
-            let before = "waits until a client or a fault comes to a port of the set ";
-            push_path(sheet, store, before, named, "");
-        }
-        _ => push_holds(sheet, store),
+        _ => sheet.put("it isn't the turn of a job of it"),
     }
 }
 
-/// What a stage that waits for others names.
-fn named_by(store: &Store, who: Who, registers: &[u64; 16], stage: u64) -> Option<Who> {
-    match stage {
-        13 => object_named(store, who.space, registers[1], registers[2]),
-        21 | 25 | 32 | 48 => handled(store, who.space, registers[1]),
-        _ => None,
-    }
-}
-
-/// Adds why the stage with this code, asked for with these registers by a thread that is free or by a porter, isn't ready: the hold that
-/// is known to bar it, or who is waited for.
-pub fn push_blocked(
+/// Adds why a thread has no ready move, and who could end that.
+pub fn push_reason(
     sheet: &mut Sheet,
-    store: &Store,
+    seen: Seen<'_>,
     lockers: &Lockers,
     who: Who,
-    registers: &[u64; 16],
-    stage: u64,
+    thread: &Thread,
 ) {
-    let changed = changed_by(store, who, registers, stage);
-    match (barred(store, who, &changed), stage) {
-        (Some((touched, hold)), _) => {
-            push_path(sheet, store, "would change ", touched, "");
-            push_hold(sheet, store, " or lead there, which ", hold);
-            sheet.put(" bars");
+    let store = seen.store;
+    match thread.mode {
+        Mode::Native => return push_job(sheet, seen, lockers, who),
+        Mode::Halted(code) => {
+            sheet.put_between("has halted ", code as u64, ", ");
+            return sheet.put(halt_text(code));
         }
-        (None, 36 | 37 | 38) => push_client(sheet, store, who),
-        (None, 50 | 51 | 52) => match store.client_of(who) {
-            Some(client) => push_whereabouts(sheet, store, "waits for its client ", client),
-            None => sheet.put("has no client"),
-        },
-        (None, _) => match named_by(store, who, registers, stage) {
-            Some(named) => push_named(sheet, store, lockers, named, stage),
-            None => push_holds(sheet, store),
-        },
+        _ => {}
     }
-}
-
-/// Adds why a user thread that hasn't halted has no ready move, and who could end that.
-pub fn push_reason(sheet: &mut Sheet, store: &Store, lockers: &Lockers, who: Who, thread: &Thread) {
     if thread.stops > 0 {
         return sheet.put_between("is stopped, and needs ", thread.stops as u64, " thread_go");
     }
@@ -111,9 +60,11 @@ pub fn push_reason(sheet: &mut Sheet, store: &Store, lockers: &Lockers, who: Who
             }
         };
     }
-    match (hold_on(store, who), stage_of(thread)) {
-        (Some(hold), _) => push_hold(sheet, store, "is kept still by ", hold),
-        (None, Some(stage)) => push_blocked(sheet, store, lockers, who, &thread.regs, stage),
-        (None, None) => push_holds(sheet, store),
+    if let Some(space) = held_over(store, store.home(who.space)) {
+        return push_hold(sheet, store, "is kept still by the hold of ", space);
+    }
+    match thread.mode {
+        Mode::Calling => push_blocked(sheet, store, lockers, who, &thread.regs),
+        _ => push_holds(sheet, store),
     }
 }

@@ -1,23 +1,12 @@
 //! Who could end a wait for somebody else.
-use crate::why::handles::stage_of;
 use crate::why::places::push_whereabouts;
-use fk_model::{Body, Peer, Thread, Who};
+use fk_model::{Body, Mode, Peer, Thread, Who};
 use fk_store::Store;
 use lens_text::{Sheet, handled, push_path};
 
-/// Whether a thread stands at its wait on a set.
-fn waits_at(store: &Store, who: Who, thread: &Thread, set: Who) -> bool {
-    match stage_of(thread) {
-        Some(48) => match handled(store, who.space, thread.regs[1]) {
-            Some(named) => named == set,
-            None => false,
-        },
-        _ => false,
-    }
-}
-
-/// The first thread of a set's space that stands at its wait on it, or the first thread there at all.
-fn server_of(store: &Store, set: Who) -> Option<(Who, bool)> {
+/// Adds who could take what stands at a port of a set: the first thread of the set's space that stands at its wait on it, or the first
+/// thread there at all.
+fn push_server(sheet: &mut Sheet, store: &Store, set: Who) {
     let mut first = None;
     for slot in 0..=255u8 {
         let who = Who {
@@ -25,32 +14,20 @@ fn server_of(store: &Store, set: Who) -> Option<(Who, bool)> {
             slot,
         };
         if let Some(thread) = store.thread(who) {
-            if waits_at(store, who, thread, set) {
-                return Some((who, true));
+            let is_waiting = matches!((thread.mode, thread.regs[0]), (Mode::Calling, 48 | 49));
+            if is_waiting && handled(store, set.space, thread.regs[1]) == Some(set) {
+                push_whereabouts(sheet, store, "; ", who);
+                return push_path(sheet, store, " waits at its set ", set, "");
             }
             if first.is_none() {
-                first = Some((who, false));
+                first = Some(who);
             }
         }
     }
-    first
-}
-
-/// Adds who could take what stands at a port of a set.
-fn push_server(sheet: &mut Sheet, store: &Store, set: Who) {
-    match server_of(store, set) {
-        Some((who, true)) => {
-            push_whereabouts(sheet, store, "; ", who);
-            push_path(sheet, store, " waits at its set ", set, "");
-        }
-        Some((who, false)) => {
-            push_path(sheet, store, "; nobody waits at its set ", set, "");
-            push_whereabouts(sheet, store, ", and in its space is ", who);
-        }
-        None => {
-            let behind = ", and no thread is in its space";
-            push_path(sheet, store, "; nobody waits at its set ", set, behind);
-        }
+    push_path(sheet, store, "; nobody waits at its set ", set, ", and ");
+    match first {
+        Some(who) => push_whereabouts(sheet, store, "in its space is ", who),
+        None => sheet.put("no thread is in its space"),
     }
 }
 
@@ -83,29 +60,25 @@ pub fn push_port(sheet: &mut Sheet, store: &Store, before: &str, port: Who, behi
 
 /// Adds the other side of a client's talk.
 pub fn push_client(sheet: &mut Sheet, store: &Store, who: Who) {
-    let talk = match store.thread(who) {
-        Some(
-            Thread {
-                talk: Some(talk),
-                ..
-            },
-        ) => talk,
-        _ => return sheet.put("has no talk"),
+    let Some(
+        Thread {
+            talk: Some(talk),
+            ..
+        },
+    ) = store.thread(who)
+    else {
+        return sheet.put("has no talk");
     };
+    let port = talk.port;
     match talk.peer {
         Peer::Thread(server) => push_whereabouts(sheet, store, "waits for its server ", server),
-        Peer::Service => {
-            push_path(
-                sheet,
-                store,
-                "waits for the native server of ",
-                talk.port,
-                "",
-            );
-        }
-        Peer::Parked => {
-            let before = "waits until its talk at ";
-            push_port(sheet, store, before, talk.port, " is taken up");
-        }
+        Peer::Service => push_path(sheet, store, "waits for the native server of ", port, ""),
+        Peer::Parked => push_port(
+            sheet,
+            store,
+            "waits until its talk at ",
+            port,
+            " is taken up",
+        ),
     }
 }

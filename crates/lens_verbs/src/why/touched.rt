@@ -1,4 +1,4 @@
-//! What a stage of a call would change, or lead a pointer to.
+//! What a stage of a call would change, or lead a pointer to, where a hold may bar that.
 use crate::steps::peer_of;
 use fk_model::Who;
 use fk_store::{Reach, Store};
@@ -12,42 +12,37 @@ fn page_home(store: &Store, space: u32, address: u64) -> Option<Who> {
     }
 }
 
-/// The other side of a thread's talk, and the space into which that one receives.
-fn other_side(store: &Store, who: Who) -> Option<(Who, Option<Who>)> {
-    let peer = peer_of(store, who, store.thread(who)?)?;
-    match store.thread(peer) {
-        Some(thread) => Some((peer, page_home(store, peer.space, thread.regs[4]))),
-        None => Some((peer, None)),
-    }
-}
-
-/// What a stage names further, if it does: where a reference is to lead, or the space of the page at an address.
-fn further(store: &Store, space: u32, registers: &[u64; 16], stage: u64) -> Option<Who> {
-    match stage {
-        5 => object_named(store, space, registers[3], registers[4]),
-        9 | 10 | 17..=19 => page_home(store, space, registers[3]),
-        11 | 12 => handled(store, space, registers[4]),
-        _ => None,
-    }
-}
-
-/// What the stage with this code, asked for with these registers, would change, or lead a pointer to, where a hold may bar that.
-pub fn changed_by(store: &Store, who: Who, registers: &[u64; 16], stage: u64) -> [Option<Who>; 2] {
+/// What the first stage of the call that these registers hold would change, or lead a pointer to: what it names, or the other side of a
+/// talk; and further the space of the page at an address, or where a reference is to lead.
+pub fn touched_by(store: &Store, who: Who, registers: &[u64; 16]) -> [Option<Who>; 2] {
     let space = who.space;
-    match stage {
+    let [code, one, two, three, four, ..] = *registers;
+    match code {
         // Another's move ends these, so what they would change isn't what they wait for.
-        13 | 21 | 25 | 32 | 36 | 48 | 50 => [None, None],
-        37 | 38 | 51..=56 => match other_side(store, who) {
-            Some((peer, home)) => [Some(peer), home],
-            None => [None, None],
-        },
-        1..=14 | 17..=20 | 60..=64 => [
-            object_named(store, space, registers[1], registers[2]),
-            further(store, space, registers, stage),
-        ],
+        13 | 21 | 25 | 32 | 33 | 36 | 48 | 49 | 50 => [None, None],
+        34 | 35 | 37 | 38 | 51 | 52 | 53 | 54 | 55 | 56 => {
+            let Some(thread) = store.thread(who) else {
+                return [None, None];
+            };
+            let Some(peer) = peer_of(store, who, thread) else {
+                return [None, None];
+            };
+            // The other side, and the space into which it receives.
+            match store.thread(peer) {
+                Some(other) => [Some(peer), page_home(store, peer.space, other.regs[4])],
+                None => [Some(peer), None],
+            }
+        }
+        // These name it by a handle.
+        15 | 16 | 22 | 23 | 24 | 26 | 27 | 39 => [handled(store, space, one), None],
         _ => [
-            handled(store, space, registers[1]),
-            further(store, space, registers, stage),
+            object_named(store, space, one, two),
+            match code {
+                5 => object_named(store, space, three, four),
+                9 | 10 | 17 | 18 | 19 => page_home(store, space, three),
+                11 | 12 => handled(store, space, four),
+                _ => None,
+            },
         ],
     }
 }
