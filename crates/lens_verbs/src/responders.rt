@@ -9,6 +9,9 @@ use fk_responders::{Responder, Table, echo, feed, sum};
 use lens_text::{Asked, Problem};
 use std::alloc::Global;
 
+/// The rules that have a responder.
+const RULES: [Rule; 3] = [Rule::Echo, Rule::Feed, Rule::Sum];
+
 /// The name of a rule.
 pub fn rule_name(rule: Rule) -> &'static str {
     match rule {
@@ -42,7 +45,8 @@ pub fn show<H: Shelf>(
     shelf: &mut H,
 ) -> Result<String, Problem> {
     let mut list = Vec::new(alloc);
-    for rule in [Rule::Echo, Rule::Feed, Rule::Sum] {
+    for rule in &RULES {
+        let rule = *rule;
         list.push(Responder::new(
             String::from_str(alloc, rule_name(rule))?,
             rule,

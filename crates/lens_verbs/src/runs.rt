@@ -2,11 +2,12 @@
 ghost use Rattle.std.specs.Prelude.{map};
 ghost use Rattle.fk_scenario.specs.Kept.{KeepsScenario, HasRules};
 
-use crate::images::images_for;
-use crate::scenarios::scenario_of;
+use crate::images::push_images;
+use crate::scenarios::scenario_problem;
 use crate::shows::{Show, show_of};
 use crate::stops::stop_fault;
 use fk_causes::Shelf;
+use fk_commands::scenario_in;
 use fk_finish::ValidImage;
 use fk_first::{Trace, watch};
 use fk_responders::Table;
@@ -14,21 +15,6 @@ use fk_scenario::Scenario;
 use lens_text::{Asked, Problem, Sheet, Verb, file_of};
 use std::alloc::Global;
 use std::mem;
-
-/// What is looked at of a trace with these bytes; none where what stands at the beginning is asked for.
-fn trace_of<'a>(asked: Asked<'_>, bytes: &'a [u8]) -> Option<Trace<'a>> {
-    let most = asked.end;
-    let looks_ahead = match asked.verb {
-        Verb::First => return None,
-        Verb::Why => true,
-        _ => false,
-    };
-    Some(Trace {
-        bytes,
-        most,
-        looks_ahead,
-    })
-}
 
 /// Watches the run of a scenario, with images for its jobs, by the trace with these bytes, as far as is asked for, and takes what is shown.
 fn watched(
@@ -43,12 +29,36 @@ fn watched(
     requires keeps { KeepsScenario scenario.now }
     requires rules { HasRules (map (λ r. r.rule) table.now.list.items) scenario.now }
 {
-    let trace = trace_of(asked, bytes);
-    let stop = watch(alloc, table, scenario, images, trace, show)?;
-    match stop_fault(alloc, asked, stop) {
-        Some(problem) => Err(problem),
-        None => mem::replace(&mut show.sheet, Sheet::new(alloc)).done(),
+    let trace = Trace {
+        bytes,
+        most: asked.end,
+        looks_ahead: matches!(asked.verb, Verb::Why),
+    };
+    match watch(alloc, table, scenario, images, Some(trace), show) {
+        Ok(stop) => match stop_fault(alloc, asked, stop) {
+            Some(problem) => Err(problem),
+            None => mem::replace(&mut show.sheet, Sheet::new(alloc)).done(),
+        },
+        Err(_) => Err(Problem::NoMemory),
     }
+}
+
+/// Shows what is asked for of the run of a scenario by the trace with these bytes.
+fn show_scenario<H: Shelf>(
+    alloc: Global,
+    asked: Asked<'_>,
+    table: &Table,
+    scenario: &Scenario,
+    bytes: &[u8],
+    shelf: &mut H,
+) -> Result<String, Problem>
+    requires keeps { KeepsScenario scenario.now }
+    requires rules { HasRules (map (λ r. r.rule) table.now.list.items) scenario.now }
+{
+    let mut images = Vec::new(alloc);
+    push_images(alloc, shelf, scenario.jobs.as_slice(), &mut images)?;
+    let mut show = show_of(alloc, asked);
+    watched(alloc, asked, table, scenario, &images, bytes, &mut show)
 }
 
 /// The bytes of the trace that is asked for; none where what stands at the beginning is.
@@ -73,8 +83,8 @@ pub fn show_run<H: Shelf>(
     shelf: &mut H,
 ) -> Result<String, Problem> {
     let bytes = bytes_of(alloc, asked, shelf)?;
-    let scenario = scenario_of(alloc, table, text)?;
-    let images = images_for(alloc, shelf, scenario.jobs.as_slice())?;
-    let mut show = show_of(alloc, asked);
-    watched(alloc, asked, table, &scenario, &images, &bytes, &mut show)
+    match scenario_in(alloc, table, text) {
+        Ok(scenario) => show_scenario(alloc, asked, table, &scenario, &bytes, shelf),
+        Err(status) => Err(scenario_problem(alloc, text, &status)),
+    }
 }

@@ -1,8 +1,7 @@
 //! What each move of a run does, a line a move.
 //!
 //! `Steps` watches a run and writes its lines: the trace's own line of the move, and behind it, after tabs, the move's number, who
-//! moves, what that does, the registers that change, and what native servers are told. `begin` and `push_step` say the same of one
-//! move, and `push_act` says what a mover is about to do.
+//! moves, what that does, the registers that change, and what native servers are told. `push_act` says what a mover is about to do.
 
 mod acts;
 mod changes;
@@ -12,4 +11,3 @@ mod servers;
 
 pub use acts::{peer_of, push_act};
 pub use lines::Steps;
-pub use moves::{Begun, begin, push_step};

@@ -20,25 +20,20 @@ const END: &str = ".trc, line @: expected the end, since the scenario's budget i
 const READY: &str =
     ".trc, line @: expected a move that is ready; lens why with @ says why it isn't";
 
-/// What is wrong with the trace of this name, where a run stops at one of its lines. The line of the first move is the second.
-fn trace_problem(alloc: Global, name: &str, stop: Stop) -> Option<Problem> {
-    let (form, line, index) = match stop {
-        Stop::NoTrace => (FIRST, 0, 0),
-        Stop::Misspelled { index } => (MOVE, index.saturating_add(2), 0),
-        Stop::Budget { index } => (END, index.saturating_add(2), 0),
-        Stop::Unready { index, .. } => (READY, index.saturating_add(2), index),
-        Stop::Enough | Stop::Ended => return None,
-    };
-    Some(given(alloc, name, form, line, index, ""))
-}
-
-/// What is wrong where a run by a trace stopped, by what is asked for.
+/// What is wrong where a run by a trace stopped, by what is asked for. The line of the first move is the second.
 pub fn stop_fault(alloc: Global, asked: Asked<'_>, stop: Stop) -> Option<Problem> {
-    let (name, end) = (asked.name, asked.end);
-    match (asked.verb, stop) {
-        (Verb::Page, Stop::Unready { .. } | Stop::Budget { .. }) => None,
-        (Verb::Why, Stop::Unready { index, .. }) if index == end => None,
-        (Verb::Tree | Verb::Why, Stop::Ended) => Some(given(alloc, name, MORE, end, 0, "")),
-        _ => trace_problem(alloc, name, stop),
-    }
+    let (form, index) = match (stop, asked.verb) {
+        (Stop::Ended, Verb::Tree | Verb::Why) => {
+            return Some(given(alloc, asked.name, MORE, asked.end, 0, ""));
+        }
+        (Stop::Enough | Stop::Ended, _) | (Stop::NoTrace, Verb::First) => return None,
+        (Stop::Unready { .. } | Stop::Budget { .. }, Verb::Page) => return None,
+        (Stop::Unready { index, .. }, Verb::Why) if index == asked.end => return None,
+        (Stop::NoTrace, _) => (FIRST, 0),
+        (Stop::Misspelled { index }, _) => (MOVE, index),
+        (Stop::Budget { index }, _) => (END, index),
+        (Stop::Unready { index, .. }, _) => (READY, index),
+    };
+    let line = index.saturating_add(2);
+    Some(given(alloc, asked.name, form, line, index, ""))
 }

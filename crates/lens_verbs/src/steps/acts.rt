@@ -30,14 +30,6 @@ pub fn peer_of(store: &Store, who: Who, thread: &Thread) -> Option<Who> {
     }
 }
 
-/// How many words a thread is about to send, where that is what it does.
-pub fn sending_of(thread: &Thread) -> Option<u64> {
-    match (thread.mode, first_stage(thread.regs[0])) {
-        (Mode::Calling, 37 | 51) => Some(thread.regs[3]),
-        _ => None,
-    }
-}
-
 /// Adds what a thread is about to do: a calling one's stage, with its peer or its pick.
 fn push_thread_act(sheet: &mut Sheet, seen: Seen<'_>, one: &Move, thread: &Thread) {
     match thread.mode {

@@ -49,8 +49,10 @@ pub fn push_ending(sheet: &mut Sheet, store: &Store, who: Who, before: &Thread) 
         }
         _ => {}
     }
-    if let (None, Some(fault)) = (before.fault, after.fault) {
-        sheet.put_between("; it misses page ", fault.page as u64, "");
-        push_path(sheet, store, ", a fault at ", fault.port, "");
+    if before.fault.is_none() {
+        if let Some(fault) = &after.fault {
+            sheet.put_between("; it misses page ", fault.page as u64, "");
+            push_path(sheet, store, ", a fault at ", fault.port, "");
+        }
     }
 }

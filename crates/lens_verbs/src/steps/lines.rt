@@ -1,8 +1,10 @@
 //! A line a move.
-use crate::steps::moves::{Begun, begin, push_step};
+use crate::steps::changes::{push_changed, push_ending};
+use crate::steps::moves::{Begun, begin};
+use crate::steps::servers::push_told;
 use fk_first::Seen;
 use fk_model::Move;
-use lens_text::Sheet;
+use lens_text::{Sheet, push_named};
 use std::alloc::Global;
 
 /// Writes a line for each move of a run from one on and before another.
@@ -26,23 +28,40 @@ impl Steps {
 
     /// It sees what stands before a move.
     pub fn before(&mut self, alloc: Global, seen: Seen<'_>, one: &Move) {
-        self.begun = None;
-        if self.first <= seen.events && seen.events < self.end {
-            self.begun = Some(begin(alloc, seen, one));
-        }
+        let is_shown = (self.first <= seen.events) & (seen.events < self.end);
+        self.begun = if is_shown {
+            Some(begin(alloc, seen, one))
+        } else {
+            None
+        };
     }
 
-    /// It sees what stands after that move, and writes its line where that is asked for: the trace's own first.
+    /// It sees what stands after that move, and writes its line where that is asked for: what was known before it, of a sender how many of
+    /// its words went, how it ended, the registers that changed, the mover's first, and what native servers were told.
     pub fn after(&self, sheet: &mut Sheet, seen: Seen<'_>, one: &Move) {
         let Some(begun) = &self.begun else {
             return;
         };
-        sheet.fill("@.@", one.who.space as u64, one.who.slot as u64, 0);
-        if let Some(pick) = one.pick {
-            sheet.fill(" @.@", pick.space as u64, pick.slot as u64, 0);
+        let store = seen.store;
+        sheet.add(&begun.head);
+        if let (Some(count), Some(after)) = (begun.sending, store.thread(one.who)) {
+            let went = count.saturating_sub(after.regs[3]);
+            sheet.fill("send @ of @ words", went, count, 0);
+            push_named(sheet, store, " to ", begun.other);
         }
-        sheet.put_between("\t", seen.events.saturating_sub(1), "\t");
-        push_step(sheet, seen, one, begun, "\t");
+        // Of a native server there is nothing more to say than its act.
+        if let Some((who, before)) = &begun.threads[0] {
+            push_ending(sheet, store, *who, before);
+        }
+        sheet.put("\t");
+        let start = sheet.len();
+        for thread in &begun.threads {
+            if let Some((who, before)) = thread {
+                push_changed(sheet, start, store, one.who, *who, before);
+            }
+        }
+        sheet.put("\t");
+        push_told(sheet, store, seen.services, &begun.servers);
         sheet.put("\n");
     }
 }

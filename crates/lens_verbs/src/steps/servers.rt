@@ -2,6 +2,7 @@
 use crate::responders::rule_name;
 use fk_model::Who;
 use fk_natives::{Native, Service, Side};
+use fk_responders::words_of;
 use fk_store::Store;
 use lens_text::{Sheet, push_path};
 
@@ -14,18 +15,27 @@ pub struct ServerState {
     position: u64,
 }
 
+/// The words that a native server was sent.
+fn sent_to(native: &Native) -> &[u64] {
+    match native {
+        Native::Console(console) => console.printed(),
+        Native::Server(server) => words_of(&server.request),
+    }
+}
+
 /// What a native server is at.
 fn state_of(native: &Native) -> ServerState {
+    let sent = sent_to(native).len();
     match native {
         Native::Console(console) => ServerState {
             side: console.side,
-            sent: console.printed().len(),
+            sent,
             left: 0,
             position: 0,
         },
         Native::Server(server) => ServerState {
             side: server.side,
-            sent: server.request.len as usize,
+            sent,
             left: server.left.len,
             position: server.position,
         },
@@ -43,18 +53,13 @@ pub fn states_of(sheet: &mut Sheet, services: &[(Who, Native)]) -> Vec<ServerSta
     states
 }
 
-/// Adds what a native server was told, where it was told something: the words that came to it since, as many as it says; how many it gave;
-/// whose turn it is, where that has changed.
+/// Adds what a native server was told, where it was told something: the words that came to it since, how many it gave; whose
+/// turn it is, where that has changed.
 fn push_news(sheet: &mut Sheet, native: &Native, was: ServerState) {
     let is = state_of(native);
     if is.sent > was.sent {
         sheet.put(" words");
-        let words = match native {
-            Native::Console(console) => console.printed(),
-            Native::Server(server) => server.request.words.as_slice(),
-        };
-        let came = words.get(was.sent..).unwrap_or(&[]);
-        for word in came.get(..is.sent.saturating_sub(was.sent)).unwrap_or(came) {
+        for word in sent_to(native).get(was.sent..).unwrap_or(&[]) {
             sheet.put_between(" ", *word, "");
         }
     } else if is.left < was.left && is.position == was.position {
