@@ -19,7 +19,9 @@ pub fn file_of<H: Shelf>(
     ending: &str,
 ) -> Result<Vec<u8>, Problem> {
     let found = {
-        let file = format!(in alloc; "{name}{ending}")?;
+        let Ok(file) = format!(in alloc; "{name}{ending}") else {
+            return Err(Problem::NoMemory);
+        };
         shelf.get(file.as_str())
     };
     match found {

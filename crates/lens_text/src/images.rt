@@ -3,7 +3,6 @@
 //! An image's line begins with what it is and the path from the image's root. The words of a page that has instructions are disassembled.
 
 mod differences;
-mod files;
 mod lines;
 mod objects;
 mod pages;
@@ -11,4 +10,4 @@ mod paths;
 mod threads;
 
 pub use differences::push_differences;
-pub use files::{show_differences, show_image};
+pub use lines::push_image;

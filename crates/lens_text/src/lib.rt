@@ -6,8 +6,8 @@
 //! tree of its spaces (`store`).
 //!
 //! It stands on `fk_causes` for the shelf, on `fk_isa` for the instruction in a word, on `fk_stages` for porters' calls, on `fk_asm` for
-//! programs, on `fk_codec` and `fk_image` for images, and on `fk_store` for what stands there. It promises
-//! no more than that each function ends, whatever bytes it is given.
+//! programs, on `fk_image` for images, and on `fk_store` for what stands there. It promises no more than that each function ends, whatever
+//! bytes it is given.
 #![tactic(auto)]
 
 mod asked;
@@ -27,11 +27,11 @@ pub use asked::{Asked, Verb, asked_in};
 pub use calls::{first_stage, push_asked, push_stage};
 pub use faults::{given, told};
 pub use files::{file_of, source_text};
-pub use images::{push_differences, show_differences, show_image};
+pub use images::{push_differences, push_image};
 pub use instructions::push_instruction;
 pub use problem::Problem;
 pub use refusal::refused_scenario;
-pub use sheet::Sheet;
+pub use sheet::{Sheet, line_at};
 pub use statuses::{halt_text, status_text};
 pub use store::{
     handled, names_of, object_named, push_at, push_home, push_named, push_object, push_path,

@@ -15,6 +15,7 @@ mod page;
 mod responders;
 mod runs;
 mod scenarios;
+mod shown;
 mod shows;
 mod steps;
 mod stops;

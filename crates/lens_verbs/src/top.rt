@@ -1,8 +1,9 @@
 //! The top call: the words of the command line, over the source and the shelf.
 use crate::help::{HELP, VERSION};
 use crate::responders::show;
+use crate::shown::{show_differences, show_image};
 use fk_causes::{Shelf, Source};
-use lens_text::{Problem, Verb, asked_in, show_differences, show_image, source_text, words_text};
+use lens_text::{Problem, Verb, asked_in, source_text, words_text};
 use std::alloc::Global;
 
 /// What the words of the command line ask to be shown, over the bytes of the source and the files of the shelf.

@@ -3,7 +3,7 @@ use crate::images::objects::push_object;
 use crate::images::pages::push_page;
 use crate::images::paths::{paths_of, push_pointer};
 use crate::sheet::Sheet;
-use fk_image::{Image, Link, SpaceRec};
+use fk_image::{Link, SpaceRec};
 
 /// Adds the lines of a space: its own, that of its holder, where it is held, those of its objects, those of its pages. The root's path is
 /// empty.
@@ -22,9 +22,8 @@ fn push_space(sheet: &mut Sheet, path: &str, paths: &[String], space: &SpaceRec)
     }
 }
 
-/// Adds an image, space by space in its order.
-pub fn push_image(sheet: &mut Sheet, image: &Image) {
-    let spaces = image.spaces.as_slice();
+/// Adds an image by its spaces, in their order.
+pub fn push_image(sheet: &mut Sheet, spaces: &[SpaceRec]) {
     let paths = paths_of(sheet, spaces);
     let mut later = spaces;
     for path in &paths {

@@ -3,7 +3,19 @@ use crate::images::paths::{path_in, push_pointer};
 use crate::images::threads::push_thread;
 use crate::sheet::{Sheet, line_at};
 use crate::store::last_of;
-use fk_image::{ObjectRec, Rec};
+use fk_image::{ObjectRec, Rec, kind_of_rec};
+
+/// Kinds by their numbers.
+const KINDS: &str = "
+mutex
+cond
+mapping
+region
+port
+portset
+space
+thread
+reference";
 
 /// Mappings that are only read, and those that are written to.
 const MAPPINGS: &str = " pages @ to @, read only, from the region's page @ on
@@ -17,15 +29,13 @@ const REGIONS: &str = " pages @ to @, read only
 pub fn push_object(sheet: &mut Sheet, space: &str, paths: &[String], object: &ObjectRec) {
     let owned = path_in(sheet, space, object.slot);
     let path = owned.as_str();
+    let kind = kind_of_rec(&object.body) as u64;
+    sheet.put_three(line_at(KINDS, kind), " ", path);
     match &object.body {
-        Rec::Mutex { locked: 1 } => sheet.put_three("mutex ", path, " locked\n"),
-        Rec::Mutex { .. } => sheet.put_three("mutex ", path, "\n"),
-        Rec::Cond => sheet.put_three("cond ", path, "\n"),
-        Rec::Portset => sheet.put_three("portset ", path, "\n"),
-        Rec::Port { set: 0 } => sheet.put_three("port ", path, "\n"),
-        Rec::Port { set } => {
+        Rec::Mutex { locked: 1 } => sheet.put(" locked\n"),
+        Rec::Port { set } if *set > 0 => {
             let slot = (*set as u64).saturating_sub(1);
-            sheet.line("port ", path, " in the set of slot @\n", slot, 0, 0);
+            sheet.put_between(" in the set of slot ", slot, "\n");
         }
         Rec::Mapping {
             first,
@@ -36,7 +46,7 @@ pub fn push_object(sheet: &mut Sheet, space: &str, paths: &[String], object: &Ob
         } => {
             let form = line_at(MAPPINGS, (*write == 1) as u64);
             let last = last_of(*first, *count);
-            sheet.line("mapping ", path, form, *first as u64, last, *offset as u64);
+            sheet.fill(form, *first as u64, last, *offset as u64);
             sheet.put("\n");
             push_pointer(sheet, path, " region ", paths, *region);
         }
@@ -47,15 +57,15 @@ pub fn push_object(sheet: &mut Sheet, space: &str, paths: &[String], object: &Ob
             keeper,
         } => {
             let form = line_at(REGIONS, (*write == 1) as u64);
-            let last = last_of(*first, *count);
-            sheet.line("region ", path, form, *first as u64, last, 0);
+            sheet.fill(form, *first as u64, last_of(*first, *count), 0);
             sheet.put("\n");
             push_pointer(sheet, path, " keeper ", paths, *keeper);
         }
-        Rec::Thread(thread) => push_thread(sheet, path, paths, thread.get()),
         Rec::Reference { to } => {
-            sheet.put_three("reference ", path, "\n");
+            sheet.put("\n");
             push_pointer(sheet, path, " to ", paths, *to);
         }
+        Rec::Thread(thread) => push_thread(sheet, path, paths, thread.get()),
+        _ => sheet.put("\n"),
     }
 }

@@ -33,9 +33,9 @@ fn push_dealings(sheet: &mut Sheet, path: &str, paths: &[String], thread: &Threa
     }
 }
 
-/// Adds the lines of a thread: its own with what it is at, that of its stops, those of its registers that aren't 0, its talk and its fault.
+/// Adds the lines of a thread behind what it is and its path: what it is at, that of its stops, those of its registers that aren't 0, its talk and its fault.
 pub fn push_thread(sheet: &mut Sheet, path: &str, paths: &[String], thread: &ThreadRec) {
-    sheet.line("thread ", path, " at @", thread.pc, 0, 0);
+    sheet.put_between(" at ", thread.pc, "");
     match thread.mode {
         0 => sheet.put(", running\n"),
         1 => {

@@ -1,12 +1,7 @@
-//! Images of the shelf.
-use crate::faults::given;
-use crate::files::file_of;
-use crate::images::differences::push_differences;
-use crate::images::lines::push_image;
-use crate::problem::Problem;
-use crate::sheet::{Sheet, line_at};
+//! Images of the shelf, shown as text.
 use fk_causes::Shelf;
-use fk_codec::{ImageError, ReadFail, read};
+use fk_commands::{Status, image_of};
+use lens_text::{Problem, Sheet, file_of, given, line_at, push_differences, push_image};
 use std::alloc::Global;
 
 /// What was expected of an image, by the reason for which it is refused, and by any other.
@@ -27,20 +22,20 @@ the end of the file";
 pub fn show_image<H: Shelf>(alloc: Global, name: &str, shelf: &mut H) -> Result<String, Problem> {
     let found = {
         let bytes = file_of(alloc, shelf, name, ".img")?;
-        read(alloc, &bytes)
+        image_of(alloc, name, &bytes)
     };
     match found {
         Ok(image) => {
             let mut sheet = Sheet::new(alloc);
-            push_image(&mut sheet, &image);
+            push_image(&mut sheet, image.spaces.as_slice());
             sheet.done()
         }
-        Err(ReadFail::Image(ImageError { offset, reason })) => {
+        Err(Status::BadImage { offset, reason, .. }) => {
             let expected = line_at(EXPECTED, reason as u64);
             let form = ".img, offset @: expected ";
             Err(given(alloc, name, form, offset, 0, expected))
         }
-        Err(ReadFail::NoMemory) => Err(Problem::NoMemory),
+        Err(_) => Err(Problem::NoMemory),
     }
 }
 
