@@ -76,7 +76,7 @@ space_make_held x=@
 /// before it are none of its arguments.
 fn push_form(sheet: &mut Sheet, form: &str, code: u64, registers: &[u64; 16]) {
     if form.is_empty() {
-        return sheet.put_between("no call, ", code, "");
+        return sheet.put_number("no call, ", code);
     }
     match code {
         34 | 37 | 51 | 53 => sheet.fill_all(form, &registers[2..6]),

@@ -58,6 +58,6 @@ pub fn plain_instruction(word: u64) -> Option<(u64, u64, u64, u64)> {
 pub fn push_instruction(sheet: &mut Sheet, word: u64) {
     match plain_instruction(word) {
         Some((form, one, two, three)) => sheet.fill(line_at(FORMS, form), one, two, three),
-        None => sheet.put_between("word ", word, ""),
+        None => sheet.put_number("word ", word),
     }
 }

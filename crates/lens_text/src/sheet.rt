@@ -65,12 +65,18 @@ impl Sheet {
         }
     }
 
-    /// Adds a number between two texts.
-    pub fn put_between(&mut self, before: &str, number: u64, behind: &str) {
+    /// Adds a number behind a text.
+    pub fn put_number(&mut self, before: &str, number: u64) {
         self.put(before);
-        if write!(self.text, "{number}{behind}").is_err() {
+        if write!(self.text, "{number}").is_err() {
             self.is_short = true;
         }
+    }
+
+    /// Adds a number between two texts.
+    pub fn put_between(&mut self, before: &str, number: u64, behind: &str) {
+        self.put_number(before, number);
+        self.put(behind);
     }
 
     /// Adds a form: a text in which each `@` stands for the next of these numbers.
@@ -80,7 +86,7 @@ impl Sheet {
             let Some((before, behind)) = later.split_once('@') else {
                 break;
             };
-            self.put_between(before, *number, "");
+            self.put_number(before, *number);
             later = behind;
         }
         self.put(later);

@@ -17,14 +17,6 @@ space
 thread
 reference";
 
-/// Mappings that are only read, and those that are written to.
-const MAPPINGS: &str = " pages @ to @, read only, from the region's page @ on
- pages @ to @, writable, from the region's page @ on";
-
-/// The same of regions.
-const REGIONS: &str = " pages @ to @, read only
- pages @ to @, writable";
-
 /// Adds the lines of an object in a space with this path: its own, and that of its one pointer, where it has one; of a thread all of its lines.
 pub fn push_object(sheet: &mut Sheet, space: &str, paths: &[String], object: &ObjectRec) {
     let owned = path_in(sheet, space, object.slot);
@@ -44,10 +36,13 @@ pub fn push_object(sheet: &mut Sheet, space: &str, paths: &[String], object: &Ob
             write,
             region,
         } => {
-            let form = line_at(MAPPINGS, (*write == 1) as u64);
+            let form = if *write == 1 {
+                " pages @ to @, writable, from the region's page @ on\n"
+            } else {
+                " pages @ to @, read only, from the region's page @ on\n"
+            };
             let last = last_of(*first, *count);
             sheet.fill(form, *first as u64, last, *offset as u64);
-            sheet.put("\n");
             push_pointer(sheet, path, " region ", paths, *region);
         }
         Rec::Region {
@@ -56,9 +51,12 @@ pub fn push_object(sheet: &mut Sheet, space: &str, paths: &[String], object: &Ob
             write,
             keeper,
         } => {
-            let form = line_at(REGIONS, (*write == 1) as u64);
+            let form = if *write == 1 {
+                " pages @ to @, writable\n"
+            } else {
+                " pages @ to @, read only\n"
+            };
             sheet.fill(form, *first as u64, last_of(*first, *count), 0);
-            sheet.put("\n");
             push_pointer(sheet, path, " keeper ", paths, *keeper);
         }
         Rec::Reference { to } => {

@@ -30,7 +30,7 @@ pub fn push_page(sheet: &mut Sheet, path: &str, page: &PageRec) {
             if is_program {
                 push_instruction(sheet, page.words[at]);
             } else {
-                sheet.put_between("", page.words[at], "");
+                sheet.put_number("", page.words[at]);
             }
             sheet.put("\n");
         }

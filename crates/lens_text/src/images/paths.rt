@@ -6,7 +6,7 @@ use fk_image::{Link, SpaceRec};
 pub fn path_in(sheet: &mut Sheet, space: &str, slot: u8) -> String {
     let mut path = Sheet::new(sheet.alloc());
     path.put(space);
-    path.put_between("/", slot as u64, "");
+    path.put_number("/", slot as u64);
     sheet.taken(path)
 }
 

@@ -1,31 +1,29 @@
 //! The lines of a thread.
 use crate::calls::push_call;
 use crate::images::paths::push_pointer;
-use crate::sheet::{Sheet, line_at};
+use crate::sheet::Sheet;
 use crate::statuses::halt_text;
 use fk_image::ThreadRec;
-
-/// Whose turn a talk is at, a server's or its client's.
-const TURNS: &str = " server's turn, words moved @
- client's turn, words moved @";
-
-/// Faults by a read, and those by a write.
-const FAULTS: &str = " read of page @
- write of page @";
 
 /// Adds the lines of a thread's talk and of its fault.
 fn push_dealings(sheet: &mut Sheet, path: &str, paths: &[String], thread: &ThreadRec) {
     if let Some(talk) = thread.talk {
-        let form = line_at(TURNS, (talk.turn == 1) as u64);
+        let form = if talk.turn == 1 {
+            " client's turn, words moved @\n"
+        } else {
+            " server's turn, words moved @\n"
+        };
         sheet.line("talk ", path, form, talk.moved as u64, 0, 0);
-        sheet.put("\n");
         push_pointer(sheet, path, " talk at ", paths, talk.port);
         push_pointer(sheet, path, " talk with ", paths, talk.server);
     }
     if let Some(fault) = thread.fault {
-        let form = line_at(FAULTS, (fault.write == 1) as u64);
+        let form = if fault.write == 1 {
+            " write of page @\n"
+        } else {
+            " read of page @\n"
+        };
         sheet.line("fault ", path, form, fault.page as u64, 0, 0);
-        sheet.put("\n");
         push_pointer(sheet, path, " fault at ", paths, fault.port);
         if let Some(taker) = fault.taker {
             push_pointer(sheet, path, " fault taken by ", paths, taker);
@@ -35,7 +33,7 @@ fn push_dealings(sheet: &mut Sheet, path: &str, paths: &[String], thread: &Threa
 
 /// Adds the lines of a thread behind what it is and its path: what it is at, that of its stops, those of its registers that aren't 0, its talk and its fault.
 pub fn push_thread(sheet: &mut Sheet, path: &str, paths: &[String], thread: &ThreadRec) {
-    sheet.put_between(" at ", thread.pc, "");
+    sheet.put_number(" at ", thread.pc);
     match thread.mode {
         0 => sheet.put(", running\n"),
         1 => {

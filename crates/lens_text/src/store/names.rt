@@ -26,7 +26,7 @@ fn slots_of(sheet: &mut Sheet, store: &Store, who: Who) -> Vec<u8> {
 pub fn push_path(sheet: &mut Sheet, store: &Store, before: &str, who: Who, behind: &str) {
     sheet.put(before);
     for slot in &slots_of(sheet, store, who) {
-        sheet.put_between("/", *slot as u64, "");
+        sheet.put_number("/", *slot as u64);
     }
     sheet.put(behind);
 }

@@ -20,12 +20,12 @@ pub fn last_of(first: u8, count: u16) -> u64 {
 
 /// Adds a space: its birth number, its holder, its pages.
 pub fn push_home(sheet: &mut Sheet, store: &Store, birth: u32, holder: Option<Who>) {
-    sheet.put_between("space ", birth as u64, "");
+    sheet.put_number("space ", birth as u64);
     push_named(sheet, store, ", held by ", holder);
     let mut gap = ", pages ";
     for page in 0..=255u8 {
         if store.page(birth, page).is_some() {
-            sheet.put_between(gap, page as u64, "");
+            sheet.put_number(gap, page as u64);
             gap = " ";
         }
     }
@@ -46,7 +46,7 @@ pub fn push_object(sheet: &mut Sheet, store: &Store, who: Who, body: &Body) {
             set: Some(slot),
             ..
         } => {
-            sheet.put_between("port in the set of slot ", *slot as u64, "");
+            sheet.put_number("port in the set of slot ", *slot as u64);
         }
         Body::Port { .. } => sheet.put("port"),
         Body::Space { birth, holder } => push_home(sheet, store, *birth, *holder),

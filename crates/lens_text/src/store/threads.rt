@@ -68,7 +68,7 @@ pub fn push_thread(sheet: &mut Sheet, store: &Store, before: &str, who: Who, thr
             Turn::Client => ", client's turn, words moved ",
             Turn::Server => ", server's turn, words moved ",
         };
-        sheet.put_between(turn, talk.moved as u64, "");
+        sheet.put_number(turn, talk.moved as u64);
     }
     if let Some(fault) = &thread.fault {
         sheet.fill(line_at(FAULTS, fault.write as u64), fault.page as u64, 0, 0);
