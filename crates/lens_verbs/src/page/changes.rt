@@ -18,6 +18,8 @@ pub fn few_changed(store: &Store, one: &Move) -> Option<Few> {
     let other = match store.thread(who) {
         Some(thread) => match (thread.mode, first_stage(thread.regs[0])) {
             (Mode::Running, _) => None,
+            // What is looked up or read changes the caller alone.
+            (Mode::Calling, 4 | 7 | 9 | 19 | 20) => None,
             // Words go and the turn passes, or a server waits.
             (Mode::Calling, 36..=38 | 48..=52) => peer_of(store, who, thread),
             // Mutexes.
