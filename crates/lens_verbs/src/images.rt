@@ -24,7 +24,10 @@ fn image_problem(alloc: Global, name: &str, status: &Status) -> Problem {
 /// The image that the bytes of the file of a name are.
 fn image_in(alloc: Global, name: &str, bytes: &[u8]) -> Result<Option<ValidImage>, Problem> {
     match image_of(alloc, name, bytes) {
-        Ok(image) => Ok(Some(ValidImage::new(alloc, image)?)),
+        Ok(image) => match ValidImage::new(alloc, image) {
+            Ok(valid) => Ok(Some(valid)),
+            Err(_) => Err(Problem::NoMemory),
+        },
         Err(status) => Err(image_problem(alloc, name, &status)),
     }
 }

@@ -47,17 +47,17 @@ pub fn show<H: Shelf>(
     let mut list = Vec::new(alloc);
     for rule in &RULES {
         let rule = *rule;
-        list.push(Responder::new(
-            String::from_str(alloc, rule_name(rule))?,
-            rule,
-            Box::new(
-                alloc,
-                move |config: &[u64], position: u64, request: &[u64]| -> Reply
-                    requires { length request.now ≤ 64 }
-                    ensures { reply_words result ≡ answer rule config.now position request.now }
-                { reply_by(rule, config, position, request) },
-            )?,
-        ))?;
+        let Ok(name) = String::from_str(alloc, rule_name(rule)) else {
+            return Err(Problem::NoMemory);
+        };
+        let call = Box::new(
+            alloc,
+            move |config: &[u64], position: u64, request: &[u64]| -> Reply
+                requires { length request.now ≤ 64 }
+                ensures { reply_words result ≡ answer rule config.now position request.now }
+            { reply_by(rule, config, position, request) },
+        )?;
+        list.push(Responder::new(name, rule, call))?;
     }
     show_run(alloc, asked, &Table { list }, text, shelf)
 }

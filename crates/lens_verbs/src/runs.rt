@@ -56,9 +56,13 @@ fn show_scenario<H: Shelf>(
     requires rules { HasRules (map (λ r. r.rule) table.now.list.items) scenario.now }
 {
     let mut images = Vec::new(alloc);
-    push_images(alloc, shelf, scenario.jobs.as_slice(), &mut images)?;
-    let mut show = show_of(alloc, asked);
-    watched(alloc, asked, table, scenario, &images, bytes, &mut show)
+    match push_images(alloc, shelf, scenario.jobs.as_slice(), &mut images) {
+        Ok(()) => {
+            let mut show = show_of(alloc, asked);
+            watched(alloc, asked, table, scenario, &images, bytes, &mut show)
+        }
+        Err(problem) => Err(problem),
+    }
 }
 
 /// The bytes of the trace that is asked for; none where what stands at the beginning is.
@@ -82,9 +86,11 @@ pub fn show_run<H: Shelf>(
     text: &[u8],
     shelf: &mut H,
 ) -> Result<String, Problem> {
-    let bytes = bytes_of(alloc, asked, shelf)?;
-    match scenario_in(alloc, table, text) {
-        Ok(scenario) => show_scenario(alloc, asked, table, &scenario, &bytes, shelf),
-        Err(status) => Err(scenario_problem(alloc, text, &status)),
+    match bytes_of(alloc, asked, shelf) {
+        Ok(bytes) => match scenario_in(alloc, table, text) {
+            Ok(scenario) => show_scenario(alloc, asked, table, &scenario, &bytes, shelf),
+            Err(status) => Err(scenario_problem(alloc, text, &status)),
+        },
+        Err(problem) => Err(problem),
     }
 }

@@ -1,5 +1,5 @@
 //! The top call: the words of the command line, over the source and the shelf.
-use crate::help::{HELP, VERSION};
+use crate::help::{HELP, VERSION, said};
 use crate::responders::show;
 use crate::shown::{show_differences, show_image};
 use fk_causes::{Shelf, Source};
@@ -20,16 +20,16 @@ pub fn lens_top<R: Source, H: Shelf>(
 ) -> Result<String, Problem> {
     let asked = asked_in(alloc, words)?;
     match asked.verb {
-        Verb::Help => Ok(String::from_str(alloc, HELP)?),
-        Verb::Version => Ok(String::from_str(alloc, VERSION)?),
+        Verb::Help => said(alloc, HELP),
+        Verb::Version => said(alloc, VERSION),
         Verb::Image => show_image(alloc, asked.name, shelf),
         Verb::Differences => show_differences(alloc, asked.name, asked.other, shelf),
-        _ => {
-            let text = source_text(alloc, source)?;
-            match asked.verb {
+        _ => match source_text(alloc, source) {
+            Ok(text) => match asked.verb {
                 Verb::Words => words_text(alloc, &text),
                 _ => show(alloc, asked, &text, shelf),
-            }
-        }
+            },
+            Err(problem) => Err(problem),
+        },
     }
 }

@@ -44,10 +44,12 @@ impl Steps {
         };
         let store = seen.store;
         sheet.add(&begun.head);
-        if let (Some(count), Some(after)) = (begun.sending, store.thread(one.who)) {
-            let went = count.saturating_sub(after.regs[3]);
-            sheet.fill("send @ of @ words", went, count, 0);
-            push_named(sheet, store, " to ", begun.other);
+        if let Some(count) = begun.sending {
+            if let Some(after) = store.thread(one.who) {
+                let went = count.saturating_sub(after.regs[3]);
+                sheet.fill("send @ of @ words", went, count, 0);
+                push_named(sheet, store, " to ", begun.other);
+            }
         }
         // Of a native server there is nothing more to say than its act.
         if let Some((who, before)) = &begun.threads[0] {

@@ -62,7 +62,7 @@ fn push_news(sheet: &mut Sheet, native: &Native, was: ServerState) {
         for word in sent_to(native).get(was.sent..).unwrap_or(&[]) {
             sheet.put_between(" ", *word, "");
         }
-    } else if is.left < was.left && is.position == was.position {
+    } else if (is.left < was.left) & (is.position == was.position) {
         sheet.put_between(" gave ", was.left.saturating_sub(is.left) as u64, " words");
     }
     sheet.put(match (was.side, is.side) {
