@@ -32,9 +32,9 @@ pub use instructions::push_instruction;
 pub use problem::Problem;
 pub use refusal::refused_scenario;
 pub use sheet::{Sheet, line_at};
-pub use statuses::{halt_text, status_text};
+pub use statuses::{HALTS, STATUSES};
 pub use store::{
-    handled, names_of, object_named, push_at, push_home, push_named, push_object, push_path,
+    handled, next_in_tree, object_named, push_at, push_home, push_named, push_object, push_path,
     push_thread, push_tree, word_at,
 };
 pub use words::words_text;

@@ -1,6 +1,5 @@
 //! Text that is written piece by piece.
 use crate::problem::Problem;
-use fk_model::NoMemory;
 use std::alloc::Global;
 
 /// The first line of a text, and what is behind it.
@@ -24,9 +23,12 @@ pub fn line_at(list: &'static str, number: u64) -> &'static str {
 /// has no answer to look at after each.
 #[derive(Drop)]
 pub struct Sheet {
-    alloc: Global,
-    text: String,
-    is_short: bool,
+    /// What gives it memory.
+    pub alloc: Global,
+    /// What stands there.
+    pub text: String,
+    /// There was no memory for a piece.
+    pub is_short: bool,
 }
 
 impl Sheet {
@@ -37,11 +39,6 @@ impl Sheet {
             text: String::new(alloc),
             is_short: false,
         }
-    }
-
-    /// What gives it memory.
-    pub fn alloc(&self) -> Global {
-        self.alloc
     }
 
     /// Adds a piece.
@@ -127,31 +124,12 @@ impl Sheet {
         }
     }
 
-    /// Notes that there was no memory for a piece.
-    pub fn lack(&mut self) {
-        self.is_short = true;
-    }
-
-    /// The length of what stands there.
-    pub fn len(&self) -> usize {
-        self.text.len()
-    }
-
     /// What another has; that there was no memory for a piece of it is noted here.
     pub fn taken(&mut self, other: Sheet) -> String {
         if other.is_short {
             self.is_short = true;
         }
         other.text
-    }
-
-    /// Whether all stands there that was added.
-    ///
-    /// # Errors
-    ///
-    /// There was no memory for a piece.
-    pub fn checked(&self) -> Result<(), NoMemory> {
-        if self.is_short { Err(NoMemory) } else { Ok(()) }
     }
 
     /// The whole.

@@ -1,8 +1,7 @@
-//! Statuses and halt codes in words.
-use crate::sheet::line_at;
+//! Statuses and halt codes in words, each list a text of a line each (`line_at`).
 
 /// The names of the statuses by their numbers, and what any other is.
-const STATUSES: &str = "OK
+pub const STATUSES: &str = "OK
 BADCALL
 BADHANDLE
 WRONGKIND
@@ -25,19 +24,9 @@ BADSTATE
 no status";
 
 /// Why a thread has halted, by its code, and by any other.
-const HALTS: &str = "by halt
+pub const HALTS: &str = "by halt
 a zero divisor
 a bad address
 an unknown operation
 a missing page that nobody keeps
 a code that was set";
-
-/// The name of the status that a call has answered in its first register.
-pub fn status_text(status: u64) -> &'static str {
-    line_at(STATUSES, status)
-}
-
-/// Why a thread has halted with this code.
-pub fn halt_text(code: u8) -> &'static str {
-    line_at(HALTS, code as u64)
-}

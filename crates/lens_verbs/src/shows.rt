@@ -28,7 +28,7 @@ impl Watcher for Show {
     fn before(&mut self, seen: Seen<'_>, one: &Move) -> Result<(), NoMemory> {
         match &mut self.how {
             How::Tree => {}
-            How::Steps(steps) => steps.before(self.sheet.alloc(), seen, one),
+            How::Steps(steps) => steps.before(self.sheet.alloc, seen, one),
             How::Why(why) => why.before(seen.store, one.who),
             How::Page(page) => page.before(&mut self.sheet, seen, one),
         }
@@ -42,7 +42,7 @@ impl Watcher for Show {
             How::Why(why) => why.after(&mut self.sheet, seen.store, one.who),
             How::Page(page) => page.steps.after(&mut self.sheet, seen, one),
         }
-        self.sheet.checked()
+        Ok(())
     }
 
     fn stops(&mut self, seen: Seen<'_>, ready: &Ready, stop: Stop) -> Result<(), NoMemory> {
@@ -52,7 +52,7 @@ impl Watcher for Show {
             How::Why(why) => why.stops(&mut self.sheet, seen, ready, stop),
             How::Page(page) => page.stops(&mut self.sheet, seen, stop),
         }
-        self.sheet.checked()
+        Ok(())
     }
 }
 

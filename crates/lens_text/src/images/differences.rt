@@ -4,10 +4,10 @@ use std::collections::BTreeSet;
 
 /// The lines of a text. Where there is no memory for them, the sheet notes that.
 fn lines_of<'a>(sheet: &mut Sheet, text: &'a str) -> BTreeSet<&'a str> {
-    let mut lines = BTreeSet::new(sheet.alloc());
+    let mut lines = BTreeSet::new(sheet.alloc);
     for line in text.lines() {
         if lines.insert(line).is_err() {
-            sheet.lack();
+            sheet.is_short = true;
         }
     }
     lines

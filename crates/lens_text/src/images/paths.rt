@@ -4,7 +4,7 @@ use fk_image::{Link, SpaceRec};
 
 /// The path of what lies in a slot of the space with this path. Where there is no memory for it, the sheet notes that.
 pub fn path_in(sheet: &mut Sheet, space: &str, slot: u8) -> String {
-    let mut path = Sheet::new(sheet.alloc());
+    let mut path = Sheet::new(sheet.alloc);
     path.put(space);
     path.put_number("/", slot as u64);
     sheet.taken(path)
@@ -12,14 +12,14 @@ pub fn path_in(sheet: &mut Sheet, space: &str, slot: u8) -> String {
 
 /// The paths of spaces, each behind the one in which it lies. The root's is empty.
 pub fn paths_of(sheet: &mut Sheet, spaces: &[SpaceRec]) -> Vec<String> {
-    let mut paths: Vec<String> = Vec::new(sheet.alloc());
+    let mut paths: Vec<String> = Vec::new(sheet.alloc);
     for space in spaces {
         let path = match paths.get(space.parent as usize) {
             Some(parent) => path_in(sheet, parent.as_str(), space.slot),
-            None => String::new(sheet.alloc()),
+            None => String::new(sheet.alloc),
         };
         if paths.push(path).is_err() {
-            sheet.lack();
+            sheet.is_short = true;
         }
     }
     paths

@@ -1,8 +1,8 @@
 //! The lines of a thread.
 use crate::calls::push_call;
 use crate::images::paths::push_pointer;
-use crate::sheet::Sheet;
-use crate::statuses::halt_text;
+use crate::sheet::{Sheet, line_at};
+use crate::statuses::HALTS;
 use fk_image::ThreadRec;
 
 /// Adds the lines of a thread's talk and of its fault.
@@ -42,8 +42,10 @@ pub fn push_thread(sheet: &mut Sheet, path: &str, paths: &[String], thread: &Thr
             sheet.put("\n");
         }
         _ => {
-            sheet.put_between(", halted ", thread.code as u64, ", ");
-            sheet.put_three(halt_text(thread.code), "\n", "");
+            let code = thread.code as u64;
+            sheet.put_between(", halted ", code, ", ");
+            sheet.put(line_at(HALTS, code));
+            sheet.put("\n");
         }
     }
     if thread.stops > 0 {

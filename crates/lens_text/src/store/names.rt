@@ -3,18 +3,17 @@ use crate::sheet::Sheet;
 use fk_model::limits::OWN_SPACE;
 use fk_model::{Body, Ptr, Who};
 use fk_store::Store;
-use std::collections::BTreeMap;
 
 /// The slots from the root down to an object.
-fn slots_of(sheet: &mut Sheet, store: &Store, who: Who) -> Vec<u8> {
-    let mut slots = Vec::new(sheet.alloc());
+pub fn slots_of(sheet: &mut Sheet, store: &Store, who: Who) -> Vec<u8> {
+    let mut slots = Vec::new(sheet.alloc);
     let mut next = Some(who);
     for _ in 0..u64::MAX {
         let Some(one) = next else {
             break;
         };
         if slots.push(one.slot).is_err() {
-            sheet.lack();
+            sheet.is_short = true;
         }
         next = store.home(one.space);
     }
@@ -22,28 +21,28 @@ fn slots_of(sheet: &mut Sheet, store: &Store, who: Who) -> Vec<u8> {
     slots
 }
 
-/// Adds the path of an object from the root, between two texts.
-pub fn push_path(sheet: &mut Sheet, store: &Store, before: &str, who: Who, behind: &str) {
+/// Adds the path of an object from the root behind a text.
+pub fn push_path(sheet: &mut Sheet, store: &Store, before: &str, who: Who) {
     sheet.put(before);
     for slot in &slots_of(sheet, store, who) {
         sheet.put_number("/", *slot as u64);
     }
-    sheet.put(behind);
 }
 
 /// Adds the path of an object behind a text, where there is one.
 pub fn push_named(sheet: &mut Sheet, store: &Store, before: &str, who: Option<Who>) {
     if let Some(who) = who {
-        push_path(sheet, store, before, who, "");
+        push_path(sheet, store, before, who);
     }
 }
 
 /// Adds where a pointer leads, behind a text.
 pub fn push_pointer(sheet: &mut Sheet, store: &Store, before: &str, pointer: Ptr) {
+    sheet.put(before);
     match pointer {
-        Ptr::Null => sheet.put_three(before, "nothing", ""),
-        Ptr::Dead => sheet.put_three(before, "what was destroyed", ""),
-        Ptr::At(who) => push_path(sheet, store, before, who, ""),
+        Ptr::Null => sheet.put("nothing"),
+        Ptr::Dead => sheet.put("what was destroyed"),
+        Ptr::At(who) => push_path(sheet, store, "", who),
     }
 }
 
@@ -75,20 +74,30 @@ pub fn object_named(store: &Store, space: u32, place: u64, slot: u64) -> Option<
     }
 }
 
-/// All objects but the root, by their paths: each space before what lies in it, and what lies in one by rising slot. Where there is no
-/// memory for them, the sheet notes that.
-pub fn names_of(sheet: &mut Sheet, store: &Store) -> BTreeMap<Vec<u8>, Who> {
-    let mut names = BTreeMap::new(sheet.alloc());
-    let mut last = None;
+/// The object behind another in the tree of spaces, and the first where there is none: each space stands before what lies in it, and what
+/// lies in one by rising slot.
+pub fn next_in_tree(store: &Store, last: Option<Who>) -> Option<Who> {
+    let inner = match last {
+        Some(who) => match store.at(who) {
+            Some(Body::Space { birth, .. }) => Some(*birth),
+            _ => None,
+        },
+        None => Some(0),
+    };
+    if let Some(space) = inner {
+        if let Some(slot) = store.first_resident(space) {
+            return Some(Who { space, slot });
+        }
+    }
+    let mut passed = last;
     for _ in 0..u64::MAX {
-        let Some(who) = store.after(last) else {
+        let Some(one) = passed else {
             break;
         };
-        let slots = slots_of(sheet, store, who);
-        if names.insert(slots, who).is_err() {
-            sheet.lack();
+        match store.after(passed) {
+            Some(next) if next.space == one.space => return Some(next),
+            _ => passed = store.home(one.space),
         }
-        last = Some(who);
     }
-    names
+    None
 }

@@ -2,7 +2,7 @@
 use crate::calls::push_call;
 use crate::instructions::push_instruction;
 use crate::sheet::{Sheet, line_at};
-use crate::statuses::halt_text;
+use crate::statuses::HALTS;
 use crate::store::names::push_path;
 use fk_model::{Mode, Peer, Thread, Turn, Who};
 use fk_store::{Reach, Store};
@@ -33,7 +33,7 @@ pub fn push_at(sheet: &mut Sheet, store: &Store, who: Who, thread: &Thread) {
         }
         Mode::Halted(code) => {
             sheet.fill("halted @ at @: ", code as u64, thread.pc, 0);
-            sheet.put(halt_text(code));
+            sheet.put(line_at(HALTS, code as u64));
         }
         Mode::Native => sheet.put("a porter"),
     }
@@ -41,10 +41,11 @@ pub fn push_at(sheet: &mut Sheet, store: &Store, who: Who, thread: &Thread) {
 
 /// Adds who serves a talk, or has taken a fault, behind a text.
 fn push_peer(sheet: &mut Sheet, store: &Store, before: &str, peer: Peer) {
+    sheet.put(before);
     match peer {
-        Peer::Thread(who) => push_path(sheet, store, before, who, ""),
-        Peer::Service => sheet.put_three(before, "the port's native server", ""),
-        Peer::Parked => sheet.put_three(before, "nobody yet (parked)", ""),
+        Peer::Thread(who) => push_path(sheet, store, "", who),
+        Peer::Service => sheet.put("the port's native server"),
+        Peer::Parked => sheet.put("nobody yet (parked)"),
     }
 }
 
@@ -62,7 +63,7 @@ pub fn push_thread(sheet: &mut Sheet, store: &Store, before: &str, who: Who, thr
         stops => sheet.put_between("; stopped ", stops as u64, " times"),
     }
     if let Some(talk) = thread.talk {
-        push_path(sheet, store, "; talk at ", talk.port, "");
+        push_path(sheet, store, "; talk at ", talk.port);
         push_peer(sheet, store, " with ", talk.peer);
         let turn = match talk.turn {
             Turn::Client => ", client's turn, words moved ",
@@ -73,9 +74,9 @@ pub fn push_thread(sheet: &mut Sheet, store: &Store, before: &str, who: Who, thr
     if let Some(fault) = &thread.fault {
         sheet.fill(line_at(FAULTS, fault.write as u64), fault.page as u64, 0, 0);
         match fault.taker {
-            None => push_path(sheet, store, ", raised at ", fault.port, ""),
+            None => push_path(sheet, store, ", raised at ", fault.port),
             Some(taker) => {
-                push_path(sheet, store, ", at ", fault.port, "");
+                push_path(sheet, store, ", at ", fault.port);
                 push_peer(sheet, store, ", taken by ", taker);
             }
         }

@@ -1,16 +1,16 @@
 //! The tree of spaces.
 use crate::sheet::Sheet;
-use crate::store::names::{names_of, push_path};
+use crate::store::names::{next_in_tree, push_path, slots_of};
 use crate::store::objects::{push_home, push_object};
 use fk_model::Who;
 use fk_store::Store;
 
 /// Adds the line of an object, by two blanks further in than that of its space.
-fn push_line(sheet: &mut Sheet, store: &Store, slots: &[u8], who: Who) {
-    for _ in slots {
+fn push_line(sheet: &mut Sheet, store: &Store, who: Who) {
+    for _ in &slots_of(sheet, store, who) {
         sheet.put("  ");
     }
-    push_path(sheet, store, "", who, "");
+    push_path(sheet, store, "", who);
     if let Some(body) = store.at(who) {
         sheet.put(" ");
         push_object(sheet, store, who, body);
@@ -24,7 +24,12 @@ pub fn push_tree(sheet: &mut Sheet, store: &Store) {
     sheet.put("/ ");
     push_home(sheet, store, 0, None);
     sheet.put("\n");
-    for (slots, who) in &names_of(sheet, store) {
-        push_line(sheet, store, slots.as_slice(), *who);
+    let mut last = None;
+    for _ in 0..u64::MAX {
+        let Some(who) = next_in_tree(store, last) else {
+            break;
+        };
+        push_line(sheet, store, who);
+        last = Some(who);
     }
 }

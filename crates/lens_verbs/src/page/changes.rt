@@ -36,10 +36,11 @@ pub fn few_changed(store: &Store, one: &Move) -> Option<Few> {
 pub fn push_objects(sheet: &mut Sheet, known: &mut Known, store: &Store, names: &[Who]) {
     for who in names {
         if let Some(last) = known.get_mut(who) {
-            let mut line = Sheet::new(sheet.alloc());
+            let mut line = Sheet::new(sheet.alloc);
             line.fill("=@.@", who.space as u64, who.slot as u64, 0);
             if let Some(body) = store.at(*who) {
-                push_path(&mut line, store, "\t", *who, "\t");
+                push_path(&mut line, store, "\t", *who);
+                line.put("\t");
                 push_object(&mut line, store, *who, body);
             }
             let line = sheet.taken(line);

@@ -26,8 +26,8 @@ impl Page {
         sheet.put_three(HEAD, name, "\n");
         Page {
             steps: Steps::new(sheet, 0, u64::MAX),
-            known: BTreeMap::new(sheet.alloc()),
-            names: Vec::new(sheet.alloc()),
+            known: BTreeMap::new(sheet.alloc),
+            names: Vec::new(sheet.alloc),
             few: None,
         }
     }
@@ -46,9 +46,9 @@ impl Page {
                 break;
             };
             if !self.known.contains_key(&who) {
-                let line = String::new(sheet.alloc());
+                let line = String::new(sheet.alloc);
                 if self.known.insert(who, line).is_err() | self.names.push(who).is_err() {
-                    sheet.lack();
+                    sheet.is_short = true;
                 }
             }
             next = store.after(next);
@@ -59,7 +59,7 @@ impl Page {
     /// It sees what stands before a move, and adds what the one before has changed.
     pub fn before(&mut self, sheet: &mut Sheet, seen: Seen<'_>, one: &Move) {
         self.push_changes(sheet, seen.store);
-        self.steps.before(sheet.alloc(), seen, one);
+        self.steps.before(sheet.alloc, seen, one);
         self.few = few_changed(seen.store, one);
     }
 

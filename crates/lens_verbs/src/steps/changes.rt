@@ -1,7 +1,7 @@
 //! What a move has changed of threads.
 use fk_model::{Mode, Thread, Who};
 use fk_store::Store;
-use lens_text::{Sheet, halt_text, push_path, status_text};
+use lens_text::{HALTS, STATUSES, Sheet, line_at, push_path};
 
 /// Adds the registers of a thread that have changed, as `r1=5 r2=0`, behind its path where it isn't the mover, and behind those of others that begin at this
 /// place.
@@ -21,7 +21,8 @@ pub fn push_changed(
     }
     sheet.gap(start, "; ");
     if who != mover {
-        push_path(sheet, store, "", who, " ");
+        push_path(sheet, store, "", who);
+        sheet.put(" ");
     }
     let mut form = "r@=@";
     for number in 0..16usize {
@@ -41,18 +42,19 @@ pub fn push_ending(sheet: &mut Sheet, store: &Store, who: Who, before: &Thread) 
     };
     match (before.mode, after.mode) {
         (Mode::Calling, Mode::Running) => {
-            sheet.put_three("; the call ends, ", status_text(after.regs[0]), "");
+            sheet.put("; the call ends, ");
+            sheet.put(line_at(STATUSES, after.regs[0]));
         }
         (Mode::Running, Mode::Halted(code)) => {
             sheet.put_between("; it halts ", code as u64, ", ");
-            sheet.put(halt_text(code));
+            sheet.put(line_at(HALTS, code as u64));
         }
         _ => {}
     }
     if before.fault.is_none() {
         if let Some(fault) = &after.fault {
-            sheet.put_between("; it misses page ", fault.page as u64, "");
-            push_path(sheet, store, ", a fault at ", fault.port, "");
+            sheet.put_number("; it misses page ", fault.page as u64);
+            push_path(sheet, store, ", a fault at ", fault.port);
         }
     }
 }

@@ -56,7 +56,7 @@ impl Steps {
             push_ending(sheet, store, *who, before);
         }
         sheet.put("\t");
-        let start = sheet.len();
+        let start = sheet.text.len();
         for thread in &begun.threads {
             if let Some((who, before)) = thread {
                 push_changed(sheet, start, store, one.who, *who, before);

@@ -43,7 +43,8 @@ pub fn begin(alloc: Global, seen: Seen<'_>, one: &Move) -> Begun {
         head.fill(" @.@", pick.space as u64, pick.slot as u64, 0);
     }
     head.put_between("\t", seen.events, "\t");
-    push_path(&mut head, store, "", who, "\t");
+    push_path(&mut head, store, "", who);
+    head.put("\t");
     let (other, sending) = match store.thread(who) {
         Some(thread) => {
             let sending = match (thread.mode, first_stage(thread.regs[0])) {

@@ -44,10 +44,10 @@ fn state_of(native: &Native) -> ServerState {
 
 /// What native servers are at. Where there is no memory for it, the sheet notes that.
 pub fn states_of(sheet: &mut Sheet, services: &[(Who, Native)]) -> Vec<ServerState> {
-    let mut states = Vec::new(sheet.alloc());
+    let mut states = Vec::new(sheet.alloc);
     for (_, native) in services {
         if states.push(state_of(native)).is_err() {
-            sheet.lack();
+            sheet.is_short = true;
         }
     }
     states
@@ -60,7 +60,7 @@ fn push_news(sheet: &mut Sheet, native: &Native, was: ServerState) {
     if is.sent > was.sent {
         sheet.put(" words");
         for word in sent_to(native).get(was.sent..).unwrap_or(&[]) {
-            sheet.put_between(" ", *word, "");
+            sheet.put_number(" ", *word);
         }
     } else if (is.left < was.left) & (is.position == was.position) {
         sheet.put_between(" gave ", was.left.saturating_sub(is.left) as u64, " words");
@@ -82,18 +82,19 @@ pub fn push_told(
     services: &[(Who, Native)],
     before: &[ServerState],
 ) {
-    let start = sheet.len();
+    let start = sheet.text.len();
     let mut states = before;
     for (port, native) in services {
         let Some((was, later)) = states.split_first() else {
             break;
         };
         states = later;
-        let mut news = Sheet::new(sheet.alloc());
+        let mut news = Sheet::new(sheet.alloc);
         push_news(&mut news, native, *was);
-        if news.len() > 0 {
+        if !news.text.is_empty() {
             sheet.gap(start, "; ");
-            push_path(sheet, store, "", *port, " ");
+            push_path(sheet, store, "", *port);
+            sheet.put(" ");
             sheet.put(match native {
                 Native::Console(console) => console.alias.as_str(),
                 Native::Server(server) => rule_name(server.rule),

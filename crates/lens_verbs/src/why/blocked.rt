@@ -19,19 +19,15 @@ fn push_awaited(sheet: &mut Sheet, store: &Store, lockers: &Lockers, code: u64, 
     match code {
         13 => match holder_of(store, named) {
             Some(holder) => {
-                push_path(sheet, store, "waits until ", named, " is released");
+                push_path(sheet, store, "waits until ", named);
+                sheet.put(" is released");
                 push_whereabouts(sheet, store, " by ", holder);
             }
-            None => push_path(sheet, store, BENEATH, named, ""),
+            None => push_path(sheet, store, BENEATH, named),
         },
         21 => {
-            push_path(
-                sheet,
-                store,
-                "waits until the mutex ",
-                named,
-                " is unlocked, which ",
-            );
+            push_path(sheet, store, "waits until the mutex ", named);
+            sheet.put(" is unlocked, which ");
             match lockers.get(&named) {
                 Some(locker) => {
                     push_whereabouts(sheet, store, "", *locker);
@@ -40,13 +36,10 @@ fn push_awaited(sheet: &mut Sheet, store: &Store, lockers: &Lockers, code: u64, 
                 None => sheet.put("no move so far locked"),
             }
         }
-        25 => push_path(
-            sheet,
-            store,
-            "sleeps until the condition ",
-            named,
-            " is signalled",
-        ),
+        25 => {
+            push_path(sheet, store, "sleeps until the condition ", named);
+            sheet.put(" is signalled");
+        }
         32 | 33 => push_port(
             sheet,
             store,
@@ -54,7 +47,7 @@ fn push_awaited(sheet: &mut Sheet, store: &Store, lockers: &Lockers, code: u64, 
             named,
             " is accepted",
         ),
-        _ => push_path(sheet, store, COMES, named, ""),
+        _ => push_path(sheet, store, COMES, named),
     }
 }
 

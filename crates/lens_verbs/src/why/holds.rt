@@ -32,7 +32,7 @@ pub fn held_over(store: &Store, object: Option<Who>) -> Option<Who> {
 pub fn push_hold(sheet: &mut Sheet, store: &Store, before: &str, space: Who) {
     if let Some(holder) = holder_of(store, space) {
         push_place(sheet, store, before, holder);
-        push_path(sheet, store, " on ", space, "");
+        push_path(sheet, store, " on ", space);
     }
 }
 

@@ -4,7 +4,7 @@ use crate::why::reasons::{Lockers, push_reason};
 use fk_first::{Ready, Seen, Stop};
 use fk_model::{Mode, Who};
 use fk_store::Store;
-use lens_text::{Sheet, handled, names_of, push_asked, push_at, push_path};
+use lens_text::{Sheet, handled, next_in_tree, push_asked, push_at, push_path};
 use std::alloc::Global;
 use std::collections::BTreeMap;
 
@@ -25,13 +25,15 @@ fn push_thread(sheet: &mut Sheet, seen: Seen<'_>, lockers: &Lockers, who: Who) {
     match thread.mode {
         Mode::Native => match seen.job {
             Some(job) if job.porter == who => {
-                push_path(sheet, store, "", who, " a porter, ");
+                push_path(sheet, store, "", who);
+                sheet.put(" a porter, ");
                 push_asked(sheet, &job.stage);
             }
             _ => return,
         },
         _ => {
-            push_path(sheet, store, "", who, " ");
+            push_path(sheet, store, "", who);
+            sheet.put(" ");
             push_at(sheet, store, who, thread);
         }
     }
@@ -68,7 +70,7 @@ impl Why {
         if let Some(mutex) = self.locking {
             if let Some(true) = store.mutex(mutex) {
                 if self.lockers.insert(mutex, mover).is_err() {
-                    sheet.lack();
+                    sheet.is_short = true;
                 }
             }
         }
@@ -79,10 +81,15 @@ impl Why {
         if let Stop::Unready { one, .. } = stop {
             push_move(sheet, seen, ready, &self.lockers, &one);
         }
-        for (_, who) in &names_of(sheet, seen.store) {
-            if !ready.contains_key(who) {
-                push_thread(sheet, seen, &self.lockers, *who);
+        let mut last = None;
+        for _ in 0..u64::MAX {
+            let Some(who) = next_in_tree(seen.store, last) else {
+                break;
+            };
+            if !ready.contains_key(&who) {
+                push_thread(sheet, seen, &self.lockers, who);
             }
+            last = Some(who);
         }
     }
 }

@@ -9,21 +9,18 @@ use lens_text::{Sheet, push_path};
 pub fn push_move(sheet: &mut Sheet, seen: Seen<'_>, ready: &Ready, lockers: &Lockers, one: &Move) {
     let (store, who) = (seen.store, one.who);
     sheet.put_between("move ", seen.events, " of ");
-    push_path(sheet, store, "", who, ", ");
+    push_path(sheet, store, "", who);
+    sheet.put(", ");
     push_act(sheet, seen, one);
     match one.pick {
-        Some(pick) => push_path(sheet, store, ", with the pick ", pick, ", isn't ready: "),
-        None => sheet.put(", without a pick, isn't ready: "),
+        Some(pick) => push_path(sheet, store, ", with the pick ", pick),
+        None => sheet.put(", without a pick"),
     }
+    sheet.put(", isn't ready: ");
     match (store.at(who), ready.get(&who)) {
         (Some(Body::Thread(_)), Some(Some(pick))) => {
-            push_path(
-                sheet,
-                store,
-                "it has a ready move, but with the pick ",
-                *pick,
-                "",
-            );
+            let before = "it has a ready move, but with the pick ";
+            push_path(sheet, store, before, *pick);
         }
         (Some(Body::Thread(_)), Some(None)) => {
             sheet.put("it has a ready move, but without a pick");

@@ -6,7 +6,8 @@ use lens_text::{Sheet, push_path, push_thread};
 
 /// Adds a thread by its path behind a text, and what it is at.
 pub fn push_place(sheet: &mut Sheet, store: &Store, before: &str, who: Who) {
-    push_path(sheet, store, before, who, " (");
+    push_path(sheet, store, before, who);
+    sheet.put(" (");
     match store.thread(who) {
         Some(thread) => push_thread(sheet, store, "", who, thread),
         None => sheet.put("no thread"),

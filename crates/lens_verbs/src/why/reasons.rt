@@ -6,7 +6,7 @@ use crate::why::talks::push_port;
 use fk_first::Seen;
 use fk_model::{Mode, Peer, Thread, Todo, Who};
 use fk_stages::words;
-use lens_text::{Sheet, halt_text};
+use lens_text::{HALTS, Sheet, line_at};
 use std::collections::BTreeMap;
 
 /// Who has locked a mutex last, by what the run so far tells.
@@ -40,7 +40,7 @@ pub fn push_reason(
         Mode::Native => return push_job(sheet, seen, lockers, who),
         Mode::Halted(code) => {
             sheet.put_between("has halted ", code as u64, ", ");
-            return sheet.put(halt_text(code));
+            return sheet.put(line_at(HALTS, code as u64));
         }
         _ => {}
     }

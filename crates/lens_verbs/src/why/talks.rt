@@ -17,23 +17,24 @@ fn push_server(sheet: &mut Sheet, store: &Store, set: Who) {
             let is_waiting = matches!((thread.mode, thread.regs[0]), (Mode::Calling, 48 | 49));
             if is_waiting && handled(store, set.space, thread.regs[1]) == Some(set) {
                 push_whereabouts(sheet, store, "; ", who);
-                return push_path(sheet, store, " waits at its set ", set, "");
+                return push_path(sheet, store, " waits at its set ", set);
             }
             if first.is_none() {
                 first = Some(who);
             }
         }
     }
-    push_path(sheet, store, "; nobody waits at its set ", set, ", and ");
+    push_path(sheet, store, "; nobody waits at its set ", set);
     match first {
-        Some(who) => push_whereabouts(sheet, store, "in its space is ", who),
-        None => sheet.put("no thread is in its space"),
+        Some(who) => push_whereabouts(sheet, store, ", and in its space is ", who),
+        None => sheet.put(", and no thread is in its space"),
     }
 }
 
 /// Adds a port between two texts, and who could take what stands there.
 pub fn push_port(sheet: &mut Sheet, store: &Store, before: &str, port: Who, behind: &str) {
-    push_path(sheet, store, before, port, behind);
+    push_path(sheet, store, before, port);
+    sheet.put(behind);
     match store.at(port) {
         Some(Body::Port { served: true, .. }) => match store.client_at(port) {
             Some(client) => {
@@ -72,7 +73,7 @@ pub fn push_client(sheet: &mut Sheet, store: &Store, who: Who) {
     let port = talk.port;
     match talk.peer {
         Peer::Thread(server) => push_whereabouts(sheet, store, "waits for its server ", server),
-        Peer::Service => push_path(sheet, store, "waits for the native server of ", port, ""),
+        Peer::Service => push_path(sheet, store, "waits for the native server of ", port),
         Peer::Parked => push_port(
             sheet,
             store,
