@@ -72,9 +72,15 @@ hold_set s=@ x=@ thread=@
 space_make_held x=@
 ";
 
-/// Adds stages that are left of the call with this code, by their form: where the first is one of later stages, the registers of those
-/// before it are none of its arguments.
-fn push_form(sheet: &mut Sheet, form: &str, code: u64, registers: &[u64; 16]) {
+/// Adds the stages that are left of the call that registers hold, or the first of them alone: its name, and each argument with its register.
+/// Where the first is one of later stages, the registers of those before it are none of its arguments.
+pub fn push_call(sheet: &mut Sheet, registers: &[u64; 16], is_first_alone: bool) {
+    let code = registers[0];
+    let whole = line_at(FORMS, code);
+    let form = match whole.split_once(',') {
+        Some((first, _)) if is_first_alone => first,
+        _ => whole,
+    };
     if form.is_empty() {
         return sheet.put_number("no call, ", code);
     }
@@ -84,19 +90,6 @@ fn push_form(sheet: &mut Sheet, form: &str, code: u64, registers: &[u64; 16]) {
         49 => sheet.fill(form, registers[1], registers[4], registers[5]),
         _ => sheet.fill_all(form, &registers[1..6]),
     }
-}
-
-/// Adds the first stage of the call with this code: its name, and each argument with its register.
-pub fn push_stage(sheet: &mut Sheet, code: u64, registers: &[u64; 16]) {
-    let form = line_at(FORMS, code);
-    let (first, _) = form.split_once(',').unwrap_or((form, ""));
-    push_form(sheet, first, code, registers);
-}
-
-/// Adds all stages that are left of the call that registers hold.
-pub fn push_call(sheet: &mut Sheet, registers: &[u64; 16]) {
-    let code = registers[0];
-    push_form(sheet, line_at(FORMS, code), code, registers);
 }
 
 /// The code of the first stage of a call, as a call of that stage alone.
@@ -114,5 +107,5 @@ pub fn first_stage(code: u64) -> u64 {
 
 /// Adds a porter's stage.
 pub fn push_asked(sheet: &mut Sheet, stage: &Stage) {
-    push_call(sheet, &words(&Todo::One(*stage), &[0; 16]));
+    push_call(sheet, &words(&Todo::One(*stage), &[0; 16]), false);
 }

@@ -24,7 +24,7 @@ mod store;
 mod words;
 
 pub use asked::{Asked, Verb, asked_in};
-pub use calls::{first_stage, push_asked, push_stage};
+pub use calls::{first_stage, push_asked, push_call};
 pub use faults::{given, told};
 pub use files::{file_of, source_text};
 pub use images::{push_differences, push_image};

@@ -101,14 +101,6 @@ impl Sheet {
         self.fill(form, one, two, three);
     }
 
-    /// Adds the row of a word: the line that assembles to it, its address and its 16 digits.
-    pub fn put_row(&mut self, line: &Sheet, address: usize, word: u64) {
-        let text = line.text.as_str();
-        if line.is_short | write!(self.text, "{text:<30} ; {address:>5} {word:016x}\n").is_err() {
-            self.is_short = true;
-        }
-    }
-
     /// Adds that a word, which stands in quotes, isn't what was expected.
     pub fn put_wrong(&mut self, word: &String, expected: &str) {
         if write!(self.text, "{word:?}: expected {expected}").is_err() {

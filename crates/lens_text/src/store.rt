@@ -9,6 +9,6 @@ mod threads;
 mod tree;
 
 pub use names::{handled, next_in_tree, object_named, push_named, push_path};
-pub use objects::{last_of, push_home, push_object};
+pub use objects::{push_home, push_object, push_pages};
 pub use threads::{push_at, push_thread, word_at};
 pub use tree::push_tree;

@@ -22,7 +22,9 @@ fn rows_of(alloc: Global, words: &[u64]) -> Sheet {
     for (address, word) in words.iter().enumerate() {
         let mut line = Sheet::new(alloc);
         push_instruction(&mut line, *word);
-        rows.put_row(&line, address, *word);
+        let text = line.text.as_str();
+        let is_written = write!(rows.text, "{text:<30} ; {address:>5} {word:016x}\n").is_ok();
+        rows.is_short = rows.is_short | line.is_short | !is_written;
     }
     rows
 }

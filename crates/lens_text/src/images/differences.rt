@@ -22,13 +22,13 @@ pub fn push_differences(sheet: &mut Sheet, first: &str, second: &str) {
     for _ in 0..u64::MAX {
         let (line, behind) = first_line(later);
         let (other, behind_other) = first_line(others);
-        if !later.is_empty() && !in_second.contains(line) {
+        if !later.is_empty() & !in_second.contains(line) {
             sheet.put_three("- ", line, "\n");
             later = behind;
-        } else if !others.is_empty() && !in_first.contains(other) {
+        } else if !others.is_empty() & !in_first.contains(other) {
             sheet.put_three("+ ", other, "\n");
             others = behind_other;
-        } else if later.is_empty() && others.is_empty() {
+        } else if later.is_empty() & others.is_empty() {
             break;
         } else {
             later = behind;

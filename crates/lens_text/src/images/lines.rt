@@ -1,7 +1,7 @@
 //! All lines of an image.
 use crate::images::objects::push_object;
 use crate::images::pages::push_page;
-use crate::images::paths::{paths_of, push_pointer};
+use crate::images::paths::{path_in, paths_of, push_pointer};
 use crate::sheet::Sheet;
 use fk_image::{Link, SpaceRec};
 
@@ -15,7 +15,8 @@ fn push_space(sheet: &mut Sheet, path: &str, paths: &[String], space: &SpaceRec)
         holder => push_pointer(sheet, shown, " held by ", paths, holder),
     }
     for object in space.objects.as_slice() {
-        push_object(sheet, path, paths, object);
+        let own = path_in(sheet, path, object.slot);
+        push_object(sheet, own.as_str(), paths, &object.body);
     }
     for page in space.pages.as_slice() {
         push_page(sheet, shown, page);
@@ -25,12 +26,9 @@ fn push_space(sheet: &mut Sheet, path: &str, paths: &[String], space: &SpaceRec)
 /// Adds an image by its spaces, in their order.
 pub fn push_image(sheet: &mut Sheet, spaces: &[SpaceRec]) {
     let paths = paths_of(sheet, spaces);
-    let mut later = spaces;
-    for path in &paths {
-        let Some((space, rest)) = later.split_first() else {
-            break;
-        };
-        push_space(sheet, path.as_str(), &paths, space);
-        later = rest;
+    for (place, space) in spaces.iter().enumerate() {
+        if let Some(path) = paths.get(place) {
+            push_space(sheet, path.as_str(), &paths, space);
+        }
     }
 }

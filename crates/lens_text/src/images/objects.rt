@@ -1,9 +1,9 @@
 //! The lines of an object.
-use crate::images::paths::{path_in, push_pointer};
+use crate::images::paths::push_pointer;
 use crate::images::threads::push_thread;
 use crate::sheet::{Sheet, line_at};
-use crate::store::last_of;
-use fk_image::{ObjectRec, Rec, kind_of_rec};
+use crate::store::push_pages;
+use fk_image::{Rec, kind_of_rec};
 
 /// Kinds by their numbers.
 const KINDS: &str = "
@@ -17,13 +17,10 @@ space
 thread
 reference";
 
-/// Adds the lines of an object in a space with this path: its own, and that of its one pointer, where it has one; of a thread all of its lines.
-pub fn push_object(sheet: &mut Sheet, space: &str, paths: &[String], object: &ObjectRec) {
-    let owned = path_in(sheet, space, object.slot);
-    let path = owned.as_str();
-    let kind = kind_of_rec(&object.body) as u64;
-    sheet.put_three(line_at(KINDS, kind), " ", path);
-    match &object.body {
+/// Adds the lines of an object with this path: its own, and that of its one pointer, where it has one; of a thread all of its lines.
+pub fn push_object(sheet: &mut Sheet, path: &str, paths: &[String], body: &Rec) {
+    sheet.put_three(line_at(KINDS, kind_of_rec(body) as u64), " ", path);
+    match body {
         Rec::Mutex { locked: 1 } => sheet.put(" locked\n"),
         Rec::Port { set } if *set > 0 => {
             let slot = (*set as u64).saturating_sub(1);
@@ -36,13 +33,8 @@ pub fn push_object(sheet: &mut Sheet, space: &str, paths: &[String], object: &Ob
             write,
             region,
         } => {
-            let form = if *write == 1 {
-                " pages @ to @, writable, from the region's page @ on\n"
-            } else {
-                " pages @ to @, read only, from the region's page @ on\n"
-            };
-            let last = last_of(*first, *count);
-            sheet.fill(form, *first as u64, last, *offset as u64);
+            push_pages(sheet, *first, *count, *write == 1);
+            sheet.put_between(", from the region's page ", *offset as u64, " on\n");
             push_pointer(sheet, path, " region ", paths, *region);
         }
         Rec::Region {
@@ -51,12 +43,8 @@ pub fn push_object(sheet: &mut Sheet, space: &str, paths: &[String], object: &Ob
             write,
             keeper,
         } => {
-            let form = if *write == 1 {
-                " pages @ to @, writable\n"
-            } else {
-                " pages @ to @, read only\n"
-            };
-            sheet.fill(form, *first as u64, last_of(*first, *count), 0);
+            push_pages(sheet, *first, *count, *write == 1);
+            sheet.put("\n");
             push_pointer(sheet, path, " keeper ", paths, *keeper);
         }
         Rec::Reference { to } => {

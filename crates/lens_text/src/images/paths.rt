@@ -28,15 +28,16 @@ pub fn paths_of(sheet: &mut Sheet, spaces: &[SpaceRec]) -> Vec<String> {
 /// Adds the line of a pointer of a space or an object with this path, by what it is called, between blanks: where it leads.
 pub fn push_pointer(sheet: &mut Sheet, path: &str, name: &str, paths: &[String], link: Link) {
     sheet.put_three("pointer ", path, name);
-    match link {
-        Link::Null => sheet.put("null\n"),
-        Link::Dead => sheet.put("dead\n"),
-        Link::Root => sheet.put("/\n"),
-        Link::Outside => sheet.put("outside\n"),
-        Link::Out(slot) => sheet.put_between("out ", slot as u64, "\n"),
+    let place = match link {
+        Link::Null => "null\n",
+        Link::Dead => "dead\n",
+        Link::Root => "/\n",
+        Link::Outside => "outside\n",
+        Link::Out(slot) => return sheet.put_between("out ", slot as u64, "\n"),
         Link::In { slot, space } => match paths.get(space as usize) {
-            Some(path) => sheet.line("", path.as_str(), "/@\n", slot as u64, 0, 0),
-            None => sheet.put("nothing\n"),
+            Some(path) => return sheet.line("", path.as_str(), "/@\n", slot as u64, 0, 0),
+            None => "nothing\n",
         },
-    }
+    };
+    sheet.put(place);
 }

@@ -38,7 +38,7 @@ pub fn push_thread(sheet: &mut Sheet, path: &str, paths: &[String], thread: &Thr
         0 => sheet.put(", running\n"),
         1 => {
             sheet.put(", calling ");
-            push_call(sheet, &thread.regs);
+            push_call(sheet, &thread.regs, false);
             sheet.put("\n");
         }
         _ => {

@@ -5,7 +5,7 @@ use fk_model::{Body, Ptr, Who};
 use fk_store::Store;
 
 /// The slots from the root down to an object.
-pub fn slots_of(sheet: &mut Sheet, store: &Store, who: Who) -> Vec<u8> {
+fn slots_of(sheet: &mut Sheet, store: &Store, who: Who) -> Vec<u8> {
     let mut slots = Vec::new(sheet.alloc);
     let mut next = Some(who);
     for _ in 0..u64::MAX {

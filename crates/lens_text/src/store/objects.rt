@@ -5,17 +5,15 @@ use crate::store::threads::push_thread;
 use fk_model::{Body, Who};
 use fk_store::Store;
 
-/// Mappings that are only read, and those that are written to.
-const MAPPINGS: &str = "mapping of pages @ to @, read only, from page @
-mapping of pages @ to @, writable, from page @";
+/// Pages that are only read, and those that are written to.
+const PAGES: &str = " pages @ to @, read only
+ pages @ to @, writable";
 
-/// The same of regions.
-const REGIONS: &str = "region of pages @ to @, read only
-region of pages @ to @, writable";
-
-/// The last of so many pages from one on.
-pub fn last_of(first: u8, count: u16) -> u64 {
-    first as u64 + count.saturating_sub(1) as u64
+/// Adds which pages a mapping or a region has, so many from one on.
+pub fn push_pages(sheet: &mut Sheet, first: u8, count: u16, is_writable: bool) {
+    let first = first as u64;
+    let last = first + count.saturating_sub(1) as u64;
+    sheet.fill(line_at(PAGES, is_writable as u64), first, last, 0);
 }
 
 /// Adds a space: its birth number, its holder, its pages.
@@ -58,9 +56,9 @@ pub fn push_object(sheet: &mut Sheet, store: &Store, who: Who, body: &Body) {
             write,
             region,
         } => {
-            let form = line_at(MAPPINGS, *write as u64);
-            let last = last_of(*first, *count);
-            sheet.fill(form, *first as u64, last, *offset as u64);
+            sheet.put("mapping of");
+            push_pages(sheet, *first, *count, *write);
+            sheet.put_number(", from page ", *offset as u64);
             push_pointer(sheet, store, " on of region ", *region);
         }
         Body::Region {
@@ -69,8 +67,8 @@ pub fn push_object(sheet: &mut Sheet, store: &Store, who: Who, body: &Body) {
             write,
             keeper,
         } => {
-            let form = line_at(REGIONS, *write as u64);
-            sheet.fill(form, *first as u64, last_of(*first, *count), 0);
+            sheet.put("region of");
+            push_pages(sheet, *first, *count, *write);
             push_pointer(sheet, store, ", kept by ", *keeper);
         }
         Body::Reference { to } => push_pointer(sheet, store, "reference to ", *to),

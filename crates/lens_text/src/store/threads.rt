@@ -29,7 +29,7 @@ pub fn push_at(sheet: &mut Sheet, store: &Store, who: Who, thread: &Thread) {
         }
         Mode::Calling => {
             sheet.put_between("calling at ", thread.pc, ": ");
-            push_call(sheet, &thread.regs);
+            push_call(sheet, &thread.regs, false);
         }
         Mode::Halted(code) => {
             sheet.fill("halted @ at @: ", code as u64, thread.pc, 0);

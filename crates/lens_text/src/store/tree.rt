@@ -1,14 +1,19 @@
 //! The tree of spaces.
 use crate::sheet::Sheet;
-use crate::store::names::{next_in_tree, push_path, slots_of};
+use crate::store::names::{next_in_tree, push_path};
 use crate::store::objects::{push_home, push_object};
 use fk_model::Who;
 use fk_store::Store;
 
 /// Adds the line of an object, by two blanks further in than that of its space.
 fn push_line(sheet: &mut Sheet, store: &Store, who: Who) {
-    for _ in &slots_of(sheet, store, who) {
+    let mut above = Some(who);
+    for _ in 0..u64::MAX {
+        let Some(one) = above else {
+            break;
+        };
         sheet.put("  ");
+        above = store.home(one.space);
     }
     push_path(sheet, store, "", who);
     if let Some(body) = store.at(who) {

@@ -3,9 +3,7 @@ use fk_first::Seen;
 use fk_model::{Ask, Body, Mode, Move, Peer, Thread, Who};
 use fk_natives::{Native, Service};
 use fk_store::Store;
-use lens_text::{
-    Sheet, first_stage, push_asked, push_instruction, push_named, push_stage, word_at,
-};
+use lens_text::{Sheet, first_stage, push_asked, push_call, push_instruction, push_named, word_at};
 
 /// What the native server of a port asks for.
 fn ask_of(services: &[(Who, Native)], port: Who) -> Option<Ask> {
@@ -39,7 +37,7 @@ fn push_thread_act(sheet: &mut Sheet, seen: Seen<'_>, one: &Move, thread: &Threa
         },
         Mode::Calling => {
             let code = thread.regs[0];
-            push_stage(sheet, code, &thread.regs);
+            push_call(sheet, &thread.regs, true);
             let peer = peer_of(seen.store, one.who, thread);
             match first_stage(code) {
                 37 | 38 | 51 | 52 => push_named(sheet, seen.store, " to ", peer),
