@@ -18,5 +18,5 @@ pub use first::first_core;
 pub use fk_boot::Kernel;
 pub use fk_core::Core;
 pub use plans::{maker_of, plans_of};
-pub use seen::{Job, Ready, Seen, Stop, Trace, Watcher};
+pub use seen::{Images, Job, Ready, Seen, Stop, Trace, Watcher};
 pub use watching::watch;

@@ -1,4 +1,5 @@
-//! What is seen of a run, and who watches it.
+//! What is seen of a run, who watches it, and who has images for it.
+use fk_finish::ValidImage;
 use fk_model::{Move, NoMemory, Stage, Who};
 use fk_natives::Native;
 use fk_store::Store;
@@ -77,4 +78,14 @@ pub trait Watcher {
     ///
     /// It has no memory.
     fn stops(&mut self, seen: Seen<'_>, ready: &Ready, stop: Stop) -> Result<(), NoMemory>;
+}
+
+/// Who has the images of a run's jobs.
+pub trait Images {
+    /// The image with this name. It is asked for those of restores that no job before them makes, in their order.
+    ///
+    /// # Errors
+    ///
+    /// It hasn't that image, which it notes itself, or there is no memory.
+    fn image(&mut self, name: &str) -> Result<ValidImage, NoMemory>;
 }

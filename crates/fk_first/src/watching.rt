@@ -5,12 +5,13 @@ ghost use Rattle.fk_scenario.specs.Kept.{KeepsScenario, HasRules};
 ghost use Rattle.fk_core.specs.Served.{AllFit};
 
 use crate::first::first_core;
+use crate::plans::maker_of;
 use crate::ready::ready_threads;
-use crate::seen::{Job, Seen, Stop, Trace, Watcher};
+use crate::seen::{Images, Job, Seen, Stop, Trace, Watcher};
 use fk_core::Core;
 use fk_finish::ValidImage;
 use fk_model::limits::LAST_PORTER_SLOT;
-use fk_model::{NoMemory, Who};
+use fk_model::{JobSpec, NoMemory, Who};
 use fk_natives::Native;
 use fk_porters::Porter;
 use fk_responders::Table;
@@ -111,24 +112,55 @@ fn play_to_stop<V: Watcher>(
     Ok(stop)
 }
 
-/// Makes the moves of a trace from the first core of a scenario that was read by the rules of a table, with images for its jobs; shows them to
-/// a watcher, and answers where that stops. With no trace the watcher sees the first core alone. The core is let go here, so that
-/// who watches proves nothing of it.
+/// The image that the job at a place needs of who has images: that of a restore which no job before it makes.
+fn image_for<I: Images>(
+    jobs: &[JobSpec],
+    place: usize,
+    job: &JobSpec,
+    images: &mut I,
+) -> Result<Option<ValidImage>, NoMemory> {
+    let JobSpec::Restore { image, .. } = job else {
+        return Ok(None);
+    };
+    let name = image.as_str();
+    match maker_of(jobs, name) {
+        Some(maker) if maker < place => Ok(None),
+        _ => Ok(Some(images.image(name)?)),
+    }
+}
+
+/// The images that jobs need of who has them, in their order: one for each, or none.
+fn images_for<I: Images>(
+    alloc: Global,
+    jobs: &[JobSpec],
+    images: &mut I,
+) -> Result<Vec<Option<ValidImage>>, NoMemory> {
+    let mut list = Vec::new(alloc);
+    for job in jobs {
+        list.push(image_for(jobs, list.len(), job, images)?)?;
+    }
+    Ok(list)
+}
+
+/// Makes the moves of a trace from the first core of a scenario that was read by the rules of a table, with the images that its jobs need; shows
+/// them to a watcher, and answers where that stops. With no trace the watcher sees the first core alone. The core is let go here, and so are the
+/// images, so that who watches proves nothing of them.
 ///
 /// # Errors
 ///
-/// There is no memory.
-pub fn watch<V: Watcher>(
+/// There is no memory, or an image lacks.
+pub fn watch<I: Images, V: Watcher>(
     alloc: Global,
     table: &Table,
     scenario: &Scenario,
-    images: &[Option<ValidImage>],
+    images: &mut I,
     trace: Option<Trace<'_>>,
     watcher: &mut V,
 ) -> Result<Stop, NoMemory>
     requires keeps { KeepsScenario scenario.now }
     requires rules { HasRules (map (λ r. r.rule) table.now.list.items) scenario.now }
 {
-    let mut core = first_core(alloc, scenario, images)?;
+    let images = images_for(alloc, scenario.jobs.as_slice(), images)?;
+    let mut core = first_core(alloc, scenario, &images)?;
     play_to_stop(alloc, &mut core, table, trace, watcher)
 }

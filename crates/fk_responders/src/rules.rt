@@ -5,7 +5,7 @@ ghost use Rattle.fk_model.specs.Answers.{answer, reply_words};
 ghost use Rattle.fk_model.specs.declared.moves.Rule.TheVariants as rules;
 
 use crate::words::reply_of;
-use fk_model::Reply;
+use fk_model::{Reply, Rule};
 
 /// Echo: a request of at most 64 words.
 pub fn echo(request: &[u64]) -> Reply
@@ -42,4 +42,25 @@ pub fn sum(request: &[u64]) -> Reply
     ensures { (config : List ℕ) (position : ℕ) → reply_words result ≡ answer rules.Sum config position request.now }
 {
     reply_of(&[total_of(request)])
+}
+
+/// The name of a rule.
+pub fn rule_name(rule: Rule) -> &'static str {
+    match rule {
+        Rule::Echo => "echo",
+        Rule::Feed => "feed",
+        Rule::Sum => "sum",
+    }
+}
+
+/// The reply of a rule to a request of at most 64 words.
+pub fn reply_by(rule: Rule, config: &[u64], position: u64, request: &[u64]) -> Reply
+    requires few { length request.now ≤ 64 }
+    ensures { reply_words result ≡ answer rule config.now position request.now }
+{
+    match rule {
+        Rule::Echo => echo(request),
+        Rule::Feed => feed(config, position),
+        Rule::Sum => sum(request),
+    }
 }

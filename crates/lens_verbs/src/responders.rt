@@ -5,33 +5,12 @@ ghost use Rattle.fk_model.specs.Answers.{answer, reply_words};
 use crate::runs::show_run;
 use fk_causes::Shelf;
 use fk_model::{Reply, Rule};
-use fk_responders::{Responder, Table, echo, feed, sum};
+use fk_responders::{Responder, Table, reply_by, rule_name};
 use lens_text::{Asked, Problem};
 use std::alloc::Global;
 
 /// The rules that have a responder.
 const RULES: [Rule; 3] = [Rule::Echo, Rule::Feed, Rule::Sum];
-
-/// The name of a rule.
-pub fn rule_name(rule: Rule) -> &'static str {
-    match rule {
-        Rule::Echo => "echo",
-        Rule::Feed => "feed",
-        Rule::Sum => "sum",
-    }
-}
-
-/// The reply of a rule to a request.
-fn reply_by(rule: Rule, config: &[u64], position: u64, request: &[u64]) -> Reply
-    requires few { length request.now ≤ 64 }
-    ensures { reply_words result ≡ answer rule config.now position request.now }
-{
-    match rule {
-        Rule::Echo => echo(request),
-        Rule::Feed => feed(config, position),
-        Rule::Sum => sum(request),
-    }
-}
 
 /// Shows what is asked for of a run of a scenario's text.
 ///

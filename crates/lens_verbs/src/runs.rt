@@ -2,13 +2,12 @@
 ghost use Rattle.std.specs.Prelude.{map};
 ghost use Rattle.fk_scenario.specs.Kept.{KeepsScenario, HasRules};
 
-use crate::images::push_images;
+use crate::images::ShelfImages;
 use crate::scenarios::scenario_problem;
 use crate::shows::{Show, show_of};
 use crate::stops::stop_fault;
 use fk_causes::Shelf;
 use fk_commands::scenario_in;
-use fk_finish::ValidImage;
 use fk_first::{Trace, watch};
 use fk_responders::Table;
 use fk_scenario::Scenario;
@@ -16,37 +15,37 @@ use lens_text::{Asked, Problem, Sheet, Verb, file_of};
 use std::alloc::Global;
 use std::mem;
 
-/// Watches the run of a scenario, with images for its jobs, by the trace with these bytes, as far as is asked for, and takes what is shown.
-fn watched(
-    alloc: Global,
-    asked: Asked<'_>,
+/// Watches the run of a scenario by the trace with these bytes, as far as is asked for, and takes what is shown.
+fn watched<H: Shelf>(
+    asked: &Asked<'_>,
     table: &Table,
     scenario: &Scenario,
-    images: &[Option<ValidImage>],
     bytes: &[u8],
+    images: &mut ShelfImages<'_, H>,
     show: &mut Show,
 ) -> Result<String, Problem>
     requires keeps { KeepsScenario scenario.now }
     requires rules { HasRules (map (λ r. r.rule) table.now.list.items) scenario.now }
 {
+    let alloc = images.alloc;
     let trace = Trace {
         bytes,
         most: asked.end,
         looks_ahead: matches!(asked.verb, Verb::Why),
     };
     match watch(alloc, table, scenario, images, Some(trace), show) {
-        Ok(stop) => match stop_fault(alloc, asked, stop) {
+        Ok(stop) => match stop_fault(alloc, *asked, stop) {
             Some(problem) => Err(problem),
             None => mem::replace(&mut show.sheet, Sheet::new(alloc)).done(),
         },
-        Err(_) => Err(Problem::NoMemory),
+        Err(_) => Err(mem::replace(&mut images.problem, Problem::NoMemory)),
     }
 }
 
 /// Shows what is asked for of the run of a scenario by the trace with these bytes.
 fn show_scenario<H: Shelf>(
     alloc: Global,
-    asked: Asked<'_>,
+    asked: &Asked<'_>,
     table: &Table,
     scenario: &Scenario,
     bytes: &[u8],
@@ -55,14 +54,13 @@ fn show_scenario<H: Shelf>(
     requires keeps { KeepsScenario scenario.now }
     requires rules { HasRules (map (λ r. r.rule) table.now.list.items) scenario.now }
 {
-    let mut images = Vec::new(alloc);
-    match push_images(alloc, shelf, scenario.jobs.as_slice(), &mut images) {
-        Ok(()) => {
-            let mut show = show_of(alloc, asked);
-            watched(alloc, asked, table, scenario, &images, bytes, &mut show)
-        }
-        Err(problem) => Err(problem),
-    }
+    let mut images = ShelfImages {
+        alloc,
+        shelf,
+        problem: Problem::NoMemory,
+    };
+    let mut show = show_of(alloc, *asked);
+    watched(asked, table, scenario, bytes, &mut images, &mut show)
 }
 
 /// The bytes of the trace that is asked for; none where what stands at the beginning is.
@@ -88,7 +86,7 @@ pub fn show_run<H: Shelf>(
 ) -> Result<String, Problem> {
     match bytes_of(alloc, asked, shelf) {
         Ok(bytes) => match scenario_in(alloc, table, text) {
-            Ok(scenario) => show_scenario(alloc, asked, table, &scenario, &bytes, shelf),
+            Ok(scenario) => show_scenario(alloc, &asked, table, &scenario, &bytes, shelf),
             Err(status) => Err(scenario_problem(alloc, text, &status)),
         },
         Err(problem) => Err(problem),

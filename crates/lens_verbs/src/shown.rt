@@ -14,28 +14,40 @@ a number, slot, kind, mode or tag in its range
 a pointer to something that this field can hold
 the end of the file";
 
+/// Why the file of a name isn't shown as an image, by the status with which it is refused.
+fn refused_image(alloc: Global, name: &str, status: &Status) -> Problem {
+    match status {
+        Status::BadImage { offset, reason, .. } => {
+            let expected = line_at(EXPECTED, *reason as u64);
+            given(
+                alloc,
+                name,
+                ".img, offset @: expected ",
+                *offset,
+                0,
+                expected,
+            )
+        }
+        _ => Problem::NoMemory,
+    }
+}
+
 /// Shows the image with this name.
 ///
 /// # Errors
 ///
 /// `Given` where the shelf has none, or bytes that spell none, `Outside` where its file can't be read, and `NoMemory`.
 pub fn show_image<H: Shelf>(alloc: Global, name: &str, shelf: &mut H) -> Result<String, Problem> {
-    let found = {
-        let bytes = file_of(alloc, shelf, name, ".img")?;
-        image_of(alloc, name, &bytes)
-    };
-    match found {
-        Ok(image) => {
-            let mut sheet = Sheet::new(alloc);
-            push_image(&mut sheet, image.spaces.as_slice());
-            sheet.done()
-        }
-        Err(Status::BadImage { offset, reason, .. }) => {
-            let expected = line_at(EXPECTED, reason as u64);
-            let form = ".img, offset @: expected ";
-            Err(given(alloc, name, form, offset, 0, expected))
-        }
-        Err(_) => Err(Problem::NoMemory),
+    match file_of(alloc, shelf, name, ".img") {
+        Ok(bytes) => match image_of(alloc, name, &bytes) {
+            Ok(image) => {
+                let mut sheet = Sheet::new(alloc);
+                push_image(&mut sheet, image.spaces.as_slice());
+                sheet.done()
+            }
+            Err(status) => Err(refused_image(alloc, name, &status)),
+        },
+        Err(problem) => Err(problem),
     }
 }
 
@@ -51,9 +63,15 @@ pub fn show_differences<H: Shelf>(
     other: &str,
     shelf: &mut H,
 ) -> Result<String, Problem> {
-    let first = show_image(alloc, name, shelf)?;
-    let second = show_image(alloc, other, shelf)?;
-    let mut sheet = Sheet::new(alloc);
-    push_differences(&mut sheet, first.as_str(), second.as_str());
-    sheet.done()
+    match show_image(alloc, name, shelf) {
+        Ok(first) => match show_image(alloc, other, shelf) {
+            Ok(second) => {
+                let mut sheet = Sheet::new(alloc);
+                push_differences(&mut sheet, first.as_str(), second.as_str());
+                sheet.done()
+            }
+            Err(problem) => Err(problem),
+        },
+        Err(problem) => Err(problem),
+    }
 }

@@ -1,8 +1,7 @@
 //! What native servers are told.
-use crate::responders::rule_name;
 use fk_model::Who;
 use fk_natives::{Native, Service, Side};
-use fk_responders::words_of;
+use fk_responders::{rule_name, words_of};
 use fk_store::Store;
 use lens_text::{Sheet, push_path};
 
