@@ -1,6 +1,6 @@
 //! What the words of the command line ask for.
 use crate::problem::Problem;
-use crate::sheet::{Sheet, line_at};
+use crate::sheet::{Sheet, line_at, text_at};
 use fk_model::{is_name, plain_number_up_to};
 use std::alloc::Global;
 
@@ -101,19 +101,11 @@ fn are_right(line: &mut Sheet, words: &[String], names: usize) -> bool {
     true
 }
 
-/// A word behind a verb, where there is one.
-fn word_at<'a>(words: &'a [String], place: usize) -> &'a str {
-    match words.get(place) {
-        Some(word) => word.as_str(),
-        None => "",
-    }
-}
-
 /// What a verb with these words behind it asks for.
 fn asked_of<'a>(verb: Verb, words: &'a [String]) -> Asked<'a> {
-    let other = word_at(words, 1);
+    let other = text_at(words, 1);
     let one = plain_number_up_to(MOST, other.as_bytes());
-    let two = plain_number_up_to(MOST, word_at(words, 2).as_bytes());
+    let two = plain_number_up_to(MOST, text_at(words, 2).as_bytes());
     let (first, end) = match (verb, one, two) {
         (Verb::Tree | Verb::Why, Some(count), _) => (0, count),
         (Verb::Steps, Some(first), Some(last)) => (first, last.saturating_add(1)),
@@ -122,7 +114,7 @@ fn asked_of<'a>(verb: Verb, words: &'a [String]) -> Asked<'a> {
     };
     Asked {
         verb,
-        name: word_at(words, 0),
+        name: text_at(words, 0),
         other,
         first,
         end,

@@ -1,5 +1,5 @@
 //! Calls as text, by the registers that hold them: each stage that is left by its name, with its arguments as docs/CALLS.md names them.
-use crate::sheet::{Sheet, line_at};
+use crate::sheet::{Sheet, line_at, parted};
 use fk_model::{Stage, Todo};
 use fk_stages::words;
 
@@ -77,9 +77,10 @@ space_make_held x=@
 pub fn push_call(sheet: &mut Sheet, registers: &[u64; 16], is_first_alone: bool) {
     let code = registers[0];
     let whole = line_at(FORMS, code);
-    let form = match whole.split_once(',') {
-        Some((first, _)) if is_first_alone => first,
-        _ => whole,
+    let form = if is_first_alone {
+        parted(whole, ',').0
+    } else {
+        whole
     };
     if form.is_empty() {
         return sheet.put_number("no call, ", code);

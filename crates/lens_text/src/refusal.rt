@@ -1,7 +1,7 @@
 //! Why a text is no scenario.
 use crate::faults::told;
 use crate::problem::Problem;
-use crate::sheet::{Sheet, line_at};
+use crate::sheet::{Sheet, line_at, parted};
 use std::alloc::Global;
 
 /// What was expected of a scenario, by the rule by which it is refused, and by any other.
@@ -37,8 +37,7 @@ fn line_of(text: &[u8], heading: &str, index: u32) -> Option<u64> {
     let mut passed = 0u32;
     for line in text.lines() {
         number = number.saturating_add(1);
-        let (head, _) = line.split_once('#').unwrap_or((line, ""));
-        if head.trim() == heading {
+        if parted(line, '#').0.trim() == heading {
             if passed == index {
                 return Some(number);
             }

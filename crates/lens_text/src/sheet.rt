@@ -2,9 +2,17 @@
 use crate::problem::Problem;
 use std::alloc::Global;
 
-/// The first line of a text, and what is behind it.
-pub fn first_line<'a>(text: &'a str) -> (&'a str, &'a str) {
-    text.split_once('\n').unwrap_or((text, ""))
+/// What stands before the first such mark of a text, and what stands behind it; all and nothing where there is none.
+pub fn parted<'a>(text: &'a str, mark: char) -> (&'a str, &'a str) {
+    text.split_once(mark).unwrap_or((text, ""))
+}
+
+/// The text at a place of a list; an empty one behind its end.
+pub fn text_at<'a>(texts: &'a [String], place: usize) -> &'a str {
+    match texts.get(place) {
+        Some(text) => text.as_str(),
+        None => "",
+    }
 }
 
 /// The line with this number of a list of lines, or its last where it has fewer.
@@ -16,7 +24,7 @@ pub fn line_at(list: &'static str, number: u64) -> &'static str {
         };
         later = behind;
     }
-    first_line(later).0
+    parted(later, '\n').0
 }
 
 /// A text that is written piece by piece. Where there is no memory for one, that shows when the whole is asked for, so that who writes

@@ -1,5 +1,5 @@
 //! The lines by which two texts differ.
-use crate::sheet::{Sheet, first_line};
+use crate::sheet::{Sheet, parted};
 use std::collections::BTreeSet;
 
 /// The lines of a text. Where there is no memory for them, the sheet notes that.
@@ -20,8 +20,8 @@ pub fn push_differences(sheet: &mut Sheet, first: &str, second: &str) {
     let in_second = lines_of(sheet, second);
     let (mut later, mut others) = (first, second);
     for _ in 0..u64::MAX {
-        let (line, behind) = first_line(later);
-        let (other, behind_other) = first_line(others);
+        let (line, behind) = parted(later, '\n');
+        let (other, behind_other) = parted(others, '\n');
         if !later.is_empty() & !in_second.contains(line) {
             sheet.put_three("- ", line, "\n");
             later = behind;

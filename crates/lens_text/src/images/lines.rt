@@ -2,12 +2,13 @@
 use crate::images::objects::push_object;
 use crate::images::pages::push_page;
 use crate::images::paths::{path_in, paths_of, push_pointer};
-use crate::sheet::Sheet;
+use crate::sheet::{Sheet, text_at};
 use fk_image::{Link, SpaceRec};
 
-/// Adds the lines of a space: its own, that of its holder, where it is held, those of its objects, those of its pages. The root's path is
-/// empty.
-fn push_space(sheet: &mut Sheet, path: &str, paths: &[String], space: &SpaceRec) {
+/// Adds the lines of the space at a place of these: its own, that of its holder, where it is held, those of its objects, those of its pages.
+/// The root's path is empty.
+fn push_space(sheet: &mut Sheet, paths: &[String], place: usize, space: &SpaceRec) {
+    let path = text_at(paths, place);
     let shown = if path.is_empty() { "/" } else { path };
     sheet.put_three("space ", shown, "\n");
     match space.holder {
@@ -27,8 +28,6 @@ fn push_space(sheet: &mut Sheet, path: &str, paths: &[String], space: &SpaceRec)
 pub fn push_image(sheet: &mut Sheet, spaces: &[SpaceRec]) {
     let paths = paths_of(sheet, spaces);
     for (place, space) in spaces.iter().enumerate() {
-        if let Some(path) = paths.get(place) {
-            push_space(sheet, path.as_str(), &paths, space);
-        }
+        push_space(sheet, &paths, place, space);
     }
 }

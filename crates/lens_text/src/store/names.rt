@@ -74,22 +74,16 @@ pub fn object_named(store: &Store, space: u32, place: u64, slot: u64) -> Option<
     }
 }
 
-/// The object behind another in the tree of spaces, and the first where there is none: each space stands before what lies in it, and what
-/// lies in one by rising slot.
-pub fn next_in_tree(store: &Store, last: Option<Who>) -> Option<Who> {
-    let inner = match last {
-        Some(who) => match store.at(who) {
-            Some(Body::Space { birth, .. }) => Some(*birth),
-            _ => None,
-        },
-        None => Some(0),
-    };
-    if let Some(space) = inner {
+/// The object behind another in the tree of spaces: each space stands before what lies in it, and what lies in one by rising slot. So the
+/// store's first object is the first of the tree.
+pub fn next_in_tree(store: &Store, last: Who) -> Option<Who> {
+    if let Some(Body::Space { birth, .. }) = store.at(last) {
+        let space = *birth;
         if let Some(slot) = store.first_resident(space) {
             return Some(Who { space, slot });
         }
     }
-    let mut passed = last;
+    let mut passed = Some(last);
     for _ in 0..u64::MAX {
         let Some(one) = passed else {
             break;

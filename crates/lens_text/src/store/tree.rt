@@ -29,12 +29,12 @@ pub fn push_tree(sheet: &mut Sheet, store: &Store) {
     sheet.put("/ ");
     push_home(sheet, store, 0, None);
     sheet.put("\n");
-    let mut last = None;
+    let mut next = store.after(None);
     for _ in 0..u64::MAX {
-        let Some(who) = next_in_tree(store, last) else {
+        let Some(who) = next else {
             break;
         };
         push_line(sheet, store, who);
-        last = Some(who);
+        next = next_in_tree(store, who);
     }
 }

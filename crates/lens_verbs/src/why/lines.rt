@@ -81,15 +81,15 @@ impl Why {
         if let Stop::Unready { one, .. } = stop {
             push_move(sheet, seen, ready, &self.lockers, &one);
         }
-        let mut last = None;
+        let mut next = seen.store.after(None);
         for _ in 0..u64::MAX {
-            let Some(who) = next_in_tree(seen.store, last) else {
+            let Some(who) = next else {
                 break;
             };
             if !ready.contains_key(&who) {
                 push_thread(sheet, seen, &self.lockers, who);
             }
-            last = Some(who);
+            next = next_in_tree(seen.store, who);
         }
     }
 }
