@@ -82,10 +82,13 @@ pub trait Watcher {
 
 /// Who has the images of a run's jobs.
 pub trait Images {
+    /// Why an image can't be had.
+    type Fault: From<NoMemory> + Drop;
+
     /// The image with this name. It is asked for those of restores that no job before them makes, in their order.
     ///
     /// # Errors
     ///
-    /// It hasn't that image, which it notes itself, or there is no memory.
-    fn image(&mut self, name: &str) -> Result<ValidImage, NoMemory>;
+    /// It hasn't that image, or can't get it.
+    fn image(&mut self, name: &str) -> Result<ValidImage, Self::Fault>;
 }

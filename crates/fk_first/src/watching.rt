@@ -118,7 +118,7 @@ fn image_for<I: Images>(
     place: usize,
     job: &JobSpec,
     images: &mut I,
-) -> Result<Option<ValidImage>, NoMemory> {
+) -> Result<Option<ValidImage>, I::Fault> {
     let JobSpec::Restore { image, .. } = job else {
         return Ok(None);
     };
@@ -134,10 +134,13 @@ fn images_for<I: Images>(
     alloc: Global,
     jobs: &[JobSpec],
     images: &mut I,
-) -> Result<Vec<Option<ValidImage>>, NoMemory> {
+) -> Result<Vec<Option<ValidImage>>, I::Fault> {
     let mut list = Vec::new(alloc);
     for job in jobs {
-        list.push(image_for(jobs, list.len(), job, images)?)?;
+        let image = image_for(jobs, list.len(), job, images)?;
+        if list.push(image).is_err() {
+            return Err(I::Fault::from(NoMemory));
+        }
     }
     Ok(list)
 }
@@ -148,7 +151,7 @@ fn images_for<I: Images>(
 ///
 /// # Errors
 ///
-/// There is no memory, or an image lacks.
+/// There is no memory, or an image can't be had.
 pub fn watch<I: Images, V: Watcher>(
     alloc: Global,
     table: &Table,
@@ -156,11 +159,11 @@ pub fn watch<I: Images, V: Watcher>(
     images: &mut I,
     trace: Option<Trace<'_>>,
     watcher: &mut V,
-) -> Result<Stop, NoMemory>
+) -> Result<Stop, I::Fault>
     requires keeps { KeepsScenario scenario.now }
     requires rules { HasRules (map (λ r. r.rule) table.now.list.items) scenario.now }
 {
     let images = images_for(alloc, scenario.jobs.as_slice(), images)?;
     let mut core = first_core(alloc, scenario, &images)?;
-    play_to_stop(alloc, &mut core, table, trace, watcher)
+    Ok(play_to_stop(alloc, &mut core, table, trace, watcher)?)
 }

@@ -1,4 +1,5 @@
 //! Why something isn't shown.
+use fk_model::NoMemory;
 use std::alloc::{AllocError, AllocFailed};
 
 /// Why something isn't shown.
@@ -31,6 +32,12 @@ impl Problem {
             Problem::Given(line) | Problem::Words(line) | Problem::Outside(line) => line.as_str(),
             Problem::NoMemory => "no memory",
         }
+    }
+}
+
+impl From<NoMemory> for Problem {
+    fn from(_: NoMemory) -> Problem {
+        Problem::NoMemory
     }
 }
 

@@ -1,9 +1,8 @@
-//! The images of the shelf, for a scenario's jobs.
+//! The files of the shelf, and the images among them for a scenario's jobs.
 use fk_causes::Shelf;
 use fk_commands::{Status, image_of};
 use fk_finish::ValidImage;
 use fk_first::Images;
-use fk_model::NoMemory;
 use lens_text::{Problem, Sheet, file_of, told};
 use std::alloc::Global;
 
@@ -21,28 +20,26 @@ fn image_problem(alloc: Global, name: &str, status: &Status) -> Problem {
     }
 }
 
-/// The images of a shelf, and why one that a run needs can't be had.
+/// The files of a shelf.
 #[derive(Drop)]
-pub struct ShelfImages<'a, H: Shelf> {
+pub struct Files<'a, H: Shelf> {
     pub alloc: Global,
     pub shelf: &'a mut H,
-    pub problem: Problem,
 }
 
-impl<H: Shelf> Images for ShelfImages<'_, H> {
-    fn image(&mut self, name: &str) -> Result<ValidImage, NoMemory> {
+impl<H: Shelf> Images for Files<'_, H> {
+    type Fault = Problem;
+
+    fn image(&mut self, name: &str) -> Result<ValidImage, Problem> {
         match file_of(self.alloc, self.shelf, name, ".img") {
             Ok(bytes) => match image_of(self.alloc, name, &bytes) {
-                Ok(image) => ValidImage::new(self.alloc, image),
-                Err(status) => {
-                    self.problem = image_problem(self.alloc, name, &status);
-                    Err(NoMemory)
-                }
+                Ok(image) => match ValidImage::new(self.alloc, image) {
+                    Ok(valid) => Ok(valid),
+                    Err(_) => Err(Problem::NoMemory),
+                },
+                Err(status) => Err(image_problem(self.alloc, name, &status)),
             },
-            Err(problem) => {
-                self.problem = problem;
-                Err(NoMemory)
-            }
+            Err(problem) => Err(problem),
         }
     }
 }

@@ -2,6 +2,7 @@
 ghost use Rattle.std.specs.Prelude.{◌≡◌, ◌≤◌, length};
 ghost use Rattle.fk_model.specs.Answers.{answer, reply_words};
 
+use crate::images::Files;
 use crate::runs::show_run;
 use fk_causes::Shelf;
 use fk_model::{Reply, Rule};
@@ -38,5 +39,5 @@ pub fn show<H: Shelf>(
         )?;
         list.push(Responder::new(name, rule, call))?;
     }
-    show_run(alloc, asked, &Table { list }, text, shelf)
+    show_run(asked, &Table { list }, text, &mut Files { alloc, shelf })
 }

@@ -18,18 +18,20 @@ pub fn lens_top<R: Source, H: Shelf>(
     source: &mut R,
     shelf: &mut H,
 ) -> Result<String, Problem> {
-    let asked = asked_in(alloc, words)?;
-    match asked.verb {
-        Verb::Help => said(alloc, HELP),
-        Verb::Version => said(alloc, VERSION),
-        Verb::Image => show_image(alloc, asked.name, shelf),
-        Verb::Differences => show_differences(alloc, asked.name, asked.other, shelf),
-        _ => match source_text(alloc, source) {
-            Ok(text) => match asked.verb {
-                Verb::Words => words_text(alloc, &text),
-                _ => show(alloc, asked, &text, shelf),
+    match asked_in(alloc, words) {
+        Ok(asked) => match asked.verb {
+            Verb::Help => said(alloc, HELP),
+            Verb::Version => said(alloc, VERSION),
+            Verb::Image => show_image(alloc, asked.name, shelf),
+            Verb::Differences => show_differences(alloc, asked.name, asked.other, shelf),
+            _ => match source_text(alloc, source) {
+                Ok(text) => match asked.verb {
+                    Verb::Words => words_text(alloc, &text),
+                    _ => show(alloc, asked, &text, shelf),
+                },
+                Err(problem) => Err(problem),
             },
-            Err(problem) => Err(problem),
         },
+        Err(problem) => Err(problem),
     }
 }
