@@ -145,6 +145,22 @@ fn images_for<I: Images>(
     Ok(list)
 }
 
+/// Makes the moves of a trace from the first core of a scenario with these images, shows them to the watcher, and answers where that stops.
+fn watch_with<V: Watcher>(
+    alloc: Global,
+    table: &Table,
+    scenario: &Scenario,
+    images: &[Option<ValidImage>],
+    trace: Option<Trace<'_>>,
+    watcher: &mut V,
+) -> Result<Stop, NoMemory>
+    requires keeps { KeepsScenario scenario.now }
+    requires rules { HasRules (map (λ r. r.rule) table.now.list.items) scenario.now }
+{
+    let mut core = first_core(alloc, scenario, images)?;
+    play_to_stop(alloc, &mut core, table, trace, watcher)
+}
+
 /// Makes the moves of a trace from the first core of a scenario that was read by the rules of a table, with the images that its jobs need; shows
 /// them to a watcher, and answers where that stops. With no trace the watcher sees the first core alone. The core is let go here, and so are the
 /// images, so that who watches proves nothing of them.
@@ -164,6 +180,8 @@ pub fn watch<I: Images, V: Watcher>(
     requires rules { HasRules (map (λ r. r.rule) table.now.list.items) scenario.now }
 {
     let images = images_for(alloc, scenario.jobs.as_slice(), images)?;
-    let mut core = first_core(alloc, scenario, &images)?;
-    Ok(play_to_stop(alloc, &mut core, table, trace, watcher)?)
+    match watch_with(alloc, table, scenario, &images, trace, watcher) {
+        Ok(stop) => Ok(stop),
+        Err(NoMemory) => Err(I::Fault::from(NoMemory)),
+    }
 }
