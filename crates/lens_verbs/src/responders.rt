@@ -30,13 +30,15 @@ pub fn show<H: Shelf>(
         let Ok(name) = String::from_str(alloc, rule_name(rule)) else {
             return Err(Problem::NoMemory);
         };
-        let call = Box::new(
+        let Ok(call) = Box::new(
             alloc,
             move |config: &[u64], position: u64, request: &[u64]| -> Reply
                 requires { length request.now ≤ 64 }
                 ensures { reply_words result ≡ answer rule config.now position request.now }
             { reply_by(rule, config, position, request) },
-        )?;
+        ) else {
+            return Err(Problem::NoMemory);
+        };
         list.push(Responder::new(name, rule, call))?;
     }
     show_run(asked, &Table { list }, text, &mut Files { alloc, shelf })
