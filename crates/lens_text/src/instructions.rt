@@ -4,7 +4,8 @@ use fk_isa::decode;
 use fk_model::Instr;
 use fk_model::operation::{ADD, ADDI, CALL, HALT, JMP, JNZ, JZ, MOV, REM, SET};
 
-/// The operations by their numbers, with an `@` for each operand that follows the name; behind them that of a negative `addi`.
+/// The operations by their numbers, with an `@` for each operand that follows the name; behind them that of a negative `addi`, and that of a
+/// word that is none.
 const FORMS: &str = "halt
 set r@, @
 mov r@, r@
@@ -26,16 +27,20 @@ jnz r@, @
 jlt r@, r@, @
 addi r@, r@, @
 call
-addi r@, r@, -@";
+addi r@, r@, -@
+word @";
 
 /// The form of an `addi` whose number is negative.
 const NEGATIVE: u64 = 21;
 
+/// The form of a word that is no instruction.
+pub const WORD: u64 = 22;
+
 /// The form and the operands of the instruction in a word that the assembler can make: the operands that its line leaves out are 0. `addi`
-/// takes its number with a sign.
-pub fn plain_instruction(word: u64) -> Option<(u64, u64, u64, u64)> {
+/// takes its number with a sign. Of any other word `WORD`, and its number.
+pub fn formed(word: u64) -> (u64, u64, u64, u64) {
     let Some(Instr { op, a, b, c, n }) = decode(word) else {
-        return None;
+        return (WORD, word, 0, 0);
     };
     let (form, a, b, c, n) = (op as u64, a as u64, b as u64, c as u64, n as u64);
     let (form, one, two, three, others) = match op {
@@ -48,16 +53,14 @@ pub fn plain_instruction(word: u64) -> Option<(u64, u64, u64, u64)> {
         _ => (form, a, b, n, c),
     };
     if others == 0 {
-        Some((form, one, two, three))
+        (form, one, two, three)
     } else {
-        None
+        (WORD, word, 0, 0)
     }
 }
 
 /// Adds the instruction that a word holds, as a line of a program's text has it; of any other word `word` and its number.
 pub fn push_instruction(sheet: &mut Sheet, word: u64) {
-    match plain_instruction(word) {
-        Some((form, one, two, three)) => sheet.fill(line_at(FORMS, form), one, two, three),
-        None => sheet.put_number("word ", word),
-    }
+    let (form, one, two, three) = formed(word);
+    sheet.fill(line_at(FORMS, form), one, two, three);
 }

@@ -1,5 +1,5 @@
 //! The lines of a page.
-use crate::instructions::{plain_instruction, push_instruction};
+use crate::instructions::{WORD, formed, push_instruction};
 use crate::sheet::Sheet;
 use fk_image::PageRec;
 
@@ -11,7 +11,7 @@ fn filled(words: &[u64; 64]) -> (usize, bool) {
     for at in 0..64usize {
         if words[at] != 0 {
             count = at + 1;
-            is_program = is_program | plain_instruction(words[at]).is_some();
+            is_program = is_program | (formed(words[at]).0 != WORD);
         }
     }
     (count, is_program)

@@ -67,7 +67,9 @@ pub fn object_named(store: &Store, space: u32, place: u64, slot: u64) -> Option<
     if place == OWN_SPACE {
         return handled(store, space, slot);
     }
-    let home = handled(store, space, place)?;
+    let Some(home) = handled(store, space, place) else {
+        return None;
+    };
     match store.at(home) {
         Some(Body::Space { birth, .. }) => handled(store, *birth, slot),
         _ => None,
