@@ -88,7 +88,7 @@ fn place_of(word: &str) -> Option<usize> {
 
 /// Whether each word behind a verb is what is wanted there: so many names at most, and then numbers of moves. Of the first that isn't the
 /// line says so.
-fn are_right(line: &mut Sheet, words: &[String], names: usize) -> bool {
+fn are_right(line: &Sheet, words: &[String], names: usize) -> bool {
     for (place, word) in words.iter().enumerate() {
         let is_name_wanted = place < names;
         let is_count = plain_number_up_to(MOST, word.as_bytes()).is_some();
@@ -122,9 +122,9 @@ fn asked_of<'a>(verb: Verb, words: &'a [String]) -> Asked<'a> {
 }
 
 /// What words ask for. Where they ask for nothing, the line says why.
-fn asked_by<'a>(line: &mut Sheet, words: &'a [String]) -> Option<Asked<'a>> {
+fn asked_by<'a>(line: &Sheet, words: &'a [String]) -> Option<Asked<'a>> {
     let Some((word, rest)) = words.split_first() else {
-        line.put_three("expected ", VERBS, "");
+        line.put_around(b"expected ", VERBS, b"");
         return None;
     };
     let Some(place) = place_of(word.as_str()) else {
@@ -143,8 +143,8 @@ fn asked_by<'a>(line: &mut Sheet, words: &'a [String]) -> Option<Asked<'a>> {
         (6, 0) => Verb::Help,
         (7, 0) => Verb::Version,
         _ => {
-            line.put_three("after ", word.as_str(), ": expected ");
-            line.put(line_at(BEHIND, place as u64));
+            line.put_around(b"after ", word.as_str(), b": expected ");
+            line.add(line_at(BEHIND, place as u64));
             return None;
         }
     };
@@ -162,8 +162,8 @@ fn asked_by<'a>(line: &mut Sheet, words: &'a [String]) -> Option<Asked<'a>> {
 ///
 /// `Words` where they are no verb, and `NoMemory`.
 pub fn asked_in<'a>(alloc: Global, words: &'a [String]) -> Result<Asked<'a>, Problem> {
-    let mut line = Sheet::new(alloc);
-    if let Some(asked) = asked_by(&mut line, words) {
+    let line = Sheet::new(alloc);
+    if let Some(asked) = asked_by(&line, words) {
         return Ok(asked);
     }
     match line.done() {

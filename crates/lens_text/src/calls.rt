@@ -74,7 +74,7 @@ space_make_held x=@
 
 /// Adds the stages that are left of the call that registers hold, or the first of them alone: its name, and each argument with its register.
 /// Where the first is one of later stages, the registers of those before it are none of its arguments.
-pub fn push_call(sheet: &mut Sheet, registers: &[u64; 16], is_first_alone: bool) {
+pub fn push_call(sheet: &Sheet, registers: &[u64; 16], is_first_alone: bool) {
     let code = registers[0];
     let whole = line_at(FORMS, code);
     let form = if is_first_alone {
@@ -83,12 +83,12 @@ pub fn push_call(sheet: &mut Sheet, registers: &[u64; 16], is_first_alone: bool)
         whole
     };
     if form.is_empty() {
-        return sheet.put_number("no call, ", code);
+        return sheet.put_number(b"no call, ", code);
     }
     match code {
         34 | 37 | 51 | 53 => sheet.fill_all(form, &registers[2..6]),
         35 | 36 | 50 | 54 => sheet.fill_all(form, &registers[4..6]),
-        49 => sheet.fill(form, registers[1], registers[4], registers[5]),
+        49 => sheet.fill_text(form, registers[1], registers[4], registers[5]),
         _ => sheet.fill_all(form, &registers[1..6]),
     }
 }
@@ -107,6 +107,6 @@ pub fn first_stage(code: u64) -> u64 {
 }
 
 /// Adds a porter's stage.
-pub fn push_asked(sheet: &mut Sheet, stage: &Stage) {
+pub fn push_asked(sheet: &Sheet, stage: &Stage) {
     push_call(sheet, &words(&Todo::One(*stage), &[0; 16]), false);
 }

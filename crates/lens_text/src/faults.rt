@@ -13,16 +13,18 @@ pub fn told(line: Sheet) -> Problem {
 
 /// That what was given can't be shown: of which file, where in it by a form of two numbers, and what was expected there.
 pub fn given(alloc: Global, file: &str, form: &str, one: u64, two: u64, expected: &str) -> Problem {
-    let mut line = Sheet::new(alloc);
-    line.line("", file, form, one, two, 0);
-    line.put(expected);
+    let line = Sheet::new(alloc);
+    line.add(file);
+    line.fill_text(form, one, two, 0);
+    line.add(expected);
     told(line)
 }
 
 /// That what has this name and this ending can't be read.
 pub fn unread(alloc: Global, name: &str, ending: &str) -> Problem {
-    let mut line = Sheet::new(alloc);
-    line.put_three(name, ending, " can't be read");
+    let line = Sheet::new(alloc);
+    line.add(name);
+    line.put_around(b"", ending, b" can't be read");
     match line.done() {
         Ok(line) => Problem::Outside(line),
         Err(problem) => problem,

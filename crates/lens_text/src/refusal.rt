@@ -51,17 +51,16 @@ fn line_of(text: &[u8], heading: &str, index: u32) -> Option<u64> {
 /// place in its section.
 pub fn refused_scenario(alloc: Global, text: &[u8], rule: u8, section: u8, index: u32) -> Problem {
     let heading = line_at(HEADINGS, section as u64);
-    let mut sheet = Sheet::new(alloc);
-    sheet.put("standard input, ");
-    let gap = match line_of(text, heading, index) {
+    let sheet = Sheet::new(alloc);
+    sheet.put(b"standard input, ");
+    match line_of(text, heading, index) {
         Some(line) => {
-            sheet.put_between("line ", line, ", ");
-            " "
+            sheet.put_between(b"line ", line, b", ");
+            sheet.put_around(b"", heading, b" ");
         }
-        None => ", entry ",
-    };
-    sheet.put(heading);
-    sheet.put_between(gap, index as u64, ": expected ");
-    sheet.put(line_at(EXPECTED, rule as u64));
+        None => sheet.put_around(b"", heading, b", entry "),
+    }
+    sheet.put_between(b"", index as u64, b": expected ");
+    sheet.add(line_at(EXPECTED, rule as u64));
     told(sheet)
 }

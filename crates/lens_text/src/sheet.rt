@@ -1,6 +1,7 @@
 //! Text that is written piece by piece.
 use crate::problem::Problem;
 use std::alloc::Global;
+use std::cell::{Cell, RefCell};
 
 /// What stands before the first such mark of a text, and what stands behind it; all and nothing where there is none.
 pub fn parted<'a>(text: &'a str, mark: char) -> (&'a str, &'a str) {
@@ -27,16 +28,16 @@ pub fn line_at(list: &'static str, number: u64) -> &'static str {
     parted(later, '\n').0
 }
 
-/// A text that is written piece by piece. Where there is no memory for one, that shows when the whole is asked for, so that who writes
-/// has no answer to look at after each.
+/// A text that is written piece by piece. Who writes shares it, and has no answer to look at after each piece: where there is no memory for
+/// one, that shows when the whole is asked for.
 #[derive(Drop)]
 pub struct Sheet {
     /// What gives it memory.
     pub alloc: Global,
     /// What stands there.
-    pub text: String,
+    text: RefCell<String>,
     /// There was no memory for a piece.
-    pub is_short: bool,
+    is_short: Cell<bool>,
 }
 
 impl Sheet {
@@ -44,92 +45,160 @@ impl Sheet {
     pub fn new(alloc: Global) -> Sheet {
         Sheet {
             alloc,
-            text: String::new(alloc),
-            is_short: false,
+            text: RefCell::new(String::new(alloc)),
+            is_short: Cell::new(false),
         }
     }
 
-    /// Adds a piece.
-    pub fn put(&mut self, piece: &str) {
-        if self.text.push_str(piece).is_err() {
-            self.is_short = true;
+    /// How many bytes stand there.
+    pub fn len(&self) -> usize {
+        match self.text.try_borrow() {
+            Ok(text) => text.len(),
+            Err(_) => 0,
         }
     }
 
-    /// Adds three pieces.
-    pub fn put_three(&mut self, one: &str, two: &str, three: &str) {
-        self.put(one);
-        self.put(two);
-        self.put(three);
+    /// Notes that there was no memory for something.
+    pub fn lacks(&self) {
+        self.is_short.set(true);
     }
 
-    /// Adds a piece behind what was added since the text had this length, if something was.
-    pub fn gap(&mut self, start: usize, piece: &str) {
-        if self.text.len() > start {
-            self.put(piece);
+    /// Adds a text, if there is memory for it.
+    fn has_added(&self, text: &str) -> bool {
+        match self.text.try_borrow_mut() {
+            Ok(mut whole) => whole.push_str(text).is_ok(),
+            Err(_) => false,
         }
     }
 
-    /// Adds a number behind a text.
-    pub fn put_number(&mut self, before: &str, number: u64) {
+    /// Adds a number, if there is memory for it.
+    fn has_written(&self, number: u64) -> bool {
+        match self.text.try_borrow_mut() {
+            Ok(mut whole) => write!(whole, "{number}").is_ok(),
+            Err(_) => false,
+        }
+    }
+
+    /// Adds a text.
+    pub fn add(&self, text: &str) {
+        if !self.has_added(text) {
+            self.lacks();
+        }
+    }
+
+    /// Adds a number.
+    pub fn add_number(&self, number: u64) {
+        if !self.has_written(number) {
+            self.lacks();
+        }
+    }
+
+    /// Adds a piece, which is always text.
+    pub fn put<const N: usize>(&self, piece: &[u8; N]) {
+        if let Ok(text) = str::from_utf8(piece) {
+            self.add(text);
+        }
+    }
+
+    /// Adds a text between two pieces.
+    pub fn put_around<const N: usize, const M: usize>(
+        &self,
+        before: &[u8; N],
+        text: &str,
+        behind: &[u8; M],
+    ) {
         self.put(before);
-        if write!(self.text, "{number}").is_err() {
-            self.is_short = true;
-        }
+        self.add(text);
+        self.put(behind);
     }
 
-    /// Adds a number between two texts.
-    pub fn put_between(&mut self, before: &str, number: u64, behind: &str) {
-        self.put_number(before, number);
+    /// Adds a number behind a piece.
+    pub fn put_number<const N: usize>(&self, before: &[u8; N], number: u64) {
+        self.put(before);
+        self.add_number(number);
+    }
+
+    /// Adds a number between two pieces.
+    pub fn put_between<const N: usize, const M: usize>(
+        &self,
+        before: &[u8; N],
+        number: u64,
+        behind: &[u8; M],
+    ) {
+        self.put(before);
+        self.add_number(number);
         self.put(behind);
     }
 
     /// Adds a form: a text in which each `@` stands for the next of these numbers.
-    pub fn fill_all(&mut self, form: &str, numbers: &[u64]) {
+    pub fn fill_all(&self, form: &str, numbers: &[u64]) {
         let mut later = form;
         for number in numbers {
             let Some((before, behind)) = later.split_once('@') else {
                 break;
             };
-            self.put_number(before, *number);
+            self.add(before);
+            self.add_number(*number);
             later = behind;
         }
-        self.put(later);
+        self.add(later);
     }
 
     /// Adds a form of three numbers at most.
-    pub fn fill(&mut self, form: &str, one: u64, two: u64, three: u64) {
+    pub fn fill_text(&self, form: &str, one: u64, two: u64, three: u64) {
         self.fill_all(form, &[one, two, three]);
     }
 
-    /// Adds a path between a text and a form of three numbers at most.
-    pub fn line(&mut self, before: &str, path: &str, form: &str, one: u64, two: u64, three: u64) {
-        self.put(before);
-        self.put(path);
-        self.fill(form, one, two, three);
-    }
-
-    /// Adds that a word, which stands in quotes, isn't what was expected.
-    pub fn put_wrong(&mut self, word: &String, expected: &str) {
-        if write!(self.text, "{word:?}: expected {expected}").is_err() {
-            self.is_short = true;
+    /// Adds a form of three numbers at most.
+    pub fn fill<const N: usize>(&self, form: &[u8; N], one: u64, two: u64, three: u64) {
+        if let Ok(form) = str::from_utf8(form) {
+            self.fill_text(form, one, two, three);
         }
     }
 
-    /// Adds what another has.
-    pub fn add(&mut self, other: &Sheet) {
-        self.put(other.text.as_str());
-        if other.is_short {
-            self.is_short = true;
+    /// Adds a path between a piece and a form of two numbers at most.
+    pub fn line<const N: usize, const M: usize>(
+        &self,
+        before: &[u8; N],
+        path: &str,
+        form: &[u8; M],
+        one: u64,
+        two: u64,
+    ) {
+        self.put(before);
+        self.add(path);
+        self.fill(form, one, two, 0);
+    }
+
+    /// Adds a row: a line, padded to 30 characters, a word's address and the word's 16 digits.
+    pub fn put_row(&self, line: Sheet, address: u64, word: u64) {
+        let text = self.taken(line);
+        let has_written = match self.text.try_borrow_mut() {
+            Ok(mut whole) => write!(whole, "{text:<30} ; {address:>5} {word:016x}\n").is_ok(),
+            Err(_) => false,
+        };
+        if !has_written {
+            self.lacks();
+        }
+    }
+
+    /// Adds that a word, which stands in quotes, isn't what was expected.
+    pub fn put_wrong(&self, word: &String, expected: &str) {
+        let has_written = match self.text.try_borrow_mut() {
+            Ok(mut whole) => write!(whole, "{word:?}: expected {expected}").is_ok(),
+            Err(_) => false,
+        };
+        if !has_written {
+            self.lacks();
         }
     }
 
     /// What another has; that there was no memory for a piece of it is noted here.
-    pub fn taken(&mut self, other: Sheet) -> String {
-        if other.is_short {
-            self.is_short = true;
+    pub fn taken(&self, other: Sheet) -> String {
+        if other.is_short.get() {
+            self.lacks();
         }
-        other.text
+        other.text.into_inner()
     }
 
     /// The whole.
@@ -138,10 +207,10 @@ impl Sheet {
     ///
     /// There was no memory for a piece.
     pub fn done(self) -> Result<String, Problem> {
-        if self.is_short {
+        if self.is_short.get() {
             Err(Problem::NoMemory)
         } else {
-            Ok(self.text)
+            Ok(self.text.into_inner())
         }
     }
 }

@@ -18,13 +18,11 @@ no more than 16384 words";
 
 /// Words, each as a line that assembles to it, with its address and its 16 digits behind.
 fn rows_of(alloc: Global, words: &[u64]) -> Sheet {
-    let mut rows = Sheet::new(alloc);
+    let rows = Sheet::new(alloc);
     for (address, word) in words.iter().enumerate() {
-        let mut line = Sheet::new(alloc);
-        push_instruction(&mut line, *word);
-        let text = line.text.as_str();
-        let is_written = write!(rows.text, "{text:<30} ; {address:>5} {word:016x}\n").is_ok();
-        rows.is_short = rows.is_short | line.is_short | !is_written;
+        let line = Sheet::new(alloc);
+        push_instruction(&line, *word);
+        rows.put_row(line, address as u64, *word);
     }
     rows
 }

@@ -3,11 +3,11 @@ use crate::sheet::{Sheet, parted};
 use std::collections::BTreeSet;
 
 /// The lines of a text. Where there is no memory for them, the sheet notes that.
-fn lines_of<'a>(sheet: &mut Sheet, text: &'a str) -> BTreeSet<&'a str> {
+fn lines_of<'a>(sheet: &Sheet, text: &'a str) -> BTreeSet<&'a str> {
     let mut lines = BTreeSet::new(sheet.alloc);
     for line in text.lines() {
         if lines.insert(line).is_err() {
-            sheet.is_short = true;
+            sheet.lacks();
         }
     }
     lines
@@ -15,7 +15,7 @@ fn lines_of<'a>(sheet: &mut Sheet, text: &'a str) -> BTreeSet<&'a str> {
 
 /// Adds the lines that one of two texts has alone: those that the second lacks behind `-`, those that the first lacks behind `+`. A line
 /// that both have is passed in both.
-pub fn push_differences(sheet: &mut Sheet, first: &str, second: &str) {
+pub fn push_differences(sheet: &Sheet, first: &str, second: &str) {
     let in_first = lines_of(sheet, first);
     let in_second = lines_of(sheet, second);
     let (mut later, mut others) = (first, second);
@@ -23,10 +23,10 @@ pub fn push_differences(sheet: &mut Sheet, first: &str, second: &str) {
         let (line, behind) = parted(later, '\n');
         let (other, behind_other) = parted(others, '\n');
         if !later.is_empty() & !in_second.contains(line) {
-            sheet.put_three("- ", line, "\n");
+            sheet.put_around(b"- ", line, b"\n");
             later = behind;
         } else if !others.is_empty() & !in_first.contains(other) {
-            sheet.put_three("+ ", other, "\n");
+            sheet.put_around(b"+ ", other, b"\n");
             others = behind_other;
         } else if later.is_empty() & others.is_empty() {
             break;

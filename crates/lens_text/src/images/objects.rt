@@ -18,13 +18,14 @@ thread
 reference";
 
 /// Adds the lines of an object with this path: its own, and that of its one pointer, where it has one; of a thread all of its lines.
-pub fn push_object(sheet: &mut Sheet, path: &str, paths: &[String], body: &Rec) {
-    sheet.put_three(line_at(KINDS, kind_of_rec(body) as u64), " ", path);
+pub fn push_object(sheet: &Sheet, path: &str, paths: &[String], body: &Rec) {
+    sheet.add(line_at(KINDS, kind_of_rec(body) as u64));
+    sheet.put_around(b" ", path, b"");
     match body {
-        Rec::Mutex { locked: 1 } => sheet.put(" locked\n"),
+        Rec::Mutex { locked: 1 } => sheet.put(b" locked\n"),
         Rec::Port { set } if *set > 0 => {
             let slot = (*set as u64).saturating_sub(1);
-            sheet.put_between(" in the set of slot ", slot, "\n");
+            sheet.put_between(b" in the set of slot ", slot, b"\n");
         }
         Rec::Mapping {
             first,
@@ -34,8 +35,8 @@ pub fn push_object(sheet: &mut Sheet, path: &str, paths: &[String], body: &Rec) 
             region,
         } => {
             push_pages(sheet, *first, *count, *write == 1);
-            sheet.put_between(", from the region's page ", *offset as u64, " on\n");
-            push_pointer(sheet, path, " region ", paths, *region);
+            sheet.put_between(b", from the region's page ", *offset as u64, b" on\n");
+            push_pointer(sheet, path, b" region ", paths, *region);
         }
         Rec::Region {
             first,
@@ -44,14 +45,14 @@ pub fn push_object(sheet: &mut Sheet, path: &str, paths: &[String], body: &Rec) 
             keeper,
         } => {
             push_pages(sheet, *first, *count, *write == 1);
-            sheet.put("\n");
-            push_pointer(sheet, path, " keeper ", paths, *keeper);
+            sheet.put(b"\n");
+            push_pointer(sheet, path, b" keeper ", paths, *keeper);
         }
         Rec::Reference { to } => {
-            sheet.put("\n");
-            push_pointer(sheet, path, " to ", paths, *to);
+            sheet.put(b"\n");
+            push_pointer(sheet, path, b" to ", paths, *to);
         }
         Rec::Thread(thread) => push_thread(sheet, path, paths, thread.get()),
-        _ => sheet.put("\n"),
+        _ => sheet.put(b"\n"),
     }
 }

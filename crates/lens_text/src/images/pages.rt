@@ -19,20 +19,20 @@ fn filled(words: &[u64; 64]) -> (usize, bool) {
 
 /// Adds the lines of a page of the space that is shown by this path: how many of its words there are up to the last one that
 /// isn't 0, and then each of these.
-pub fn push_page(sheet: &mut Sheet, path: &str, page: &PageRec) {
+pub fn push_page(sheet: &Sheet, path: &str, page: &PageRec) {
     let (count, is_program) = filled(&page.words);
     let number = page.page as u64;
-    let form = " @, words @ and then 0\n";
-    sheet.line("page ", path, form, number, count as u64, 0);
+    let form = b" @, words @ and then 0\n";
+    sheet.line(b"page ", path, form, number, count as u64);
     for at in 0..64usize {
         if at < count {
-            sheet.line("word ", path, " @ ", number * 64 + at as u64, 0, 0);
+            sheet.line(b"word ", path, b" @ ", number * 64 + at as u64, 0);
             if is_program {
                 push_instruction(sheet, page.words[at]);
             } else {
-                sheet.put_number("", page.words[at]);
+                sheet.add_number(page.words[at]);
             }
-            sheet.put("\n");
+            sheet.put(b"\n");
         }
     }
 }

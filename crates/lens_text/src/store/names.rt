@@ -5,7 +5,7 @@ use fk_model::{Body, Ptr, Who};
 use fk_store::Store;
 
 /// The slots from the root down to an object.
-fn slots_of(sheet: &mut Sheet, store: &Store, who: Who) -> Vec<u8> {
+fn slots_of(sheet: &Sheet, store: &Store, who: Who) -> Vec<u8> {
     let mut slots = Vec::new(sheet.alloc);
     let mut next = Some(who);
     for _ in 0..u64::MAX {
@@ -13,7 +13,7 @@ fn slots_of(sheet: &mut Sheet, store: &Store, who: Who) -> Vec<u8> {
             break;
         };
         if slots.push(one.slot).is_err() {
-            sheet.is_short = true;
+            sheet.lacks();
         }
         next = store.home(one.space);
     }
@@ -21,28 +21,32 @@ fn slots_of(sheet: &mut Sheet, store: &Store, who: Who) -> Vec<u8> {
     slots
 }
 
-/// Adds the path of an object from the root behind a text.
-pub fn push_path(sheet: &mut Sheet, store: &Store, before: &str, who: Who) {
-    sheet.put(before);
+/// Adds the path of an object from the root.
+pub fn push_path(sheet: &Sheet, store: &Store, who: Who) {
     for slot in &slots_of(sheet, store, who) {
-        sheet.put_number("/", *slot as u64);
+        sheet.put_number(b"/", *slot as u64);
     }
 }
 
-/// Adds the path of an object behind a text, where there is one.
-pub fn push_named(sheet: &mut Sheet, store: &Store, before: &str, who: Option<Who>) {
+/// Adds the path of an object behind a piece, where there is one.
+pub fn push_named<const N: usize>(
+    sheet: &Sheet,
+    store: &Store,
+    before: &[u8; N],
+    who: Option<Who>,
+) {
     if let Some(who) = who {
-        push_path(sheet, store, before, who);
+        sheet.put(before);
+        push_path(sheet, store, who);
     }
 }
 
-/// Adds where a pointer leads, behind a text.
-pub fn push_pointer(sheet: &mut Sheet, store: &Store, before: &str, pointer: Ptr) {
-    sheet.put(before);
+/// Adds where a pointer leads.
+pub fn push_pointer(sheet: &Sheet, store: &Store, pointer: Ptr) {
     match pointer {
-        Ptr::Null => sheet.put("nothing"),
-        Ptr::Dead => sheet.put("what was destroyed"),
-        Ptr::At(who) => push_path(sheet, store, "", who),
+        Ptr::Null => sheet.put(b"nothing"),
+        Ptr::Dead => sheet.put(b"what was destroyed"),
+        Ptr::At(who) => push_path(sheet, store, who),
     }
 }
 

@@ -18,67 +18,72 @@ pub fn word_at(store: &Store, space: u32, address: u64) -> Option<u64> {
 }
 
 /// Adds what a thread does next: the instruction, or what is left of its call.
-pub fn push_at(sheet: &mut Sheet, store: &Store, who: Who, thread: &Thread) {
+pub fn push_at(sheet: &Sheet, store: &Store, who: Who, thread: &Thread) {
     match thread.mode {
         Mode::Running => {
-            sheet.put_between("running at ", thread.pc, ": ");
+            sheet.put_between(b"running at ", thread.pc, b": ");
             match word_at(store, who.space, thread.pc) {
                 Some(word) => push_instruction(sheet, word),
-                None => sheet.put("no page is there"),
+                None => sheet.put(b"no page is there"),
             }
         }
         Mode::Calling => {
-            sheet.put_between("calling at ", thread.pc, ": ");
+            sheet.put_between(b"calling at ", thread.pc, b": ");
             push_call(sheet, &thread.regs, false);
         }
         Mode::Halted(code) => {
-            sheet.fill("halted @ at @: ", code as u64, thread.pc, 0);
-            sheet.put(line_at(HALTS, code as u64));
+            sheet.fill(b"halted @ at @: ", code as u64, thread.pc, 0);
+            sheet.add(line_at(HALTS, code as u64));
         }
-        Mode::Native => sheet.put("a porter"),
+        Mode::Native => sheet.put(b"a porter"),
     }
 }
 
-/// Adds who serves a talk, or has taken a fault, behind a text.
-fn push_peer(sheet: &mut Sheet, store: &Store, before: &str, peer: Peer) {
-    sheet.put(before);
+/// Adds who serves a talk, or has taken a fault.
+fn push_peer(sheet: &Sheet, store: &Store, peer: Peer) {
     match peer {
-        Peer::Thread(who) => push_path(sheet, store, "", who),
-        Peer::Service => sheet.put("the port's native server"),
-        Peer::Parked => sheet.put("nobody yet (parked)"),
+        Peer::Thread(who) => push_path(sheet, store, who),
+        Peer::Service => sheet.put(b"the port's native server"),
+        Peer::Parked => sheet.put(b"nobody yet (parked)"),
     }
 }
 
-/// Faults by a read, and those by a write.
-const FAULTS: &str = "; fault, read of page @
-; fault, write of page @";
-
-/// Adds a thread behind a text: what it does next, how often it is stopped, its talk as a client, its fault.
-pub fn push_thread(sheet: &mut Sheet, store: &Store, before: &str, who: Who, thread: &Thread) {
-    sheet.put(before);
+/// Adds a thread: what it does next, how often it is stopped, its talk as a client, its fault.
+pub fn push_thread(sheet: &Sheet, store: &Store, who: Who, thread: &Thread) {
     push_at(sheet, store, who, thread);
     match thread.stops {
         0 => {}
-        1 => sheet.put("; stopped once"),
-        stops => sheet.put_between("; stopped ", stops as u64, " times"),
+        1 => sheet.put(b"; stopped once"),
+        stops => sheet.put_between(b"; stopped ", stops as u64, b" times"),
     }
     if let Some(talk) = thread.talk {
-        push_path(sheet, store, "; talk at ", talk.port);
-        push_peer(sheet, store, " with ", talk.peer);
-        let turn = match talk.turn {
-            Turn::Client => ", client's turn, words moved ",
-            Turn::Server => ", server's turn, words moved ",
-        };
-        sheet.put_number(turn, talk.moved as u64);
+        sheet.put(b"; talk at ");
+        push_path(sheet, store, talk.port);
+        sheet.put(b" with ");
+        push_peer(sheet, store, talk.peer);
+        match talk.turn {
+            Turn::Client => sheet.put(b", client's"),
+            Turn::Server => sheet.put(b", server's"),
+        }
+        sheet.put_number(b" turn, words moved ", talk.moved as u64);
     }
     if let Some(fault) = &thread.fault {
-        sheet.fill(line_at(FAULTS, fault.write as u64), fault.page as u64, 0, 0);
-        match fault.taker {
-            None => push_path(sheet, store, ", raised at ", fault.port),
-            Some(taker) => {
-                push_path(sheet, store, ", at ", fault.port);
-                push_peer(sheet, store, ", taken by ", taker);
-            }
+        if fault.write {
+            sheet.put(b"; fault, write of page ");
+        } else {
+            sheet.put(b"; fault, read of page ");
+        }
+        sheet.add_number(fault.page as u64);
+        if fault.taker.is_none() {
+            sheet.put(b", raised");
+        } else {
+            sheet.put(b",");
+        }
+        sheet.put(b" at ");
+        push_path(sheet, store, fault.port);
+        if let Some(taker) = fault.taker {
+            sheet.put(b", taken by ");
+            push_peer(sheet, store, taker);
         }
     }
 }

@@ -6,29 +6,29 @@ use fk_model::Who;
 use fk_store::Store;
 
 /// Adds the line of an object, by two blanks further in than that of its space.
-fn push_line(sheet: &mut Sheet, store: &Store, who: Who) {
+fn push_line(sheet: &Sheet, store: &Store, who: Who) {
     let mut above = Some(who);
     for _ in 0..u64::MAX {
         let Some(one) = above else {
             break;
         };
-        sheet.put("  ");
+        sheet.put(b"  ");
         above = store.home(one.space);
     }
-    push_path(sheet, store, "", who);
+    push_path(sheet, store, who);
     if let Some(body) = store.at(who) {
-        sheet.put(" ");
+        sheet.put(b" ");
         push_object(sheet, store, who, body);
     }
-    sheet.put("\n");
+    sheet.put(b"\n");
 }
 
 /// Adds all of a store, an object a line: each space before what lies in it, and what lies in one by rising slot.
-pub fn push_tree(sheet: &mut Sheet, store: &Store) {
+pub fn push_tree(sheet: &Sheet, store: &Store) {
     // The root stands in no slot.
-    sheet.put("/ ");
+    sheet.put(b"/ ");
     push_home(sheet, store, 0, None);
-    sheet.put("\n");
+    sheet.put(b"\n");
     let mut next = store.after(None);
     for _ in 0..u64::MAX {
         let Some(who) = next else {
