@@ -10,10 +10,11 @@ use std::alloc::Global;
 fn image_problem(alloc: Global, name: &str, status: &Status) -> Problem {
     match status {
         Status::BadImage { offset, .. } => {
-            let mut line = Sheet::new(alloc);
+            let line = Sheet::new(alloc);
             let form = ".img, offset @: expected an image; lens image ";
-            line.line("", name, form, *offset, 0, 0);
-            line.put_three(name, " says more", "");
+            line.add(name);
+            line.fill_text(form, *offset, 0, 0);
+            line.put_around(b"", name, b" says more");
             told(line)
         }
         _ => Problem::NoMemory,

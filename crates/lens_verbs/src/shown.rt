@@ -41,8 +41,8 @@ pub fn show_image<H: Shelf>(alloc: Global, name: &str, shelf: &mut H) -> Result<
     match file_of(alloc, shelf, name, ".img") {
         Ok(bytes) => match image_of(alloc, name, &bytes) {
             Ok(image) => {
-                let mut sheet = Sheet::new(alloc);
-                push_image(&mut sheet, image.spaces.as_slice());
+                let sheet = Sheet::new(alloc);
+                push_image(&sheet, image.spaces.as_slice());
                 sheet.done()
             }
             Err(status) => Err(refused_image(alloc, name, &status)),
@@ -66,8 +66,8 @@ pub fn show_differences<H: Shelf>(
     match show_image(alloc, name, shelf) {
         Ok(first) => match show_image(alloc, other, shelf) {
             Ok(second) => {
-                let mut sheet = Sheet::new(alloc);
-                push_differences(&mut sheet, first.as_str(), second.as_str());
+                let sheet = Sheet::new(alloc);
+                push_differences(&sheet, first.as_str(), second.as_str());
                 sheet.done()
             }
             Err(problem) => Err(problem),

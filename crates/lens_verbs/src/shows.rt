@@ -28,9 +28,9 @@ impl Watcher for Show {
     fn before(&mut self, seen: Seen<'_>, one: &Move) -> Result<(), NoMemory> {
         match &mut self.how {
             How::Tree => {}
-            How::Steps(steps) => steps.before(self.sheet.alloc, seen, one),
+            How::Steps(steps) => steps.before(&self.sheet, seen, one),
             How::Why(why) => why.before(seen.store, one.who),
-            How::Page(page) => page.before(&mut self.sheet, seen, one),
+            How::Page(page) => page.before(&self.sheet, seen, one),
         }
         Ok(())
     }
@@ -38,19 +38,19 @@ impl Watcher for Show {
     fn after(&mut self, seen: Seen<'_>, one: &Move) -> Result<(), NoMemory> {
         match &mut self.how {
             How::Tree => {}
-            How::Steps(steps) => steps.after(&mut self.sheet, seen, one),
-            How::Why(why) => why.after(&mut self.sheet, seen.store, one.who),
-            How::Page(page) => page.steps.after(&mut self.sheet, seen, one),
+            How::Steps(steps) => steps.after(&self.sheet, seen, one),
+            How::Why(why) => why.after(&self.sheet, seen.store, one.who),
+            How::Page(page) => page.steps.after(&self.sheet, seen, one),
         }
         Ok(())
     }
 
     fn stops(&mut self, seen: Seen<'_>, ready: &Ready, stop: Stop) -> Result<(), NoMemory> {
         match &mut self.how {
-            How::Tree => push_tree(&mut self.sheet, seen.store),
+            How::Tree => push_tree(&self.sheet, seen.store),
             How::Steps(_) => {}
-            How::Why(why) => why.stops(&mut self.sheet, seen, ready, stop),
-            How::Page(page) => page.stops(&mut self.sheet, seen, stop),
+            How::Why(why) => why.stops(&self.sheet, seen, ready, stop),
+            How::Page(page) => page.stops(&self.sheet, seen, stop),
         }
         Ok(())
     }
@@ -58,11 +58,11 @@ impl Watcher for Show {
 
 /// What is asked for, of which nothing of the run is shown yet.
 pub fn show_of(alloc: Global, asked: Asked<'_>) -> Show {
-    let mut sheet = Sheet::new(alloc);
+    let sheet = Sheet::new(alloc);
     let how = match asked.verb {
-        Verb::Steps => How::Steps(Steps::new(&mut sheet, asked.first, asked.end)),
+        Verb::Steps => How::Steps(Steps::new(&sheet, asked.first, asked.end)),
         Verb::Why => How::Why(Why::new(alloc)),
-        Verb::Page => How::Page(Page::new(&mut sheet, asked.name)),
+        Verb::Page => How::Page(Page::new(&sheet, asked.name)),
         _ => How::Tree,
     };
     Show { sheet, how }

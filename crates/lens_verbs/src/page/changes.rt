@@ -33,19 +33,20 @@ pub fn few_changed(store: &Store, one: &Move) -> Option<Few> {
 }
 
 /// Adds the lines of those of these objects that aren't as they were last written. That of what is gone has no path.
-pub fn push_objects(sheet: &mut Sheet, known: &mut Known, store: &Store, names: &[Who]) {
+pub fn push_objects(sheet: &Sheet, known: &mut Known, store: &Store, names: &[Who]) {
     for who in names {
         if let Some(last) = known.get_mut(who) {
-            let mut line = Sheet::new(sheet.alloc);
-            line.fill("=@.@", who.space as u64, who.slot as u64, 0);
+            let line = Sheet::new(sheet.alloc);
+            line.fill(b"=@.@", who.space as u64, who.slot as u64, 0);
             if let Some(body) = store.at(*who) {
-                push_path(&mut line, store, "\t", *who);
-                line.put("\t");
-                push_object(&mut line, store, *who, body);
+                line.put(b"\t");
+                push_path(&line, store, *who);
+                line.put(b"\t");
+                push_object(&line, store, *who, body);
             }
             let line = sheet.taken(line);
             if last.as_str() != line.as_str() {
-                sheet.put_three(line.as_str(), "\n", "");
+                sheet.put_around(b"", line.as_str(), b"\n");
                 *last = line;
             }
         }

@@ -22,8 +22,9 @@ pub struct Page {
 
 impl Page {
     /// Begins the page of a trace with this name. Nothing is known yet.
-    pub fn new(sheet: &mut Sheet, name: &str) -> Page {
-        sheet.put_three(HEAD, name, "\n");
+    pub fn new(sheet: &Sheet, name: &str) -> Page {
+        sheet.add(HEAD);
+        sheet.put_around(b"", name, b"\n");
         Page {
             steps: Steps::new(sheet, 0, u64::MAX),
             known: BTreeMap::new(sheet.alloc),
@@ -33,13 +34,13 @@ impl Page {
     }
 
     /// Adds what isn't as it was before the last move, and at first all.
-    fn push_changes(&mut self, sheet: &mut Sheet, store: &Store) {
+    fn push_changes(&mut self, sheet: &Sheet, store: &Store) {
         if let Some((mover, pick, other)) = self.few {
             return push_objects(sheet, &mut self.known, store, &[mover, pick, other]);
         }
-        sheet.put("=/\t/\t");
+        sheet.put(b"=/\t/\t");
         push_home(sheet, store, 0, None);
-        sheet.put("\n");
+        sheet.put(b"\n");
         let mut next = store.after(None);
         for _ in 0..u64::MAX {
             let Some(who) = next else {
@@ -48,7 +49,7 @@ impl Page {
             if !self.known.contains_key(&who) {
                 let line = String::new(sheet.alloc);
                 if self.known.insert(who, line).is_err() | self.names.push(who).is_err() {
-                    sheet.is_short = true;
+                    sheet.lacks();
                 }
             }
             next = store.after(next);
@@ -57,20 +58,21 @@ impl Page {
     }
 
     /// It sees what stands before a move, and adds what the one before has changed.
-    pub fn before(&mut self, sheet: &mut Sheet, seen: Seen<'_>, one: &Move) {
+    pub fn before(&mut self, sheet: &Sheet, seen: Seen<'_>, one: &Move) {
         self.push_changes(sheet, seen.store);
-        self.steps.before(sheet.alloc, seen, one);
+        self.steps.before(sheet, seen, one);
         self.few = few_changed(seen.store, one);
     }
 
     /// It sees what stands where the run stops, adds what the last move has changed, and says why no further one was made.
-    pub fn stops(&mut self, sheet: &mut Sheet, seen: Seen<'_>, stop: Stop) {
+    pub fn stops(&mut self, sheet: &Sheet, seen: Seen<'_>, stop: Stop) {
         self.push_changes(sheet, seen.store);
         let end = match stop {
             Stop::Unready { .. } => "the trace goes on with a move that isn't ready",
             Stop::Budget { .. } => "the trace goes on, but the budget is used",
             _ => "the trace has no further move",
         };
-        sheet.put_three(end, SCRIPT, "");
+        sheet.add(end);
+        sheet.add(SCRIPT);
     }
 }

@@ -29,51 +29,51 @@ pub fn peer_of(store: &Store, who: Who, thread: &Thread) -> Option<Who> {
 }
 
 /// Adds what a thread is about to do: a calling one's stage, with its peer or its pick.
-fn push_thread_act(sheet: &mut Sheet, seen: Seen<'_>, one: &Move, thread: &Thread) {
+fn push_thread_act(sheet: &Sheet, seen: Seen<'_>, one: &Move, thread: &Thread) {
     match thread.mode {
         Mode::Running => match word_at(seen.store, one.who.space, thread.pc) {
             Some(word) => push_instruction(sheet, word),
-            None => sheet.put("a word of a page that isn't there"),
+            None => sheet.put(b"a word of a page that isn't there"),
         },
         Mode::Calling => {
             let code = thread.regs[0];
             push_call(sheet, &thread.regs, true);
             let peer = peer_of(seen.store, one.who, thread);
             match first_stage(code) {
-                37 | 38 | 51 | 52 => push_named(sheet, seen.store, " to ", peer),
-                39 | 55 | 56 => push_named(sheet, seen.store, " with ", peer),
-                _ => push_named(sheet, seen.store, " of ", one.pick),
+                37 | 38 | 51 | 52 => push_named(sheet, seen.store, b" to ", peer),
+                39 | 55 | 56 => push_named(sheet, seen.store, b" with ", peer),
+                _ => push_named(sheet, seen.store, b" of ", one.pick),
             }
         }
-        Mode::Halted(_) => sheet.put("nothing, it has halted"),
+        Mode::Halted(_) => sheet.put(b"nothing, it has halted"),
         Mode::Native => match seen.job {
             Some(job) if job.porter == one.who => push_asked(sheet, &job.stage),
-            _ => sheet.put("nothing, it isn't the turn of a job of it"),
+            _ => sheet.put(b"nothing, it isn't the turn of a job of it"),
         },
     }
 }
 
 /// Adds what a mover is about to do.
-pub fn push_act(sheet: &mut Sheet, seen: Seen<'_>, one: &Move) {
+pub fn push_act(sheet: &Sheet, seen: Seen<'_>, one: &Move) {
     let (store, who) = (seen.store, one.who);
     match store.at(who) {
         Some(Body::Thread(thread)) => push_thread_act(sheet, seen, one, thread),
         Some(Body::Port { .. }) => match ask_of(seen.services, who) {
             Some(Ask::Accept) => {
-                sheet.put("accept");
-                push_named(sheet, store, " of ", one.pick);
+                sheet.put(b"accept");
+                push_named(sheet, store, b" of ", one.pick);
             }
             Some(Ask::Give { len, .. }) => {
-                sheet.put_between("give ", len as u64, " words");
-                push_named(sheet, store, " to ", store.client_at(who));
+                sheet.put_between(b"give ", len as u64, b" words");
+                push_named(sheet, store, b" to ", store.client_at(who));
             }
             Some(Ask::Over) => {
-                sheet.put("over");
-                push_named(sheet, store, " to ", store.client_at(who));
+                sheet.put(b"over");
+                push_named(sheet, store, b" to ", store.client_at(who));
             }
-            _ => sheet.put("nothing, it is its client's turn"),
+            _ => sheet.put(b"nothing, it is its client's turn"),
         },
-        Some(_) => sheet.put("nothing, it is no thread"),
-        None => sheet.put("nothing, nobody is there"),
+        Some(_) => sheet.put(b"nothing, it is no thread"),
+        None => sheet.put(b"nothing, nobody is there"),
     }
 }

@@ -6,7 +6,7 @@ use lens_text::{HALTS, STATUSES, Sheet, line_at, push_path};
 /// Adds the registers of a thread that have changed, as `r1=5 r2=0`, behind its path where it isn't the mover, and behind those of others that begin at this
 /// place.
 pub fn push_changed(
-    sheet: &mut Sheet,
+    sheet: &Sheet,
     start: usize,
     store: &Store,
     mover: Who,
@@ -19,42 +19,48 @@ pub fn push_changed(
     if before.regs == after.regs {
         return;
     }
-    sheet.gap(start, "; ");
-    if who != mover {
-        push_path(sheet, store, "", who);
-        sheet.put(" ");
+    if sheet.len() > start {
+        sheet.put(b"; ");
     }
-    let mut form = "r@=@";
+    if who != mover {
+        push_path(sheet, store, who);
+        sheet.put(b" ");
+    }
+    let start = sheet.len();
     for number in 0..16usize {
         let value = after.regs[number];
         if before.regs[number] != value {
-            sheet.fill(form, number as u64, value, 0);
-            form = " r@=@";
+            if sheet.len() > start {
+                sheet.put(b" ");
+            }
+            sheet.put_number(b"r", number as u64);
+            sheet.put_number(b"=", value);
         }
     }
 }
 
 /// Adds what has come of a mover's move besides its registers: how its call ended, how it halted, which fault it
 /// raised; or that it is gone.
-pub fn push_ending(sheet: &mut Sheet, store: &Store, who: Who, before: &Thread) {
+pub fn push_ending(sheet: &Sheet, store: &Store, who: Who, before: &Thread) {
     let Some(after) = store.thread(who) else {
-        return sheet.put("; it is gone from there");
+        return sheet.put(b"; it is gone from there");
     };
     match (before.mode, after.mode) {
         (Mode::Calling, Mode::Running) => {
-            sheet.put("; the call ends, ");
-            sheet.put(line_at(STATUSES, after.regs[0]));
+            sheet.put(b"; the call ends, ");
+            sheet.add(line_at(STATUSES, after.regs[0]));
         }
         (Mode::Running, Mode::Halted(code)) => {
-            sheet.put_between("; it halts ", code as u64, ", ");
-            sheet.put(line_at(HALTS, code as u64));
+            sheet.put_between(b"; it halts ", code as u64, b", ");
+            sheet.add(line_at(HALTS, code as u64));
         }
         _ => {}
     }
     if before.fault.is_none() {
         if let Some(fault) = &after.fault {
-            sheet.put_number("; it misses page ", fault.page as u64);
-            push_path(sheet, store, ", a fault at ", fault.port);
+            sheet.put_number(b"; it misses page ", fault.page as u64);
+            sheet.put(b", a fault at ");
+            push_path(sheet, store, fault.port);
         }
     }
 }

@@ -5,7 +5,6 @@ use fk_first::Seen;
 use fk_model::{Mode, Move, Thread, Who};
 use fk_store::Store;
 use lens_text::{Sheet, first_stage, push_path};
-use std::alloc::Global;
 
 /// The mover, whom it deals with, and its pick, each where that is a thread.
 type Threads = [Option<(Who, Thread)>; 3];
@@ -14,7 +13,7 @@ type Threads = [Option<(Who, Thread)>; 3];
 #[derive(Drop)]
 pub struct Begun {
     /// The trace's own line, the move's number, who moves, and what that does where it isn't to send words, with tabs between them.
-    pub head: Sheet,
+    pub head: String,
     /// How many words a sender is to send.
     pub sending: Option<u64>,
     /// Whom the mover deals with.
@@ -35,16 +34,16 @@ fn kept(store: &Store, who: Option<Who>) -> Option<(Who, Thread)> {
 }
 
 /// What is known before a move.
-pub fn begin(alloc: Global, seen: Seen<'_>, one: &Move) -> Begun {
+pub fn begin(sheet: &Sheet, seen: Seen<'_>, one: &Move) -> Begun {
     let (store, who) = (seen.store, one.who);
-    let mut head = Sheet::new(alloc);
-    head.fill("@.@", who.space as u64, who.slot as u64, 0);
+    let head = Sheet::new(sheet.alloc);
+    head.fill(b"@.@", who.space as u64, who.slot as u64, 0);
     if let Some(pick) = one.pick {
-        head.fill(" @.@", pick.space as u64, pick.slot as u64, 0);
+        head.fill(b" @.@", pick.space as u64, pick.slot as u64, 0);
     }
-    head.put_between("\t", seen.events, "\t");
-    push_path(&mut head, store, "", who);
-    head.put("\t");
+    head.put_between(b"\t", seen.events, b"\t");
+    push_path(&head, store, who);
+    head.put(b"\t");
     let (other, sending) = match store.thread(who) {
         Some(thread) => {
             let sending = match (thread.mode, first_stage(thread.regs[0])) {
@@ -56,11 +55,12 @@ pub fn begin(alloc: Global, seen: Seen<'_>, one: &Move) -> Begun {
         None => (store.client_at(who), None),
     };
     if sending.is_none() {
-        push_act(&mut head, seen, one);
+        push_act(&head, seen, one);
     }
+    let servers = states_of(sheet, seen.services);
     Begun {
-        servers: states_of(&mut head, seen.services),
-        head,
+        servers,
+        head: sheet.taken(head),
         sending,
         other,
         threads: [

@@ -42,11 +42,11 @@ fn state_of(native: &Native) -> ServerState {
 }
 
 /// What native servers are at. Where there is no memory for it, the sheet notes that.
-pub fn states_of(sheet: &mut Sheet, services: &[(Who, Native)]) -> Vec<ServerState> {
+pub fn states_of(sheet: &Sheet, services: &[(Who, Native)]) -> Vec<ServerState> {
     let mut states = Vec::new(sheet.alloc);
     for (_, native) in services {
         if states.push(state_of(native)).is_err() {
-            sheet.is_short = true;
+            sheet.lacks();
         }
     }
     states
@@ -54,17 +54,21 @@ pub fn states_of(sheet: &mut Sheet, services: &[(Who, Native)]) -> Vec<ServerSta
 
 /// Adds what a native server was told, where it was told something: the words that came to it since, how many it gave; whose
 /// turn it is, where that has changed.
-fn push_news(sheet: &mut Sheet, native: &Native, was: ServerState) {
+fn push_news(sheet: &Sheet, native: &Native, was: ServerState) {
     let is = state_of(native);
     if is.sent > was.sent {
-        sheet.put(" words");
+        sheet.put(b" words");
         for word in sent_to(native).get(was.sent..).unwrap_or(&[]) {
-            sheet.put_number(" ", *word);
+            sheet.put_number(b" ", *word);
         }
     } else if (is.left < was.left) & (is.position == was.position) {
-        sheet.put_between(" gave ", was.left.saturating_sub(is.left) as u64, " words");
+        sheet.put_between(
+            b" gave ",
+            was.left.saturating_sub(is.left) as u64,
+            b" words",
+        );
     }
-    sheet.put(match (was.side, is.side) {
+    sheet.add(match (was.side, is.side) {
         (Side::Idle, Side::Client) => " has a client, at the client's turn",
         (Side::Idle, Side::Own) => " has a client, at its own turn",
         (Side::Client, Side::Own) => " has the turn",
@@ -75,30 +79,28 @@ fn push_news(sheet: &mut Sheet, native: &Native, was: ServerState) {
 }
 
 /// Adds what native servers were told since these states were taken, each behind its port and its name.
-pub fn push_told(
-    sheet: &mut Sheet,
-    store: &Store,
-    services: &[(Who, Native)],
-    before: &[ServerState],
-) {
-    let start = sheet.text.len();
+pub fn push_told(sheet: &Sheet, store: &Store, services: &[(Who, Native)], before: &[ServerState]) {
+    let start = sheet.len();
     let mut states = before;
     for (port, native) in services {
         let Some((was, later)) = states.split_first() else {
             break;
         };
         states = later;
-        let mut news = Sheet::new(sheet.alloc);
-        push_news(&mut news, native, *was);
-        if !news.text.is_empty() {
-            sheet.gap(start, "; ");
-            push_path(sheet, store, "", *port);
-            sheet.put(" ");
-            sheet.put(match native {
+        let news = Sheet::new(sheet.alloc);
+        push_news(&news, native, *was);
+        let news = sheet.taken(news);
+        if !news.is_empty() {
+            if sheet.len() > start {
+                sheet.put(b"; ");
+            }
+            push_path(sheet, store, *port);
+            sheet.put(b" ");
+            sheet.add(match native {
                 Native::Console(console) => console.alias.as_str(),
                 Native::Server(server) => rule_name(server.rule),
             });
-            sheet.add(&news);
+            sheet.add(news.as_str());
         }
     }
 }

@@ -8,53 +8,53 @@ use fk_model::Who;
 use fk_store::Store;
 use lens_text::{Sheet, handled, object_named, push_named, push_path};
 
-/// What stands before a space that is to be released, where none holds it.
-const BENEATH: &str = "waits until a porter releases a space beneath ";
-
-/// What stands before a set.
-const COMES: &str = "waits until a client or a fault comes to a port of the set ";
-
 /// Adds what the stage with this code waits for, by what it names.
-fn push_awaited(sheet: &mut Sheet, store: &Store, lockers: &Lockers, code: u64, named: Who) {
+fn push_awaited(sheet: &Sheet, store: &Store, lockers: &Lockers, code: u64, named: Who) {
     match code {
         13 => match holder_of(store, named) {
             Some(holder) => {
-                push_path(sheet, store, "waits until ", named);
-                sheet.put(" is released");
-                push_whereabouts(sheet, store, " by ", holder);
+                sheet.put(b"waits until ");
+                push_path(sheet, store, named);
+                sheet.put(b" is released by ");
+                push_whereabouts(sheet, store, holder);
             }
-            None => push_path(sheet, store, BENEATH, named),
+            None => {
+                sheet.put(b"waits until a porter releases a space beneath ");
+                push_path(sheet, store, named);
+            }
         },
         21 => {
-            push_path(sheet, store, "waits until the mutex ", named);
-            sheet.put(" is unlocked, which ");
+            sheet.put(b"waits until the mutex ");
+            push_path(sheet, store, named);
+            sheet.put(b" is unlocked, which ");
             match lockers.get(&named) {
                 Some(locker) => {
-                    push_whereabouts(sheet, store, "", *locker);
-                    sheet.put(" locked");
+                    push_whereabouts(sheet, store, *locker);
+                    sheet.put(b" locked");
                 }
-                None => sheet.put("no move so far locked"),
+                None => sheet.put(b"no move so far locked"),
             }
         }
         25 => {
-            push_path(sheet, store, "sleeps until the condition ", named);
-            sheet.put(" is signalled");
+            sheet.put(b"sleeps until the condition ");
+            push_path(sheet, store, named);
+            sheet.put(b" is signalled");
         }
-        32 | 33 => push_port(
-            sheet,
-            store,
-            "waits until its connect to ",
-            named,
-            " is accepted",
-        ),
-        _ => push_path(sheet, store, COMES, named),
+        32 | 33 => {
+            sheet.put(b"waits until its connect to ");
+            push_port(sheet, store, named, b" is accepted");
+        }
+        _ => {
+            sheet.put(b"waits until a client or a fault comes to a port of the set ");
+            push_path(sheet, store, named);
+        }
     }
 }
 
 /// Adds why the first stage of the call that these registers hold isn't ready, of a thread that is free or of a porter: the hold that is
 /// known to bar it, or who is waited for.
 pub fn push_blocked(
-    sheet: &mut Sheet,
+    sheet: &Sheet,
     store: &Store,
     lockers: &Lockers,
     who: Who,
@@ -63,9 +63,9 @@ pub fn push_blocked(
     for touched in &touched_by(store, who, registers) {
         if let Some(space) = held_over(store, *touched) {
             if holder_of(store, space) != Some(who) {
-                push_named(sheet, store, "would change ", *touched);
-                push_hold(sheet, store, " or lead there, which the hold of ", space);
-                return sheet.put(" bars");
+                push_named(sheet, store, b"would change ", *touched);
+                push_hold(sheet, store, b" or lead there, which the hold of ", space);
+                return sheet.put(b" bars");
             }
         }
     }
@@ -74,8 +74,11 @@ pub fn push_blocked(
         34 | 35 | 36 | 37 | 38 => return push_client(sheet, store, who),
         50 | 51 | 52 | 53 | 54 => {
             return match store.client_of(who) {
-                Some(client) => push_whereabouts(sheet, store, "waits for its client ", client),
-                None => sheet.put("has no client"),
+                Some(client) => {
+                    sheet.put(b"waits for its client ");
+                    push_whereabouts(sheet, store, client);
+                }
+                None => sheet.put(b"has no client"),
             };
         }
         13 => object_named(store, who.space, one, two),

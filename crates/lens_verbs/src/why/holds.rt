@@ -20,7 +20,7 @@ pub fn held_over(store: &Store, object: Option<Who>) -> Option<Who> {
         let Some(one) = next else {
             break;
         };
-        if let Some(_) = holder_of(store, one) {
+        if holder_of(store, one).is_some() {
             found = next;
         }
         next = store.home(one.space);
@@ -28,23 +28,25 @@ pub fn held_over(store: &Store, object: Option<Who>) -> Option<Who> {
     found
 }
 
-/// Adds the hold of a space behind a text, with what its holder is at, where it is held.
-pub fn push_hold(sheet: &mut Sheet, store: &Store, before: &str, space: Who) {
+/// Adds the hold of a space behind a piece, with what its holder is at, where it is held.
+pub fn push_hold<const N: usize>(sheet: &Sheet, store: &Store, before: &[u8; N], space: Who) {
     if let Some(holder) = holder_of(store, space) {
-        push_place(sheet, store, before, holder);
-        push_path(sheet, store, " on ", space);
+        sheet.put(before);
+        push_place(sheet, store, holder);
+        sheet.put(b" on ");
+        push_path(sheet, store, space);
     }
 }
 
 /// Adds all holds, since some one bars what a move would change.
-pub fn push_holds(sheet: &mut Sheet, store: &Store) {
-    sheet.put("waits until no hold of another bars what it would change");
+pub fn push_holds(sheet: &Sheet, store: &Store) {
+    sheet.put(b"waits until no hold of another bars what it would change");
     let mut last = None;
     for _ in 0..u64::MAX {
         let Some(who) = store.after(last) else {
             break;
         };
-        push_hold(sheet, store, "; there is the hold of ", who);
+        push_hold(sheet, store, b"; there is the hold of ", who);
         last = Some(who);
     }
 }

@@ -17,7 +17,7 @@ pub struct Why {
 }
 
 /// Adds the line of a thread that isn't ready; of a porter, where its job is the one whose turn it is.
-fn push_thread(sheet: &mut Sheet, seen: Seen<'_>, lockers: &Lockers, who: Who) {
+fn push_thread(sheet: &Sheet, seen: Seen<'_>, lockers: &Lockers, who: Who) {
     let store = seen.store;
     let Some(thread) = store.thread(who) else {
         return;
@@ -25,23 +25,23 @@ fn push_thread(sheet: &mut Sheet, seen: Seen<'_>, lockers: &Lockers, who: Who) {
     match thread.mode {
         Mode::Native => match seen.job {
             Some(job) if job.porter == who => {
-                push_path(sheet, store, "", who);
-                sheet.put(" a porter, ");
+                push_path(sheet, store, who);
+                sheet.put(b" a porter, ");
                 push_asked(sheet, &job.stage);
             }
             _ => return,
         },
         _ => {
-            push_path(sheet, store, "", who);
-            sheet.put(" ");
+            push_path(sheet, store, who);
+            sheet.put(b" ");
             push_at(sheet, store, who, thread);
         }
     }
     if !matches!(thread.mode, Mode::Halted(_)) {
-        sheet.put(": ");
+        sheet.put(b": ");
         push_reason(sheet, seen, lockers, who, thread);
     }
-    sheet.put("\n");
+    sheet.put(b"\n");
 }
 
 impl Why {
@@ -66,18 +66,18 @@ impl Why {
     }
 
     /// It sees what stands after that move, and notes who has locked a mutex.
-    pub fn after(&mut self, sheet: &mut Sheet, store: &Store, mover: Who) {
+    pub fn after(&mut self, sheet: &Sheet, store: &Store, mover: Who) {
         if let Some(mutex) = self.locking {
             if let Some(true) = store.mutex(mutex) {
                 if self.lockers.insert(mutex, mover).is_err() {
-                    sheet.is_short = true;
+                    sheet.lacks();
                 }
             }
         }
     }
 
     /// It sees what stands where the run stops, and says why threads aren't ready, in the order of their paths.
-    pub fn stops(&mut self, sheet: &mut Sheet, seen: Seen<'_>, ready: &Ready, stop: Stop) {
+    pub fn stops(&mut self, sheet: &Sheet, seen: Seen<'_>, ready: &Ready, stop: Stop) {
         if let Stop::Unready { one, .. } = stop {
             push_move(sheet, seen, ready, &self.lockers, &one);
         }

@@ -4,22 +4,22 @@ use fk_model::Who;
 use fk_store::Store;
 use lens_text::{Sheet, push_path, push_thread};
 
-/// Adds a thread by its path behind a text, and what it is at.
-pub fn push_place(sheet: &mut Sheet, store: &Store, before: &str, who: Who) {
-    push_path(sheet, store, before, who);
-    sheet.put(" (");
+/// Adds a thread by its path, and what it is at.
+pub fn push_place(sheet: &Sheet, store: &Store, who: Who) {
+    push_path(sheet, store, who);
+    sheet.put(b" (");
     match store.thread(who) {
-        Some(thread) => push_thread(sheet, store, "", who, thread),
-        None => sheet.put("no thread"),
+        Some(thread) => push_thread(sheet, store, who, thread),
+        None => sheet.put(b"no thread"),
     }
-    sheet.put(")");
+    sheet.put(b")");
 }
 
 /// Adds the same, and the hold that keeps the thread still, if one does.
-pub fn push_whereabouts(sheet: &mut Sheet, store: &Store, before: &str, who: Who) {
-    push_place(sheet, store, before, who);
+pub fn push_whereabouts(sheet: &Sheet, store: &Store, who: Who) {
+    push_place(sheet, store, who);
     if let Some(space) = held_over(store, store.home(who.space)) {
-        push_hold(sheet, store, ", kept still by the hold of ", space);
-        sheet.put(",");
+        push_hold(sheet, store, b", kept still by the hold of ", space);
+        sheet.put(b",");
     }
 }

@@ -13,55 +13,57 @@ use std::collections::BTreeMap;
 pub type Lockers = BTreeMap<Who, Who>;
 
 /// Adds why the job of a porter doesn't go on, where it is its turn.
-fn push_job(sheet: &mut Sheet, seen: Seen<'_>, lockers: &Lockers, porter: Who) {
+fn push_job(sheet: &Sheet, seen: Seen<'_>, lockers: &Lockers, porter: Who) {
     match seen.job {
         Some(job) if job.porter == porter => {
             if !job.is_at_work & (job.at > seen.events) {
-                let behind = " moves, or where nobody else can move";
-                return sheet.put_between("its job begins after ", job.at, behind);
+                let behind = b" moves, or where nobody else can move";
+                return sheet.put_between(b"its job begins after ", job.at, behind);
             }
             let registers = words(&Todo::One(job.stage), &[0; 16]);
             push_blocked(sheet, seen.store, lockers, porter, &registers);
         }
-        _ => sheet.put("it isn't the turn of a job of it"),
+        _ => sheet.put(b"it isn't the turn of a job of it"),
     }
 }
 
 /// Adds why a thread has no ready move, and who could end that.
-pub fn push_reason(
-    sheet: &mut Sheet,
-    seen: Seen<'_>,
-    lockers: &Lockers,
-    who: Who,
-    thread: &Thread,
-) {
+pub fn push_reason(sheet: &Sheet, seen: Seen<'_>, lockers: &Lockers, who: Who, thread: &Thread) {
     let store = seen.store;
     match thread.mode {
         Mode::Native => return push_job(sheet, seen, lockers, who),
         Mode::Halted(code) => {
-            sheet.put_between("has halted ", code as u64, ", ");
-            return sheet.put(line_at(HALTS, code as u64));
+            sheet.put_between(b"has halted ", code as u64, b", ");
+            return sheet.add(line_at(HALTS, code as u64));
         }
         _ => {}
     }
     if thread.stops > 0 {
-        return sheet.put_between("is stopped, and needs ", thread.stops as u64, " thread_go");
+        return sheet.put_between(
+            b"is stopped, and needs ",
+            thread.stops as u64,
+            b" thread_go",
+        );
     }
     if let Some(fault) = &thread.fault {
         let port = fault.port;
         return match fault.taker {
-            None => push_port(sheet, store, "waits until its fault at ", port, " is taken"),
+            None => {
+                sheet.put(b"waits until its fault at ");
+                push_port(sheet, store, port, b" is taken");
+            }
             Some(Peer::Thread(taker)) => {
-                push_whereabouts(sheet, store, "waits until its fault is done by ", taker);
+                sheet.put(b"waits until its fault is done by ");
+                push_whereabouts(sheet, store, taker);
             }
             Some(_) => {
-                let before = "waits until its parked fault at ";
-                push_port(sheet, store, before, port, " is taken up");
+                sheet.put(b"waits until its parked fault at ");
+                push_port(sheet, store, port, b" is taken up");
             }
         };
     }
     if let Some(space) = held_over(store, store.home(who.space)) {
-        return push_hold(sheet, store, "is kept still by the hold of ", space);
+        return push_hold(sheet, store, b"is kept still by the hold of ", space);
     }
     match thread.mode {
         Mode::Calling => push_blocked(sheet, store, lockers, who, &thread.regs),

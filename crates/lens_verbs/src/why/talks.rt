@@ -6,7 +6,7 @@ use lens_text::{Sheet, handled, push_path};
 
 /// Adds who could take what stands at a port of a set: the first thread of the set's space that stands at its wait on it, or the first
 /// thread there at all.
-fn push_server(sheet: &mut Sheet, store: &Store, set: Who) {
+fn push_server(sheet: &Sheet, store: &Store, set: Who) {
     let mut first = None;
     for slot in 0..=255u8 {
         let who = Who {
@@ -16,31 +16,38 @@ fn push_server(sheet: &mut Sheet, store: &Store, set: Who) {
         if let Some(thread) = store.thread(who) {
             let is_waiting = matches!((thread.mode, thread.regs[0]), (Mode::Calling, 48 | 49));
             if is_waiting && handled(store, set.space, thread.regs[1]) == Some(set) {
-                push_whereabouts(sheet, store, "; ", who);
-                return push_path(sheet, store, " waits at its set ", set);
+                sheet.put(b"; ");
+                push_whereabouts(sheet, store, who);
+                sheet.put(b" waits at its set ");
+                return push_path(sheet, store, set);
             }
             if first.is_none() {
                 first = Some(who);
             }
         }
     }
-    push_path(sheet, store, "; nobody waits at its set ", set);
+    sheet.put(b"; nobody waits at its set ");
+    push_path(sheet, store, set);
     match first {
-        Some(who) => push_whereabouts(sheet, store, ", and in its space is ", who),
-        None => sheet.put(", and no thread is in its space"),
+        Some(who) => {
+            sheet.put(b", and in its space is ");
+            push_whereabouts(sheet, store, who);
+        }
+        None => sheet.put(b", and no thread is in its space"),
     }
 }
 
-/// Adds a port between two texts, and who could take what stands there.
-pub fn push_port(sheet: &mut Sheet, store: &Store, before: &str, port: Who, behind: &str) {
-    push_path(sheet, store, before, port);
+/// Adds a port before a piece, and who could take what stands there.
+pub fn push_port<const N: usize>(sheet: &Sheet, store: &Store, port: Who, behind: &[u8; N]) {
+    push_path(sheet, store, port);
     sheet.put(behind);
     match store.at(port) {
         Some(Body::Port { served: true, .. }) => match store.client_at(port) {
             Some(client) => {
-                push_whereabouts(sheet, store, "; its native server serves ", client);
+                sheet.put(b"; its native server serves ");
+                push_whereabouts(sheet, store, client);
             }
-            None => sheet.put("; its native server has no client"),
+            None => sheet.put(b"; its native server has no client"),
         },
         Some(
             Body::Port {
@@ -54,13 +61,13 @@ pub fn push_port(sheet: &mut Sheet, store: &Store, before: &str, port: Who, behi
             };
             push_server(sheet, store, set);
         }
-        Some(Body::Port { .. }) => sheet.put("; the port is in no set, so nobody can take it"),
-        _ => sheet.put("; there is no port"),
+        Some(Body::Port { .. }) => sheet.put(b"; the port is in no set, so nobody can take it"),
+        _ => sheet.put(b"; there is no port"),
     }
 }
 
 /// Adds the other side of a client's talk.
-pub fn push_client(sheet: &mut Sheet, store: &Store, who: Who) {
+pub fn push_client(sheet: &Sheet, store: &Store, who: Who) {
     let Some(
         Thread {
             talk: Some(talk),
@@ -68,18 +75,21 @@ pub fn push_client(sheet: &mut Sheet, store: &Store, who: Who) {
         },
     ) = store.thread(who)
     else {
-        return sheet.put("has no talk");
+        return sheet.put(b"has no talk");
     };
     let port = talk.port;
     match talk.peer {
-        Peer::Thread(server) => push_whereabouts(sheet, store, "waits for its server ", server),
-        Peer::Service => push_path(sheet, store, "waits for the native server of ", port),
-        Peer::Parked => push_port(
-            sheet,
-            store,
-            "waits until its talk at ",
-            port,
-            " is taken up",
-        ),
+        Peer::Thread(server) => {
+            sheet.put(b"waits for its server ");
+            push_whereabouts(sheet, store, server);
+        }
+        Peer::Service => {
+            sheet.put(b"waits for the native server of ");
+            push_path(sheet, store, port);
+        }
+        Peer::Parked => {
+            sheet.put(b"waits until its talk at ");
+            push_port(sheet, store, port, b" is taken up");
+        }
     }
 }
