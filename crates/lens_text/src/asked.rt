@@ -2,7 +2,6 @@
 use crate::problem::Problem;
 use crate::sheet::{Sheet, line_at, text_at};
 use fk_model::{is_name, plain_number_up_to};
-use std::alloc::Global;
 
 /// What is asked for.
 #[derive(Clone, Copy)]
@@ -160,14 +159,10 @@ fn asked_by<'a>(line: &Sheet, words: &'a [String]) -> Option<Asked<'a>> {
 ///
 /// # Errors
 ///
-/// `Words` where they are no verb, and `NoMemory`.
-pub fn asked_in<'a>(alloc: Global, words: &'a [String]) -> Result<Asked<'a>, Problem> {
-    let line = Sheet::new(alloc);
-    if let Some(asked) = asked_by(&line, words) {
-        return Ok(asked);
-    }
-    match line.done() {
-        Ok(line) => Err(Problem::Words(line)),
-        Err(problem) => Err(problem),
+/// `Words` where they are no verb.
+pub fn asked_in<'a>(sheet: &Sheet, words: &'a [String]) -> Result<Asked<'a>, Problem> {
+    match asked_by(sheet, words) {
+        Some(asked) => Ok(asked),
+        None => Err(Problem::Words),
     }
 }

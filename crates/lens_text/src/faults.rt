@@ -1,32 +1,21 @@
-//! That something can't be shown, in a line.
+//! That something can't be shown, in a line that is all the sheet has then.
 use crate::problem::Problem;
 use crate::sheet::Sheet;
-use std::alloc::Global;
-
-/// That what was given can't be shown, with the line that says so.
-pub fn told(line: Sheet) -> Problem {
-    match line.done() {
-        Ok(line) => Problem::Given(line),
-        Err(problem) => problem,
-    }
-}
 
 /// That what was given can't be shown: of which file, where in it by a form of two numbers, and what was expected there.
-pub fn given(alloc: Global, file: &str, form: &str, one: u64, two: u64, expected: &str) -> Problem {
-    let line = Sheet::new(alloc);
-    line.add(file);
-    line.fill_text(form, one, two, 0);
-    line.add(expected);
-    told(line)
+pub fn given(sheet: &Sheet, file: &str, form: &str, one: u64, two: u64, expected: &str) -> Problem {
+    sheet.clear();
+    sheet.add(file);
+    sheet.fill_text(form, one, two, 0);
+    sheet.add(expected);
+    Problem::Given
 }
 
 /// That what has this name and this ending can't be read.
-pub fn unread(alloc: Global, name: &str, ending: &str) -> Problem {
-    let line = Sheet::new(alloc);
-    line.add(name);
-    line.put_around(b"", ending, b" can't be read");
-    match line.done() {
-        Ok(line) => Problem::Outside(line),
-        Err(problem) => problem,
-    }
+pub fn unread(sheet: &Sheet, name: &str, ending: &str) -> Problem {
+    sheet.clear();
+    sheet.add(name);
+    sheet.add(ending);
+    sheet.put(b" can't be read");
+    Problem::Outside
 }

@@ -1,11 +1,24 @@
 //! The source, and the files of the shelf.
 use crate::faults::{given, unread};
 use crate::problem::Problem;
+use crate::sheet::Sheet;
 use fk_causes::{ReadError, Shelf, ShelfFail, Source, read_all};
-use std::alloc::Global;
 
 /// What the source is called.
 pub const SOURCE: &str = "standard input";
+
+/// What the shelf has under this name with this ending.
+fn found<H: Shelf>(
+    sheet: &Sheet,
+    shelf: &mut H,
+    name: &str,
+    ending: &str,
+) -> Result<Option<Vec<u8>>, ShelfFail> {
+    let file = Sheet::new(sheet.alloc);
+    file.add(name);
+    file.add(ending);
+    shelf.get(sheet.taken(file).as_str())
+}
 
 /// The bytes of the file with this name and this ending.
 ///
@@ -13,24 +26,18 @@ pub const SOURCE: &str = "standard input";
 ///
 /// `Given` where there is no such file, `Outside` where it can't be read, and `NoMemory`.
 pub fn file_of<H: Shelf>(
-    alloc: Global,
+    sheet: &Sheet,
     shelf: &mut H,
     name: &str,
     ending: &str,
 ) -> Result<Vec<u8>, Problem> {
-    let found = {
-        let Ok(file) = format!(in alloc; "{name}{ending}") else {
-            return Err(Problem::NoMemory);
-        };
-        shelf.get(file.as_str())
-    };
-    match found {
+    match found(sheet, shelf, name, ending) {
         Ok(Some(bytes)) => Ok(bytes),
         Ok(None) => {
             let expected = ": expected a file of this name in the current folder";
-            Err(given(alloc, name, ending, 0, 0, expected))
+            Err(given(sheet, name, ending, 0, 0, expected))
         }
-        Err(ShelfFail::Failed) => Err(unread(alloc, name, ending)),
+        Err(ShelfFail::Failed) => Err(unread(sheet, name, ending)),
         Err(ShelfFail::NoMemory) => Err(Problem::NoMemory),
     }
 }
@@ -40,14 +47,14 @@ pub fn file_of<H: Shelf>(
 /// # Errors
 ///
 /// `Given` where it is too long, `Outside` where it can't be read, and `NoMemory`.
-pub fn source_text<R: Source>(alloc: Global, source: &mut R) -> Result<Vec<u8>, Problem> {
-    match read_all(alloc, source) {
+pub fn source_text<R: Source>(sheet: &Sheet, source: &mut R) -> Result<Vec<u8>, Problem> {
+    match read_all(sheet.alloc, source) {
         Ok(text) => Ok(text),
         Err(ReadError::TooLong) => {
             let expected = ": expected no more than 1048576 bytes";
-            Err(given(alloc, SOURCE, "", 0, 0, expected))
+            Err(given(sheet, SOURCE, "", 0, 0, expected))
         }
-        Err(ReadError::ReadFault) => Err(unread(alloc, SOURCE, "")),
+        Err(ReadError::ReadFault) => Err(unread(sheet, SOURCE, "")),
         Err(ReadError::NoMemory) => Err(Problem::NoMemory),
     }
 }

@@ -25,7 +25,7 @@ mod words;
 
 pub use asked::{Asked, Verb, asked_in};
 pub use calls::{first_stage, push_asked, push_call};
-pub use faults::{given, told};
+pub use faults::given;
 pub use files::{file_of, source_text};
 pub use images::{push_differences, push_image};
 pub use instructions::push_instruction;
@@ -37,4 +37,4 @@ pub use store::{
     handled, next_in_tree, object_named, push_at, push_home, push_named, push_object, push_path,
     push_thread, push_tree, word_at,
 };
-pub use words::words_text;
+pub use words::push_words;

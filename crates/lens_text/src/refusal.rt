@@ -1,8 +1,6 @@
 //! Why a text is no scenario.
-use crate::faults::told;
 use crate::problem::Problem;
 use crate::sheet::{Sheet, line_at, parted};
-use std::alloc::Global;
 
 /// What was expected of a scenario, by the rule by which it is refused, and by any other.
 const EXPECTED: &str = "a job that can be done
@@ -49,18 +47,23 @@ fn line_of(text: &[u8], heading: &str, index: u32) -> Option<u64> {
 
 /// That a scenario is refused, by a rule at the entry of a section with this index: the line of the entry, where that is found, else its
 /// place in its section.
-pub fn refused_scenario(alloc: Global, text: &[u8], rule: u8, section: u8, index: u32) -> Problem {
+pub fn refused_scenario(sheet: &Sheet, text: &[u8], rule: u8, section: u8, index: u32) -> Problem {
     let heading = line_at(HEADINGS, section as u64);
-    let sheet = Sheet::new(alloc);
+    sheet.clear();
     sheet.put(b"standard input, ");
     match line_of(text, heading, index) {
         Some(line) => {
             sheet.put_between(b"line ", line, b", ");
-            sheet.put_around(b"", heading, b" ");
+            sheet.add(heading);
+            sheet.put(b" ");
         }
-        None => sheet.put_around(b"", heading, b", entry "),
+        None => {
+            sheet.add(heading);
+            sheet.put(b", entry ");
+        }
     }
-    sheet.put_between(b"", index as u64, b": expected ");
+    sheet.add_number(index as u64);
+    sheet.put(b": expected ");
     sheet.add(line_at(EXPECTED, rule as u64));
-    told(sheet)
+    Problem::Given
 }

@@ -58,6 +58,14 @@ impl Sheet {
         }
     }
 
+    /// Makes it an empty one again.
+    pub fn clear(&self) {
+        if let Ok(mut text) = self.text.try_borrow_mut() {
+            text.clear();
+        }
+        self.is_short.set(false);
+    }
+
     /// Notes that there was no memory for something.
     pub fn lacks(&self) {
         self.is_short.set(true);

@@ -1,6 +1,4 @@
 //! What `--help` and `--version` say.
-use lens_text::Problem;
-use std::alloc::Global;
 
 /// What `--version` says.
 pub const VERSION: &str = "lens 1\n";
@@ -25,11 +23,3 @@ The exit status is 0 where something was shown, 1 where what was given can't be 
 none of these, 3 where something couldn't be read or written, and 4 where memory ran out. All but 0 come with a
 line on standard error.
 ";
-
-/// One of these texts.
-pub fn said(alloc: Global, text: &str) -> Result<String, Problem> {
-    match String::from_str(alloc, text) {
-        Ok(text) => Ok(text),
-        Err(_) => Err(Problem::NoMemory),
-    }
-}

@@ -23,4 +23,4 @@ mod top;
 mod why;
 
 pub use lens_text::Problem;
-pub use top::lens_top;
+pub use top::{Shown, lens_top};

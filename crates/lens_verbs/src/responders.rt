@@ -7,8 +7,7 @@ use crate::runs::show_run;
 use fk_causes::Shelf;
 use fk_model::{Reply, Rule};
 use fk_responders::{Responder, Table, reply_by, rule_name};
-use lens_text::{Asked, Problem};
-use std::alloc::Global;
+use lens_text::{Asked, Problem, Sheet};
 
 /// The rules that have a responder.
 const RULES: [Rule; 3] = [Rule::Echo, Rule::Feed, Rule::Sum];
@@ -19,11 +18,12 @@ const RULES: [Rule; 3] = [Rule::Echo, Rule::Feed, Rule::Sum];
 ///
 /// `Given` where the text is no scenario, or a file isn't what the verb needs, `Outside` where a file can't be read, and `NoMemory`.
 pub fn show<H: Shelf>(
-    alloc: Global,
+    sheet: &Sheet,
     asked: Asked<'_>,
     text: &[u8],
     shelf: &mut H,
-) -> Result<String, Problem> {
+) -> Result<(), Problem> {
+    let alloc = sheet.alloc;
     let mut list = Vec::new(alloc);
     for rule in &RULES {
         let rule = *rule;
@@ -39,7 +39,9 @@ pub fn show<H: Shelf>(
         ) else {
             return Err(Problem::NoMemory);
         };
-        list.push(Responder::new(name, rule, call))?;
+        if list.push(Responder::new(name, rule, call)).is_err() {
+            return Err(Problem::NoMemory);
+        }
     }
-    show_run(asked, &Table { list }, text, &mut Files { alloc, shelf })
+    show_run(asked, &Table { list }, text, &mut Files { sheet, shelf })
 }

@@ -5,41 +5,13 @@ ghost use Rattle.fk_scenario.specs.Kept.{KeepsScenario, HasRules};
 use crate::images::Files;
 use crate::scenarios::scenario_problem;
 use crate::shows::{Show, show_of};
-use crate::stops::stop_fault;
+use crate::stops::check_stop;
 use fk_causes::Shelf;
 use fk_commands::scenario_in;
 use fk_first::{Trace, watch};
 use fk_responders::Table;
 use fk_scenario::Scenario;
-use lens_text::{Asked, Problem, Sheet, Verb, file_of};
-use std::mem;
-
-/// Watches the run of a scenario by the trace with these bytes, as far as is asked for, and takes what is shown.
-fn watched<H: Shelf>(
-    asked: Asked<'_>,
-    table: &Table,
-    scenario: &Scenario,
-    bytes: &[u8],
-    files: &mut Files<'_, H>,
-    show: &mut Show,
-) -> Result<String, Problem>
-    requires keeps { KeepsScenario scenario.now }
-    requires rules { HasRules (map (λ r. r.rule) table.now.list.items) scenario.now }
-{
-    let alloc = files.alloc;
-    let trace = Trace {
-        bytes,
-        most: asked.end,
-        looks_ahead: matches!(asked.verb, Verb::Why),
-    };
-    match watch(alloc, table, scenario, files, Some(trace), show) {
-        Ok(stop) => match stop_fault(alloc, asked, stop) {
-            Some(problem) => Err(problem),
-            None => mem::replace(&mut show.sheet, Sheet::new(alloc)).done(),
-        },
-        Err(problem) => Err(problem),
-    }
-}
+use lens_text::{Asked, Problem, Verb, file_of};
 
 /// Shows what is asked for of the run of a scenario by the trace with these bytes.
 fn show_scenario<H: Shelf>(
@@ -48,19 +20,26 @@ fn show_scenario<H: Shelf>(
     scenario: &Scenario,
     bytes: &[u8],
     files: &mut Files<'_, H>,
-) -> Result<String, Problem>
+) -> Result<(), Problem>
     requires keeps { KeepsScenario scenario.now }
     requires rules { HasRules (map (λ r. r.rule) table.now.list.items) scenario.now }
 {
-    let mut show = show_of(files.alloc, asked);
-    watched(asked, table, scenario, bytes, files, &mut show)
+    let sheet = files.sheet;
+    let trace = Trace {
+        bytes,
+        most: asked.end,
+        looks_ahead: matches!(asked.verb, Verb::Why),
+    };
+    let mut show = show_of(sheet, asked);
+    let stop = watch(sheet.alloc, table, scenario, files, Some(trace), &mut show)?;
+    check_stop(sheet, asked, stop)
 }
 
 /// The bytes of the trace that is asked for; none where what stands at the beginning is.
 fn bytes_of<H: Shelf>(asked: Asked<'_>, files: &mut Files<'_, H>) -> Result<Vec<u8>, Problem> {
     match asked.verb {
-        Verb::First => Ok(Vec::new(files.alloc)),
-        _ => file_of(files.alloc, files.shelf, asked.name, ".trc"),
+        Verb::First => Ok(Vec::new(files.sheet.alloc)),
+        _ => file_of(files.sheet, files.shelf, asked.name, ".trc"),
     }
 }
 
@@ -75,12 +54,10 @@ pub fn show_run<H: Shelf>(
     table: &Table,
     text: &[u8],
     files: &mut Files<'_, H>,
-) -> Result<String, Problem> {
-    match bytes_of(asked, files) {
-        Ok(bytes) => match scenario_in(files.alloc, table, text) {
-            Ok(scenario) => show_scenario(asked, table, &scenario, &bytes, files),
-            Err(status) => Err(scenario_problem(files.alloc, text, &status)),
-        },
-        Err(problem) => Err(problem),
+) -> Result<(), Problem> {
+    let bytes = bytes_of(asked, files)?;
+    match scenario_in(files.sheet.alloc, table, text) {
+        Ok(scenario) => show_scenario(asked, table, &scenario, &bytes, files),
+        Err(status) => Err(scenario_problem(files.sheet, text, &status)),
     }
 }

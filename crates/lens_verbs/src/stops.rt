@@ -1,7 +1,6 @@
 //! What is wrong with a trace, where a run stops at one of its lines.
 use fk_first::Stop;
-use lens_text::{Asked, Problem, Verb, given};
-use std::alloc::Global;
+use lens_text::{Asked, Problem, Sheet, Verb, given};
 
 /// That a trace has too few moves.
 const MORE: &str = ".trc: expected @ moves or more";
@@ -21,19 +20,23 @@ const READY: &str =
     ".trc, line @: expected a move that is ready; lens why with @ says why it isn't";
 
 /// What is wrong where a run by a trace stopped, by what is asked for. The line of the first move is the second.
-pub fn stop_fault(alloc: Global, asked: Asked<'_>, stop: Stop) -> Option<Problem> {
+///
+/// # Errors
+///
+/// `Given` where it stopped before what is asked for.
+pub fn check_stop(sheet: &Sheet, asked: Asked<'_>, stop: Stop) -> Result<(), Problem> {
     let (form, index) = match (stop, asked.verb) {
         (Stop::Ended, Verb::Tree | Verb::Why) => {
-            return Some(given(alloc, asked.name, MORE, asked.end, 0, ""));
+            return Err(given(sheet, asked.name, MORE, asked.end, 0, ""));
         }
-        (Stop::Enough | Stop::Ended, _) | (Stop::NoTrace, Verb::First) => return None,
-        (Stop::Unready { .. } | Stop::Budget { .. }, Verb::Page) => return None,
-        (Stop::Unready { index, .. }, Verb::Why) if index == asked.end => return None,
+        (Stop::Enough | Stop::Ended, _) | (Stop::NoTrace, Verb::First) => return Ok(()),
+        (Stop::Unready { .. } | Stop::Budget { .. }, Verb::Page) => return Ok(()),
+        (Stop::Unready { index, .. }, Verb::Why) if index == asked.end => return Ok(()),
         (Stop::NoTrace, _) => (FIRST, 0),
         (Stop::Misspelled { index }, _) => (MOVE, index),
         (Stop::Budget { index }, _) => (END, index),
         (Stop::Unready { index, .. }, _) => (READY, index),
     };
     let line = index.saturating_add(2);
-    Some(given(alloc, asked.name, form, line, index, ""))
+    Err(given(sheet, asked.name, form, line, index, ""))
 }

@@ -1,37 +1,73 @@
 //! The top call: the words of the command line, over the source and the shelf.
-use crate::help::{HELP, VERSION, said};
+use crate::help::{HELP, VERSION};
 use crate::responders::show;
 use crate::shown::{show_differences, show_image};
 use fk_causes::{Shelf, Source};
-use lens_text::{Problem, Verb, asked_in, source_text, words_text};
+use lens_text::{Problem, Sheet, Verb, asked_in, push_words, source_text};
 use std::alloc::Global;
 
-/// What the words of the command line ask to be shown, over the bytes of the source and the files of the shelf.
-///
-/// # Errors
-///
-/// `Words` where the words are no verb, `Given` where what was given can't be shown, `Outside` where the source or a file
-/// can't be read, and `NoMemory`.
+/// What came of the words of a command line: the text that was asked for, or why it isn't shown and the line that says so.
+#[derive(Drop)]
+pub struct Shown {
+    /// Why what was asked for isn't shown, where it isn't.
+    pub problem: Option<Problem>,
+    /// What was asked for, or the line.
+    pub text: String,
+}
+
+impl Shown {
+    /// The status with which the process exits: 0 where what was asked for is shown.
+    pub fn status(&self) -> u8 {
+        match self.problem {
+            Some(problem) => problem.status(),
+            None => 0,
+        }
+    }
+
+    /// What is said of a problem.
+    pub fn line(&self) -> &str {
+        match self.problem {
+            Some(Problem::NoMemory) => "no memory",
+            _ => self.text.as_str(),
+        }
+    }
+}
+
+/// Shows on a sheet what the words ask for, or says there why not.
+fn show_asked<R: Source, H: Shelf>(
+    sheet: &Sheet,
+    words: &[String],
+    source: &mut R,
+    shelf: &mut H,
+) -> Result<(), Problem> {
+    let asked = asked_in(sheet, words)?;
+    match asked.verb {
+        Verb::Help => sheet.add(HELP),
+        Verb::Version => sheet.add(VERSION),
+        Verb::Image => return show_image(sheet, sheet, asked.name, shelf),
+        Verb::Differences => return show_differences(sheet, asked.name, asked.other, shelf),
+        Verb::Words => return push_words(sheet, &source_text(sheet, source)?),
+        _ => return show(sheet, asked, &source_text(sheet, source)?, shelf),
+    }
+    Ok(())
+}
+
+/// What the words of the command line ask to be shown, over the bytes of the source and the files of the shelf. Its problem is `Words`
+/// where the words are no verb, `Given` where what was given can't be shown, `Outside` where the source or a file can't be read, and
+/// `NoMemory`.
 pub fn lens_top<R: Source, H: Shelf>(
     alloc: Global,
     words: &[String],
     source: &mut R,
     shelf: &mut H,
-) -> Result<String, Problem> {
-    match asked_in(alloc, words) {
-        Ok(asked) => match asked.verb {
-            Verb::Help => said(alloc, HELP),
-            Verb::Version => said(alloc, VERSION),
-            Verb::Image => show_image(alloc, asked.name, shelf),
-            Verb::Differences => show_differences(alloc, asked.name, asked.other, shelf),
-            _ => match source_text(alloc, source) {
-                Ok(text) => match asked.verb {
-                    Verb::Words => words_text(alloc, &text),
-                    _ => show(alloc, asked, &text, shelf),
-                },
-                Err(problem) => Err(problem),
-            },
+) -> Shown {
+    let sheet = Sheet::new(alloc);
+    let problem = show_asked(&sheet, words, source, shelf).err();
+    match sheet.done() {
+        Ok(text) => Shown { problem, text },
+        Err(problem) => Shown {
+            problem: Some(problem),
+            text: String::new(alloc),
         },
-        Err(problem) => Err(problem),
     }
 }
