@@ -15,7 +15,7 @@ use std::{env, io};
 fn words_of<R: Env + AllocGlobal>(rt: &R) -> Result<Vec<String>, Problem> {
     let args = match env::args(rt) {
         Ok(args) => args,
-        Err(error) => return Err(problem_of(rt, &error)),
+        Err(error) => return Err(problem_of(&error)),
     };
     match args.skip(1).collect(rt.alloc()) {
         Ok(words) => Ok(words),
@@ -24,44 +24,42 @@ fn words_of<R: Env + AllocGlobal>(rt: &R) -> Result<Vec<String>, Problem> {
 }
 
 /// What it means that the words can't be had.
-fn problem_of<R: AllocGlobal>(rt: &R, error: &io::Error) -> Problem {
+fn problem_of(error: &io::Error) -> Problem {
     if error.kind() == ErrorKind::OutOfMemory {
-        return Problem::NoMemory;
-    }
-    match String::from_str(rt.alloc(), "a word that isn't UTF-8: expected one that is") {
-        Ok(line) => Problem::Words(line),
-        Err(_) => Problem::NoMemory,
+        Problem::NoMemory
+    } else {
+        Problem::Words
     }
 }
 
-/// Writes what the words of the command line ask to be shown.
-fn show(rt: &HostRuntime) -> Result<(), Problem> {
-    let words = words_of(rt)?;
+/// Says on standard error why something isn't shown, and answers the exit status. There is nobody left to tell of a failure to write here.
+fn ended<R: Eprint>(rt: &R, problem: Problem, line: &str) -> u8 {
+    let _ = eprintln!(rt; "lens: {line}");
+    problem.status()
+}
+
+/// Writes what the words of the command line ask to be shown, or why it isn't, and answers the exit status.
+fn show(rt: &HostRuntime, words: &[String]) -> u8 {
     let mut source = StdSource::new(rt.stdin());
     let mut shelf = FolderShelf::new(rt);
-    let shown = lens_top(rt.alloc(), &words, &mut source, &mut shelf)?;
-    let mut sink = StdSink::new(rt.stdout());
-    match write_all(&mut sink, shown.as_bytes()) {
-        Ok(()) => Ok(()),
-        Err(Failed) => Err(Problem::Outside(String::from_str(
-            rt.alloc(),
-            "standard output can't be written",
-        )?)),
+    let shown = lens_top(rt.alloc(), words, &mut source, &mut shelf);
+    if let Some(problem) = shown.problem {
+        return ended(rt, problem, shown.line());
     }
-}
-
-/// Says on standard error why something isn't shown. There is nobody left to tell of a failure to write here; the exit
-/// status says what happened.
-fn say<R: Eprint>(rt: &R, line: &str) {
-    let _ = eprintln!(rt; "lens: {line}");
+    match write_all(&mut StdSink::new(rt.stdout()), shown.text.as_bytes()) {
+        Ok(()) => 0,
+        Err(Failed) => ended(rt, Problem::Outside, "standard output can't be written"),
+    }
 }
 
 fn main(rt: HostRuntime) -> ExitCode {
-    match show(&rt) {
-        Ok(()) => ExitCode::from(0),
+    let status = match words_of(&rt) {
+        Ok(words) => show(&rt, &words),
+        Err(Problem::NoMemory) => ended(&rt, Problem::NoMemory, "no memory"),
         Err(problem) => {
-            say(&rt, problem.line());
-            ExitCode::from(problem.status())
+            let line = "a word that isn't UTF-8: expected one that is";
+            ended(&rt, problem, line)
         }
-    }
+    };
+    ExitCode::from(status)
 }

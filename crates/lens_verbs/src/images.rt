@@ -30,13 +30,15 @@ impl<H: Shelf> Images for Files<'_, H> {
 
     fn image(&mut self, name: &str) -> Result<ValidImage, Problem> {
         let sheet = self.sheet;
-        let bytes = file_of(sheet, self.shelf, name, ".img")?;
-        match image_of(sheet.alloc, name, &bytes) {
-            Ok(image) => match ValidImage::new(sheet.alloc, image) {
-                Ok(valid) => Ok(valid),
-                Err(_) => Err(Problem::NoMemory),
+        match file_of(sheet, self.shelf, name, ".img") {
+            Ok(bytes) => match image_of(sheet.alloc, name, &bytes) {
+                Ok(image) => match ValidImage::new(sheet.alloc, image) {
+                    Ok(valid) => Ok(valid),
+                    Err(_) => Err(Problem::NoMemory),
+                },
+                Err(status) => Err(image_problem(sheet, name, &status)),
             },
-            Err(status) => Err(image_problem(sheet, name, &status)),
+            Err(problem) => Err(problem),
         }
     }
 }

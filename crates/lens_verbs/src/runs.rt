@@ -31,8 +31,10 @@ fn show_scenario<H: Shelf>(
         looks_ahead: matches!(asked.verb, Verb::Why),
     };
     let mut show = show_of(sheet, asked);
-    let stop = watch(sheet.alloc, table, scenario, files, Some(trace), &mut show)?;
-    check_stop(sheet, asked, stop)
+    match watch(sheet.alloc, table, scenario, files, Some(trace), &mut show) {
+        Ok(stop) => check_stop(sheet, asked, stop),
+        Err(problem) => Err(problem),
+    }
 }
 
 /// The bytes of the trace that is asked for; none where what stands at the beginning is.
@@ -55,9 +57,11 @@ pub fn show_run<H: Shelf>(
     text: &[u8],
     files: &mut Files<'_, H>,
 ) -> Result<(), Problem> {
-    let bytes = bytes_of(asked, files)?;
-    match scenario_in(files.sheet.alloc, table, text) {
-        Ok(scenario) => show_scenario(asked, table, &scenario, &bytes, files),
-        Err(status) => Err(scenario_problem(files.sheet, text, &status)),
+    match bytes_of(asked, files) {
+        Ok(bytes) => match scenario_in(files.sheet.alloc, table, text) {
+            Ok(scenario) => show_scenario(asked, table, &scenario, &bytes, files),
+            Err(status) => Err(scenario_problem(files.sheet, text, &status)),
+        },
+        Err(problem) => Err(problem),
     }
 }

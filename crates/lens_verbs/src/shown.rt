@@ -36,13 +36,15 @@ pub fn show_image<H: Shelf>(
     name: &str,
     shelf: &mut H,
 ) -> Result<(), Problem> {
-    let bytes = file_of(faults, shelf, name, ".img")?;
-    match image_of(sheet.alloc, name, &bytes) {
-        Ok(image) => {
-            push_image(sheet, image.spaces.as_slice());
-            Ok(())
-        }
-        Err(status) => Err(refused_image(faults, name, &status)),
+    match file_of(faults, shelf, name, ".img") {
+        Ok(bytes) => match image_of(sheet.alloc, name, &bytes) {
+            Ok(image) => {
+                push_image(sheet, image.spaces.as_slice());
+                Ok(())
+            }
+            Err(status) => Err(refused_image(faults, name, &status)),
+        },
+        Err(problem) => Err(problem),
     }
 }
 
@@ -58,11 +60,16 @@ pub fn show_differences<H: Shelf>(
     other: &str,
     shelf: &mut H,
 ) -> Result<(), Problem> {
-    let first = Sheet::new(sheet.alloc);
-    show_image(sheet, &first, name, shelf)?;
-    let second = Sheet::new(sheet.alloc);
-    show_image(sheet, &second, other, shelf)?;
-    let (first, second) = (sheet.taken(first), sheet.taken(second));
-    push_differences(sheet, first.as_str(), second.as_str());
-    Ok(())
+    let (first, second) = (Sheet::new(sheet.alloc), Sheet::new(sheet.alloc));
+    match show_image(sheet, &first, name, shelf) {
+        Ok(()) => match show_image(sheet, &second, other, shelf) {
+            Ok(()) => {
+                let (first, second) = (sheet.taken(first), sheet.taken(second));
+                push_differences(sheet, first.as_str(), second.as_str());
+                Ok(())
+            }
+            Err(problem) => Err(problem),
+        },
+        Err(problem) => Err(problem),
+    }
 }

@@ -3,7 +3,7 @@ use crate::help::{HELP, VERSION};
 use crate::responders::show;
 use crate::shown::{show_differences, show_image};
 use fk_causes::{Shelf, Source};
-use lens_text::{Problem, Sheet, Verb, asked_in, push_words, source_text};
+use lens_text::{Asked, Problem, Sheet, Verb, asked_in, push_words, source_text};
 use std::alloc::Global;
 
 /// What came of the words of a command line: the text that was asked for, or why it isn't shown and the line that says so.
@@ -33,6 +33,22 @@ impl Shown {
     }
 }
 
+/// Shows what is asked for of the source's text.
+fn show_source<R: Source, H: Shelf>(
+    sheet: &Sheet,
+    asked: Asked<'_>,
+    source: &mut R,
+    shelf: &mut H,
+) -> Result<(), Problem> {
+    match source_text(sheet, source) {
+        Ok(text) => match asked.verb {
+            Verb::Words => push_words(sheet, &text),
+            _ => show(sheet, asked, &text, shelf),
+        },
+        Err(problem) => Err(problem),
+    }
+}
+
 /// Shows on a sheet what the words ask for, or says there why not.
 fn show_asked<R: Source, H: Shelf>(
     sheet: &Sheet,
@@ -40,14 +56,16 @@ fn show_asked<R: Source, H: Shelf>(
     source: &mut R,
     shelf: &mut H,
 ) -> Result<(), Problem> {
-    let asked = asked_in(sheet, words)?;
+    let asked = match asked_in(sheet, words) {
+        Ok(asked) => asked,
+        Err(problem) => return Err(problem),
+    };
     match asked.verb {
         Verb::Help => sheet.add(HELP),
         Verb::Version => sheet.add(VERSION),
         Verb::Image => return show_image(sheet, sheet, asked.name, shelf),
         Verb::Differences => return show_differences(sheet, asked.name, asked.other, shelf),
-        Verb::Words => return push_words(sheet, &source_text(sheet, source)?),
-        _ => return show(sheet, asked, &source_text(sheet, source)?, shelf),
+        _ => return show_source(sheet, asked, source, shelf),
     }
     Ok(())
 }

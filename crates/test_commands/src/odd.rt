@@ -2,7 +2,7 @@
 //! each of the first bytes of its traces set to 255. Each must show something, or say why it doesn't.
 use crate::shown::shown_of;
 use fk_causes::NoMemory;
-use lens_verbs::Problem;
+use lens_verbs::Shown;
 use std::alloc::{AllocError, Global};
 use test_case_files::Case;
 
@@ -33,11 +33,8 @@ fn odd_bytes(
 }
 
 /// Whether something was shown, or it was said why not.
-fn is_answered(answer: &Result<String, Problem>) -> bool {
-    match answer {
-        Ok(_) => true,
-        Err(problem) => !problem.line().is_empty() && problem.status() < 4,
-    }
+fn is_answered(shown: &Shown) -> bool {
+    shown.problem.is_none() || (!shown.line().is_empty() && shown.status() < 4)
 }
 
 /// Makes the call of a case with other bytes in place of its source, or of one of its files, and counts it.
@@ -56,9 +53,9 @@ fn count_call(
         }
         None => bytes,
     };
-    let answer = shown_of(alloc, &case.words, source, &files, &case.fails)?;
+    let shown = shown_of(alloc, &case.words, source, &files, &case.fails)?;
     odd.calls = odd.calls.saturating_add(1);
-    odd.silent = odd.silent.saturating_add(u32::from(!is_answered(&answer)));
+    odd.silent = odd.silent.saturating_add(u32::from(!is_answered(&shown)));
     Ok(())
 }
 

@@ -1,7 +1,7 @@
 //! The call of a case of `lens`.
 use crate::call::{FileMap, shelf_of};
 use fk_causes::{MemSource, NoMemory};
-use lens_verbs::{Problem, lens_top};
+use lens_verbs::{Shown, lens_top};
 use std::alloc::Global;
 use test_case_files::{Case, Ending, Fails};
 
@@ -12,7 +12,7 @@ pub fn shown_of(
     source: Vec<u8>,
     files: &FileMap,
     fails: &Fails,
-) -> Result<Result<String, Problem>, NoMemory> {
+) -> Result<Shown, NoMemory> {
     let mut source = MemSource::new(source, fails.source.clone()?);
     let mut shelf = shelf_of(alloc, files, &fails.shelf)?;
     Ok(lens_top(alloc, words, &mut source, &mut shelf))
@@ -32,19 +32,19 @@ fn compared(shown: &str) -> &str {
 
 /// What comes of the call of a case of `lens`.
 pub fn show(alloc: Global, case: &Case) -> Result<Ending, NoMemory> {
-    let answer = shown_of(
+    let shown = shown_of(
         alloc,
         &case.words,
         case.source.clone()?,
         &case.files,
         &case.fails,
     )?;
-    let (status, error, output) = match &answer {
-        Ok(shown) => (0, "", compared(shown.as_str())),
-        Err(problem) => (problem.status(), problem.line(), ""),
+    let (error, output) = match shown.problem {
+        Some(_) => (shown.line(), ""),
+        None => ("", compared(shown.text.as_str())),
     };
     Ok(Ending {
-        status,
+        status: shown.status(),
         error: String::from_str(alloc, error)?,
         output: Vec::from_slice(alloc, output.as_bytes())?,
         files: case.files.clone()?,

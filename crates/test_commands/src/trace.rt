@@ -30,10 +30,10 @@ fn words_of(alloc: Global, trace: &str) -> Result<Vec<String>, AllocError> {
 fn shown_trace(alloc: Global, case: &Case, trace: &str) -> Result<String, NoMemory> {
     let words = words_of(alloc, trace)?;
     let none = Fails::none(alloc);
-    let answer = shown_of(alloc, &words, case.source.clone()?, &case.files, &none)?;
-    match &answer {
-        Ok(shown) => Ok(first_columns(alloc, shown.as_str())?),
-        Err(problem) => Ok(String::from_str(alloc, problem.line())?),
+    let shown = shown_of(alloc, &words, case.source.clone()?, &case.files, &none)?;
+    match shown.problem {
+        Some(_) => Ok(String::from_str(alloc, shown.line())?),
+        None => Ok(first_columns(alloc, shown.text.as_str())?),
     }
 }
 
