@@ -1,7 +1,8 @@
 //! Text that is written piece by piece.
 use crate::problem::Problem;
+use itoa::Buffer;
 use std::alloc::Global;
-use std::cell::{Cell, RefCell};
+use std::cell::Cell;
 
 /// What stands before the first such mark of a text, and what stands behind it; all and nothing where there is none.
 pub fn parted<'a>(text: &'a str, mark: char) -> (&'a str, &'a str) {
@@ -34,8 +35,8 @@ pub fn line_at(list: &'static str, number: u64) -> &'static str {
 pub struct Sheet {
     /// What gives it memory.
     pub alloc: Global,
-    /// What stands there.
-    text: RefCell<String>,
+    /// What stands there. It is taken out while a piece is added.
+    text: Cell<String>,
     /// There was no memory for a piece.
     is_short: Cell<bool>,
 }
@@ -45,24 +46,22 @@ impl Sheet {
     pub fn new(alloc: Global) -> Sheet {
         Sheet {
             alloc,
-            text: RefCell::new(String::new(alloc)),
+            text: Cell::new(String::new(alloc)),
             is_short: Cell::new(false),
         }
     }
 
     /// How many bytes stand there.
     pub fn len(&self) -> usize {
-        match self.text.try_borrow() {
-            Ok(text) => text.len(),
-            Err(_) => 0,
-        }
+        let whole = self.text.replace(String::new(self.alloc));
+        let length = whole.len();
+        self.text.set(whole);
+        length
     }
 
     /// Makes it an empty one again.
     pub fn clear(&self) {
-        if let Ok(mut text) = self.text.try_borrow_mut() {
-            text.clear();
-        }
+        self.text.set(String::new(self.alloc));
         self.is_short.set(false);
     }
 
@@ -71,34 +70,19 @@ impl Sheet {
         self.is_short.set(true);
     }
 
-    /// Adds a text, if there is memory for it.
-    fn has_added(&self, text: &str) -> bool {
-        match self.text.try_borrow_mut() {
-            Ok(mut whole) => whole.push_str(text).is_ok(),
-            Err(_) => false,
-        }
-    }
-
-    /// Adds a number, if there is memory for it.
-    fn has_written(&self, number: u64) -> bool {
-        match self.text.try_borrow_mut() {
-            Ok(mut whole) => write!(whole, "{number}").is_ok(),
-            Err(_) => false,
-        }
-    }
-
     /// Adds a text.
     pub fn add(&self, text: &str) {
-        if !self.has_added(text) {
+        let mut whole = self.text.replace(String::new(self.alloc));
+        if whole.push_str(text).is_err() {
             self.lacks();
         }
+        self.text.set(whole);
     }
 
     /// Adds a number.
     pub fn add_number(&self, number: u64) {
-        if !self.has_written(number) {
-            self.lacks();
-        }
+        let mut digits = Buffer::new();
+        self.add(digits.format(number));
     }
 
     /// Adds a piece, which is always text.
@@ -181,24 +165,20 @@ impl Sheet {
     /// Adds a row: a line, padded to 30 characters, a word's address and the word's 16 digits.
     pub fn put_row(&self, line: Sheet, address: u64, word: u64) {
         let text = self.taken(line);
-        let has_written = match self.text.try_borrow_mut() {
-            Ok(mut whole) => write!(whole, "{text:<30} ; {address:>5} {word:016x}\n").is_ok(),
-            Err(_) => false,
-        };
-        if !has_written {
+        let mut whole = self.text.replace(String::new(self.alloc));
+        if write!(whole, "{text:<30} ; {address:>5} {word:016x}\n").is_err() {
             self.lacks();
         }
+        self.text.set(whole);
     }
 
     /// Adds that a word, which stands in quotes, isn't what was expected.
     pub fn put_wrong(&self, word: &String, expected: &str) {
-        let has_written = match self.text.try_borrow_mut() {
-            Ok(mut whole) => write!(whole, "{word:?}: expected {expected}").is_ok(),
-            Err(_) => false,
-        };
-        if !has_written {
+        let mut whole = self.text.replace(String::new(self.alloc));
+        if write!(whole, "{word:?}: expected {expected}").is_err() {
             self.lacks();
         }
+        self.text.set(whole);
     }
 
     /// What another has; that there was no memory for a piece of it is noted here.

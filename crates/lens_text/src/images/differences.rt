@@ -13,6 +13,25 @@ fn lines_of<'a>(sheet: &Sheet, text: &'a str) -> BTreeSet<&'a str> {
     lines
 }
 
+/// Adds the lines with which a text begins up to the first one that is among others, each behind a mark. What is left of the text.
+fn push_alone<'a, const N: usize>(
+    sheet: &Sheet,
+    mark: &[u8; N],
+    text: &'a str,
+    others: &BTreeSet<&str>,
+) -> &'a str {
+    let mut later = text;
+    for _ in 0..text.len() {
+        let (line, behind) = parted(later, '\n');
+        if later.is_empty() | others.contains(line) {
+            break;
+        }
+        sheet.put_around(mark, line, b"\n");
+        later = behind;
+    }
+    later
+}
+
 /// Adds the lines that one of two texts has alone: those that the second lacks behind `-`, those that the first lacks behind `+`. A line
 /// that both have is passed in both.
 pub fn push_differences(sheet: &Sheet, first: &str, second: &str) {
@@ -20,19 +39,12 @@ pub fn push_differences(sheet: &Sheet, first: &str, second: &str) {
     let in_second = lines_of(sheet, second);
     let (mut later, mut others) = (first, second);
     for _ in 0..u64::MAX {
-        let (line, behind) = parted(later, '\n');
-        let (other, behind_other) = parted(others, '\n');
-        if !later.is_empty() & !in_second.contains(line) {
-            sheet.put_around(b"- ", line, b"\n");
-            later = behind;
-        } else if !others.is_empty() & !in_first.contains(other) {
-            sheet.put_around(b"+ ", other, b"\n");
-            others = behind_other;
-        } else if later.is_empty() & others.is_empty() {
+        later = push_alone(sheet, b"- ", later, &in_second);
+        others = push_alone(sheet, b"+ ", others, &in_first);
+        if later.is_empty() & others.is_empty() {
             break;
-        } else {
-            later = behind;
-            others = behind_other;
         }
+        later = parted(later, '\n').1;
+        others = parted(others, '\n').1;
     }
 }

@@ -8,24 +8,22 @@ use fk_image::ThreadRec;
 /// Adds the lines of a thread's talk and of its fault.
 fn push_dealings(sheet: &Sheet, path: &str, paths: &[String], thread: &ThreadRec) {
     if let Some(talk) = thread.talk {
-        sheet.put_around(b"talk ", path, b"");
-        if talk.turn == 1 {
-            sheet.put(b" client's");
+        let form = if talk.turn == 1 {
+            b" client's turn, words moved @\n"
         } else {
-            sheet.put(b" server's");
-        }
-        sheet.put_between(b" turn, words moved ", talk.moved as u64, b"\n");
+            b" server's turn, words moved @\n"
+        };
+        sheet.line(b"talk ", path, form, talk.moved as u64, 0);
         push_pointer(sheet, path, b" talk at ", paths, talk.port);
         push_pointer(sheet, path, b" talk with ", paths, talk.server);
     }
     if let Some(fault) = thread.fault {
-        sheet.put_around(b"fault ", path, b"");
+        let page = fault.page as u64;
         if fault.write == 1 {
-            sheet.put(b" write");
+            sheet.line(b"fault ", path, b" write of page @\n", page, 0);
         } else {
-            sheet.put(b" read");
+            sheet.line(b"fault ", path, b" read of page @\n", page, 0);
         }
-        sheet.put_between(b" of page ", fault.page as u64, b"\n");
         push_pointer(sheet, path, b" fault at ", paths, fault.port);
         if let Some(taker) = fault.taker {
             push_pointer(sheet, path, b" fault taken by ", paths, taker);

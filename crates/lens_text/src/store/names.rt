@@ -4,7 +4,7 @@ use fk_model::limits::OWN_SPACE;
 use fk_model::{Body, Ptr, Who};
 use fk_store::Store;
 
-/// The slots from the root down to an object.
+/// The slots from an object up to the root.
 fn slots_of(sheet: &Sheet, store: &Store, who: Who) -> Vec<u8> {
     let mut slots = Vec::new(sheet.alloc);
     let mut next = Some(who);
@@ -17,14 +17,17 @@ fn slots_of(sheet: &Sheet, store: &Store, who: Who) -> Vec<u8> {
         }
         next = store.home(one.space);
     }
-    slots.reverse();
     slots
 }
 
 /// Adds the path of an object from the root.
 pub fn push_path(sheet: &Sheet, store: &Store, who: Who) {
-    for slot in &slots_of(sheet, store, who) {
-        sheet.put_number(b"/", *slot as u64);
+    let mut slots = slots_of(sheet, store, who);
+    for _ in 0..slots.len() {
+        let Some(slot) = slots.pop() else {
+            break;
+        };
+        sheet.put_number(b"/", slot as u64);
     }
 }
 

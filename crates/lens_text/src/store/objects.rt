@@ -9,11 +9,10 @@ use fk_store::Store;
 pub fn push_pages(sheet: &Sheet, first: u8, count: u16, is_writable: bool) {
     let first = first as u64;
     let last = first + count.saturating_sub(1) as u64;
-    sheet.fill(b" pages @ to @", first, last, 0);
     if is_writable {
-        sheet.put(b", writable");
+        sheet.fill(b" pages @ to @, writable", first, last, 0);
     } else {
-        sheet.put(b", read only");
+        sheet.fill(b" pages @ to @, read only", first, last, 0);
     }
 }
 
@@ -35,7 +34,7 @@ pub fn push_home(sheet: &Sheet, store: &Store, birth: u32, holder: Option<Who>) 
 
 /// Adds what an object is at.
 pub fn push_object(sheet: &Sheet, store: &Store, who: Who, body: &Body) {
-    match body {
+    match *body {
         Body::Mutex { locked: true } => sheet.put(b"mutex, locked"),
         Body::Mutex { locked: false } => sheet.put(b"mutex"),
         Body::Cond => sheet.put(b"cond"),
@@ -48,11 +47,11 @@ pub fn push_object(sheet: &Sheet, store: &Store, who: Who, body: &Body) {
             set: Some(slot),
             ..
         } => {
-            sheet.put_number(b"port in the set of slot ", *slot as u64);
+            sheet.put_number(b"port in the set of slot ", slot as u64);
         }
         Body::Port { .. } => sheet.put(b"port"),
-        Body::Space { birth, holder } => push_home(sheet, store, *birth, *holder),
-        Body::Thread(thread) => {
+        Body::Space { birth, holder } => push_home(sheet, store, birth, holder),
+        Body::Thread(ref thread) => {
             sheet.put(b"thread ");
             push_thread(sheet, store, who, thread);
         }
@@ -64,9 +63,9 @@ pub fn push_object(sheet: &Sheet, store: &Store, who: Who, body: &Body) {
             region,
         } => {
             sheet.put(b"mapping of");
-            push_pages(sheet, *first, *count, *write);
-            sheet.put_between(b", from page ", *offset as u64, b" on of region ");
-            push_pointer(sheet, store, *region);
+            push_pages(sheet, first, count, write);
+            sheet.put_between(b", from page ", offset as u64, b" on of region ");
+            push_pointer(sheet, store, region);
         }
         Body::Region {
             first,
@@ -75,13 +74,13 @@ pub fn push_object(sheet: &Sheet, store: &Store, who: Who, body: &Body) {
             keeper,
         } => {
             sheet.put(b"region of");
-            push_pages(sheet, *first, *count, *write);
+            push_pages(sheet, first, count, write);
             sheet.put(b", kept by ");
-            push_pointer(sheet, store, *keeper);
+            push_pointer(sheet, store, keeper);
         }
         Body::Reference { to } => {
             sheet.put(b"reference to ");
-            push_pointer(sheet, store, *to);
+            push_pointer(sheet, store, to);
         }
     }
 }

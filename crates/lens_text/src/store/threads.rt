@@ -61,29 +61,30 @@ pub fn push_thread(sheet: &Sheet, store: &Store, who: Who, thread: &Thread) {
         push_path(sheet, store, talk.port);
         sheet.put(b" with ");
         push_peer(sheet, store, talk.peer);
+        let moved = talk.moved as u64;
         match talk.turn {
-            Turn::Client => sheet.put(b", client's"),
-            Turn::Server => sheet.put(b", server's"),
+            Turn::Client => sheet.put_number(b", client's turn, words moved ", moved),
+            Turn::Server => sheet.put_number(b", server's turn, words moved ", moved),
         }
-        sheet.put_number(b" turn, words moved ", talk.moved as u64);
     }
     if let Some(fault) = &thread.fault {
+        let page = fault.page as u64;
         if fault.write {
-            sheet.put(b"; fault, write of page ");
+            sheet.put_number(b"; fault, write of page ", page);
         } else {
-            sheet.put(b"; fault, read of page ");
+            sheet.put_number(b"; fault, read of page ", page);
         }
-        sheet.add_number(fault.page as u64);
-        if fault.taker.is_none() {
-            sheet.put(b", raised");
-        } else {
-            sheet.put(b",");
-        }
-        sheet.put(b" at ");
-        push_path(sheet, store, fault.port);
-        if let Some(taker) = fault.taker {
-            sheet.put(b", taken by ");
-            push_peer(sheet, store, taker);
+        match fault.taker {
+            Some(taker) => {
+                sheet.put(b", at ");
+                push_path(sheet, store, fault.port);
+                sheet.put(b", taken by ");
+                push_peer(sheet, store, taker);
+            }
+            None => {
+                sheet.put(b", raised at ");
+                push_path(sheet, store, fault.port);
+            }
         }
     }
 }
