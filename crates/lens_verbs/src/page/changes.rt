@@ -9,27 +9,30 @@ use std::collections::BTreeMap;
 pub type Known = BTreeMap<Who, String>;
 
 /// Whom a move may change, where these are few: the mover, its pick, another.
-pub type Few = (Who, Who, Who);
+pub type Few = [Who; 3];
 
 /// Whom a move may change, where these are few: the mover, its pick, and of a call its talk's other side or the mutex that it names. None where
 /// it may change more.
 pub fn few_changed(store: &Store, one: &Move) -> Option<Few> {
     let who = one.who;
     let other = match store.thread(who) {
-        Some(thread) => match (thread.mode, first_stage(thread.regs[0])) {
-            (Mode::Running, _) => None,
-            // What is looked up or read changes the caller alone.
-            (Mode::Calling, 4 | 7 | 9 | 19 | 20) => None,
-            // Words go and the turn passes, or a server waits.
-            (Mode::Calling, 36..=38 | 48..=52) => peer_of(store, who, thread),
-            // Mutexes.
-            (Mode::Calling, 21..=23) => handled(store, who.space, thread.regs[1]),
+        Some(thread) => match thread.mode {
+            Mode::Running => None,
+            Mode::Calling => match first_stage(thread.regs[0]) {
+                // What is looked up or read changes the caller alone.
+                4 | 7 | 9 | 19 | 20 => None,
+                // Words go and the turn passes, or a server waits.
+                36 | 38 | 48 | 50 | 52 | 37 | 51 => peer_of(store, who),
+                // Mutexes.
+                21 | 23 | 22 => handled(store, who.space, thread.regs[1]),
+                _ => return None,
+            },
             _ => return None,
         },
         // A native server acts.
         None => store.client_at(who),
     };
-    Some((who, one.pick.unwrap_or(who), other.unwrap_or(who)))
+    Some([who, one.pick.unwrap_or(who), other.unwrap_or(who)])
 }
 
 /// Adds the lines of those of these objects that aren't as they were last written. That of what is gone has no path.
@@ -46,7 +49,8 @@ pub fn push_objects(sheet: &Sheet, known: &mut Known, store: &Store, names: &[Wh
             }
             let line = sheet.taken(line);
             if last.as_str() != line.as_str() {
-                sheet.put_around(b"", line.as_str(), b"\n");
+                sheet.add(line.as_str());
+                sheet.put(b"\n");
                 *last = line;
             }
         }

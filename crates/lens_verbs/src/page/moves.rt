@@ -24,7 +24,8 @@ impl Page {
     /// Begins the page of a trace with this name. Nothing is known yet.
     pub fn new(sheet: &Sheet, name: &str) -> Page {
         sheet.add(HEAD);
-        sheet.put_around(b"", name, b"\n");
+        sheet.add(name);
+        sheet.put(b"\n");
         Page {
             steps: Steps::new(sheet, 0, u64::MAX),
             known: BTreeMap::new(sheet.alloc),
@@ -35,8 +36,8 @@ impl Page {
 
     /// Adds what isn't as it was before the last move, and at first all.
     fn push_changes(&mut self, sheet: &Sheet, store: &Store) {
-        if let Some((mover, pick, other)) = self.few {
-            return push_objects(sheet, &mut self.known, store, &[mover, pick, other]);
+        if let Some(few) = &self.few {
+            return push_objects(sheet, &mut self.known, store, few);
         }
         sheet.put(b"=/\t/\t");
         push_home(sheet, store, 0, None);
@@ -67,12 +68,11 @@ impl Page {
     /// It sees what stands where the run stops, adds what the last move has changed, and says why no further one was made.
     pub fn stops(&mut self, sheet: &Sheet, seen: Seen<'_>, stop: Stop) {
         self.push_changes(sheet, seen.store);
-        let end = match stop {
-            Stop::Unready { .. } => "the trace goes on with a move that isn't ready",
-            Stop::Budget { .. } => "the trace goes on, but the budget is used",
-            _ => "the trace has no further move",
-        };
-        sheet.add(end);
+        match stop {
+            Stop::Unready { .. } => sheet.put(b"the trace goes on with a move that isn't ready"),
+            Stop::Budget { .. } => sheet.put(b"the trace goes on, but the budget is used"),
+            _ => sheet.put(b"the trace has no further move"),
+        }
         sheet.add(SCRIPT);
     }
 }

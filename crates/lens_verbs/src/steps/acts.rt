@@ -16,32 +16,34 @@ fn ask_of(services: &[(Who, Native)], port: Who) -> Option<Ask> {
 }
 
 /// The other side of a thread's talk: the thread that serves it as a client, or the port of the native server that does;
-/// or the client that it serves.
-pub fn peer_of(store: &Store, who: Who, thread: &Thread) -> Option<Who> {
-    match thread.talk {
-        Some(talk) => match talk.peer {
-            Peer::Thread(peer) => Some(peer),
-            Peer::Service => Some(talk.port),
-            Peer::Parked => None,
+/// or the client that it serves. That of a native server is its client.
+pub fn peer_of(store: &Store, who: Who) -> Option<Who> {
+    match store.thread(who) {
+        Some(thread) => match thread.talk {
+            Some(talk) => match talk.peer {
+                Peer::Thread(peer) => Some(peer),
+                Peer::Service => Some(talk.port),
+                Peer::Parked => None,
+            },
+            None => store.served_by(who),
         },
-        None => store.served_by(who),
+        None => store.client_at(who),
     }
 }
 
 /// Adds what a thread is about to do: a calling one's stage, with its peer or its pick.
-fn push_thread_act(sheet: &Sheet, seen: Seen<'_>, one: &Move, thread: &Thread) {
+fn push_thread_act(sheet: &Sheet, seen: &Seen<'_>, one: &Move, thread: &Thread) {
     match thread.mode {
         Mode::Running => match word_at(seen.store, one.who.space, thread.pc) {
             Some(word) => push_instruction(sheet, word),
             None => sheet.put(b"a word of a page that isn't there"),
         },
         Mode::Calling => {
-            let code = thread.regs[0];
             push_call(sheet, &thread.regs, true);
-            let peer = peer_of(seen.store, one.who, thread);
-            match first_stage(code) {
-                37 | 38 | 51 | 52 => push_named(sheet, seen.store, b" to ", peer),
-                39 | 55 | 56 => push_named(sheet, seen.store, b" with ", peer),
+            let peer = peer_of(seen.store, one.who);
+            match first_stage(thread.regs[0]) {
+                37 | 51 | 38 | 52 => push_named(sheet, seen.store, b" to ", peer),
+                39 | 56 | 55 => push_named(sheet, seen.store, b" with ", peer),
                 _ => push_named(sheet, seen.store, b" of ", one.pick),
             }
         }
@@ -54,7 +56,7 @@ fn push_thread_act(sheet: &Sheet, seen: Seen<'_>, one: &Move, thread: &Thread) {
 }
 
 /// Adds what a mover is about to do.
-pub fn push_act(sheet: &Sheet, seen: Seen<'_>, one: &Move) {
+pub fn push_act(sheet: &Sheet, seen: &Seen<'_>, one: &Move) {
     let (store, who) = (seen.store, one.who);
     match store.at(who) {
         Some(Body::Thread(thread)) => push_thread_act(sheet, seen, one, thread),

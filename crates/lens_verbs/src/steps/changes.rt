@@ -33,8 +33,7 @@ pub fn push_changed(
             if sheet.len() > start {
                 sheet.put(b" ");
             }
-            sheet.put_number(b"r", number as u64);
-            sheet.put_number(b"=", value);
+            sheet.fill(b"r@=@", number as u64, value, 0);
         }
     }
 }
@@ -45,14 +44,19 @@ pub fn push_ending(sheet: &Sheet, store: &Store, who: Who, before: &Thread) {
     let Some(after) = store.thread(who) else {
         return sheet.put(b"; it is gone from there");
     };
-    match (before.mode, after.mode) {
-        (Mode::Calling, Mode::Running) => {
-            sheet.put(b"; the call ends, ");
-            sheet.add(line_at(STATUSES, after.regs[0]));
+    match before.mode {
+        Mode::Calling => {
+            if let Mode::Running = after.mode {
+                sheet.put(b"; the call ends, ");
+                sheet.add(line_at(STATUSES, after.regs[0]));
+            }
         }
-        (Mode::Running, Mode::Halted(code)) => {
-            sheet.put_between(b"; it halts ", code as u64, b", ");
-            sheet.add(line_at(HALTS, code as u64));
+        Mode::Running => {
+            if let Mode::Halted(code) = after.mode {
+                let code = code as u64;
+                sheet.put_between(b"; it halts ", code, b", ");
+                sheet.add(line_at(HALTS, code));
+            }
         }
         _ => {}
     }

@@ -29,7 +29,7 @@ impl Steps {
     pub fn before(&mut self, sheet: &Sheet, seen: Seen<'_>, one: &Move) {
         let is_shown = (self.first <= seen.events) & (seen.events < self.end);
         self.begun = if is_shown {
-            Some(begin(sheet, seen, one))
+            Some(begin(sheet, &seen, one))
         } else {
             None
         };

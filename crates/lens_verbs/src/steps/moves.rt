@@ -34,7 +34,7 @@ fn kept(store: &Store, who: Option<Who>) -> Option<(Who, Thread)> {
 }
 
 /// What is known before a move.
-pub fn begin(sheet: &Sheet, seen: Seen<'_>, one: &Move) -> Begun {
+pub fn begin(sheet: &Sheet, seen: &Seen<'_>, one: &Move) -> Begun {
     let (store, who) = (seen.store, one.who);
     let head = Sheet::new(sheet.alloc);
     head.fill(b"@.@", who.space as u64, who.slot as u64, 0);
@@ -44,15 +44,16 @@ pub fn begin(sheet: &Sheet, seen: Seen<'_>, one: &Move) -> Begun {
     head.put_between(b"\t", seen.events, b"\t");
     push_path(&head, store, who);
     head.put(b"\t");
-    let (other, sending) = match store.thread(who) {
-        Some(thread) => {
-            let sending = match (thread.mode, first_stage(thread.regs[0])) {
-                (Mode::Calling, 37 | 51) => Some(thread.regs[3]),
+    let other = peer_of(store, who);
+    let sending = match store.thread(who) {
+        Some(thread) => match thread.mode {
+            Mode::Calling => match first_stage(thread.regs[0]) {
+                37 | 51 => Some(thread.regs[3]),
                 _ => None,
-            };
-            (peer_of(store, who, thread), sending)
-        }
-        None => (store.client_at(who), None),
+            },
+            _ => None,
+        },
+        None => None,
     };
     if sending.is_none() {
         push_act(&head, seen, one);

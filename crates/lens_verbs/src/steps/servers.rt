@@ -68,14 +68,14 @@ fn push_news(sheet: &Sheet, native: &Native, was: ServerState) {
             b" words",
         );
     }
-    sheet.add(match (was.side, is.side) {
-        (Side::Idle, Side::Client) => " has a client, at the client's turn",
-        (Side::Idle, Side::Own) => " has a client, at its own turn",
-        (Side::Client, Side::Own) => " has the turn",
-        (Side::Own, Side::Client) => " has handed over",
-        (Side::Client | Side::Own, Side::Idle) => " has lost its client",
-        _ => "",
-    });
+    match (was.side, is.side) {
+        (Side::Idle, Side::Client) => sheet.put(b" has a client, at the client's turn"),
+        (Side::Idle, Side::Own) => sheet.put(b" has a client, at its own turn"),
+        (Side::Client, Side::Own) => sheet.put(b" has the turn"),
+        (Side::Own, Side::Client) => sheet.put(b" has handed over"),
+        (Side::Client | Side::Own, Side::Idle) => sheet.put(b" has lost its client"),
+        _ => {}
+    }
 }
 
 /// Adds what native servers were told since these states were taken, each behind its port and its name.

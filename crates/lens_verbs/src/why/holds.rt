@@ -4,49 +4,44 @@ use fk_model::{Body, Who};
 use fk_store::Store;
 use lens_text::{Sheet, push_path};
 
-/// Who holds a space.
-pub fn holder_of(store: &Store, space: Who) -> Option<Who> {
-    match store.at(space) {
-        Some(Body::Space { holder, .. }) => *holder,
-        _ => None,
-    }
-}
-
-/// The space whose hold decides over an object: the outermost one that is held of its space, of those above, and of itself.
-pub fn held_over(store: &Store, object: Option<Who>) -> Option<Who> {
-    let mut found = None;
-    let mut next = object;
+/// Adds the hold that decides over an object behind a piece, with what its holder is at: the outermost one of its space, of those above, and
+/// of itself.
+pub fn push_hold<const N: usize>(sheet: &Sheet, store: &Store, before: &[u8; N], object: Who) {
+    let mut held = object;
     for _ in 0..u64::MAX {
-        let Some(one) = next else {
-            break;
-        };
-        if holder_of(store, one).is_some() {
-            found = next;
+        match store.home(held.space) {
+            Some(above) if store.is_frozen(held.space) => held = above,
+            _ => break,
         }
-        next = store.home(one.space);
     }
-    found
-}
-
-/// Adds the hold of a space behind a piece, with what its holder is at, where it is held.
-pub fn push_hold<const N: usize>(sheet: &Sheet, store: &Store, before: &[u8; N], space: Who) {
-    if let Some(holder) = holder_of(store, space) {
+    if let Some(holder) = store.decider(held) {
         sheet.put(before);
         push_place(sheet, store, holder);
         sheet.put(b" on ");
-        push_path(sheet, store, space);
+        push_path(sheet, store, held);
     }
 }
 
 /// Adds all holds, since some one bars what a move would change.
 pub fn push_holds(sheet: &Sheet, store: &Store) {
     sheet.put(b"waits until no hold of another bars what it would change");
-    let mut last = None;
+    let mut next = store.after(None);
     for _ in 0..u64::MAX {
-        let Some(who) = store.after(last) else {
+        let Some(who) = next else {
             break;
         };
-        push_hold(sheet, store, b"; there is the hold of ", who);
-        last = Some(who);
+        if let Some(
+            Body::Space {
+                holder: Some(holder),
+                ..
+            },
+        ) = store.at(who)
+        {
+            sheet.put(b"; there is the hold of ");
+            push_place(sheet, store, *holder);
+            sheet.put(b" on ");
+            push_path(sheet, store, who);
+        }
+        next = store.after(next);
     }
 }

@@ -17,7 +17,7 @@ pub struct Why {
 }
 
 /// Adds the line of a thread that isn't ready; of a porter, where its job is the one whose turn it is.
-fn push_thread(sheet: &Sheet, seen: Seen<'_>, lockers: &Lockers, who: Who) {
+fn push_thread(sheet: &Sheet, seen: &Seen<'_>, lockers: &Lockers, who: Who) {
     let store = seen.store;
     let Some(thread) = store.thread(who) else {
         return;
@@ -79,7 +79,7 @@ impl Why {
     /// It sees what stands where the run stops, and says why threads aren't ready, in the order of their paths.
     pub fn stops(&mut self, sheet: &Sheet, seen: Seen<'_>, ready: &Ready, stop: Stop) {
         if let Stop::Unready { one, .. } = stop {
-            push_move(sheet, seen, ready, &self.lockers, &one);
+            push_move(sheet, &seen, ready, &self.lockers, &one);
         }
         let mut next = seen.store.after(None);
         for _ in 0..u64::MAX {
@@ -87,7 +87,7 @@ impl Why {
                 break;
             };
             if !ready.contains_key(&who) {
-                push_thread(sheet, seen, &self.lockers, who);
+                push_thread(sheet, &seen, &self.lockers, who);
             }
             next = next_in_tree(seen.store, who);
         }

@@ -6,7 +6,7 @@ use fk_model::{Body, Move};
 use lens_text::{Sheet, push_path};
 
 /// Adds the line that says why a move isn't ready.
-pub fn push_move(sheet: &Sheet, seen: Seen<'_>, ready: &Ready, lockers: &Lockers, one: &Move) {
+pub fn push_move(sheet: &Sheet, seen: &Seen<'_>, ready: &Ready, lockers: &Lockers, one: &Move) {
     let (store, who) = (seen.store, one.who);
     sheet.put_between(b"move ", seen.events, b" of ");
     push_path(sheet, store, who);
@@ -20,20 +20,20 @@ pub fn push_move(sheet: &Sheet, seen: Seen<'_>, ready: &Ready, lockers: &Lockers
         None => sheet.put(b", without a pick"),
     }
     sheet.put(b", isn't ready: ");
-    match (store.at(who), ready.get(&who)) {
-        (Some(Body::Thread(_)), Some(Some(pick))) => {
-            sheet.put(b"it has a ready move, but with the pick ");
-            push_path(sheet, store, *pick);
-        }
-        (Some(Body::Thread(_)), Some(None)) => {
-            sheet.put(b"it has a ready move, but without a pick");
-        }
-        (Some(Body::Thread(thread)), None) => push_reason(sheet, seen, lockers, who, thread),
-        (Some(Body::Port { served: true, .. }), _) => {
+    match store.at(who) {
+        Some(Body::Thread(thread)) => match ready.get(&who) {
+            Some(Some(pick)) => {
+                sheet.put(b"it has a ready move, but with the pick ");
+                push_path(sheet, store, *pick);
+            }
+            Some(None) => sheet.put(b"it has a ready move, but without a pick"),
+            None => push_reason(sheet, seen, lockers, who, thread),
+        },
+        Some(Body::Port { served: true, .. }) => {
             sheet.put(b"its native server has no such act now");
         }
-        (Some(_), _) => sheet.put(b"what stands there makes no moves"),
-        (None, _) => sheet.put(b"nobody stands there"),
+        Some(_) => sheet.put(b"what stands there makes no moves"),
+        None => sheet.put(b"nobody stands there"),
     }
     sheet.put(b"\n");
 }

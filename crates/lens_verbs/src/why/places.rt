@@ -1,5 +1,5 @@
 //! Threads by their paths, with what they are at and which hold keeps them still.
-use crate::why::holds::{held_over, push_hold};
+use crate::why::holds::push_hold;
 use fk_model::Who;
 use fk_store::Store;
 use lens_text::{Sheet, push_path, push_thread};
@@ -18,8 +18,8 @@ pub fn push_place(sheet: &Sheet, store: &Store, who: Who) {
 /// Adds the same, and the hold that keeps the thread still, if one does.
 pub fn push_whereabouts(sheet: &Sheet, store: &Store, who: Who) {
     push_place(sheet, store, who);
-    if let Some(space) = held_over(store, store.home(who.space)) {
-        push_hold(sheet, store, b", kept still by the hold of ", space);
+    if store.is_frozen(who.space) {
+        push_hold(sheet, store, b", kept still by the hold of ", who);
         sheet.put(b",");
     }
 }

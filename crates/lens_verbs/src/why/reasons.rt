@@ -1,6 +1,6 @@
 //! Why a thread has no ready move.
 use crate::why::blocked::push_blocked;
-use crate::why::holds::{held_over, push_hold, push_holds};
+use crate::why::holds::{push_hold, push_holds};
 use crate::why::places::push_whereabouts;
 use crate::why::talks::push_port;
 use fk_first::Seen;
@@ -13,12 +13,15 @@ use std::collections::BTreeMap;
 pub type Lockers = BTreeMap<Who, Who>;
 
 /// Adds why the job of a porter doesn't go on, where it is its turn.
-fn push_job(sheet: &Sheet, seen: Seen<'_>, lockers: &Lockers, porter: Who) {
+fn push_job(sheet: &Sheet, seen: &Seen<'_>, lockers: &Lockers, porter: Who) {
     match seen.job {
         Some(job) if job.porter == porter => {
             if !job.is_at_work & (job.at > seen.events) {
-                let behind = b" moves, or where nobody else can move";
-                return sheet.put_between(b"its job begins after ", job.at, behind);
+                return sheet.put_between(
+                    b"its job begins after ",
+                    job.at,
+                    b" moves, or where nobody else can move",
+                );
             }
             let registers = words(&Todo::One(job.stage), &[0; 16]);
             push_blocked(sheet, seen.store, lockers, porter, &registers);
@@ -28,13 +31,14 @@ fn push_job(sheet: &Sheet, seen: Seen<'_>, lockers: &Lockers, porter: Who) {
 }
 
 /// Adds why a thread has no ready move, and who could end that.
-pub fn push_reason(sheet: &Sheet, seen: Seen<'_>, lockers: &Lockers, who: Who, thread: &Thread) {
+pub fn push_reason(sheet: &Sheet, seen: &Seen<'_>, lockers: &Lockers, who: Who, thread: &Thread) {
     let store = seen.store;
     match thread.mode {
         Mode::Native => return push_job(sheet, seen, lockers, who),
         Mode::Halted(code) => {
-            sheet.put_between(b"has halted ", code as u64, b", ");
-            return sheet.add(line_at(HALTS, code as u64));
+            let code = code as u64;
+            sheet.put_between(b"has halted ", code, b", ");
+            return sheet.add(line_at(HALTS, code));
         }
         _ => {}
     }
@@ -62,8 +66,8 @@ pub fn push_reason(sheet: &Sheet, seen: Seen<'_>, lockers: &Lockers, who: Who, t
             }
         };
     }
-    if let Some(space) = held_over(store, store.home(who.space)) {
-        return push_hold(sheet, store, b"is kept still by the hold of ", space);
+    if store.is_frozen(who.space) {
+        return push_hold(sheet, store, b"is kept still by the hold of ", who);
     }
     match thread.mode {
         Mode::Calling => push_blocked(sheet, store, lockers, who, &thread.regs),

@@ -2,7 +2,7 @@
 use crate::why::places::push_whereabouts;
 use fk_model::{Body, Mode, Peer, Thread, Who};
 use fk_store::Store;
-use lens_text::{Sheet, handled, push_path};
+use lens_text::{Sheet, first_stage, handled, push_path};
 
 /// Adds who could take what stands at a port of a set: the first thread of the set's space that stands at its wait on it, or the first
 /// thread there at all.
@@ -14,16 +14,19 @@ fn push_server(sheet: &Sheet, store: &Store, set: Who) {
             slot,
         };
         if let Some(thread) = store.thread(who) {
-            let is_waiting = matches!((thread.mode, thread.regs[0]), (Mode::Calling, 48 | 49));
-            if is_waiting && handled(store, set.space, thread.regs[1]) == Some(set) {
+            let waits_at = match thread.mode {
+                Mode::Calling if first_stage(thread.regs[0]) == 48 => {
+                    handled(store, set.space, thread.regs[1])
+                }
+                _ => None,
+            };
+            if waits_at == Some(set) {
                 sheet.put(b"; ");
                 push_whereabouts(sheet, store, who);
                 sheet.put(b" waits at its set ");
                 return push_path(sheet, store, set);
             }
-            if first.is_none() {
-                first = Some(who);
-            }
+            first = first.or(Some(who));
         }
     }
     sheet.put(b"; nobody waits at its set ");
