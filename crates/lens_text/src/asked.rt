@@ -90,8 +90,11 @@ fn place_of(word: &str) -> Option<usize> {
 fn are_right(line: &Sheet, words: &[String], names: usize) -> bool {
     for (place, word) in words.iter().enumerate() {
         let is_name_wanted = place < names;
-        let is_count = plain_number_up_to(MOST, word.as_bytes()).is_some();
-        let is_right = (is_name_wanted & is_name(word.as_bytes())) | (!is_name_wanted & is_count);
+        let is_right = if is_name_wanted {
+            is_name(word.as_bytes())
+        } else {
+            plain_number_up_to(MOST, word.as_bytes()).is_some()
+        };
         if !is_right {
             line.put_wrong(word, line_at(EXPECTED, is_name_wanted as u64));
             return false;
@@ -103,12 +106,11 @@ fn are_right(line: &Sheet, words: &[String], names: usize) -> bool {
 /// What a verb with these words behind it asks for.
 fn asked_of<'a>(verb: Verb, words: &'a [String]) -> Asked<'a> {
     let other = text_at(words, 1);
-    let one = plain_number_up_to(MOST, other.as_bytes());
-    let two = plain_number_up_to(MOST, text_at(words, 2).as_bytes());
-    let (first, end) = match (verb, one, two) {
-        (Verb::Tree | Verb::Why, Some(count), _) => (0, count),
-        (Verb::Steps, Some(first), Some(last)) => (first, last.saturating_add(1)),
-        (Verb::Steps, _, _) => (0, MOST),
+    let one = plain_number_up_to(MOST, other.as_bytes()).unwrap_or(0);
+    let last = plain_number_up_to(MOST, text_at(words, 2).as_bytes()).unwrap_or(MOST - 1);
+    let (first, end) = match verb {
+        Verb::Tree | Verb::Why => (0, one),
+        Verb::Steps => (one, last.saturating_add(1)),
         _ => (0, u64::MAX),
     };
     Asked {

@@ -21,10 +21,10 @@ reference";
 pub fn push_object(sheet: &Sheet, path: &str, paths: &[String], body: &Rec) {
     sheet.add(line_at(KINDS, kind_of_rec(body) as u64));
     sheet.put_around(b" ", path, b"");
-    match body {
+    match *body {
         Rec::Mutex { locked: 1 } => sheet.put(b" locked\n"),
-        Rec::Port { set } if *set > 0 => {
-            let slot = (*set as u64).saturating_sub(1);
+        Rec::Port { set } if set > 0 => {
+            let slot = (set as u64).saturating_sub(1);
             sheet.put_between(b" in the set of slot ", slot, b"\n");
         }
         Rec::Mapping {
@@ -34,9 +34,9 @@ pub fn push_object(sheet: &Sheet, path: &str, paths: &[String], body: &Rec) {
             write,
             region,
         } => {
-            push_pages(sheet, *first, *count, *write == 1);
-            sheet.put_between(b", from the region's page ", *offset as u64, b" on\n");
-            push_pointer(sheet, path, b" region ", paths, *region);
+            push_pages(sheet, first, count, write == 1);
+            sheet.put_between(b", from the region's page ", offset as u64, b" on\n");
+            push_pointer(sheet, path, b" region ", paths, region);
         }
         Rec::Region {
             first,
@@ -44,15 +44,15 @@ pub fn push_object(sheet: &Sheet, path: &str, paths: &[String], body: &Rec) {
             write,
             keeper,
         } => {
-            push_pages(sheet, *first, *count, *write == 1);
+            push_pages(sheet, first, count, write == 1);
             sheet.put(b"\n");
-            push_pointer(sheet, path, b" keeper ", paths, *keeper);
+            push_pointer(sheet, path, b" keeper ", paths, keeper);
         }
         Rec::Reference { to } => {
             sheet.put(b"\n");
-            push_pointer(sheet, path, b" to ", paths, *to);
+            push_pointer(sheet, path, b" to ", paths, to);
         }
-        Rec::Thread(thread) => push_thread(sheet, path, paths, thread.get()),
+        Rec::Thread(ref thread) => push_thread(sheet, path, paths, thread.get()),
         _ => sheet.put(b"\n"),
     }
 }

@@ -27,10 +27,11 @@ pub fn push_page(sheet: &Sheet, path: &str, page: &PageRec) {
     for at in 0..64usize {
         if at < count {
             sheet.line(b"word ", path, b" @ ", number * 64 + at as u64, 0);
+            let word = page.words[at];
             if is_program {
-                push_instruction(sheet, page.words[at]);
+                push_instruction(sheet, word);
             } else {
-                sheet.add_number(page.words[at]);
+                sheet.add_number(word);
             }
             sheet.put(b"\n");
         }

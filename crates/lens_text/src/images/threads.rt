@@ -35,19 +35,18 @@ fn push_dealings(sheet: &Sheet, path: &str, paths: &[String], thread: &ThreadRec
 pub fn push_thread(sheet: &Sheet, path: &str, paths: &[String], thread: &ThreadRec) {
     sheet.put_number(b" at ", thread.pc);
     match thread.mode {
-        0 => sheet.put(b", running\n"),
+        0 => sheet.put(b", running"),
         1 => {
             sheet.put(b", calling ");
             push_call(sheet, &thread.regs, false);
-            sheet.put(b"\n");
         }
         _ => {
             let code = thread.code as u64;
             sheet.put_between(b", halted ", code, b", ");
             sheet.add(line_at(HALTS, code));
-            sheet.put(b"\n");
         }
     }
+    sheet.put(b"\n");
     if thread.stops > 0 {
         sheet.line(b"stops ", path, b" @\n", thread.stops as u64, 0);
     }

@@ -4,7 +4,7 @@ use fk_model::limits::OWN_SPACE;
 use fk_model::{Body, Ptr, Who};
 use fk_store::Store;
 
-/// The slots from an object up to the root.
+/// The slots from the root down to an object.
 fn slots_of(sheet: &Sheet, store: &Store, who: Who) -> Vec<u8> {
     let mut slots = Vec::new(sheet.alloc);
     let mut next = Some(who);
@@ -12,22 +12,19 @@ fn slots_of(sheet: &Sheet, store: &Store, who: Who) -> Vec<u8> {
         let Some(one) = next else {
             break;
         };
-        if slots.push(one.slot).is_err() {
+        if let Err(_) = slots.push(one.slot) {
             sheet.lacks();
         }
         next = store.home(one.space);
     }
+    slots.reverse();
     slots
 }
 
 /// Adds the path of an object from the root.
 pub fn push_path(sheet: &Sheet, store: &Store, who: Who) {
-    let mut slots = slots_of(sheet, store, who);
-    for _ in 0..slots.len() {
-        let Some(slot) = slots.pop() else {
-            break;
-        };
-        sheet.put_number(b"/", slot as u64);
+    for slot in &slots_of(sheet, store, who) {
+        sheet.put_number(b"/", *slot as u64);
     }
 }
 
