@@ -32,8 +32,9 @@ pub fn push_at(sheet: &Sheet, store: &Store, who: Who, thread: &Thread) {
             push_call(sheet, &thread.regs, false);
         }
         Mode::Halted(code) => {
-            sheet.fill(b"halted @ at @: ", code as u64, thread.pc, 0);
-            sheet.add(line_at(HALTS, code as u64));
+            let code = code as u64;
+            sheet.fill(b"halted @ at @: ", code, thread.pc, 0);
+            sheet.add(line_at(HALTS, code));
         }
         Mode::Native => sheet.put(b"a porter"),
     }
