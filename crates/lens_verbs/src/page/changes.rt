@@ -21,10 +21,12 @@ pub fn few_changed(store: &Store, one: &Move) -> Option<Few> {
             Mode::Calling => match first_stage(thread.regs[0]) {
                 // What is looked up or read changes the caller alone.
                 4 | 7 | 9 | 19 | 20 => None,
-                // Words go and the turn passes, or a server waits.
-                36 | 38 | 48 | 50 | 52 | 37 | 51 => peer_of(store, who),
+                // Words go.
+                37 | 51 => peer_of(store, who),
+                // The turn passes, or is waited for.
+                36 | 38 | 48 | 50 | 52 => peer_of(store, who),
                 // Mutexes.
-                21 | 23 | 22 => handled(store, who.space, thread.regs[1]),
+                21 | 22 | 23 => handled(store, who.space, thread.regs[1]),
                 _ => return None,
             },
             _ => return None,

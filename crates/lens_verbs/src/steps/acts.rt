@@ -42,8 +42,8 @@ fn push_thread_act(sheet: &Sheet, seen: &Seen<'_>, one: &Move, thread: &Thread) 
             push_call(sheet, &thread.regs, true);
             let peer = peer_of(seen.store, one.who);
             match first_stage(thread.regs[0]) {
-                37 | 51 | 38 | 52 => push_named(sheet, seen.store, b" to ", peer),
-                39 | 56 | 55 => push_named(sheet, seen.store, b" with ", peer),
+                37 | 38 | 51 | 52 => push_named(sheet, seen.store, b" to ", peer),
+                39 | 55 | 56 => push_named(sheet, seen.store, b" with ", peer),
                 _ => push_named(sheet, seen.store, b" of ", one.pick),
             }
         }

@@ -6,17 +6,17 @@ use crate::why::talks::{push_client, push_port};
 use crate::why::touched::is_barred;
 use fk_model::{Body, Who};
 use fk_store::Store;
-use lens_text::{Sheet, handled, object_named, push_path};
+use lens_text::{Sheet, first_stage, handled, object_named, push_path};
 
-/// Adds what the first stage of the call that these registers hold waits for, by what it names.
+/// Adds what the stage with this code, of the call that these registers hold, waits for, by what it names.
 fn push_awaited(
     sheet: &Sheet,
     store: &Store,
     lockers: &Lockers,
     space: u32,
+    code: u64,
     registers: &[u64; 16],
 ) {
-    let code = registers[0];
     let named = match code {
         13 => object_named(store, space, registers[1], registers[2]),
         _ => handled(store, space, registers[1]),
@@ -59,11 +59,11 @@ fn push_awaited(
             push_path(sheet, store, named);
             sheet.put(b" is signalled");
         }
-        33 | 32 => {
+        32 => {
             sheet.put(b"waits until its connect to ");
             push_port(sheet, store, named, b" is accepted");
         }
-        49 | 48 => {
+        48 => {
             sheet.put(b"waits until a client or a fault comes to a port of the set ");
             push_path(sheet, store, named);
         }
@@ -80,17 +80,18 @@ pub fn push_blocked(
     who: Who,
     registers: &[u64; 16],
 ) {
-    if !is_barred(sheet, store, who, registers) {
-        match registers[0] {
-            34 | 36 | 38 | 35 | 37 => push_client(sheet, store, who),
-            50 | 52 | 54 | 51 | 53 => match store.client_of(who) {
+    let code = first_stage(registers[0]);
+    if !is_barred(sheet, store, who, code, registers) {
+        match code {
+            36 | 37 | 38 => push_client(sheet, store, who),
+            50 | 51 | 52 => match store.client_of(who) {
                 Some(client) => {
                     sheet.put(b"waits for its client ");
                     push_whereabouts(sheet, store, client);
                 }
                 None => sheet.put(b"has no client"),
             },
-            _ => push_awaited(sheet, store, lockers, who.space, registers),
+            _ => push_awaited(sheet, store, lockers, who.space, code, registers),
         }
     }
 }

@@ -27,15 +27,15 @@ fn bars(sheet: &Sheet, store: &Store, who: Who, object: Option<Who>) -> bool {
     }
 }
 
-/// Whether the hold of another bars what the first stage of the call that these registers hold would change, or lead a pointer to: what it
-/// names, or the other side of a talk; and further the space of the page at an address, or where a reference is to lead. Where one does, it
-/// is added.
-pub fn is_barred(sheet: &Sheet, store: &Store, who: Who, registers: &[u64; 16]) -> bool {
+/// Whether the hold of another bars what the stage with this code, of the call that these registers hold, would change, or lead a pointer to:
+/// what it names, or the other side of a talk; and further the space of the page at an address, or where a reference is to lead. Where one
+/// does, it is added.
+pub fn is_barred(sheet: &Sheet, store: &Store, who: Who, code: u64, registers: &[u64; 16]) -> bool {
     let space = who.space;
-    match registers[0] {
+    match code {
         // Another's move ends these, so what they would change isn't what they wait for.
-        13 | 21 | 25 | 32 | 36 | 48 | 50 | 33 | 49 => false,
-        34 | 37 | 51 | 53 | 55 | 35 | 38 | 52 | 54 | 56 => match peer_of(store, who) {
+        13 | 21 | 25 | 32 | 36 | 48 | 50 => false,
+        37 | 38 | 51 | 52 | 55 | 56 => match peer_of(store, who) {
             Some(peer) => {
                 // The other side, and the space into which it receives.
                 let into = match store.thread(peer) {
@@ -47,15 +47,15 @@ pub fn is_barred(sheet: &Sheet, store: &Store, who: Who, registers: &[u64; 16]) 
             None => false,
         },
         // These name it by a handle.
-        15 | 22 | 24 | 26 | 39 | 16 | 23 | 27 => {
+        15 | 16 | 22 | 23 | 24 | 26 | 27 | 39 => {
             bars(sheet, store, who, handled(store, space, registers[1]))
         }
-        code => {
+        _ => {
             let named = object_named(store, space, registers[1], registers[2]);
             let further = match code {
                 5 => object_named(store, space, registers[3], registers[4]),
-                9 | 17 | 19 | 10 | 18 => page_home(store, space, registers[3]),
-                12 | 11 => handled(store, space, registers[4]),
+                9 | 10 | 17 | 18 | 19 => page_home(store, space, registers[3]),
+                11 | 12 => handled(store, space, registers[4]),
                 _ => None,
             };
             bars(sheet, store, who, named) || bars(sheet, store, who, further)
