@@ -17,9 +17,10 @@ fn push_awaited(
     code: u64,
     registers: &[u64; 16],
 ) {
+    let one = registers[1];
     let named = match code {
-        13 => object_named(store, space, registers[1], registers[2]),
-        _ => handled(store, space, registers[1]),
+        13 => object_named(store, space, one, registers[2]),
+        _ => handled(store, space, one),
     };
     let Some(named) = named else {
         return push_holds(sheet, store);

@@ -19,29 +19,31 @@ pub struct Why {
 /// Adds the line of a thread that isn't ready; of a porter, where its job is the one whose turn it is.
 fn push_thread(sheet: &Sheet, seen: &Seen<'_>, lockers: &Lockers, who: Who) {
     let store = seen.store;
-    let Some(thread) = store.thread(who) else {
-        return;
-    };
-    match thread.mode {
-        Mode::Native => match seen.job {
-            Some(job) if job.porter == who => {
+    if let Some(thread) = store.thread(who) {
+        match thread.mode {
+            Mode::Native => match seen.job {
+                Some(job) if job.porter == who => {
+                    push_path(sheet, store, who);
+                    sheet.put(b" a porter, ");
+                    push_asked(sheet, &job.stage);
+                }
+                _ => return,
+            },
+            _ => {
                 push_path(sheet, store, who);
-                sheet.put(b" a porter, ");
-                push_asked(sheet, &job.stage);
+                sheet.put(b" ");
+                push_at(sheet, store, who, thread);
             }
-            _ => return,
-        },
-        _ => {
-            push_path(sheet, store, who);
-            sheet.put(b" ");
-            push_at(sheet, store, who, thread);
         }
+        match thread.mode {
+            Mode::Halted(_) => {}
+            _ => {
+                sheet.put(b": ");
+                push_reason(sheet, seen, lockers, who, thread);
+            }
+        }
+        sheet.put(b"\n");
     }
-    if !matches!(thread.mode, Mode::Halted(_)) {
-        sheet.put(b": ");
-        push_reason(sheet, seen, lockers, who, thread);
-    }
-    sheet.put(b"\n");
 }
 
 impl Why {
