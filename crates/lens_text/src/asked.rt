@@ -58,9 +58,6 @@ const WORDS: [&str; 8] = [
     "--version",
 ];
 
-/// The place of the verb that shows images.
-const IMAGE: usize = 3;
-
 /// What is expected behind each.
 const BEHIND: &str = "no word, or a name and a number of moves
 a name, or a name and two moves
@@ -85,9 +82,13 @@ fn place_of(word: &str) -> Option<usize> {
     None
 }
 
-/// Whether each word behind a verb is what is wanted there: so many names at most, and then numbers of moves. Of the first that isn't the
-/// line says so.
-fn are_right(line: &Sheet, words: &[String], names: usize) -> bool {
+/// What a verb with these words behind it asks for: so many names at most, and then numbers of moves. Of the first that isn't what is wanted
+/// there the line says so.
+fn asked_of<'a>(line: &Sheet, verb: Verb, words: &'a [String]) -> Option<Asked<'a>> {
+    let names = match verb {
+        Verb::Differences => 2,
+        _ => 1,
+    };
     for (place, word) in words.iter().enumerate() {
         let is_name_wanted = place < names;
         let is_right = if is_name_wanted {
@@ -97,14 +98,9 @@ fn are_right(line: &Sheet, words: &[String], names: usize) -> bool {
         };
         if !is_right {
             line.put_wrong(word, line_at(EXPECTED, is_name_wanted as u64));
-            return false;
+            return None;
         }
     }
-    true
-}
-
-/// What a verb with these words behind it asks for.
-fn asked_of<'a>(verb: Verb, words: &'a [String]) -> Asked<'a> {
     let other = text_at(words, 1);
     let one = plain_number_up_to(MOST, other.as_bytes()).unwrap_or(0);
     let last = plain_number_up_to(MOST, text_at(words, 2).as_bytes()).unwrap_or(MOST - 1);
@@ -113,13 +109,13 @@ fn asked_of<'a>(verb: Verb, words: &'a [String]) -> Asked<'a> {
         Verb::Steps => (one, last.saturating_add(1)),
         _ => (0, u64::MAX),
     };
-    Asked {
+    Some(Asked {
         verb,
         name: text_at(words, 0),
         other,
         first,
         end,
-    }
+    })
 }
 
 /// What words ask for. Where they ask for nothing, the line says why.
@@ -149,12 +145,7 @@ fn asked_by<'a>(line: &Sheet, words: &'a [String]) -> Option<Asked<'a>> {
             return None;
         }
     };
-    // Two images may be named.
-    if are_right(line, rest, 1 + (place == IMAGE) as usize) {
-        Some(asked_of(verb, rest))
-    } else {
-        None
-    }
+    asked_of(line, verb, rest)
 }
 
 /// What words ask for.
