@@ -17,14 +17,15 @@ fn push_job(sheet: &Sheet, seen: &Seen<'_>, lockers: &Lockers, porter: Who) {
     match seen.job {
         Some(job) if job.porter == porter => {
             if !job.is_at_work & (job.at > seen.events) {
-                return sheet.put_between(
+                sheet.put_between(
                     b"its job begins after ",
                     job.at,
                     b" moves, or where nobody else can move",
                 );
+            } else {
+                let registers = words(&Todo::One(job.stage), &[0; 16]);
+                push_blocked(sheet, seen.store, lockers, porter, &registers);
             }
-            let registers = words(&Todo::One(job.stage), &[0; 16]);
-            push_blocked(sheet, seen.store, lockers, porter, &registers);
         }
         _ => sheet.put(b"it isn't the turn of a job of it"),
     }
