@@ -73,7 +73,7 @@ impl Sheet {
     /// Adds a text.
     pub fn add(&self, text: &str) {
         let mut whole = self.text.replace(String::new(self.alloc));
-        if let Err(_) = whole.push_str(text) {
+        if whole.push_str(text).is_err() {
             self.lacks();
         }
         self.text.set(whole);
@@ -166,7 +166,7 @@ impl Sheet {
     pub fn put_row(&self, line: Sheet, address: u64, word: u64) {
         let text = self.taken(line);
         let mut whole = self.text.replace(String::new(self.alloc));
-        if let Err(_) = write!(whole, "{text:<30} ; {address:>5} {word:016x}\n") {
+        if write!(whole, "{text:<30} ; {address:>5} {word:016x}\n").is_err() {
             self.lacks();
         }
         self.text.set(whole);
@@ -175,7 +175,7 @@ impl Sheet {
     /// Adds that a word, which stands in quotes, isn't what was expected.
     pub fn put_wrong(&self, word: &String, expected: &str) {
         let mut whole = self.text.replace(String::new(self.alloc));
-        if let Err(_) = write!(whole, "{word:?}: expected {expected}") {
+        if write!(whole, "{word:?}: expected {expected}").is_err() {
             self.lacks();
         }
         self.text.set(whole);

@@ -6,7 +6,7 @@ use std::collections::BTreeSet;
 fn lines_of<'a>(sheet: &Sheet, text: &'a str) -> BTreeSet<&'a str> {
     let mut lines = BTreeSet::new(sheet.alloc);
     for line in text.lines() {
-        if let Err(_) = lines.insert(line) {
+        if lines.insert(line).is_err() {
             sheet.lacks();
         }
     }

@@ -18,7 +18,7 @@ pub fn paths_of(sheet: &Sheet, spaces: &[SpaceRec]) -> Vec<String> {
             Some(parent) => path_in(sheet, parent.as_str(), space.slot),
             None => String::new(sheet.alloc),
         };
-        if let Err(_) = paths.push(path) {
+        if paths.push(path).is_err() {
             sheet.lacks();
         }
     }

@@ -12,7 +12,7 @@ fn slots_of(sheet: &Sheet, store: &Store, who: Who) -> Vec<u8> {
         let Some(one) = next else {
             break;
         };
-        if let Err(_) = slots.push(one.slot) {
+        if slots.push(one.slot).is_err() {
             sheet.lacks();
         }
         next = store.home(one.space);

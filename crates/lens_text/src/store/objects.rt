@@ -22,7 +22,7 @@ pub fn push_home(sheet: &Sheet, store: &Store, birth: u32, holder: Option<Who>) 
     push_named(sheet, store, b", held by ", holder);
     let mut is_first = true;
     for page in 0..=255u8 {
-        if let Some(_) = store.page(birth, page) {
+        if store.page(birth, page).is_some() {
             if is_first {
                 sheet.put(b", pages");
             }
