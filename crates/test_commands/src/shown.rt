@@ -30,6 +30,14 @@ fn compared(shown: &str) -> &str {
     }
 }
 
+/// What stands on standard error, and what is compared of standard output.
+fn parts_of(shown: &Shown) -> (&str, &str) {
+    match shown.problem {
+        Some(_) => (shown.line(), ""),
+        None => ("", compared(shown.text.as_str())),
+    }
+}
+
 /// What comes of the call of a case of `lens`.
 pub fn show(alloc: Global, case: &Case) -> Result<Ending, NoMemory> {
     let shown = shown_of(
@@ -39,10 +47,7 @@ pub fn show(alloc: Global, case: &Case) -> Result<Ending, NoMemory> {
         &case.files,
         &case.fails,
     )?;
-    let (error, output) = match shown.problem {
-        Some(_) => (shown.line(), ""),
-        None => ("", compared(shown.text.as_str())),
-    };
+    let (error, output) = parts_of(&shown);
     Ok(Ending {
         status: shown.status(),
         error: String::from_str(alloc, error)?,
