@@ -4,7 +4,7 @@ ghost use Rattle.fk_scenario.specs.Kept.{KeepsScenario, HasRules};
 
 use crate::images::Files;
 use crate::scenarios::scenario_problem;
-use crate::shows::{Show, show_of};
+use crate::shows::show_of;
 use crate::stops::check_stop;
 use fk_causes::Shelf;
 use fk_commands::scenario_in;

@@ -4,6 +4,20 @@ use fk_model::{Body, Who};
 use fk_store::Store;
 use lens_text::{Sheet, push_path};
 
+/// Adds the hold of a space behind a piece: its holder, with what that one is at, and the space.
+fn push_holder<const N: usize>(
+    sheet: &Sheet,
+    store: &Store,
+    before: &[u8; N],
+    space: Who,
+    holder: Who,
+) {
+    sheet.put(before);
+    push_place(sheet, store, holder);
+    sheet.put(b" on ");
+    push_path(sheet, store, space);
+}
+
 /// Adds the hold that decides over an object behind a piece, with what its holder is at: the outermost one of its space, of those above, and
 /// of itself.
 pub fn push_hold<const N: usize>(sheet: &Sheet, store: &Store, before: &[u8; N], object: Who) {
@@ -15,10 +29,7 @@ pub fn push_hold<const N: usize>(sheet: &Sheet, store: &Store, before: &[u8; N],
         }
     }
     if let Some(holder) = store.decider(held) {
-        sheet.put(before);
-        push_place(sheet, store, holder);
-        sheet.put(b" on ");
-        push_path(sheet, store, held);
+        push_holder(sheet, store, before, held, holder);
     }
 }
 
@@ -37,10 +48,7 @@ pub fn push_holds(sheet: &Sheet, store: &Store) {
             },
         ) = store.at(who)
         {
-            sheet.put(b"; there is the hold of ");
-            push_place(sheet, store, *holder);
-            sheet.put(b" on ");
-            push_path(sheet, store, who);
+            push_holder(sheet, store, b"; there is the hold of ", who, *holder);
         }
         next = store.after(next);
     }
