@@ -83,12 +83,12 @@ pub fn push_call(sheet: &Sheet, registers: &[u64; 16], is_first_alone: bool) {
         whole
     };
     if form.is_empty() {
-        return sheet.put_number(b"no call, ", code);
+        return sheet.fill(b"no call, @", code, 0, 0);
     }
     let arguments = match code {
         34 | 37 | 51 | 53 => &registers[2..6],
         35 | 36 | 50 | 54 => &registers[4..6],
-        49 => return sheet.fill_text(form, registers[1], registers[4], registers[5]),
+        49 => return sheet.fill_all(form, &[registers[1], registers[4], registers[5]]),
         _ => &registers[1..6],
     };
     sheet.fill_all(form, arguments);

@@ -6,7 +6,7 @@ use crate::sheet::Sheet;
 pub fn given(sheet: &Sheet, file: &str, form: &str, one: u64, two: u64, expected: &str) -> Problem {
     sheet.clear();
     sheet.add(file);
-    sheet.fill_text(form, one, two, 0);
+    sheet.fill_all(form, &[one, two]);
     sheet.add(expected);
     Problem::Given
 }

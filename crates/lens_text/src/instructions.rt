@@ -62,5 +62,5 @@ pub fn formed(word: u64) -> (u64, u64, u64, u64) {
 /// Adds the instruction that a word holds, as a line of a program's text has it; of any other word `word` and its number.
 pub fn push_instruction(sheet: &Sheet, word: u64) {
     let (form, one, two, three) = formed(word);
-    sheet.fill_text(line_at(FORMS, form), one, two, three);
+    sheet.fill_all(line_at(FORMS, form), &[one, two, three]);
 }

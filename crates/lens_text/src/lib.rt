@@ -34,7 +34,7 @@ pub use refusal::refused_scenario;
 pub use sheet::{Sheet, line_at};
 pub use statuses::{HALTS, STATUSES};
 pub use store::{
-    handled, next_in_tree, object_named, push_at, push_home, push_named, push_object, push_path,
-    push_thread, push_tree, word_at,
+    handled, next_in_tree, object_named, push_at, push_between, push_home, push_named, push_object,
+    push_path, push_thread, push_tree, word_at,
 };
 pub use words::push_words;

@@ -53,7 +53,7 @@ pub fn refused_scenario(sheet: &Sheet, text: &[u8], rule: u8, section: u8, index
     sheet.put(b"standard input, ");
     match line_of(text, heading, index) {
         Some(line) => {
-            sheet.put_between(b"line ", line, b", ");
+            sheet.fill(b"line @, ", line, 0, 0);
             sheet.add(heading);
             sheet.put(b" ");
         }

@@ -104,24 +104,6 @@ impl Sheet {
         self.put(behind);
     }
 
-    /// Adds a number behind a piece.
-    pub fn put_number<const N: usize>(&self, before: &[u8; N], number: u64) {
-        self.put(before);
-        self.add_number(number);
-    }
-
-    /// Adds a number between two pieces.
-    pub fn put_between<const N: usize, const M: usize>(
-        &self,
-        before: &[u8; N],
-        number: u64,
-        behind: &[u8; M],
-    ) {
-        self.put(before);
-        self.add_number(number);
-        self.put(behind);
-    }
-
     /// Adds a form: a text in which each `@` stands for the next of these numbers.
     pub fn fill_all(&self, form: &str, numbers: &[u64]) {
         let mut later = form;
@@ -137,14 +119,9 @@ impl Sheet {
     }
 
     /// Adds a form of three numbers at most.
-    pub fn fill_text(&self, form: &str, one: u64, two: u64, three: u64) {
-        self.fill_all(form, &[one, two, three]);
-    }
-
-    /// Adds a form of three numbers at most.
     pub fn fill<const N: usize>(&self, form: &[u8; N], one: u64, two: u64, three: u64) {
         if let Ok(form) = str::from_utf8(form) {
-            self.fill_text(form, one, two, three);
+            self.fill_all(form, &[one, two, three]);
         }
     }
 

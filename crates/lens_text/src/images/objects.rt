@@ -25,7 +25,7 @@ pub fn push_object(sheet: &Sheet, path: &str, paths: &[String], body: &Rec) {
         Rec::Mutex { locked: 1 } => sheet.put(b" locked\n"),
         Rec::Port { set } if set > 0 => {
             let slot = (set as u64).saturating_sub(1);
-            sheet.put_between(b" in the set of slot ", slot, b"\n");
+            sheet.fill(b" in the set of slot @\n", slot, 0, 0);
         }
         Rec::Mapping {
             first,
@@ -35,7 +35,7 @@ pub fn push_object(sheet: &Sheet, path: &str, paths: &[String], body: &Rec) {
             region,
         } => {
             push_pages(sheet, first, count, write == 1);
-            sheet.put_between(b", from the region's page ", offset as u64, b" on\n");
+            sheet.fill(b", from the region's page @ on\n", offset as u64, 0, 0);
             push_pointer(sheet, path, b" region ", paths, region);
         }
         Rec::Region {

@@ -6,7 +6,7 @@ use fk_image::{Link, SpaceRec};
 pub fn path_in(sheet: &Sheet, space: &str, slot: u8) -> String {
     let path = Sheet::new(sheet.alloc);
     path.add(space);
-    path.put_number(b"/", slot as u64);
+    path.fill(b"/@", slot as u64, 0, 0);
     sheet.taken(path)
 }
 
@@ -39,11 +39,11 @@ pub fn push_pointer<const N: usize>(
         Link::Dead => sheet.put(b"dead"),
         Link::Root => sheet.put(b"/"),
         Link::Outside => sheet.put(b"outside"),
-        Link::Out(slot) => sheet.put_number(b"out ", slot as u64),
+        Link::Out(slot) => sheet.fill(b"out @", slot as u64, 0, 0),
         Link::In { slot, space } => match paths.get(space as usize) {
             Some(path) => {
                 sheet.add(path.as_str());
-                sheet.put_number(b"/", slot as u64);
+                sheet.fill(b"/@", slot as u64, 0, 0);
             }
             None => sheet.put(b"nothing"),
         },

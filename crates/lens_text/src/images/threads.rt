@@ -33,7 +33,7 @@ fn push_dealings(sheet: &Sheet, path: &str, paths: &[String], thread: &ThreadRec
 
 /// Adds the lines of a thread behind what it is and its path: what it is at, that of its stops, those of its registers that aren't 0, its talk and its fault.
 pub fn push_thread(sheet: &Sheet, path: &str, paths: &[String], thread: &ThreadRec) {
-    sheet.put_number(b" at ", thread.pc);
+    sheet.fill(b" at @", thread.pc, 0, 0);
     match thread.mode {
         0 => sheet.put(b", running"),
         1 => {
@@ -42,7 +42,7 @@ pub fn push_thread(sheet: &Sheet, path: &str, paths: &[String], thread: &ThreadR
         }
         _ => {
             let code = thread.code as u64;
-            sheet.put_between(b", halted ", code, b", ");
+            sheet.fill(b", halted @, ", code, 0, 0);
             sheet.add(line_at(HALTS, code));
         }
     }

@@ -24,8 +24,21 @@ fn slots_of(sheet: &Sheet, store: &Store, who: Who) -> Vec<u8> {
 /// Adds the path of an object from the root.
 pub fn push_path(sheet: &Sheet, store: &Store, who: Who) {
     for slot in &slots_of(sheet, store, who) {
-        sheet.put_number(b"/", *slot as u64);
+        sheet.fill(b"/@", *slot as u64, 0, 0);
     }
+}
+
+/// Adds the path of an object between two pieces.
+pub fn push_between<const N: usize, const M: usize>(
+    sheet: &Sheet,
+    store: &Store,
+    before: &[u8; N],
+    who: Who,
+    behind: &[u8; M],
+) {
+    sheet.put(before);
+    push_path(sheet, store, who);
+    sheet.put(behind);
 }
 
 /// Adds the path of an object behind a piece, where there is one.

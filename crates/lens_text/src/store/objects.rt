@@ -18,7 +18,7 @@ pub fn push_pages(sheet: &Sheet, first: u8, count: u16, is_writable: bool) {
 
 /// Adds a space: its birth number, its holder, its pages.
 pub fn push_home(sheet: &Sheet, store: &Store, birth: u32, holder: Option<Who>) {
-    sheet.put_number(b"space ", birth as u64);
+    sheet.fill(b"space @", birth as u64, 0, 0);
     push_named(sheet, store, b", held by ", holder);
     let mut is_first = true;
     for page in 0..=255u8 {
@@ -27,7 +27,7 @@ pub fn push_home(sheet: &Sheet, store: &Store, birth: u32, holder: Option<Who>) 
                 sheet.put(b", pages");
             }
             is_first = false;
-            sheet.put_number(b" ", page as u64);
+            sheet.fill(b" @", page as u64, 0, 0);
         }
     }
 }
@@ -47,7 +47,7 @@ pub fn push_object(sheet: &Sheet, store: &Store, who: Who, body: &Body) {
             set: Some(slot),
             ..
         } => {
-            sheet.put_number(b"port in the set of slot ", slot as u64);
+            sheet.fill(b"port in the set of slot @", slot as u64, 0, 0);
         }
         Body::Port { .. } => sheet.put(b"port"),
         Body::Space { birth, holder } => push_home(sheet, store, birth, holder),
@@ -64,7 +64,7 @@ pub fn push_object(sheet: &Sheet, store: &Store, who: Who, body: &Body) {
         } => {
             sheet.put(b"mapping of");
             push_pages(sheet, first, count, write);
-            sheet.put_between(b", from page ", offset as u64, b" on of region ");
+            sheet.fill(b", from page @ on of region ", offset as u64, 0, 0);
             push_pointer(sheet, store, region);
         }
         Body::Region {

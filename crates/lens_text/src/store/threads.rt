@@ -21,14 +21,14 @@ pub fn word_at(store: &Store, space: u32, address: u64) -> Option<u64> {
 pub fn push_at(sheet: &Sheet, store: &Store, who: Who, thread: &Thread) {
     match thread.mode {
         Mode::Running => {
-            sheet.put_between(b"running at ", thread.pc, b": ");
+            sheet.fill(b"running at @: ", thread.pc, 0, 0);
             match word_at(store, who.space, thread.pc) {
                 Some(word) => push_instruction(sheet, word),
                 None => sheet.put(b"no page is there"),
             }
         }
         Mode::Calling => {
-            sheet.put_between(b"calling at ", thread.pc, b": ");
+            sheet.fill(b"calling at @: ", thread.pc, 0, 0);
             push_call(sheet, &thread.regs, false);
         }
         Mode::Halted(code) => {
@@ -55,7 +55,7 @@ pub fn push_thread(sheet: &Sheet, store: &Store, who: Who, thread: &Thread) {
     match thread.stops {
         0 => {}
         1 => sheet.put(b"; stopped once"),
-        stops => sheet.put_between(b"; stopped ", stops as u64, b" times"),
+        stops => sheet.fill(b"; stopped @ times", stops as u64, 0, 0),
     }
     if let Some(talk) = thread.talk {
         sheet.put(b"; talk at ");
@@ -64,16 +64,16 @@ pub fn push_thread(sheet: &Sheet, store: &Store, who: Who, thread: &Thread) {
         push_peer(sheet, store, talk.peer);
         let moved = talk.moved as u64;
         match talk.turn {
-            Turn::Client => sheet.put_number(b", client's turn, words moved ", moved),
-            Turn::Server => sheet.put_number(b", server's turn, words moved ", moved),
+            Turn::Client => sheet.fill(b", client's turn, words moved @", moved, 0, 0),
+            Turn::Server => sheet.fill(b", server's turn, words moved @", moved, 0, 0),
         }
     }
     if let Some(fault) = &thread.fault {
         let page = fault.page as u64;
         if fault.write {
-            sheet.put_number(b"; fault, write of page ", page);
+            sheet.fill(b"; fault, write of page @", page, 0, 0);
         } else {
-            sheet.put_number(b"; fault, read of page ", page);
+            sheet.fill(b"; fault, read of page @", page, 0, 0);
         }
         match fault.taker {
             Some(taker) => {

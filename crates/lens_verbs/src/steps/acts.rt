@@ -66,7 +66,7 @@ pub fn push_act(sheet: &Sheet, seen: &Seen<'_>, one: &Move) {
                 push_named(sheet, store, b" of ", one.pick);
             }
             Some(Ask::Give { len, .. }) => {
-                sheet.put_between(b"give ", len as u64, b" words");
+                sheet.fill(b"give @ words", len as u64, 0, 0);
                 push_named(sheet, store, b" to ", store.client_at(who));
             }
             Some(Ask::Over) => {

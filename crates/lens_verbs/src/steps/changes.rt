@@ -54,7 +54,7 @@ pub fn push_ending(sheet: &Sheet, store: &Store, who: Who, before: &Thread) {
         Mode::Running => {
             if let Mode::Halted(code) = after.mode {
                 let code = code as u64;
-                sheet.put_between(b"; it halts ", code, b", ");
+                sheet.fill(b"; it halts @, ", code, 0, 0);
                 sheet.add(line_at(HALTS, code));
             }
         }
@@ -62,7 +62,7 @@ pub fn push_ending(sheet: &Sheet, store: &Store, who: Who, before: &Thread) {
     }
     if before.fault.is_none() {
         if let Some(fault) = &after.fault {
-            sheet.put_number(b"; it misses page ", fault.page as u64);
+            sheet.fill(b"; it misses page @", fault.page as u64, 0, 0);
             sheet.put(b", a fault at ");
             push_path(sheet, store, fault.port);
         }

@@ -41,7 +41,7 @@ pub fn begin(sheet: &Sheet, seen: &Seen<'_>, one: &Move) -> Begun {
     if let Some(pick) = one.pick {
         head.fill(b" @.@", pick.space as u64, pick.slot as u64, 0);
     }
-    head.put_between(b"\t", seen.events, b"\t");
+    head.fill(b"\t@\t", seen.events, 0, 0);
     push_path(&head, store, who);
     head.put(b"\t");
     let other = peer_of(store, who);

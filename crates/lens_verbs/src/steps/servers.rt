@@ -59,14 +59,10 @@ fn push_news(sheet: &Sheet, native: &Native, was: ServerState) {
     if is.sent > was.sent {
         sheet.put(b" words");
         for word in sent_to(native).get(was.sent..).unwrap_or(&[]) {
-            sheet.put_number(b" ", *word);
+            sheet.fill(b" @", *word, 0, 0);
         }
     } else if (is.left < was.left) & (is.position == was.position) {
-        sheet.put_between(
-            b" gave ",
-            was.left.saturating_sub(is.left) as u64,
-            b" words",
-        );
+        sheet.fill(b" gave @ words", was.left.saturating_sub(is.left) as u64, 0, 0);
     }
     match (was.side, is.side) {
         (Side::Idle, Side::Client) => sheet.put(b" has a client, at the client's turn"),

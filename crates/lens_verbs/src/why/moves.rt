@@ -8,7 +8,7 @@ use lens_text::{Sheet, push_path};
 /// Adds the line that says why a move isn't ready.
 pub fn push_move(sheet: &Sheet, seen: &Seen<'_>, ready: &Ready, lockers: &Lockers, one: &Move) {
     let (store, who) = (seen.store, one.who);
-    sheet.put_between(b"move ", seen.events, b" of ");
+    sheet.fill(b"move @ of ", seen.events, 0, 0);
     push_path(sheet, store, who);
     sheet.put(b", ");
     push_act(sheet, seen, one);

@@ -17,11 +17,7 @@ fn push_job(sheet: &Sheet, seen: &Seen<'_>, lockers: &Lockers, porter: Who) {
     match seen.job {
         Some(job) if job.porter == porter => {
             if !job.is_at_work & (job.at > seen.events) {
-                sheet.put_between(
-                    b"its job begins after ",
-                    job.at,
-                    b" moves, or where nobody else can move",
-                );
+                sheet.fill(b"its job begins after @ moves, or where nobody else can move", job.at, 0, 0);
             } else {
                 let registers = words(&Todo::One(job.stage), &[0; 16]);
                 push_blocked(sheet, seen.store, lockers, porter, &registers);
@@ -38,17 +34,13 @@ pub fn push_reason(sheet: &Sheet, seen: &Seen<'_>, lockers: &Lockers, who: Who, 
         Mode::Native => return push_job(sheet, seen, lockers, who),
         Mode::Halted(code) => {
             let code = code as u64;
-            sheet.put_between(b"has halted ", code, b", ");
+            sheet.fill(b"has halted @, ", code, 0, 0);
             return sheet.add(line_at(HALTS, code));
         }
         _ => {}
     }
     if thread.stops > 0 {
-        return sheet.put_between(
-            b"is stopped, and needs ",
-            thread.stops as u64,
-            b" thread_go",
-        );
+        return sheet.fill(b"is stopped, and needs @ thread_go", thread.stops as u64, 0, 0);
     }
     if let Some(fault) = &thread.fault {
         let port = fault.port;
