@@ -2,7 +2,8 @@
 //!
 //! A command prepares a run (`prepared`): the status and the report of its outcome, and what is to be
 //! written; or it answers the status of a refusal. `exec` assembles a text and lets `fk_lone` run it;
-//! `check` and `show` prepare the counts of a scenario and of an image. `play` stands in `fk_plays`.
+//! `check` and `show` prepare the counts of a scenario and of an image. `play` stands in `fk_plays`. Who only looks at a scenario or an image
+//! is lent it (`lend`), and owns neither.
 //!
 //! It stands on `fk_asm` for programs, on `fk_lone` for the machine of `exec`, on `fk_scenario`, on
 //! `fk_codec` and `fk_image_show` for images, on `fk_report` for how a run ends, on `fk_history` for its moves, and on `fk_causes` for
@@ -17,6 +18,7 @@ pub mod check;
 pub mod exec;
 mod exec_text;
 mod image;
+mod lend;
 mod outcome;
 mod prepared;
 mod scenario;
@@ -26,6 +28,7 @@ mod status;
 
 pub use fk_history::Moves;
 pub use image::image_of;
+pub use lend::{ImageReader, ScenarioReader, lend_image, lend_scenario};
 pub use outcome::{Outcome, Report};
 pub use prepared::Prepared;
 pub use scenario::scenario_in;
