@@ -4,28 +4,32 @@ use fk_model::limits::OWN_SPACE;
 use fk_model::{Body, Ptr, Who};
 use fk_store::Store;
 
-/// The slots from the root down to an object.
-fn slots_of(sheet: &Sheet, store: &Store, who: Who) -> Vec<u8> {
-    let mut slots = Vec::new(sheet.alloc);
+/// A path that begins with a slot and goes on by a path. Where there is no memory for it, the sheet notes that.
+pub fn path_from(sheet: &Sheet, slot: u8, beneath: String) -> String {
+    let path = Sheet::new(sheet.alloc);
+    path.fill(b"/@", slot as u64, 0, 0);
+    path.add(beneath.as_str());
+    sheet.taken(path)
+}
+
+/// Adds the path of an object from the root, behind a mark for each of its slots.
+pub fn push_marked<const N: usize>(sheet: &Sheet, store: &Store, mark: &[u8; N], who: Who) {
+    let mut path = String::new(sheet.alloc);
     let mut next = Some(who);
     for _ in 0..u64::MAX {
         let Some(one) = next else {
             break;
         };
-        if slots.push(one.slot).is_err() {
-            sheet.lacks();
-        }
+        sheet.put(mark);
+        path = path_from(sheet, one.slot, path);
         next = store.home(one.space);
     }
-    slots.reverse();
-    slots
+    sheet.add(path.as_str());
 }
 
 /// Adds the path of an object from the root.
 pub fn push_path(sheet: &Sheet, store: &Store, who: Who) {
-    for slot in &slots_of(sheet, store, who) {
-        sheet.fill(b"/@", *slot as u64, 0, 0);
-    }
+    push_marked(sheet, store, b"", who);
 }
 
 /// Adds the path of an object between two pieces.
@@ -73,7 +77,7 @@ pub fn handled(store: &Store, space: u32, slot: u64) -> Option<Who> {
         slot: slot as u8,
     };
     match store.at(who) {
-        Some(Body::Reference { to: Ptr::At(to) }) => Some(*to),
+        Some(&Body::Reference { to: Ptr::At(to) }) => Some(to),
         Some(Body::Reference { .. }) | None => None,
         Some(_) => Some(who),
     }
@@ -88,7 +92,7 @@ pub fn object_named(store: &Store, space: u32, place: u64, slot: u64) -> Option<
         return None;
     };
     match store.at(home) {
-        Some(Body::Space { birth, .. }) => handled(store, *birth, slot),
+        Some(&Body::Space { birth, .. }) => handled(store, birth, slot),
         _ => None,
     }
 }
@@ -96,8 +100,7 @@ pub fn object_named(store: &Store, space: u32, place: u64, slot: u64) -> Option<
 /// The object behind another in the tree of spaces: each space stands before what lies in it, and what lies in one by rising slot. So the
 /// store's first object is the first of the tree.
 pub fn next_in_tree(store: &Store, last: Who) -> Option<Who> {
-    if let Some(Body::Space { birth, .. }) = store.at(last) {
-        let space = *birth;
+    if let Some(&Body::Space { birth: space, .. }) = store.at(last) {
         if let Some(slot) = store.first_resident(space) {
             return Some(Who { space, slot });
         }

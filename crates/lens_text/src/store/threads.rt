@@ -3,7 +3,7 @@ use crate::calls::push_call;
 use crate::instructions::push_instruction;
 use crate::sheet::{Sheet, line_at};
 use crate::statuses::HALTS;
-use crate::store::names::push_path;
+use crate::store::names::{push_between, push_path};
 use fk_model::{Mode, Peer, Thread, Turn, Who};
 use fk_store::{Reach, Store};
 
@@ -57,10 +57,8 @@ pub fn push_thread(sheet: &Sheet, store: &Store, who: Who, thread: &Thread) {
         1 => sheet.put(b"; stopped once"),
         stops => sheet.fill(b"; stopped @ times", stops as u64, 0, 0),
     }
-    if let Some(talk) = thread.talk {
-        sheet.put(b"; talk at ");
-        push_path(sheet, store, talk.port);
-        sheet.put(b" with ");
+    if let Some(ref talk) = thread.talk {
+        push_between(sheet, store, b"; talk at ", talk.port, b" with ");
         push_peer(sheet, store, talk.peer);
         let moved = talk.moved as u64;
         match talk.turn {
@@ -68,7 +66,7 @@ pub fn push_thread(sheet: &Sheet, store: &Store, who: Who, thread: &Thread) {
             Turn::Server => sheet.fill(b", server's turn, words moved @", moved, 0, 0),
         }
     }
-    if let Some(fault) = &thread.fault {
+    if let Some(ref fault) = thread.fault {
         let page = fault.page as u64;
         if fault.write {
             sheet.fill(b"; fault, write of page @", page, 0, 0);
@@ -77,15 +75,10 @@ pub fn push_thread(sheet: &Sheet, store: &Store, who: Who, thread: &Thread) {
         }
         match fault.taker {
             Some(taker) => {
-                sheet.put(b", at ");
-                push_path(sheet, store, fault.port);
-                sheet.put(b", taken by ");
+                push_between(sheet, store, b", at ", fault.port, b", taken by ");
                 push_peer(sheet, store, taker);
             }
-            None => {
-                sheet.put(b", raised at ");
-                push_path(sheet, store, fault.port);
-            }
+            None => push_between(sheet, store, b", raised at ", fault.port, b""),
         }
     }
 }

@@ -1,27 +1,8 @@
 //! The tree of spaces.
 use crate::sheet::Sheet;
-use crate::store::names::{next_in_tree, push_path};
+use crate::store::names::{next_in_tree, push_marked};
 use crate::store::objects::{push_home, push_object};
-use fk_model::Who;
 use fk_store::Store;
-
-/// Adds the line of an object, by two blanks further in than that of its space.
-fn push_line(sheet: &Sheet, store: &Store, who: Who) {
-    let mut above = Some(who);
-    for _ in 0..u64::MAX {
-        let Some(one) = above else {
-            break;
-        };
-        sheet.put(b"  ");
-        above = store.home(one.space);
-    }
-    push_path(sheet, store, who);
-    if let Some(body) = store.at(who) {
-        sheet.put(b" ");
-        push_object(sheet, store, who, body);
-    }
-    sheet.put(b"\n");
-}
 
 /// Adds all of a store, an object a line: each space before what lies in it, and what lies in one by rising slot.
 pub fn push_tree(sheet: &Sheet, store: &Store) {
@@ -34,7 +15,13 @@ pub fn push_tree(sheet: &Sheet, store: &Store) {
         let Some(who) = next else {
             break;
         };
-        push_line(sheet, store, who);
+        // By two blanks further in than its space.
+        push_marked(sheet, store, b"  ", who);
+        if let Some(body) = store.at(who) {
+            sheet.put(b" ");
+            push_object(sheet, store, who, body);
+        }
+        sheet.put(b"\n");
         next = next_in_tree(store, who);
     }
 }
