@@ -6,7 +6,6 @@
 mod acts;
 mod changes;
 mod lines;
-mod moves;
 mod servers;
 
 pub use acts::{peer_of, push_act};

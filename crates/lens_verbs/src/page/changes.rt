@@ -2,10 +2,10 @@
 use crate::steps::peer_of;
 use fk_model::{Mode, Move, Who};
 use fk_store::Store;
-use lens_text::{Sheet, first_stage, handled, push_object, push_path};
+use lens_text::{Sheet, first_stage, handled, push_between, push_object};
 use std::collections::BTreeMap;
 
-/// The line that was last written of each object that is or was there; at first an empty one.
+/// The line that was last written of each object that is or was there.
 pub type Known = BTreeMap<Who, String>;
 
 /// Whom a move may change, where these are few: the mover, its pick, another.
@@ -40,20 +40,23 @@ pub fn few_changed(store: &Store, one: &Move) -> Option<Few> {
 /// Adds the lines of those of these objects that aren't as they were last written. That of what is gone has no path.
 pub fn push_objects(sheet: &Sheet, known: &mut Known, store: &Store, names: &[Who]) {
     for who in names {
-        if let Some(last) = known.get_mut(who) {
-            let line = Sheet::new(sheet.alloc);
-            line.fill(b"=@.@", who.space as u64, who.slot as u64, 0);
-            if let Some(body) = store.at(*who) {
-                line.put(b"\t");
-                push_path(&line, store, *who);
-                line.put(b"\t");
-                push_object(&line, store, *who, body);
-            }
-            let line = sheet.taken(line);
-            if last.as_str() != line.as_str() {
-                sheet.add(line.as_str());
-                sheet.put(b"\n");
-                *last = line;
+        let line = Sheet::new(sheet.alloc);
+        line.fill(b"=@.@", who.space as u64, who.slot as u64, 0);
+        let mut is_new = false;
+        if let Some(body) = store.at(*who) {
+            push_between(&line, store, b"\t", *who, b"\t");
+            push_object(&line, store, *who, body);
+            is_new = true;
+        }
+        let line = sheet.taken(line);
+        if let Some(last) = known.get(who) {
+            is_new = *last != line;
+        }
+        if is_new {
+            sheet.add(line.as_str());
+            sheet.put(b"\n");
+            if known.insert(*who, line).is_err() {
+                sheet.lacks();
             }
         }
     }

@@ -14,7 +14,7 @@ pub struct Page {
     /// A line a move.
     pub steps: Steps,
     known: Known,
-    /// The names of all that is known.
+    /// The names of all that is known, in the order in which it was found.
     names: Vec<Who>,
     /// Whom the last move may have changed; none where these may be many.
     few: Option<Few>,
@@ -27,7 +27,7 @@ impl Page {
         sheet.add(name);
         sheet.put(b"\n");
         Page {
-            steps: Steps::new(sheet, 0, u64::MAX),
+            steps: Steps::new(sheet, 0),
             known: BTreeMap::new(sheet.alloc),
             names: Vec::new(sheet.alloc),
             few: None,
@@ -48,8 +48,7 @@ impl Page {
                 break;
             };
             if !self.known.contains_key(&who) {
-                let line = String::new(sheet.alloc);
-                if self.known.insert(who, line).is_err() | self.names.push(who).is_err() {
+                if self.names.push(who).is_err() {
                     sheet.lacks();
                 }
             }

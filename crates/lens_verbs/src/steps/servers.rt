@@ -1,6 +1,6 @@
 //! What native servers are told.
 use fk_model::Who;
-use fk_natives::{Native, Service, Side};
+use fk_natives::{Native, Side};
 use fk_responders::{rule_name, words_of};
 use fk_store::Store;
 use lens_text::{Sheet, push_path};
@@ -11,58 +11,61 @@ pub struct ServerState {
     side: Side,
     sent: usize,
     left: u8,
-    position: u64,
-}
-
-/// The words that a native server was sent.
-fn sent_to(native: &Native) -> &[u64] {
-    match native {
-        Native::Console(console) => console.printed(),
-        Native::Server(server) => words_of(&server.request),
-    }
 }
 
 /// What a native server is at.
-fn state_of(native: &Native) -> ServerState {
-    let sent = sent_to(native).len();
+pub fn state_of(native: &Native) -> ServerState {
     match native {
         Native::Console(console) => ServerState {
             side: console.side,
-            sent,
+            sent: console.words.len(),
             left: 0,
-            position: 0,
         },
         Native::Server(server) => ServerState {
             side: server.side,
-            sent,
+            sent: words_of(&server.request).len(),
             left: server.left.len,
-            position: server.position,
         },
     }
 }
 
-/// What native servers are at. Where there is no memory for it, the sheet notes that.
-pub fn states_of(sheet: &Sheet, services: &[(Who, Native)]) -> Vec<ServerState> {
-    let mut states = Vec::new(sheet.alloc);
-    for (_, native) in services {
-        if states.push(state_of(native)).is_err() {
-            sheet.lacks();
-        }
-    }
-    states
-}
-
-/// Adds what a native server was told, where it was told something: the words that came to it since, how many it gave; whose
-/// turn it is, where that has changed.
-fn push_news(sheet: &Sheet, native: &Native, was: ServerState) {
+/// Adds what a native server was told since it was at something else, behind its port, its name and the news of others that begin at this
+/// place: the words that came to it, how many it gave; whose turn it is, where that has changed. A server is told one thing a move.
+pub fn push_news(
+    sheet: &Sheet,
+    start: usize,
+    store: &Store,
+    port: Who,
+    native: &Native,
+    was: &ServerState,
+) {
     let is = state_of(native);
+    let is_same_turn = is.side as u8 == was.side as u8;
+    if is_same_turn & (is.sent == was.sent) & (is.left == was.left) {
+        return;
+    }
+    if sheet.len() > start {
+        sheet.put(b"; ");
+    }
+    push_path(sheet, store, port);
+    sheet.put(b" ");
+    let (name, words) = match native {
+        Native::Console(console) => (console.alias.as_str(), console.words.as_slice()),
+        Native::Server(server) => (rule_name(server.rule), words_of(&server.request)),
+    };
+    sheet.add(name);
     if is.sent > was.sent {
         sheet.put(b" words");
-        for word in sent_to(native).get(was.sent..).unwrap_or(&[]) {
+        for word in words.iter().skip(was.sent) {
             sheet.fill(b" @", *word, 0, 0);
         }
-    } else if (is.left < was.left) & (is.position == was.position) {
-        sheet.fill(b" gave @ words", was.left.saturating_sub(is.left) as u64, 0, 0);
+    } else if is.left < was.left {
+        sheet.fill(
+            b" gave @ words",
+            was.left.saturating_sub(is.left) as u64,
+            0,
+            0,
+        );
     }
     match (was.side, is.side) {
         (Side::Idle, Side::Client) => sheet.put(b" has a client, at the client's turn"),
@@ -71,32 +74,5 @@ fn push_news(sheet: &Sheet, native: &Native, was: ServerState) {
         (Side::Own, Side::Client) => sheet.put(b" has handed over"),
         (Side::Client | Side::Own, Side::Idle) => sheet.put(b" has lost its client"),
         _ => {}
-    }
-}
-
-/// Adds what native servers were told since these states were taken, each behind its port and its name.
-pub fn push_told(sheet: &Sheet, store: &Store, services: &[(Who, Native)], before: &[ServerState]) {
-    let start = sheet.len();
-    let mut states = before;
-    for (port, native) in services {
-        let Some((was, later)) = states.split_first() else {
-            break;
-        };
-        states = later;
-        let news = Sheet::new(sheet.alloc);
-        push_news(&news, native, *was);
-        let news = sheet.taken(news);
-        if !news.is_empty() {
-            if sheet.len() > start {
-                sheet.put(b"; ");
-            }
-            push_path(sheet, store, *port);
-            sheet.put(b" ");
-            sheet.add(match native {
-                Native::Console(console) => console.alias.as_str(),
-                Native::Server(server) => rule_name(server.rule),
-            });
-            sheet.add(news.as_str());
-        }
     }
 }
