@@ -31,7 +31,8 @@ pub fn push_differences(sheet: &Sheet, first: &str, second: &str) {
     let Ok(in_second) = second.lines().collect(sheet.alloc) else {
         return sheet.lacks();
     };
-    let (mut later, mut others) = (first, second);
+    let mut later = first;
+    let mut others = second;
     for _ in 0..u64::MAX {
         if later.is_empty() & others.is_empty() {
             break;

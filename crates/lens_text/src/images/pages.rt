@@ -9,9 +9,10 @@ fn filled(words: &[u64; 64]) -> (usize, bool) {
     let mut count = 0;
     let mut is_program = false;
     for at in 0..64usize {
-        if words[at] != 0 {
+        let word = words[at];
+        if word != 0 {
             count = at + 1;
-            is_program = is_program | (formed(words[at]).0 != WORD);
+            is_program = is_program | (formed(word).0 != WORD);
         }
     }
     (count, is_program)

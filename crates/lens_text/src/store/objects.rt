@@ -21,14 +21,15 @@ pub fn push_home(sheet: &Sheet, store: &Store, birth: u32, holder: Option<Who>) 
     sheet.fill(b"space @", birth as u64, 0, 0);
     push_named(sheet, store, b", held by ", holder);
     let mut is_first = true;
-    for page in 0..=255u8 {
-        if store.page(birth, page).is_some() {
-            if is_first {
-                sheet.put(b", pages");
-            }
-            is_first = false;
-            sheet.fill(b" @", page as u64, 0, 0);
+    for page in 0..256u64 {
+        let Some(_) = store.page(birth, page as u8) else {
+            continue;
+        };
+        if is_first {
+            sheet.put(b", pages");
         }
+        is_first = false;
+        sheet.fill(b" @", page, 0, 0);
     }
 }
 
