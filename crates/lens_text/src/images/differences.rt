@@ -10,7 +10,7 @@ fn push_alone<'a, const N: usize>(
     others: &BTreeSet<&str>,
 ) -> &'a str {
     let mut later = text;
-    for _ in 0..text.len() {
+    for _ in 0..u64::MAX {
         let (line, behind) = parted(later, '\n');
         let is_end = later.is_empty() | others.contains(line);
         later = behind;

@@ -47,8 +47,9 @@ pub fn push_thread(sheet: &Sheet, path: &str, spaces: &[SpaceRec], thread: &Thre
         }
     }
     sheet.put(b"\n");
-    if thread.stops > 0 {
-        sheet.line(b"stops ", path, b" @\n", thread.stops as u64, 0);
+    let stops = thread.stops as u64;
+    if stops > 0 {
+        sheet.line(b"stops ", path, b" @\n", stops, 0);
     }
     for number in 0..16usize {
         let value = thread.regs[number];
