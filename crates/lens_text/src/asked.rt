@@ -1,5 +1,4 @@
 //! What the words of the command line ask for.
-use crate::problem::Problem;
 use crate::sheet::{Sheet, line_at, text_at};
 use fk_model::{is_name, plain_number_up_to};
 
@@ -118,8 +117,8 @@ fn asked_of<'a>(line: &Sheet, verb: Verb, words: &'a [String]) -> Option<Asked<'
     })
 }
 
-/// What words ask for. Where they ask for nothing, the line says why.
-fn asked_by<'a>(line: &Sheet, words: &'a [String]) -> Option<Asked<'a>> {
+/// What words ask for; nothing where they are no verb, which the sheet says then.
+pub fn asked_in<'a>(line: &Sheet, words: &'a [String]) -> Option<Asked<'a>> {
     let Some((word, rest)) = words.split_first() else {
         line.put_around(b"expected ", VERBS, b"");
         return None;
@@ -146,16 +145,4 @@ fn asked_by<'a>(line: &Sheet, words: &'a [String]) -> Option<Asked<'a>> {
         }
     };
     asked_of(line, verb, rest)
-}
-
-/// What words ask for.
-///
-/// # Errors
-///
-/// `Words` where they are no verb.
-pub fn asked_in<'a>(sheet: &Sheet, words: &'a [String]) -> Result<Asked<'a>, Problem> {
-    match asked_by(sheet, words) {
-        Some(asked) => Ok(asked),
-        None => Err(Problem::Words),
-    }
 }

@@ -3,19 +3,19 @@ use crate::problem::Problem;
 use crate::sheet::Sheet;
 
 /// That what was given can't be shown: of which file, where in it by a form of two numbers, and what was expected there.
-pub fn given(sheet: &Sheet, file: &str, form: &str, one: u64, two: u64, expected: &str) -> Problem {
+pub fn given(sheet: &Sheet, file: &str, form: &str, one: u64, two: u64, expected: &str) {
     sheet.clear();
     sheet.add(file);
     sheet.fill_all(form, &[one, two]);
     sheet.add(expected);
-    Problem::Given
+    sheet.fails(Problem::Given);
 }
 
 /// That what has this name and this ending can't be read.
-pub fn unread(sheet: &Sheet, name: &str, ending: &str) -> Problem {
+pub fn unread(sheet: &Sheet, name: &str, ending: &str) {
     sheet.clear();
     sheet.add(name);
     sheet.add(ending);
     sheet.put(b" can't be read");
-    Problem::Outside
+    sheet.fails(Problem::Outside);
 }

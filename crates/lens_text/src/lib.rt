@@ -19,6 +19,7 @@ mod instructions;
 mod problem;
 mod refusal;
 mod sheet;
+mod shown;
 mod statuses;
 mod store;
 mod words;
@@ -32,6 +33,7 @@ pub use instructions::push_instruction;
 pub use problem::Problem;
 pub use refusal::refused_scenario;
 pub use sheet::{Sheet, line_at};
+pub use shown::Shown;
 pub use statuses::{HALTS, STATUSES};
 pub use store::{
     handled, next_in_tree, object_named, push_at, push_between, push_home, push_named, push_object,

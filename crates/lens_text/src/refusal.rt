@@ -47,7 +47,7 @@ fn line_of(text: &[u8], heading: &str, index: u32) -> Option<u64> {
 
 /// That a scenario is refused, by a rule at the entry of a section with this index: the line of the entry, where that is found, else its
 /// place in its section.
-pub fn refused_scenario(sheet: &Sheet, text: &[u8], rule: u8, section: u8, index: u32) -> Problem {
+pub fn refused_scenario(sheet: &Sheet, text: &[u8], rule: u8, section: u8, index: u32) {
     let heading = line_at(HEADINGS, section as u64);
     sheet.clear();
     sheet.put(b"standard input, ");
@@ -65,5 +65,5 @@ pub fn refused_scenario(sheet: &Sheet, text: &[u8], rule: u8, section: u8, index
     sheet.add_number(index as u64);
     sheet.put(b": expected ");
     sheet.add(line_at(EXPECTED, rule as u64));
-    Problem::Given
+    sheet.fails(Problem::Given);
 }

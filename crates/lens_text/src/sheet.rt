@@ -1,5 +1,6 @@
 //! Text that is written piece by piece.
 use crate::problem::Problem;
+use crate::shown::Shown;
 use itoa::Buffer;
 use std::alloc::Global;
 use std::cell::Cell;
@@ -37,8 +38,8 @@ pub struct Sheet {
     pub alloc: Global,
     /// What stands there. It is taken out while a piece is added.
     text: Cell<String>,
-    /// There was no memory for a piece.
-    is_short: Cell<bool>,
+    /// Why what was asked for can't be shown, where it can't; the text is the line that says so then.
+    problem: Cell<Option<Problem>>,
 }
 
 impl Sheet {
@@ -47,7 +48,7 @@ impl Sheet {
         Sheet {
             alloc,
             text: Cell::new(String::new(alloc)),
-            is_short: Cell::new(false),
+            problem: Cell::new(None),
         }
     }
 
@@ -62,12 +63,12 @@ impl Sheet {
     /// Makes it an empty one again.
     pub fn clear(&self) {
         self.text.set(String::new(self.alloc));
-        self.is_short.set(false);
+        self.problem.set(None);
     }
 
     /// Notes that there was no memory for something.
     pub fn lacks(&self) {
-        self.is_short.set(true);
+        self.problem.set(Some(Problem::NoMemory));
     }
 
     /// Adds a text.
@@ -85,11 +86,16 @@ impl Sheet {
         self.add(digits.format(number));
     }
 
-    /// Adds a piece, which is always text.
-    pub fn put<const N: usize>(&self, piece: &[u8; N]) {
-        if let Ok(text) = str::from_utf8(piece) {
+    /// Adds bytes, which are always text.
+    pub fn put_bytes(&self, bytes: &[u8]) {
+        if let Ok(text) = str::from_utf8(bytes) {
             self.add(text);
         }
+    }
+
+    /// Adds a piece, which is always text.
+    pub fn put<const N: usize>(&self, piece: &[u8; N]) {
+        self.put_bytes(piece);
     }
 
     /// Adds a text between two pieces.
@@ -160,22 +166,29 @@ impl Sheet {
 
     /// What another has; that there was no memory for a piece of it is noted here.
     pub fn taken(&self, other: Sheet) -> String {
-        if other.is_short.get() {
+        if other.problem.get().is_some() {
             self.lacks();
         }
         other.text.into_inner()
     }
 
-    /// The whole.
-    ///
-    /// # Errors
-    ///
-    /// There was no memory for a piece.
-    pub fn done(self) -> Result<String, Problem> {
-        if self.is_short.get() {
-            Err(Problem::NoMemory)
-        } else {
-            Ok(self.text.into_inner())
+    /// Notes why what was asked for can't be shown, in the line that stands there. Where there was no memory for that, it is why.
+    pub fn fails(&self, problem: Problem) {
+        if self.problem.get().is_none() {
+            self.problem.set(Some(problem));
+        }
+    }
+
+    /// Why what was asked for can't be shown, where it can't.
+    pub fn problem(&self) -> Option<Problem> {
+        self.problem.get()
+    }
+
+    /// What has come of it: the whole, or why it isn't shown and the line that says so.
+    pub fn shown(self) -> Shown {
+        Shown {
+            problem: self.problem.get(),
+            text: self.text.into_inner(),
         }
     }
 }

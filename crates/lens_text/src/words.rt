@@ -2,7 +2,6 @@
 use crate::faults::given;
 use crate::files::SOURCE;
 use crate::instructions::push_instruction;
-use crate::problem::Problem;
 use crate::sheet::{Sheet, line_at};
 use fk_asm::{AsmError, AsmFail, assemble};
 
@@ -16,11 +15,8 @@ a label that some line defines
 no more than 16384 words";
 
 /// Adds the words of a program's text, each as a line that assembles to it, with its address and its 16 digits behind.
-///
-/// # Errors
-///
-/// `Given` where a line is refused, and `NoMemory`.
-pub fn push_words(sheet: &Sheet, text: &[u8]) -> Result<(), Problem> {
+/// Where a line is refused, the sheet says so.
+pub fn push_words(sheet: &Sheet, text: &[u8]) {
     match assemble(sheet.alloc, text) {
         Ok(words) => {
             for (address, word) in words.iter().enumerate() {
@@ -28,13 +24,12 @@ pub fn push_words(sheet: &Sheet, text: &[u8]) -> Result<(), Problem> {
                 push_instruction(&line, *word);
                 sheet.put_row(line, address as u64, *word);
             }
-            Ok(())
         }
         Err(AsmFail::Text(AsmError { line, reason })) => {
             let expected = line_at(EXPECTED, reason as u64);
             let form = ", line @: expected ";
-            Err(given(sheet, SOURCE, form, line as u64, 0, expected))
+            given(sheet, SOURCE, form, line as u64, 0, expected);
         }
-        Err(AsmFail::NoMemory) => Err(Problem::NoMemory),
+        Err(AsmFail::NoMemory) => sheet.lacks(),
     }
 }

@@ -1,10 +1,10 @@
 //! What `--help` and `--version` say.
 
 /// What `--version` says.
-pub const VERSION: &str = "lens 1\n";
+pub const VERSION: &[u8] = b"lens 1\n";
 
 /// What `--help` says.
-pub const HELP: &str = "lens: shows what a program, a scenario, a trace and an image hold
+pub const HELP: &[u8] = b"lens: shows what a program, a scenario, a trace and an image hold
 
     lens tree < SCENARIO              the tree of spaces with their objects, at the beginning
     lens tree NAME K < SCENARIO       the same after K moves of the trace NAME.trc

@@ -1,20 +1,82 @@
-//! The files of the shelf, and the images among them for a scenario's jobs.
+//! The images of the shelf: shown as text, and for a scenario's jobs.
 use fk_causes::Shelf;
-use fk_commands::{Status, image_of};
+use fk_commands::{ImageReader, Status, image_of, lend_image};
 use fk_finish::ValidImage;
 use fk_first::Images;
-use lens_text::{Problem, Sheet, file_of, given};
+use fk_image::Image;
+use lens_text::{Problem, Sheet, file_of, given, line_at, push_differences, push_image};
 
-/// Why the file of a name isn't taken for an image, by the status with which it is refused.
-fn image_problem(sheet: &Sheet, name: &str, status: &Status) -> Problem {
+/// What was expected of an image, by the reason for which it is refused, and by any other.
+const EXPECTED: &str = "the end of the file
+the 8 bytes FLUKEIMG
+the version 1
+the whole of the field that begins here; the file ends in it
+a space that follows in preorder, or a slot or page above the one before
+a number, slot, kind, mode or tag in its range
+a pointer to something that this field can hold
+the end of the file";
+
+/// Says that the file with a name isn't taken for an image, by the status with which it is refused.
+fn refuse_image(sheet: &Sheet, name: &str, status: &Status) {
     match status {
-        Status::BadImage { offset, .. } => {
-            let form = ".img, offset @: expected an image; lens image ";
-            let problem = given(sheet, name, form, *offset, 0, name);
-            sheet.put(b" says more");
-            problem
+        Status::BadImage { offset, reason, .. } => {
+            let expected = line_at(EXPECTED, *reason as u64);
+            given(
+                sheet,
+                name,
+                ".img, offset @: expected ",
+                *offset,
+                0,
+                expected,
+            );
         }
-        _ => Problem::NoMemory,
+        _ => sheet.lacks(),
+    }
+}
+
+/// Writes an image on a sheet; why there is none is said on another.
+#[derive(Drop)]
+struct Shown<'a> {
+    name: &'a str,
+    sheet: &'a Sheet,
+    faults: &'a Sheet,
+}
+
+impl ImageReader for Shown<'_> {
+    fn image(&mut self, image: &Image) {
+        push_image(self.sheet, image.spaces.as_slice());
+    }
+
+    fn refused(&mut self, status: &Status) {
+        refuse_image(self.faults, self.name, status);
+    }
+}
+
+/// Adds the image with this name to one sheet, or says on another why it isn't shown.
+pub fn show_image<H: Shelf>(faults: &Sheet, sheet: &Sheet, name: &str, shelf: &mut H) {
+    if let Some(bytes) = file_of(faults, shelf, name, ".img") {
+        lend_image(
+            sheet.alloc,
+            name,
+            &bytes,
+            &mut Shown {
+                name,
+                sheet,
+                faults,
+            },
+        );
+    }
+}
+
+/// Adds the lines by which the images with these names differ, in their order: those that the second lacks behind `-`, those that the
+/// first lacks behind `+`. Where all are the same there is none. Or says why they aren't shown, of the first where neither is.
+pub fn show_differences<H: Shelf>(sheet: &Sheet, name: &str, other: &str, shelf: &mut H) {
+    let (first, second) = (Sheet::new(sheet.alloc), Sheet::new(sheet.alloc));
+    show_image(sheet, &second, other, shelf);
+    show_image(sheet, &first, name, shelf);
+    let (first, second) = (sheet.taken(first), sheet.taken(second));
+    if sheet.problem().is_none() {
+        push_differences(sheet, first.as_str(), second.as_str());
     }
 }
 
@@ -30,15 +92,15 @@ impl<H: Shelf> Images for Files<'_, H> {
 
     fn image(&mut self, name: &str) -> Result<ValidImage, Problem> {
         let sheet = self.sheet;
-        match file_of(sheet, self.shelf, name, ".img") {
-            Ok(bytes) => match image_of(sheet.alloc, name, &bytes) {
+        if let Some(bytes) = file_of(sheet, self.shelf, name, ".img") {
+            match image_of(sheet.alloc, name, &bytes) {
                 Ok(image) => match ValidImage::new(sheet.alloc, image) {
-                    Ok(valid) => Ok(valid),
-                    Err(_) => Err(Problem::NoMemory),
+                    Ok(valid) => return Ok(valid),
+                    Err(_) => sheet.lacks(),
                 },
-                Err(status) => Err(image_problem(sheet, name, &status)),
-            },
-            Err(problem) => Err(problem),
+                Err(status) => refuse_image(sheet, name, &status),
+            }
         }
+        Err(sheet.problem().unwrap_or(Problem::NoMemory))
     }
 }

@@ -12,15 +12,12 @@
 mod help;
 mod images;
 mod page;
-mod responders;
 mod runs;
-mod scenarios;
-mod shown;
 mod shows;
 mod steps;
 mod stops;
 mod top;
 mod why;
 
-pub use lens_text::Problem;
-pub use top::{Shown, lens_top};
+pub use lens_text::{Problem, Shown};
+pub use top::lens_top;

@@ -3,65 +3,74 @@ ghost use Rattle.std.specs.Prelude.{map};
 ghost use Rattle.fk_scenario.specs.Kept.{KeepsScenario, HasRules};
 
 use crate::images::Files;
-use crate::scenarios::scenario_problem;
 use crate::shows::show_of;
 use crate::stops::check_stop;
 use fk_causes::Shelf;
-use fk_commands::scenario_in;
+use fk_commands::{ScenarioReader, Status, lend_scenario};
 use fk_first::{Trace, watch};
 use fk_responders::Table;
 use fk_scenario::Scenario;
-use lens_text::{Asked, Problem, Verb, file_of};
+use lens_text::{Asked, Sheet, Verb, file_of, refused_scenario};
 
-/// Shows what is asked for of the run of a scenario by the trace with these bytes.
-fn show_scenario<H: Shelf>(
-    asked: Asked<'_>,
-    table: &Table,
-    scenario: &Scenario,
-    bytes: &[u8],
-    files: &mut Files<'_, H>,
-) -> Result<(), Problem>
-    requires keeps { KeepsScenario scenario.now }
-    requires rules { HasRules (map (λ r. r.rule) table.now.list.items) scenario.now }
-{
-    let sheet = files.sheet;
-    let trace = Trace {
-        bytes,
-        most: asked.end,
-        looks_ahead: matches!(asked.verb, Verb::Why),
+/// What is to be shown of a scenario's run by the trace with these bytes; the text is its own.
+#[derive(Drop)]
+struct Run<'a, H: Shelf> {
+    asked: Asked<'a>,
+    text: &'a [u8],
+    bytes: &'a [u8],
+    files: Files<'a, H>,
+}
+
+impl<H: Shelf> ScenarioReader for Run<'_, H> {
+    fn scenario(&mut self, table: &Table, scenario: &Scenario)
+        requires keeps { KeepsScenario scenario.now }
+        requires rules { HasRules (map (λ r. r.rule) table.now.list.items) scenario.now }
+    {
+        let (sheet, asked) = (self.files.sheet, self.asked);
+        let trace = Trace {
+            bytes: self.bytes,
+            most: asked.end,
+            looks_ahead: matches!(asked.verb, Verb::Why),
+        };
+        let mut show = show_of(sheet, asked);
+        match watch(
+            sheet.alloc,
+            table,
+            scenario,
+            &mut self.files,
+            Some(trace),
+            &mut show,
+        ) {
+            Ok(stop) => check_stop(sheet, asked, stop),
+            Err(problem) => sheet.fails(problem),
+        }
+    }
+
+    fn refused(&mut self, status: &Status) {
+        match status {
+            Status::BadScenario {
+                rule,
+                section,
+                index,
+            } => refused_scenario(self.files.sheet, self.text, *rule, *section, *index),
+            _ => self.files.sheet.lacks(),
+        }
+    }
+}
+
+/// Shows what is asked for of a run of a scenario's text, or says why not.
+pub fn show_run<H: Shelf>(sheet: &Sheet, asked: Asked<'_>, text: &[u8], shelf: &mut H) {
+    let bytes = match asked.verb {
+        Verb::First => Some(Vec::new(sheet.alloc)),
+        _ => file_of(sheet, shelf, asked.name, ".trc"),
     };
-    let mut show = show_of(sheet, asked);
-    match watch(sheet.alloc, table, scenario, files, Some(trace), &mut show) {
-        Ok(stop) => check_stop(sheet, asked, stop),
-        Err(problem) => Err(problem),
-    }
-}
-
-/// The bytes of the trace that is asked for; none where what stands at the beginning is.
-fn bytes_of<H: Shelf>(asked: Asked<'_>, files: &mut Files<'_, H>) -> Result<Vec<u8>, Problem> {
-    match asked.verb {
-        Verb::First => Ok(Vec::new(files.sheet.alloc)),
-        _ => file_of(files.sheet, files.shelf, asked.name, ".trc"),
-    }
-}
-
-/// Shows what is asked for of a run of a scenario's text.
-///
-/// # Errors
-///
-/// `Given` where the text is no scenario, or a file isn't what the verb needs or has too few moves that are ready, `Outside` where a file
-/// can't be read, and `NoMemory`.
-pub fn show_run<H: Shelf>(
-    asked: Asked<'_>,
-    table: &Table,
-    text: &[u8],
-    files: &mut Files<'_, H>,
-) -> Result<(), Problem> {
-    match bytes_of(asked, files) {
-        Ok(bytes) => match scenario_in(files.sheet.alloc, table, text) {
-            Ok(scenario) => show_scenario(asked, table, &scenario, &bytes, files),
-            Err(status) => Err(scenario_problem(files.sheet, text, &status)),
-        },
-        Err(problem) => Err(problem),
+    if let Some(bytes) = bytes {
+        let mut run = Run {
+            asked,
+            text,
+            bytes: &bytes,
+            files: Files { sheet, shelf },
+        };
+        lend_scenario(sheet.alloc, text, &mut run);
     }
 }

@@ -1,6 +1,6 @@
 //! What is wrong with a trace, where a run stops at one of its lines.
 use fk_first::Stop;
-use lens_text::{Asked, Problem, Sheet, Verb, given};
+use lens_text::{Asked, Sheet, Verb, given};
 
 /// That a trace has too few moves.
 const MORE: &str = ".trc: expected @ moves or more";
@@ -19,24 +19,20 @@ const END: &str = ".trc, line @: expected the end, since the scenario's budget i
 const READY: &str =
     ".trc, line @: expected a move that is ready; lens why with @ says why it isn't";
 
-/// What is wrong where a run by a trace stopped, by what is asked for. The line of the first move is the second.
-///
-/// # Errors
-///
-/// `Given` where it stopped before what is asked for.
-pub fn check_stop(sheet: &Sheet, asked: Asked<'_>, stop: Stop) -> Result<(), Problem> {
+/// Says what is wrong where a run by a trace stopped before what is asked for. The line of the first move is the second.
+pub fn check_stop(sheet: &Sheet, asked: Asked<'_>, stop: Stop) {
     let (form, index) = match (stop, asked.verb) {
         (Stop::Ended, Verb::Tree | Verb::Why) => {
-            return Err(given(sheet, asked.name, MORE, asked.end, 0, ""));
+            return given(sheet, asked.name, MORE, asked.end, 0, "");
         }
-        (Stop::Enough | Stop::Ended, _) | (Stop::NoTrace, Verb::First) => return Ok(()),
-        (Stop::Unready { .. } | Stop::Budget { .. }, Verb::Page) => return Ok(()),
-        (Stop::Unready { index, .. }, Verb::Why) if index == asked.end => return Ok(()),
+        (Stop::Enough | Stop::Ended, _) | (Stop::NoTrace, Verb::First) => return,
+        (Stop::Unready { .. } | Stop::Budget { .. }, Verb::Page) => return,
+        (Stop::Unready { index, .. }, Verb::Why) if index == asked.end => return,
         (Stop::NoTrace, _) => (FIRST, 0),
         (Stop::Misspelled { index }, _) => (MOVE, index),
         (Stop::Budget { index }, _) => (END, index),
         (Stop::Unready { index, .. }, _) => (READY, index),
     };
     let line = index.saturating_add(2);
-    Err(given(sheet, asked.name, form, line, index, ""))
+    given(sheet, asked.name, form, line, index, "");
 }

@@ -1,73 +1,30 @@
 //! The top call: the words of the command line, over the source and the shelf.
 use crate::help::{HELP, VERSION};
-use crate::responders::show;
-use crate::shown::{show_differences, show_image};
+use crate::images::{show_differences, show_image};
+use crate::runs::show_run;
 use fk_causes::{Shelf, Source};
-use lens_text::{Asked, Problem, Sheet, Verb, asked_in, push_words, source_text};
+use lens_text::{Problem, Sheet, Shown, Verb, asked_in, push_words, source_text};
 use std::alloc::Global;
 
-/// What came of the words of a command line: the text that was asked for, or why it isn't shown and the line that says so.
-#[derive(Drop)]
-pub struct Shown {
-    /// Why what was asked for isn't shown, where it isn't.
-    pub problem: Option<Problem>,
-    /// What was asked for, or the line.
-    pub text: String,
-}
-
-impl Shown {
-    /// The status with which the process exits: 0 where what was asked for is shown.
-    pub fn status(&self) -> u8 {
-        match self.problem {
-            Some(problem) => problem.status(),
-            None => 0,
-        }
-    }
-
-    /// What is said of a problem.
-    pub fn line(&self) -> &str {
-        match self.problem {
-            Some(Problem::NoMemory) => "no memory",
-            _ => self.text.as_str(),
-        }
-    }
-}
-
-/// Shows what is asked for of the source's text.
-fn show_source<R: Source, H: Shelf>(
-    sheet: &Sheet,
-    asked: Asked<'_>,
-    source: &mut R,
-    shelf: &mut H,
-) -> Result<(), Problem> {
-    match source_text(sheet, source) {
-        Ok(text) => match asked.verb {
-            Verb::Words => push_words(sheet, &text),
-            _ => show(sheet, asked, &text, shelf),
-        },
-        Err(problem) => Err(problem),
-    }
-}
-
 /// Shows on a sheet what the words ask for, or says there why not.
-fn show_asked<R: Source, H: Shelf>(
-    sheet: &Sheet,
-    words: &[String],
-    source: &mut R,
-    shelf: &mut H,
-) -> Result<(), Problem> {
-    let asked = match asked_in(sheet, words) {
-        Ok(asked) => asked,
-        Err(problem) => return Err(problem),
+fn show<R: Source, H: Shelf>(sheet: &Sheet, words: &[String], source: &mut R, shelf: &mut H) {
+    let Some(asked) = asked_in(sheet, words) else {
+        return sheet.fails(Problem::Words);
     };
     match asked.verb {
-        Verb::Help => sheet.add(HELP),
-        Verb::Version => sheet.add(VERSION),
-        Verb::Image => return show_image(sheet, sheet, asked.name, shelf),
-        Verb::Differences => return show_differences(sheet, asked.name, asked.other, shelf),
-        _ => return show_source(sheet, asked, source, shelf),
+        Verb::Help => sheet.put_bytes(HELP),
+        Verb::Version => sheet.put_bytes(VERSION),
+        Verb::Image => show_image(sheet, sheet, asked.name, shelf),
+        Verb::Differences => show_differences(sheet, asked.name, asked.other, shelf),
+        _ => {
+            if let Some(text) = source_text(sheet, source) {
+                match asked.verb {
+                    Verb::Words => push_words(sheet, &text),
+                    _ => show_run(sheet, asked, &text, shelf),
+                }
+            }
+        }
     }
-    Ok(())
 }
 
 /// What the words of the command line ask to be shown, over the bytes of the source and the files of the shelf. Its problem is `Words`
@@ -80,12 +37,6 @@ pub fn lens_top<R: Source, H: Shelf>(
     shelf: &mut H,
 ) -> Shown {
     let sheet = Sheet::new(alloc);
-    let problem = show_asked(&sheet, words, source, shelf).err();
-    match sheet.done() {
-        Ok(text) => Shown { problem, text },
-        Err(problem) => Shown {
-            problem: Some(problem),
-            text: String::new(alloc),
-        },
-    }
+    show(&sheet, words, source, shelf);
+    sheet.shown()
 }

@@ -23,7 +23,7 @@ pub struct Page {
 impl Page {
     /// Begins the page of a trace with this name. Nothing is known yet.
     pub fn new(sheet: &Sheet, name: &str) -> Page {
-        sheet.add(HEAD);
+        sheet.put_bytes(HEAD);
         sheet.add(name);
         sheet.put(b"\n");
         Page {
@@ -72,6 +72,6 @@ impl Page {
             Stop::Budget { .. } => sheet.put(b"the trace goes on, but the budget is used"),
             _ => sheet.put(b"the trace has no further move"),
         }
-        sheet.add(SCRIPT);
+        sheet.put_bytes(SCRIPT);
     }
 }

@@ -1,7 +1,7 @@
 //! The page but for its data: its style, its body and its script.
 
 /// The page before its data: its style and its body.
-pub const HEAD: &str = "<!DOCTYPE html>
+pub const HEAD: &[u8] = b"<!DOCTYPE html>
 <html lang='en'>
 <head>
 <meta charset='utf-8'>
@@ -91,7 +91,7 @@ canvas { display: block; }
 
 /// The page behind its data: its script. It reads the data, makes the states before each move, the lanes and the bars, draws these, says what a
 /// move does, shows the boxes, and takes keys and buttons.
-pub const SCRIPT: &str = "
+pub const SCRIPT: &[u8] = b"
 </script>
 <script>
 'use strict';

@@ -17,7 +17,12 @@ fn push_job(sheet: &Sheet, seen: &Seen<'_>, lockers: &Lockers, porter: Who) {
     match seen.job {
         Some(job) if job.porter == porter => {
             if !job.is_at_work & (job.at > seen.events) {
-                sheet.fill(b"its job begins after @ moves, or where nobody else can move", job.at, 0, 0);
+                sheet.fill(
+                    b"its job begins after @ moves, or where nobody else can move",
+                    job.at,
+                    0,
+                    0,
+                );
             } else {
                 let registers = words(&Todo::One(job.stage), &[0; 16]);
                 push_blocked(sheet, seen.store, lockers, porter, &registers);
@@ -40,7 +45,12 @@ pub fn push_reason(sheet: &Sheet, seen: &Seen<'_>, lockers: &Lockers, who: Who, 
         _ => {}
     }
     if thread.stops > 0 {
-        return sheet.fill(b"is stopped, and needs @ thread_go", thread.stops as u64, 0, 0);
+        return sheet.fill(
+            b"is stopped, and needs @ thread_go",
+            thread.stops as u64,
+            0,
+            0,
+        );
     }
     if let Some(fault) = &thread.fault {
         let port = fault.port;

@@ -1,0 +1,29 @@
+//! What has come of what was asked for.
+use crate::problem::Problem;
+
+/// The text that was asked for, or why it isn't shown and the line that says so.
+#[derive(Drop)]
+pub struct Shown {
+    /// Why what was asked for isn't shown, where it isn't.
+    pub problem: Option<Problem>,
+    /// What was asked for, or the line.
+    pub text: String,
+}
+
+impl Shown {
+    /// The status with which the process exits: 0 where what was asked for is shown.
+    pub fn status(&self) -> u8 {
+        match self.problem {
+            Some(problem) => problem.status(),
+            None => 0,
+        }
+    }
+
+    /// What is said of a problem.
+    pub fn line(&self) -> &str {
+        match self.problem {
+            Some(Problem::NoMemory) => "no memory",
+            _ => self.text.as_str(),
+        }
+    }
+}
