@@ -10,9 +10,9 @@ fn push_space(sheet: &Sheet, spaces: &[SpaceRec], place: usize, space: &SpaceRec
     let path = path_in(sheet, spaces, space.parent as usize, space.slot);
     let shown = if place == 0 { "/" } else { path.as_str() };
     sheet.put_around(b"space ", shown, b"\n");
-    match &space.holder {
+    match space.holder {
         Link::Null => {}
-        holder => push_pointer(sheet, shown, b" held by ", spaces, holder),
+        ref holder => push_pointer(sheet, shown, b" held by ", spaces, holder),
     }
     for object in space.objects.as_slice() {
         let own = path_in(sheet, spaces, place, object.slot);
