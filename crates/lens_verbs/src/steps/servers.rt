@@ -3,7 +3,7 @@ use fk_model::Who;
 use fk_natives::{Native, Side};
 use fk_responders::{rule_name, words_of};
 use fk_store::Store;
-use lens_text::{Sheet, push_path};
+use lens_text::{Sheet, push_between};
 
 /// What a native server is at: whose turn it is, how many words it was sent, and how many it has still to give.
 #[derive(Clone, Copy)]
@@ -29,8 +29,23 @@ pub fn state_of(native: &Native) -> ServerState {
     }
 }
 
-/// Adds what a native server was told since it was at something else, behind its port, its name and the news of others that begin at this
-/// place: the words that came to it, how many it gave; whose turn it is, where that has changed. A server is told one thing a move.
+/// Adds whose turn it is, where it was another's before.
+fn push_turn(sheet: &Sheet, was: Side, is: Side) {
+    match is {
+        Side::Idle => sheet.put(b" has lost its client"),
+        Side::Client => match was {
+            Side::Idle => sheet.put(b" has a client, at the client's turn"),
+            _ => sheet.put(b" has handed over"),
+        },
+        Side::Own => match was {
+            Side::Idle => sheet.put(b" has a client, at its own turn"),
+            _ => sheet.put(b" has the turn"),
+        },
+    }
+}
+
+/// Adds what a native server was told since it was at something else, where it was told something, behind its port, its name and the news of
+/// others that begin at this place: the words that came to it, how many it gave; whose turn it is, where that has changed.
 pub fn push_news(
     sheet: &Sheet,
     start: usize,
@@ -40,39 +55,34 @@ pub fn push_news(
     was: &ServerState,
 ) {
     let is = state_of(native);
-    let is_same_turn = is.side as u8 == was.side as u8;
-    if is_same_turn & (is.sent == was.sent) & (is.left == was.left) {
-        return;
-    }
-    if sheet.len() > start {
-        sheet.put(b"; ");
-    }
-    push_path(sheet, store, port);
-    sheet.put(b" ");
-    let (name, words) = match native {
-        Native::Console(console) => (console.alias.as_str(), console.words.as_slice()),
-        Native::Server(server) => (rule_name(server.rule), words_of(&server.request)),
-    };
-    sheet.add(name);
-    if is.sent > was.sent {
-        sheet.put(b" words");
-        for word in words.iter().skip(was.sent) {
-            sheet.fill(b" @", *word, 0, 0);
+    let has_words = is.sent > was.sent;
+    let given = was.left.saturating_sub(is.left) as u64;
+    let is_other_turn = is.side as u8 != was.side as u8;
+    if has_words | (given > 0) | is_other_turn {
+        if sheet.len() > start {
+            sheet.put(b"; ");
         }
-    } else if is.left < was.left {
-        sheet.fill(
-            b" gave @ words",
-            was.left.saturating_sub(is.left) as u64,
-            0,
-            0,
-        );
-    }
-    match (was.side, is.side) {
-        (Side::Idle, Side::Client) => sheet.put(b" has a client, at the client's turn"),
-        (Side::Idle, Side::Own) => sheet.put(b" has a client, at its own turn"),
-        (Side::Client, Side::Own) => sheet.put(b" has the turn"),
-        (Side::Own, Side::Client) => sheet.put(b" has handed over"),
-        (Side::Client | Side::Own, Side::Idle) => sheet.put(b" has lost its client"),
-        _ => {}
+        push_between(sheet, store, b"", port, b" ");
+        let words = match native {
+            Native::Console(console) => {
+                sheet.add(console.alias.as_str());
+                console.words.as_slice()
+            }
+            Native::Server(server) => {
+                sheet.add(rule_name(server.rule));
+                words_of(&server.request)
+            }
+        };
+        if has_words {
+            sheet.put(b" words");
+            for word in words.get(was.sent..).unwrap_or(&[]) {
+                sheet.fill(b" @", *word, 0, 0);
+            }
+        } else if given > 0 {
+            sheet.fill(b" gave @ words", given, 0, 0);
+        }
+        if is_other_turn {
+            push_turn(sheet, was.side, is.side);
+        }
     }
 }
