@@ -1,12 +1,12 @@
 //! Why a stage that a thread is free to make isn't ready.
-use crate::why::holds::push_holds;
+use crate::why::holds::{push_hold, push_holds};
 use crate::why::places::push_whereabouts;
 use crate::why::reasons::Lockers;
-use crate::why::talks::{push_client, push_port};
-use crate::why::touched::is_barred;
-use fk_model::{Body, Who};
+use crate::why::talks::push_port;
+use crate::why::touched::touched_by;
+use fk_model::{Body, Peer, Thread, Who};
 use fk_store::Store;
-use lens_text::{Sheet, first_stage, handled, object_named, push_path};
+use lens_text::{Sheet, first_stage, handled, object_named, push_between, push_path};
 
 /// Adds what the stage with this code, of the call that these registers hold, waits for, by what it names.
 fn push_awaited(
@@ -33,10 +33,8 @@ fn push_awaited(
                     ..
                 },
             ) => {
-                sheet.put(b"waits until ");
-                push_path(sheet, store, named);
-                sheet.put(b" is released by ");
-                push_whereabouts(sheet, store, *holder);
+                push_between(sheet, store, b"waits until ", named, b" is released");
+                push_whereabouts(sheet, store, b" by ", *holder);
             }
             _ => {
                 sheet.put(b"waits until a porter releases a space beneath ");
@@ -44,26 +42,27 @@ fn push_awaited(
             }
         },
         21 => {
-            sheet.put(b"waits until the mutex ");
-            push_path(sheet, store, named);
-            sheet.put(b" is unlocked, which ");
+            push_between(sheet, store, b"waits until the mutex ", named, b" is");
             match lockers.get(&named) {
-                Some(locker) => {
-                    push_whereabouts(sheet, store, *locker);
-                    sheet.put(b" locked");
-                }
-                None => sheet.put(b"no move so far locked"),
+                Some(locker) => push_whereabouts(sheet, store, b" unlocked, which ", *locker),
+                None => sheet.put(b" unlocked, which no move so far"),
             }
+            sheet.put(b" locked");
         }
-        25 => {
-            sheet.put(b"sleeps until the condition ");
-            push_path(sheet, store, named);
-            sheet.put(b" is signalled");
-        }
-        32 => {
-            sheet.put(b"waits until its connect to ");
-            push_port(sheet, store, named, b" is accepted");
-        }
+        25 => push_between(
+            sheet,
+            store,
+            b"sleeps until the condition ",
+            named,
+            b" is signalled",
+        ),
+        32 => push_port(
+            sheet,
+            store,
+            b"waits until its connect to ",
+            named,
+            b" is accepted",
+        ),
         48 => {
             sheet.put(b"waits until a client or a fault comes to a port of the set ");
             push_path(sheet, store, named);
@@ -78,21 +77,45 @@ pub fn push_blocked(
     sheet: &Sheet,
     store: &Store,
     lockers: &Lockers,
-    who: Who,
+    who: &Who,
     registers: &[u64; 16],
 ) {
     let code = first_stage(registers[0]);
-    if !is_barred(sheet, store, who, code, registers) {
-        match code {
-            36 | 37 | 38 => push_client(sheet, store, who),
-            50 | 51 | 52 => match store.client_of(who) {
-                Some(client) => {
-                    sheet.put(b"waits for its client ");
-                    push_whereabouts(sheet, store, client);
-                }
+    match touched_by(store, who, code, registers) {
+        Some(object) if store.frozen_for(*who, object) => {
+            push_between(sheet, store, b"would change ", object, b" or lead there");
+            push_hold(sheet, store, b", which the hold of ", object, b" bars");
+        }
+        _ => match code {
+            36 | 37 | 38 => match store.thread(*who) {
+                Some(
+                    Thread {
+                        talk: Some(talk),
+                        ..
+                    },
+                ) => match talk.peer {
+                    Peer::Thread(server) => {
+                        push_whereabouts(sheet, store, b"waits for its server ", server);
+                    }
+                    Peer::Service => {
+                        sheet.put(b"waits for the native server of ");
+                        push_path(sheet, store, talk.port);
+                    }
+                    Peer::Parked => push_port(
+                        sheet,
+                        store,
+                        b"waits until its talk at ",
+                        talk.port,
+                        b" is taken up",
+                    ),
+                },
+                _ => sheet.put(b"has no talk"),
+            },
+            50 | 51 | 52 => match store.client_of(*who) {
+                Some(client) => push_whereabouts(sheet, store, b"waits for its client ", client),
                 None => sheet.put(b"has no client"),
             },
             _ => push_awaited(sheet, store, lockers, who.space, code, registers),
-        }
+        },
     }
 }

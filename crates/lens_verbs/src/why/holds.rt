@@ -2,25 +2,17 @@
 use crate::why::places::push_place;
 use fk_model::{Body, Who};
 use fk_store::Store;
-use lens_text::{Sheet, push_path};
+use lens_text::{Sheet, push_between};
 
-/// Adds the hold of a space behind a piece: its holder, with what that one is at, and the space.
-fn push_holder<const N: usize>(
+/// Adds the hold that decides over an object between two pieces: its holder, with what that one is at, and the space. It is the outermost one
+/// of the object's space, of those above, and of itself.
+pub fn push_hold<const N: usize, const M: usize>(
     sheet: &Sheet,
     store: &Store,
     before: &[u8; N],
-    space: Who,
-    holder: Who,
+    object: Who,
+    behind: &[u8; M],
 ) {
-    sheet.put(before);
-    push_place(sheet, store, holder);
-    sheet.put(b" on ");
-    push_path(sheet, store, space);
-}
-
-/// Adds the hold that decides over an object behind a piece, with what its holder is at: the outermost one of its space, of those above, and
-/// of itself.
-pub fn push_hold<const N: usize>(sheet: &Sheet, store: &Store, before: &[u8; N], object: Who) {
     let mut held = object;
     for _ in 0..u64::MAX {
         match store.home(held.space) {
@@ -29,7 +21,8 @@ pub fn push_hold<const N: usize>(sheet: &Sheet, store: &Store, before: &[u8; N],
         }
     }
     if let Some(holder) = store.decider(held) {
-        push_holder(sheet, store, before, held, holder);
+        push_place(sheet, store, before, holder);
+        push_between(sheet, store, b" on ", held, behind);
     }
 }
 
@@ -48,7 +41,8 @@ pub fn push_holds(sheet: &Sheet, store: &Store) {
             },
         ) = store.at(who)
         {
-            push_holder(sheet, store, b"; there is the hold of ", who, *holder);
+            push_place(sheet, store, b"; there is the hold of ", *holder);
+            push_between(sheet, store, b" on ", who, b"");
         }
         next = store.after(next);
     }

@@ -4,7 +4,7 @@ use crate::why::reasons::{Lockers, push_reason};
 use fk_first::{Ready, Seen, Stop};
 use fk_model::{Mode, Who};
 use fk_store::Store;
-use lens_text::{Sheet, handled, next_in_tree, push_asked, push_at, push_path};
+use lens_text::{Sheet, handled, next_in_tree, push_asked, push_at, push_between};
 use std::alloc::Global;
 use std::collections::BTreeMap;
 
@@ -17,22 +17,19 @@ pub struct Why {
 }
 
 /// Adds the line of a thread that isn't ready; of a porter, where its job is the one whose turn it is.
-fn push_thread(sheet: &Sheet, seen: &Seen<'_>, lockers: &Lockers, who: Who) {
-    let store = seen.store;
-    if let Some(thread) = store.thread(who) {
+fn push_thread(sheet: &Sheet, seen: &Seen<'_>, lockers: &Lockers, who: &Who) {
+    if let Some(thread) = seen.store.thread(*who) {
         match thread.mode {
-            Mode::Native => match seen.job {
-                Some(job) if job.porter == who => {
-                    push_path(sheet, store, who);
-                    sheet.put(b" a porter, ");
+            Mode::Native => match &seen.job {
+                Some(job) if job.porter == *who => {
+                    push_between(sheet, seen.store, b"", *who, b" a porter, ");
                     push_asked(sheet, &job.stage);
                 }
                 _ => return,
             },
             _ => {
-                push_path(sheet, store, who);
-                sheet.put(b" ");
-                push_at(sheet, store, who, thread);
+                push_between(sheet, seen.store, b"", *who, b" ");
+                push_at(sheet, seen.store, *who, thread);
             }
         }
         match thread.mode {
@@ -89,7 +86,7 @@ impl Why {
                 break;
             };
             if !ready.contains_key(&who) {
-                push_thread(sheet, &seen, &self.lockers, who);
+                push_thread(sheet, &seen, &self.lockers, &who);
             }
             next = next_in_tree(seen.store, who);
         }

@@ -3,35 +3,30 @@ use crate::steps::push_act;
 use crate::why::reasons::{Lockers, push_reason};
 use fk_first::{Ready, Seen};
 use fk_model::{Body, Move};
-use lens_text::{Sheet, push_path};
+use lens_text::{Sheet, push_between, push_path};
 
 /// Adds the line that says why a move isn't ready.
 pub fn push_move(sheet: &Sheet, seen: &Seen<'_>, ready: &Ready, lockers: &Lockers, one: &Move) {
-    let (store, who) = (seen.store, one.who);
+    let store = seen.store;
     sheet.fill(b"move @ of ", seen.events, 0, 0);
-    push_path(sheet, store, who);
-    sheet.put(b", ");
+    push_between(sheet, store, b"", one.who, b", ");
     push_act(sheet, seen, one);
     match one.pick {
-        Some(pick) => {
-            sheet.put(b", with the pick ");
-            push_path(sheet, store, pick);
-        }
-        None => sheet.put(b", without a pick"),
+        Some(pick) => push_between(sheet, store, b", with the pick ", pick, b", isn't ready: "),
+        None => sheet.put(b", without a pick, isn't ready: "),
     }
-    sheet.put(b", isn't ready: ");
-    match store.at(who) {
-        Some(Body::Thread(thread)) => match ready.get(&who) {
+    match store.at(one.who) {
+        Some(Body::Thread(thread)) => match ready.get(&one.who) {
             Some(Some(pick)) => {
                 sheet.put(b"it has a ready move, but with the pick ");
                 push_path(sheet, store, *pick);
             }
             Some(None) => sheet.put(b"it has a ready move, but without a pick"),
-            None => push_reason(sheet, seen, lockers, who, thread),
+            None => push_reason(sheet, seen, lockers, &one.who, thread),
         },
-        Some(Body::Port { served: true, .. }) => {
-            sheet.put(b"its native server has no such act now");
-        }
+        Some(Body::Port { served: true, .. }) => sheet.put(
+            b"its native server has no such act now",
+        ),
         Some(_) => sheet.put(b"what stands there makes no moves"),
         None => sheet.put(b"nobody stands there"),
     }

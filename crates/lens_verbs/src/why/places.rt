@@ -2,12 +2,11 @@
 use crate::why::holds::push_hold;
 use fk_model::Who;
 use fk_store::Store;
-use lens_text::{Sheet, push_path, push_thread};
+use lens_text::{Sheet, push_between, push_thread};
 
-/// Adds a thread by its path, and what it is at.
-pub fn push_place(sheet: &Sheet, store: &Store, who: Who) {
-    push_path(sheet, store, who);
-    sheet.put(b" (");
+/// Adds a thread by its path behind a piece, and what it is at.
+pub fn push_place<const N: usize>(sheet: &Sheet, store: &Store, before: &[u8; N], who: Who) {
+    push_between(sheet, store, before, who, b" (");
     match store.thread(who) {
         Some(thread) => push_thread(sheet, store, who, thread),
         None => sheet.put(b"no thread"),
@@ -16,10 +15,9 @@ pub fn push_place(sheet: &Sheet, store: &Store, who: Who) {
 }
 
 /// Adds the same, and the hold that keeps the thread still, if one does.
-pub fn push_whereabouts(sheet: &Sheet, store: &Store, who: Who) {
-    push_place(sheet, store, who);
+pub fn push_whereabouts<const N: usize>(sheet: &Sheet, store: &Store, before: &[u8; N], who: Who) {
+    push_place(sheet, store, before, who);
     if store.is_frozen(who.space) {
-        push_hold(sheet, store, b", kept still by the hold of ", who);
-        sheet.put(b",");
+        push_hold(sheet, store, b", kept still by the hold of ", who, b",");
     }
 }

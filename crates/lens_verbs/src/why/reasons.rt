@@ -12,68 +12,61 @@ use std::collections::BTreeMap;
 /// Who has locked a mutex last, by what the run so far tells.
 pub type Lockers = BTreeMap<Who, Who>;
 
-/// Adds why the job of a porter doesn't go on, where it is its turn.
-fn push_job(sheet: &Sheet, seen: &Seen<'_>, lockers: &Lockers, porter: Who) {
-    match seen.job {
-        Some(job) if job.porter == porter => {
-            if !job.is_at_work & (job.at > seen.events) {
-                sheet.fill(
-                    b"its job begins after @ moves, or where nobody else can move",
-                    job.at,
-                    0,
-                    0,
-                );
-            } else {
-                let registers = words(&Todo::One(job.stage), &[0; 16]);
-                push_blocked(sheet, seen.store, lockers, porter, &registers);
-            }
-        }
-        _ => sheet.put(b"it isn't the turn of a job of it"),
-    }
-}
-
-/// Adds why a thread has no ready move, and who could end that.
-pub fn push_reason(sheet: &Sheet, seen: &Seen<'_>, lockers: &Lockers, who: Who, thread: &Thread) {
+/// Adds why a thread has no ready move, and who could end that; of a porter, why its job doesn't go on, where it is its turn.
+pub fn push_reason(sheet: &Sheet, seen: &Seen<'_>, lockers: &Lockers, who: &Who, thread: &Thread) {
     let store = seen.store;
     match thread.mode {
-        Mode::Native => return push_job(sheet, seen, lockers, who),
+        Mode::Native => match &seen.job {
+            Some(job) if job.porter == *who => {
+                if !job.is_at_work & (job.at > seen.events) {
+                    sheet.fill(
+                        b"its job begins after @ moves, or where nobody else can move",
+                        job.at,
+                        0,
+                        0,
+                    );
+                } else {
+                    let registers = words(&Todo::One(job.stage), &[0; 16]);
+                    push_blocked(sheet, store, lockers, who, &registers);
+                }
+            }
+            _ => sheet.put(b"it isn't the turn of a job of it"),
+        },
         Mode::Halted(code) => {
-            let code = code as u64;
-            sheet.fill(b"has halted @, ", code, 0, 0);
-            return sheet.add(line_at(HALTS, code));
+            sheet.fill(b"has halted @, ", code as u64, 0, 0);
+            sheet.add(line_at(HALTS, code as u64));
         }
-        _ => {}
-    }
-    if thread.stops > 0 {
-        return sheet.fill(
-            b"is stopped, and needs @ thread_go",
-            thread.stops as u64,
-            0,
-            0,
-        );
-    }
-    if let Some(fault) = &thread.fault {
-        let port = fault.port;
-        return match fault.taker {
-            None => {
-                sheet.put(b"waits until its fault at ");
-                push_port(sheet, store, port, b" is taken");
+        _ => {
+            let stops = thread.stops as u64;
+            if stops > 0 {
+                sheet.fill(b"is stopped, and needs @ thread_go", stops, 0, 0);
+            } else if let Some(fault) = &thread.fault {
+                match fault.taker {
+                    None => push_port(
+                        sheet,
+                        store,
+                        b"waits until its fault at ",
+                        fault.port,
+                        b" is taken",
+                    ),
+                    Some(Peer::Thread(taker)) => {
+                        push_whereabouts(sheet, store, b"waits until its fault is done by ", taker);
+                    }
+                    Some(_) => push_port(
+                        sheet,
+                        store,
+                        b"waits until its parked fault at ",
+                        fault.port,
+                        b" is taken up",
+                    ),
+                }
+            } else if store.is_frozen(who.space) {
+                push_hold(sheet, store, b"is kept still by the hold of ", *who, b"");
+            } else if let Mode::Calling = thread.mode {
+                push_blocked(sheet, store, lockers, who, &thread.regs);
+            } else {
+                push_holds(sheet, store);
             }
-            Some(Peer::Thread(taker)) => {
-                sheet.put(b"waits until its fault is done by ");
-                push_whereabouts(sheet, store, taker);
-            }
-            Some(_) => {
-                sheet.put(b"waits until its parked fault at ");
-                push_port(sheet, store, port, b" is taken up");
-            }
-        };
-    }
-    if store.is_frozen(who.space) {
-        return push_hold(sheet, store, b"is kept still by the hold of ", who);
-    }
-    match thread.mode {
-        Mode::Calling => push_blocked(sheet, store, lockers, who, &thread.regs),
-        _ => push_holds(sheet, store),
+        }
     }
 }
