@@ -3,7 +3,7 @@ ghost use Rattle.std.specs.Prelude.{map};
 ghost use Rattle.fk_scenario.specs.Kept.{KeepsScenario, HasRules};
 
 use crate::images::Files;
-use crate::shows::show_of;
+use crate::shows::{Show, show_of};
 use crate::stops::check_stop;
 use fk_causes::Shelf;
 use fk_commands::{ScenarioReader, Status, lend_scenario};
@@ -12,16 +12,17 @@ use fk_responders::Table;
 use fk_scenario::Scenario;
 use lens_text::{Asked, Sheet, Verb, file_of, refused_scenario};
 
-/// What is to be shown of a scenario's run by the trace with these bytes; the text is its own.
+/// The run of a scenario by the trace with these bytes, and who is shown it; the text is the scenario's.
 #[derive(Drop)]
-struct Run<'a, H: Shelf> {
-    asked: Asked<'a>,
+struct Run<'a, 's, H: Shelf> {
+    asked: &'a Asked<'a>,
     text: &'a [u8],
     bytes: &'a [u8],
     files: Files<'a, H>,
+    show: &'a mut Show<'s>,
 }
 
-impl<H: Shelf> ScenarioReader for Run<'_, H> {
+impl<H: Shelf> ScenarioReader for Run<'_, '_, H> {
     fn scenario(&mut self, table: &Table, scenario: &Scenario)
         requires keeps { KeepsScenario scenario.now }
         requires rules { HasRules (map (λ r. r.rule) table.now.list.items) scenario.now }
@@ -32,14 +33,13 @@ impl<H: Shelf> ScenarioReader for Run<'_, H> {
             most: asked.end,
             looks_ahead: matches!(asked.verb, Verb::Why),
         };
-        let mut show = show_of(sheet, asked);
         match watch(
             sheet.alloc,
             table,
             scenario,
             &mut self.files,
             Some(trace),
-            &mut show,
+            self.show,
         ) {
             Ok(stop) => check_stop(sheet, asked, stop),
             Err(problem) => sheet.fails(problem),
@@ -59,17 +59,19 @@ impl<H: Shelf> ScenarioReader for Run<'_, H> {
 }
 
 /// Shows what is asked for of a run of a scenario's text, or says why not.
-pub fn show_run<H: Shelf>(sheet: &Sheet, asked: Asked<'_>, text: &[u8], shelf: &mut H) {
+pub fn show_run<H: Shelf>(sheet: &Sheet, asked: &Asked<'_>, text: &[u8], shelf: &mut H) {
     let bytes = match asked.verb {
         Verb::First => Some(Vec::new(sheet.alloc)),
         _ => file_of(sheet, shelf, asked.name, ".trc"),
     };
     if let Some(bytes) = bytes {
+        let mut show = show_of(sheet, asked);
         let mut run = Run {
             asked,
             text,
             bytes: &bytes,
             files: Files { sheet, shelf },
+            show: &mut show,
         };
         lend_scenario(sheet.alloc, text, &mut run);
     }

@@ -56,7 +56,7 @@ impl Watcher for Show<'_> {
 }
 
 /// What is asked for, of which nothing of the run is shown yet.
-pub fn show_of<'a>(sheet: &'a Sheet, asked: Asked<'_>) -> Show<'a> {
+pub fn show_of<'a>(sheet: &'a Sheet, asked: &Asked<'_>) -> Show<'a> {
     let how = match asked.verb {
         Verb::Steps => How::Steps(Steps::new(sheet, asked.first)),
         Verb::Why => How::Why(Why::new(sheet.alloc)),

@@ -20,7 +20,7 @@ const READY: &str =
     ".trc, line @: expected a move that is ready; lens why with @ says why it isn't";
 
 /// Says what is wrong where a run by a trace stopped before what is asked for. The line of the first move is the second.
-pub fn check_stop(sheet: &Sheet, asked: Asked<'_>, stop: Stop) {
+pub fn check_stop(sheet: &Sheet, asked: &Asked<'_>, stop: Stop) {
     let (form, index) = match (stop, asked.verb) {
         (Stop::Ended, Verb::Tree | Verb::Why) => {
             return given(sheet, asked.name, MORE, asked.end, 0, "");

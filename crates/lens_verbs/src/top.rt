@@ -20,7 +20,7 @@ fn show<R: Source, H: Shelf>(sheet: &Sheet, words: &[String], source: &mut R, sh
             if let Some(text) = source_text(sheet, source) {
                 match asked.verb {
                     Verb::Words => push_words(sheet, &text),
-                    _ => show_run(sheet, asked, &text, shelf),
+                    _ => show_run(sheet, &asked, &text, shelf),
                 }
             }
         }
