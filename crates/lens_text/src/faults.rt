@@ -1,8 +1,8 @@
-//! That something can't be shown, in a line that is all the sheet has then.
+//! What is said where something can't be shown: a line that is all the sheet has then.
 use crate::problem::Problem;
 use crate::sheet::Sheet;
 
-/// That what was given can't be shown: of which file, where in it by a form of two numbers, and what was expected there.
+/// Says that what was given can't be shown: of which file, where in it by a form of two numbers, and what was expected there.
 pub fn given(sheet: &Sheet, file: &str, form: &str, one: u64, two: u64, expected: &str) {
     sheet.clear();
     sheet.add(file);
@@ -11,7 +11,7 @@ pub fn given(sheet: &Sheet, file: &str, form: &str, one: u64, two: u64, expected
     sheet.fails(Problem::Given);
 }
 
-/// That what has this name and this ending can't be read.
+/// Says that what has this name and this ending can't be read.
 pub fn unread(sheet: &Sheet, name: &str, ending: &str) {
     sheet.clear();
     sheet.add(name);

@@ -45,7 +45,7 @@ fn line_of(text: &[u8], heading: &str, index: u32) -> Option<u64> {
     None
 }
 
-/// That a scenario is refused, by a rule at the entry of a section with this index: the line of the entry, where that is found, else its
+/// Says that a scenario is refused, by a rule at the entry of a section with this index: the line of the entry, where that is found, else its
 /// place in its section.
 pub fn refused_scenario(sheet: &Sheet, text: &[u8], rule: u8, section: u8, index: u32) {
     let heading = line_at(HEADINGS, section as u64);

@@ -36,13 +36,13 @@ fn refuse_image(sheet: &Sheet, name: &str, status: &Status) {
 
 /// Writes an image on a sheet; why there is none is said on another.
 #[derive(Drop)]
-struct Shown<'a> {
+struct ImageText<'a> {
     name: &'a str,
     sheet: &'a Sheet,
     faults: &'a Sheet,
 }
 
-impl ImageReader for Shown<'_> {
+impl ImageReader for ImageText<'_> {
     fn image(&mut self, image: &Image) {
         push_image(self.sheet, image.spaces.as_slice());
     }
@@ -59,7 +59,7 @@ pub fn show_image<H: Shelf>(faults: &Sheet, sheet: &Sheet, name: &str, shelf: &m
             sheet.alloc,
             name,
             &bytes,
-            &mut Shown {
+            &mut ImageText {
                 name,
                 sheet,
                 faults,
