@@ -12,26 +12,27 @@ use std::collections::BTreeMap;
 /// Who has locked a mutex last, by what the run so far tells.
 pub type Lockers = BTreeMap<Who, Who>;
 
-/// Adds why a thread has no ready move, and who could end that; of a porter, why its job doesn't go on, where it is its turn.
+/// Adds why the job of a porter doesn't go on, where it is its turn.
+fn push_job(sheet: &Sheet, seen: &Seen<'_>, lockers: &Lockers, porter: &Who) {
+    match &seen.job {
+        Some(job) if job.porter == *porter => {
+            if !job.is_at_work & (job.at > seen.events) {
+                let form = b"its job begins after @ moves, or where nobody else can move";
+                sheet.fill(form, job.at, 0, 0);
+            } else {
+                let registers = words(&Todo::One(job.stage), &[0; 16]);
+                push_blocked(sheet, seen.store, lockers, porter, &registers);
+            }
+        }
+        _ => sheet.put(b"it isn't the turn of a job of it"),
+    }
+}
+
+/// Adds why a thread has no ready move, and who could end that.
 pub fn push_reason(sheet: &Sheet, seen: &Seen<'_>, lockers: &Lockers, who: &Who, thread: &Thread) {
     let store = seen.store;
     match thread.mode {
-        Mode::Native => match &seen.job {
-            Some(job) if job.porter == *who => {
-                if !job.is_at_work & (job.at > seen.events) {
-                    sheet.fill(
-                        b"its job begins after @ moves, or where nobody else can move",
-                        job.at,
-                        0,
-                        0,
-                    );
-                } else {
-                    let registers = words(&Todo::One(job.stage), &[0; 16]);
-                    push_blocked(sheet, store, lockers, who, &registers);
-                }
-            }
-            _ => sheet.put(b"it isn't the turn of a job of it"),
-        },
+        Mode::Native => push_job(sheet, seen, lockers, who),
         Mode::Halted(code) => {
             sheet.fill(b"has halted @, ", code as u64, 0, 0);
             sheet.add(line_at(HALTS, code as u64));
