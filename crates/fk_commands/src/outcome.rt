@@ -18,7 +18,7 @@ pub struct Report {
 #[derive(Drop)]
 pub struct Outcome {
     pub status: Status,
-    /// The run, where one was made: of `run` and `play` with the statuses `Ok`, `JobRefused`, `Budget` and `WriteFault`, and
-    /// with `ShelfFault` where a put failed.
+    /// The run, where one was made: of `run`, `play` and `soak` with the statuses `Ok`, `JobRefused`, `Budget` and `WriteFault`, and
+    /// of `run` with `ShelfFault` where a put failed.
     pub report: Option<Report>,
 }

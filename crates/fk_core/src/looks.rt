@@ -134,7 +134,7 @@ impl<S: Service + Drop, W: Worker + Drop> Core<S, W> {
     /// At an even number of moves the job whose turn it is goes first, where it is due and ready. Else the thread that
     /// moved last goes on where it is ready, or else the server that heard of its move answers, but at one move of 64. Then, and where
     /// neither is ready, the look goes round: in every second round of 64 moves one server is looked at first, each in its turn, and then
-    /// the thread moves that is first of the ready. So nobody who is ready waits for ever behind others.
+    /// the thread moves that is first of the ready. It is meant so that nobody who is ready waits for ever behind others; nothing is proved of that.
     pub fn choose(&mut self) -> Option<Move>
         ensures ready { IfSome result (λ m. (self.old.events < self.old.budget) × IsReadyMove self.old.jobs.jobs (run_core self.old) m) }
         ensures none { IfNone result (IsOver self.old.jobs.jobs self.old.budget (run_core self.old)) }

@@ -89,7 +89,7 @@ impl Rounds {
     }
 
     /// A ready act that comes before the threads: of the server that heard of the last move, but where the look goes round; and in every second round of
-    /// 64 moves of one server, each in its turn. So nobody who is ready waits for ever behind others.
+    /// 64 moves of one server, each in its turn. It is meant so that nobody who is ready waits for ever behind others; nothing is proved of that.
     pub fn choose_act<S: Service + Drop, W: Worker + Drop>(
         &mut self,
         moment: &Moment<'_, S, W>,
