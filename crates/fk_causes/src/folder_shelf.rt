@@ -1,7 +1,8 @@
 //! The files of the current folder as a shelf. This is the trusted edge.
-ghost use Rattle.std.specs.Prelude.{◌≡◌, None, Some, IfOk, OnOk};
+ghost use Rattle.std.specs.Prelude.{◌≡◌, ◌↔◌, ◌<◌, ◌≤◌, IsTrue, None, Some, Err, IfOk, OnOk, IfSome, length, vec_len};
 ghost use Rattle.std.specs.Option.{option_map};
 ghost use Rattle.fk_causes.specs.Shelf.{HasAt, HasShelfCause, CountsFailure};
+ghost use Rattle.fk_causes.specs.declared.shelf.ShelfFail.TheVariants as fails;
 
 use crate::shelf::{Shelf, ShelfFail};
 use std::fs::OpenFile;
@@ -37,7 +38,9 @@ impl<'a, R: Files + AllocGlobal> FolderShelf<'a, R> {
 }
 
 /// The bytes of a file, or none of a file of more than `FILE_LIMIT` bytes.
-fn read_file<R: Files + AllocGlobal>(rt: &R, name: &str) -> io::Result<Option<Vec<u8>>> {
+fn read_file<R: Files + AllocGlobal>(rt: &R, name: &str) -> io::Result<Option<Vec<u8>>>
+    ensures short { IfOk result (λ found. IfSome found (λ bytes. vec_len bytes ≤ FILE_LIMIT)) }
+{
     let file = fs::open(rt, name)?;
     if file.metadata()?.len() > FILE_LIMIT {
         return Ok(None);
@@ -52,7 +55,9 @@ fn read_file<R: Files + AllocGlobal>(rt: &R, name: &str) -> io::Result<Option<Ve
     }
 }
 
-fn is_long(bytes: &[u8]) -> bool {
+fn is_long(bytes: &[u8]) -> bool
+    ensures { IsTrue result ↔ (FILE_LIMIT < length bytes.now) }
+{
     bytes.len() as u64 > FILE_LIMIT
 }
 
@@ -69,6 +74,7 @@ impl<R: Files + AllocGlobal> Shelf for FolderShelf<'_, R> {
         ensures same_puts { self.new.failed_puts ≡ self.old.failed_puts }
 
         ensures gets { CountsFailure self.old.failed_gets self.new.failed_gets result }
+        ensures short { IfOk result (λ found. IfSome found (λ bytes. vec_len bytes ≤ FILE_LIMIT)) }
     {
         match read_file(self.rt, name) {
             Ok(Some(bytes)) => Ok(Some(bytes)),
@@ -87,6 +93,7 @@ impl<R: Files + AllocGlobal> Shelf for FolderShelf<'_, R> {
         ensures same_gets { self.new.failed_gets ≡ self.old.failed_gets }
 
         ensures puts { CountsFailure self.old.failed_puts self.new.failed_puts result }
+        ensures long { FILE_LIMIT < length bytes.now → result ≡ Err fails.Failed }
     {
         if !is_long(bytes) && fs::write(self.rt, name, bytes).is_ok() {
             return Ok(());
