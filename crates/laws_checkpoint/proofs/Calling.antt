@@ -1,5 +1,5 @@
 -- What each call of a checkpoint comes to, when it is ready, and what it leaves.
-use Rattle.std.proofs.Common.{◌≡◌, ℕ, ◌≤◌, false, List, [], ◌∷◌, Option, Some, None, refl, sym, ap, subst, ◌∙◌, ◌⊎◌, inl, inr}
+use Rattle.std.proofs.Common.{◌≡◌, ℕ, ◌≤◌, ◌<◌, false, List, [], ◌∷◌, Option, Some, None, option_map, refl, sym, ap, subst, arith, ◌∙◌, ◌⊎◌, inl, inr}
 use Rattle.fk_model.specs.declared.limits.TheConstants.{OWN_SPACE, LAST_USER_SLOT, LAST_PORTER_SLOT}
 use Rattle.fk_model.specs.declared.names.Kind.TheVariants as kinds
 use Rattle.fk_model.specs.declared.stage.Stage.{Stage}
@@ -7,10 +7,10 @@ use Rattle.fk_model.specs.declared.stage.Stage.TheVariants.{Create, Destroy, Spa
 use Rattle.fk_model.specs.declared.statuses.status.TheConstants.{OK}
 use Rattle.fk_model.specs.Places.{Path, same_path, Ptr}
 use Rattle.fk_model.specs.Places.Ptr.{Null, At}
-use Rattle.fk_model.specs.Objects.{number_of_kind}
-use Rattle.fk_model.specs.Objects.Body.{Reference}
+use Rattle.fk_model.specs.Objects.{Body, number_of_kind}
+use Rattle.fk_model.specs.Objects.Body.{Mutex, Cond, Mapping, Region, Port, Portset, Space, Thread_of, Reference}
 use Rattle.fk_model.specs.Holds.{holder_of}
-use Rattle.fk_model.specs.World.{World, Change, apply, apply_all}
+use Rattle.fk_model.specs.World.{World, Change, edited, apply, apply_all}
 use Rattle.fk_model.specs.World.Change.{Alter, Make, Kill}
 use Rattle.fk_model.specs.World.Edit.{SetHolder}
 use Rattle.fk_model.specs.ObjectRows.{is_scratch}
@@ -18,9 +18,10 @@ use Rattle.fk_model.specs.Outcomes.Outcome.{Goes}
 use Rattle.fk_model.specs.Outcomes.Said.{Answered}
 use Rattle.fk_model.specs.Moves.{call_row}
 use Rattle.fk_model.specs.Searches.{depth}
+use Rattle.fk_model.specs.Cut.{unheld}
 use Rattle.fk_model.specs.Runs.{after}
 use Rattle.fk_model.specs.Valid.{IsValid}
-use Rattle.fk_model.proofs.walks.PlaceLaws.{same_path_ne}
+use Rattle.fk_model.proofs.walks.PlaceLaws.{same_path_refl, same_path_ne}
 use Rattle.laws_frozen.specs.Holding.{IsHolding}
 use Rattle.laws_savable.specs.Savable.{IsSound}
 use Rattle.laws_jobs.specs.Machines.{heard, porter, no_words, call_of, said_of, IsReadyAt}
@@ -56,7 +57,25 @@ use Rattle.laws_checkpoint.proofs.Working.Phase.{AtOver}
 use Rattle.laws_checkpoint.proofs.Ended.{Came, came, call_head, ended_in, holding_in, empty}
 use Rattle.laws_checkpoint.proofs.Ended.Came.{NeverHeld, InPhase}
 
-module _ (nester : Path) (slot : ℕ) where
+higher : (r : ℕ) → IsOwnSlot r → LAST_USER_SLOT < r
+higher _ Places = omega arith
+higher _ Targets = omega arith
+higher _ Steps = omega arith
+
+same_unheld : (holder : Option Ptr) (o : Option Body) → option_map (unheld []) (option_map (edited (SetHolder holder)) o) ≡ option_map (unheld []) o
+unfolding edited
+same_unheld holder None = refl
+same_unheld holder (Some (Space birth old)) = refl
+same_unheld holder (Some (Mutex locked)) = refl
+same_unheld holder (Some Cond) = refl
+same_unheld holder (Some (Mapping m)) = refl
+same_unheld holder (Some (Region r)) = refl
+same_unheld holder (Some (Port set served)) = refl
+same_unheld holder (Some Portset) = refl
+same_unheld holder (Some (Thread_of t)) = refl
+same_unheld holder (Some (Reference to)) = refl
+
+module _ (nester : Path) (slot : ℕ) (low : slot ≤ LAST_USER_SLOT) where
   abbrev root : Path
   root = slot ∷ nester
 
@@ -64,32 +83,52 @@ module _ (nester : Path) (slot : ℕ) where
   Same v u = IsSameBeside nester slot v u
 
   same_itself : (v : World) → Same v v
-  same_itself v = record { bodies = λ y off other. refl; pages = λ y page. refl }
+  same_itself v = record { bodies = λ y off other. refl; root = refl; pages = λ y page. refl; next = refl }
 
   off_scratch : (r : ℕ) (y : Path) → IsOwnSlot r → is_scratch nester y ≡ false → same_path y (r ∷ nester) ≡ false
   off_scratch r y own off =
       same_path_ne y (r ∷ nester) (λ e. let both = sym (own_scratch nester r own) ∙ ap (is_scratch nester) (sym e) ∙ off in cc)
 
+  off_root : (r : ℕ) → IsOwnSlot r → same_path root (r ∷ nester) ≡ false
+  off_root r own = let high = higher r own in same_path_ne root (r ∷ nester) (λ e. let same : slot ≡ r = cc in omega (arith, same, low, high))
+
   same_mild : (v : World) (changes : List Change) → IsMild nester v changes → Same v (apply_all changes v)
   unfolding apply_all apply
   same_mild v _ Changes_nothing = same_itself v
-  same_mild v _ (Leads r old to own there) = record { bodies = λ y off other. rw (off_scratch r y own off) refl; pages = λ y page. refl }
+  same_mild v _ (Leads r old to own there) = record {
+    bodies = λ y off other. rw (off_scratch r y own off) refl;
+    root = rw (off_root r own) refl;
+    pages = λ y page. refl;
+    next = refl;
+  }
 
   same_made : (v : World) (r : ℕ) → IsOwnSlot r → Same v (apply_all (Make (r ∷ nester) (Reference Null) ∷ []) v)
   unfolding apply_all apply
-  same_made v r own = record { bodies = λ y off other. rw (off_scratch r y own off) refl; pages = λ y page. refl }
+  same_made v r own = record {
+    bodies = λ y off other. rw (off_scratch r y own off) refl;
+    root = rw (off_root r own) refl;
+    pages = λ y page. refl;
+    next = refl;
+  }
 
   same_dropped : (v : World) (r : ℕ) (to : Ptr) → IsOwnSlot r → IsValid v → v.body (r ∷ nester) ≡ Some (Reference to)
       → Same v (apply_all (Kill (r ∷ nester) ∷ []) v)
-  unfolding apply_all
+  unfolding apply_all apply
   same_dropped v r to own valid there = record {
     bodies = λ y off other. bodies_stay v valid (r ∷ nester) to there y (off_scratch r y own off);
+    root = ap (option_map (unheld [])) (bodies_stay v valid (r ∷ nester) to there root (off_root r own));
     pages = λ y page. pages_stay v valid (r ∷ nester) to there y page;
+    next = refl;
   }
 
   same_holder : (v : World) (holder : Option Ptr) → Same v (apply (Alter root (SetHolder holder)) v)
   unfolding apply
-  same_holder v holder = record { bodies = λ y off other. rw other refl; pages = λ y page. refl }
+  same_holder v holder = record {
+    bodies = λ y off other. rw other refl;
+    root = rw (same_path_refl root) (same_unheld holder (v.body root));
+    pages = λ y page. refl;
+    next = refl;
+  }
 
   same_released : (v : World) (holder : Option Ptr) → Same v (apply_all (Alter root (SetHolder holder) ∷ []) v)
   unfolding apply_all
@@ -125,7 +164,7 @@ module _ (nester : Path) (slot : ℕ) where
       let two : no_words ≡ words = cc in
       (sym two, subst (Known v) one known)
 
-  module _ (birth : ℕ) (low : slot ≤ LAST_USER_SLOT) (w : World) (may : MayBegin w nester birth) (held : Held nester slot w)
+  module _ (birth : ℕ) (w : World) (may : MayBegin w nester birth) (held : Held nester slot w)
       (sound : IsSound (held_world nester slot w))
       (v : World) (valid : IsValid v) (few : v.next ≤ depth) where
     abbrev start : World
@@ -205,13 +244,13 @@ module _ (nester : Path) (slot : ℕ) where
       (sym call.0) call.1.row) ready in
       subst (Same v) (sym goes.0) call.1.same
 
-  module _ (birth : ℕ) (low : slot ≤ LAST_USER_SLOT) (w : World) (may : MayBegin w nester birth) where
+  module _ (birth : ℕ) (w : World) (may : MayBegin w nester birth) where
     known_at : (v : World) (t : State) (stage : Stage) (words : List ℕ) → IsSound v → Came slot birth w nester low may v t → head slot t ≡ Asks stage words
         → IsHolding nester slot v × KnownWith v stage words
     known_at v t stage words now (NeverHeld none same over) e = let both = sym (ap (head slot) over) ∙ e in cc
     known_at v t stage words now (InPhase held sound phase) e = (
       holding_in slot birth w nester low may held sound v t stage words phase e,
-      known birth low w may held sound v now.whole.valid now.whole.few t stage words phase e,
+      known birth w may held sound v now.whole.valid now.whole.few t stage words phase e,
     )
 
     ready_at : (v : World) (t : State) (stage : Stage) (words : List ℕ) → IsSound v → Came slot birth w nester low may v t → head slot t ≡ Asks stage words
@@ -237,15 +276,15 @@ module _ (nester : Path) (slot : ℕ) where
 
 pub checkpoint_is_ready : CheckpointIsReady
 checkpoint_is_ready slot birth w v nester t stage words low may work e calm =
-    ready_at nester slot birth low w may v t stage words
+    ready_at nester slot low birth w may v t stage words
     (last_sound (checkpoint slot) nester (after w (call_of nester work.stage work.words))
     (heard (checkpoint slot) Holds (said_of w (call_of nester work.stage work.words))) work.events v t work.run)
     (came slot birth w nester low may v t work) e calm
 
 pub checkpoint_leaves_rest : CheckpointLeavesRest
 checkpoint_leaves_rest slot birth w nester low may sound = record {
-  first = λ ready. first_leaves nester slot birth low w may sound ready;
+  first = λ ready. first_leaves nester slot low birth w may sound ready;
   later = λ v t stage words work e now ready.
-      known_leaves nester slot v stage words (known_at nester slot birth low w may v t stage words now (came slot birth w nester low may v t work) e).1 ready;
-  ends = λ v t end work stops space. unheld_at_end nester slot birth low w may v t end (came slot birth w nester low may v t work) stops space;
+      known_leaves nester slot low v stage words (known_at nester slot low birth w may v t stage words now (came slot birth w nester low may v t work) e).1 ready;
+  ends = λ v t end work stops space. unheld_at_end nester slot low birth w may v t end (came slot birth w nester low may v t work) stops space;
 }

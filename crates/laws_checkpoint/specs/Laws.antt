@@ -1,5 +1,5 @@
 -- What a checkpoint is for the run in which it works, and what it ends with.
-use Rattle.std.specs.Prelude.{◌≡◌, ℕ, ◌≤◌, true, false, List, Option, Some, None, ◌∷◌}
+use Rattle.std.specs.Prelude.{◌≡◌, ℕ, ◌≤◌, true, false, List, Option, Some, None, option_map, [], ◌∷◌}
 use Rattle.fk_model.specs.declared.limits.TheConstants.{LAST_USER_SLOT}
 use Rattle.fk_model.specs.declared.stage.Stage.{Stage}
 use Rattle.fk_model.specs.Places.{Path, same_path}
@@ -8,7 +8,7 @@ use Rattle.fk_model.specs.ObjectRows.{is_scratch}
 use Rattle.fk_model.specs.Runs.{after}
 use Rattle.fk_model.specs.World.{World}
 use Rattle.fk_model.specs.Closed.{IsClosed, open_place}
-use Rattle.fk_model.specs.Cut.{cut}
+use Rattle.fk_model.specs.Cut.{cut, unheld}
 use Rattle.fk_image.specs.declared.image.Image.{Image}
 use Rattle.fk_image.specs.Picture.{picture}
 use Rattle.fk_image.specs.Valid.{is_valid}
@@ -75,7 +75,11 @@ CheckpointIsReady = (slot birth : ℕ) (w v : World) (nester : Path) (t : State)
 -- all but the porter's scratch and who holds the root
 pub record IsSameBeside (nester : Path) (slot : ℕ) (v u : World) : Type 0 where
   pub bodies : (y : Path) → is_scratch nester y ≡ false → same_path y (slot ∷ nester) ≡ false → u.body y ≡ v.body y
+  -- the root is the same but for its holder
+  pub root : option_map (unheld []) (u.body (slot ∷ nester)) ≡ option_map (unheld []) (v.body (slot ∷ nester))
   pub pages : (y : Path) (page : ℕ) → u.page y page ≡ v.page y page
+  -- and no birth number is taken
+  pub next : u.next ≡ v.next
 
 -- each of its calls leaves the rest, the first one and each later one
 pub record LeavesRest (slot birth : ℕ) (w : World) (nester : Path) : Type 0 where
