@@ -1,6 +1,7 @@
 -- A job's moves in a run, one by one.
 use Rattle.std.proofs.Common.{◌≡◌, ℕ, ◌+◌, ◌<◌, ◌≤◌, Bool, true, false, cond, ◌==◌, List, [], ◌∷◌, length, take, Option, Some, None, option_map, refl, sym, ap}
-use Rattle.std.proofs.Common.{subst, arith, ◌∙◌, ◌⊎◌, inl, inr}
+use Rattle.std.proofs.Common.{◌++◌, nat_le, length-append, subst, arith, ◌∙◌, ◌⊎◌, inl, inr}
+use Rattle.std.proofs.lemmas.Bool.{leb-true}
 use Rattle.std.specs.List.{slice_get}
 use Rattle.fk_model.specs.declared.limits.TheConstants.{OWN_SPACE, LAST_USER_SLOT}
 use Rattle.fk_model.specs.declared.moves.Move.{Move}
@@ -8,6 +9,7 @@ use Rattle.fk_model.specs.declared.stage.Stage.{Stage}
 use Rattle.fk_model.specs.declared.stage.Stage.TheVariants.{SpaceMakeHeld, SpaceRelease}
 use Rattle.fk_model.specs.declared.statuses.status.TheConstants.{OK}
 use Rattle.fk_model.specs.Places.{Ptr}
+use Rattle.fk_model.specs.World.{World}
 use Rattle.fk_model.specs.Valid.{birth_at}
 use Rattle.fk_model.specs.Closed.{Place}
 use Rattle.fk_model.specs.Runs.{after}
@@ -43,7 +45,9 @@ use Rattle.laws_rooms.proofs.Roomed.{valid_is_roomed}
 use Rattle.laws_rooms.proofs.Restored.{pairs_bind, image_restore_ends_so}
 use Rattle.laws_runs.specs.Cores.{JobEnd, Servers, Work, Core, IsRun, world_at}
 use Rattle.laws_runs.specs.Cores.JobEnd.{Worked}
+use Rattle.laws_runs.specs.Cores.IsRun.{Begins, Goes}
 use Rattle.laws_runs.specs.Cores.Asker.{Job as Asked_by_job}
+use Rattle.laws_runs.specs.Events.{core_at}
 use Rattle.laws_runs.specs.Placed.{EndedThere}
 use Rattle.laws_runs.specs.Turning.{asker_at, MovesAt}
 use Rattle.laws_runs.proofs.Composing.{Working, stands}
@@ -284,8 +288,32 @@ pub restores_leave_the_rest : {V : Type 0} → RestoresLeaveTheRest V
 restores_leave_the_rest jobs servers first c past run grounded k begun slot pairs image s stage words low e =
     leaves_the_rest jobs servers first c past run grounded k begun slot pairs image s stage words low e
 
+-- with some work and ends in a world
+abbrev NextIsReadyBy : List Job → Option (Work State) → List (JobEnd End) → World → Type 0
+NextIsReadyBy jobs work ends w =
+    (k : Work State) → work ≡ Some k → (j : Job) × (slice_get jobs (length ends) ≡ Some j) × NextIsReady j.nester k.state w
+
 pub jobs_are_ready : {V : Type 0} → JobsAreReady V
-jobs_are_ready jobs servers first c past run grounded k working = next_ready jobs servers first c past run grounded k working
+jobs_are_ready jobs servers first _ _ Begins grounded n low = next_ready jobs servers first first [] Begins grounded
+jobs_are_ready jobs servers first _ _ (Goes past c m d run ready settles) grounded n low =
+    by (nat_le n (length past)) refl (λ early. jobs_are_ready jobs servers first c past run before n early)
+    (next_ready jobs servers first d (past ++ m ∷ []) (Goes past c m d run ready settles) grounded)
+  where
+    before : IsGrounded jobs servers first past
+    before = record {
+      users = grounded.users;
+      slots = grounded.slots;
+      start = grounded.start;
+      few = let few = grounded.few in let longer = length-append past (m ∷ []) in omega (arith, few, longer);
+      uncut = grounded.uncut;
+      alone = grounded.alone;
+    }
+
+    by : (t : Bool) → nat_le n (length past) ≡ t →
+        (n ≤ length past → NextIsReadyBy jobs (core_at run n).work (core_at run n).ends (world_at run n)) → NextIsReadyBy jobs d.work d.ends d.world →
+        NextIsReadyBy jobs (cond t (core_at run n) d).work (cond t (core_at run n) d).ends (cond t (world_at run n) d.world)
+    by true is earlier now = earlier (leb-true n (length past) is)
+    by false is earlier now = now
 
 pub restores_end_so : {V : Type 0} → RestoresEndSo V
 restores_end_so jobs servers first c past run grounded index j slot begun last pairs source image end its is from ended =

@@ -29,7 +29,7 @@ use Rattle.laws_runs.specs.Composed.{job_moves, HasWorked, IsComposed}
 use Rattle.laws_runs.specs.Ended.{EndIs}
 use Rattle.laws_runs.specs.Turning.{asker_at}
 use Rattle.laws_runs.specs.Onwards.{between}
-use Rattle.laws_runs.specs.Events.{IsItsEvents}
+use Rattle.laws_runs.specs.Events.{core_at, IsItsEvents}
 use Rattle.laws_runs.specs.Headline.{Checkpointed, Restored as Restored_there}
 use Rattle.laws_house.specs.Houses.{Job, Source, State, End, valid_one, sourced, house, jobs_of}
 use Rattle.laws_house.specs.Houses.Source.{MadeBy}
@@ -127,9 +127,11 @@ pub record HasHeadline {V : Type 0} {jobs : List Job} {servers : Servers V} {fir
       (job : Job) × (slice_get jobs index ≡ Some job) × EndIs run (take index c.ends) job end
   pub checkpointed : HasCheckpoints run
   pub restored : HasRestores run
-  -- no scratch is left behind a job's last move, and while it works its next one is ready wherever nothing outside is held
+  -- no scratch is left behind a job's last move
   pub clean : (index begun last : ℕ) (end : End) → slice_get c.ends index ≡ Some (Worked end begun last) → IsClean (world_at run (last + 1))
-  pub ready : (k : Work State) → c.work ≡ Some k → (j : Job) × (slice_get jobs (length c.ends) ≡ Some j) × NextIsReady j.nester k.state c.world
+  -- and at each moment while it works its next one is ready wherever nothing outside is held
+  pub ready : (n : ℕ) → n ≤ length past → (k : Work State) → (core_at run n).work ≡ Some k →
+      (j : Job) × (slice_get jobs (length (core_at run n).ends) ≡ Some j) × NextIsReady j.nester k.state (world_at run n)
   -- from any place on a plain subtree does what it does in the history
   pub goes_on : (k n : ℕ) → k + n ≤ length past → (nester : Path) (slot : ℕ) (ms : List Onward) → IsPlain (world_at run k) nester slot →
       IsSeenRun nester slot (world_at run k) (between run k n) ms →

@@ -33,6 +33,7 @@ use Rattle.laws_runs.specs.Cores.{Servers, Work, Core, asker, IsRun, world_at}
 use Rattle.laws_runs.specs.Cores.JobEnd.{Worked}
 use Rattle.laws_runs.specs.Cores.Asker.{Job as Asked_by_job}
 use Rattle.laws_runs.specs.Composed.{AskAsUsers, IsStart}
+use Rattle.laws_runs.specs.Events.{core_at}
 use Rattle.laws_runs.specs.Turning.{asker_at}
 use Rattle.laws_runs.specs.Placed.{WorksThere}
 use Rattle.laws_house.specs.Houses.{Job, Source, State, End, machine, valid_one, sourced, house}
@@ -72,10 +73,11 @@ pub record NextIsReady (birth : ℕ) (state : State) (v : World) : Type 0 where
   pub ready : (stage : Stage) (words : List ℕ) → machine.head state ≡ Asks stage words → IsCalm (slot_of_state state ∷ nester) v
       → IsReadyAt v (call_of nester stage words)
 
+-- at each place of a run, of the job that is at work there
 abbrev pub JobsAreReady : Type 0 → Type 0
 JobsAreReady V = (jobs : List Job) (servers : Servers V) (first c : Core State End V) (past : List Move) (run : IsRun (house jobs servers) first past c) →
-    IsGrounded jobs servers first past → (k : Work State) → c.work ≡ Some k →
-    (j : Job) × (slice_get jobs (length c.ends) ≡ Some j) × NextIsReady j.nester k.state c.world
+    IsGrounded jobs servers first past → (n : ℕ) → n ≤ length past → (k : Work State) → (core_at run n).work ≡ Some k →
+    (j : Job) × (slice_get jobs (length (core_at run n).ends) ≡ Some j) × NextIsReady j.nester k.state (world_at run n)
 
 -- ---- what a job asks for
 

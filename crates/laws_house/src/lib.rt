@@ -76,7 +76,7 @@ pub fn restores_leave_the_rest<V>()
     ensures { RestoresLeaveTheRest V }
 {}
 
-/// The next move of a job that is at work is ready wherever nothing outside its subtree is held.
+/// At each moment of a run the next move of the job that is at work is ready wherever nothing outside its subtree is held.
 pub fn jobs_are_ready<V>()
     ensures { JobsAreReady V }
 {}
