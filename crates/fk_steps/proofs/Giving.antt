@@ -35,7 +35,7 @@ lacks (Err e) X Y f h = f h
 
 -- ---- stages
 
-stage_lacks : (porter : Bool) (stage : Stage) → makes_object porter stage ≡ true → takes_memory porter stage ≡ true
+pub stage_lacks : (porter : Bool) (stage : Stage) → makes_object porter stage ≡ true → takes_memory porter stage ≡ true
 stage_lacks porter (Create s x kind) is = refl
 stage_lacks porter (SpaceMakeHeld x) is = is
 stage_lacks porter other is = absurd (cc)

@@ -11,6 +11,7 @@ ghost use Rattle.fk_store.specs.Threads.{todo_at};
 ghost use Rattle.fk_store.specs.World.{world};
 ghost use Rattle.fk_turns_next.specs.Doings.{first_of};
 ghost use Rattle.fk_turns_next.specs.Judgements.{may_lack};
+ghost use Rattle.fk_turns_next.specs.Rows.{takes_memory};
 ghost use Rattle.fk_turns.specs.Turns.{IsSound};
 ghost use Rattle.fk_steps.specs.Steps as steps_of;
 ghost use Rattle.fk_steps.specs.Steps.{first_makes, may_make, HasSeat, IsWider};
@@ -35,7 +36,7 @@ pub fn reserve_for_stage(turns: &mut Turns, stage: &Stage) -> Result<(), NoMemor
     requires sound { IsSound turns.old.waits turns.old.marks }
     ensures wider { IsWider turns.old.waits turns.old.marks turns.new.waits turns.new.marks }
     ensures room { OnOk result (steps_of.makes_object true stage.now ≡ true → HasSeat turns.new.waits turns.new.marks) }
-    ensures lacking { OnErr result (steps_of.makes_object true stage.now ≡ true) }
+    ensures lacking { OnErr result (takes_memory true stage.now ≡ true) }
 {
     reserve_where(turns, makes_object(true, stage))
 }

@@ -157,6 +157,7 @@ pub fn call(
     ensures padded { IfOk (tried_of result told.new) IsToldPadded }
     ensures unready { IfOk (tried_of result told.new) (IsUnready store.old m.now (asks.Call stage.now words.now) store.new) }
     ensures lacking { OnErr (tried_of result told.new) (store.new ≡ store.old) }
+    ensures sure { may_lack store.old m.now (asks.Call stage.now words.now) ≡ false → IsOk (tried_of result told.new) }
     ensures valid { IsValid (world store.new) }
     ensures kept { AreKept store.new turns.new.waits turns.new.marks }
     ensures placed { OnTrue (was_made (tried_of result told.new)) (IsPut store.old m.now (asks.Call stage.now words.now) store.new (standing turns.new.waits)) }
