@@ -18,7 +18,7 @@ ghost use Rattle.fk_steps.specs.Tried.{tried_of};
 ghost use Rattle.laws_prompt.specs.Events.{IsPrompt, IsCorrect};
 ghost use Rattle.laws_whole.specs.Runnable.{IsRunnable};
 ghost use Rattle.fk_model.specs.Endings.{has_ended};
-ghost use Rattle.fk_steps.specs.Steps.{IsPut};
+ghost use Rattle.fk_steps.specs.Steps.{was_made, IsPut};
 ghost use Rattle.fk_steps.specs.Waiting.{standing, ArePassed, AreWaiting};
 ghost use Rattle.fk_waits.specs.Lists.{first_ready};
 ghost use Rattle.fk_kernel.specs.Kernels.{path_of, standing_of, store_of, world_of, HasShapes};
@@ -162,6 +162,7 @@ impl Kernel {
             IsCorrect (world_of self.old) (event_of (world_of self.old) ask.now m.now)
             (world_of self.new) (said_by (path_of self.new) told.said))) }
         ensures padded { IfOk result (λ tried. IfSome tried (λ told. IsPadded told.said)) }
+        ensures placed { OnTrue (was_made result) (IsPut (store_of self.old) m.now ask.now (store_of self.new) (standing_of self.new)) }
         ensures lacking { OnErr result (self.new ≡ self.old) }
         ensures done { may_lack (world_of self.old) (event_of (world_of self.old) ask.now m.now) ≡ false → IsOk result }
     {
@@ -196,7 +197,11 @@ impl Kernel {
             (IsReadyEvent (world_of self.old) (event_of (world_of self.old) (asks.Call stage.now words.now) m.now) → ⊥)
             × (self.new ≡ self.old))) }
         ensures padded { IfOk (tried_of result told.new) (λ tried. IfSome tried (λ told. IsPadded told.said)) }
+        ensures placed { OnTrue (was_made (tried_of result told.new))
+            (IsPut (store_of self.old) m.now (asks.Call stage.now words.now) (store_of self.new) (standing_of self.new)) }
         ensures lacking { OnErr (tried_of result told.new) (self.new ≡ self.old) }
+        ensures done { may_lack (world_of self.old) (event_of (world_of self.old) (asks.Call stage.now words.now) m.now) ≡ false
+            → IsOk (tried_of result told.new) }
     {
         self.store.names();
         let made = fk_steps::call(&mut self.store, &mut self.turns, m, stage, words, told);
@@ -213,6 +218,7 @@ impl Kernel {
             × (step_of (world_of self.old) (event_of (world_of self.old) Ask.Run (record { who = who; pick = None }))
             ≡ record { world = world_of self.new; said = Nothing })) }
         ensures ended { OnTrue result ((port : Who) → has_ended (world_of self.old) (world_of self.new) (named (world_of self.old) port) ≡ false) }
+        ensures placed { OnTrue result (IsPut (store_of self.old) (record { who = who; pick = None }) Ask.Run (store_of self.new) (standing_of self.new)) }
         ensures same { OnFalse result (self.new ≡ self.old) }
     {
         self.store.names();
@@ -249,6 +255,7 @@ impl Kernel {
             says_to (step_of (world_of self.old) (event_of (world_of self.old) Ask.Run (record { who = who; pick = None }))).said
             (named (world_of self.old) port) ≡ says_to_who (told_by sent room.new) port) }
         ensures padded { IfSome result (λ sent. IsPadded (told_by sent room.new)) }
+        ensures placed { IsSome result → IsPut (store_of self.old) (record { who = who; pick = None }) Ask.Run (store_of self.new) (standing_of self.new) }
         ensures same { IfNone result (self.new ≡ self.old) }
     {
         self.store.names();
