@@ -3,12 +3,14 @@
 //! A `Source` and a `Sink` count their faults, and a call of theirs fails only where the count rose.
 //! So whoever hands one in can tell a fault of the outside from a call that gives up. Where they
 //! tell their bytes, contracts say which bytes were read and written. `read_all` and `write_all`
-//! are the loops over them.
+//! are the loops over them. A `Shelf` has named files, and counts failed gets and failed puts apart.
 //!
-//! `MemSource` and `MemSink` lie in memory, tell everything, and fail at the calls that they are
-//! told. `StdSource` and `StdSink` stand over a reader and a writer of std, and tell what those do.
+//! `MemSource`, `MemSink` and `MemShelf` lie in memory, tell everything, and fail at the calls that they
+//! are told. `StdSource` and `StdSink` stand over a reader and a writer of std, and tell what those do;
+//! `FolderShelf` is the current folder, and tells nothing of it.
 //!
-//! A `Gate` is called before each turn of those that share a run; nothing is said of it.
+//! A `Gate` is called before each turn of those that share a run; nothing is said of it. `Open` is the one
+//! that does nothing.
 //!
 //! It stands on `fk_model` for want of memory alone.
 #![tactic(auto)]
