@@ -9,7 +9,7 @@ use thiserror::Error;
 
 /// The first refusal of a document: the rule that is broken, the section that breaks it, and the index of
 /// the entry in its section, from 0 on.
-/// Of bytes that are no document section and index are 0.
+/// Of bytes that are no document, both section and index are 0.
 #[derive(Clone, Copy, Debug, Error)]
 #[error("rule {rule} section {section} index {index}")]
 pub struct ScenarioError {
