@@ -1,5 +1,5 @@
 //! The restore, phase by phase.
-ghost use Rattle.std.specs.Prelude.{◌≡◌, true, ℕ, List, IfSome, IfNone, OnOk};
+ghost use Rattle.std.specs.Prelude.{◌≡◌, true, ℕ, List, IfSome, IfNone, IsOk};
 ghost use Rattle.laws_jobs.specs.Machines.{no_words, IsAtCall};
 ghost use Rattle.laws_jobs.specs.Machines.Head.{Asks, Stops};
 ghost use Rattle.laws_restore.specs.Restore.State.{Makes};
@@ -13,7 +13,7 @@ ghost use Rattle.fk_model.specs.declared.stage.Stage.TheVariants as stages;
 ghost use Rattle.fk_orders.specs.Left.{image_of};
 ghost use Rattle.fk_positions.specs.Positions.{rest, IsPosition};
 ghost use Rattle.fk_restore.specs.declared.restore.Phase.TheVariants as phases;
-ghost use Rattle.fk_restore.specs.Restores.{answered, clears, missing, goes_on, end_of, phase_of, state_of, IsOver, IsSoundPhase, IsSound};
+ghost use Rattle.fk_restore.specs.Restores.{answered, clears, missing, goes_on, end_of, phase_of, state_of, IsEnd, IsOver, IsSoundPhase, IsSound};
 
 use crate::counting::{count_objects, lowest_bound};
 use fk_finish::{Finish, ValidImage};
@@ -330,7 +330,8 @@ impl Restore {
 
     /// Makes room for one answer, which takes none.
     pub fn reserve(&mut self) -> Result<(), NoMemory>
-        ensures { self.new ≡ self.old }
+        ensures same { self.new ≡ self.old }
+        ensures done { IsOk result }
     {
         Ok(())
     }
@@ -349,10 +350,11 @@ impl Restore {
         self.phase = answered_in(self.image.get(), self.slot, &self.pairs, phase, answer);
     }
 
-    /// How it has ended; nothing while it has a call to make.
+    /// How it has ended, as a restore does: done, in a slot that is taken, or without a port. Nothing while it has a call to make.
     pub fn end(&self) -> Option<&Finish>
         requires { IsSound self.now }
         ensures some { IfSome result (λ finish. machine.head self.now.slot (state_of self.now) ≡ Stops (end_of finish.now)) }
+        ensures way { IfSome result (λ finish. IsEnd finish.now) }
         ensures none { IfNone result (IsAtCall (restore_of self.now.slot self.now.image self.now.pairs) (state_of self.now)) }
     {
         match &self.phase {
@@ -361,10 +363,11 @@ impl Restore {
         }
     }
 
-    /// Hands out how it has ended.
+    /// The same, handed out.
     pub fn finish(self) -> Option<Finish>
         requires { IsSound self }
         ensures some { IfSome result (λ finish. machine.head self.slot (state_of self) ≡ Stops (end_of finish)) }
+        ensures way { IfSome result IsEnd }
         ensures none { IfNone result (IsAtCall (restore_of self.slot self.image self.pairs) (state_of self)) }
     {
         let Restore {
