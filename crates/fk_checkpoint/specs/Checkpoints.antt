@@ -17,7 +17,7 @@ use Rattle.fk_checkpoint.specs.declared.ending.Ending.TheVariants as endings
 abbrev pub shown_place : CodePlace → Place
 shown_place p = record { path = p.path; field = p.field }
 
--- a checkpoint ends in these three ways alone
+-- how it has ended, as the machine says it; a checkpoint ends in the first three ways alone
 abbrev pub end_of : Finish → End
 end_of (finishes.Image image) = Done image
 end_of (finishes.Foreign place) = Foreign (shown_place place)

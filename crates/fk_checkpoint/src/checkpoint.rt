@@ -10,11 +10,13 @@ ghost use Rattle.laws_checkpoint.specs.Checkpoint.{checkpoint};
 ghost use Rattle.fk_seeking.specs.Seeking.{answered};
 ghost use Rattle.fk_gathering.specs.Gathering as gathering;
 ghost use Rattle.fk_checkpoint.specs.Checkpoints.{end_of, ending_of, IsReady};
+ghost use Rattle.fk_checkpoint.specs.Ends.{IsEnd};
 ghost use Rattle.fk_checkpoint.specs.Phases.{slot_of, made_after, dropped_after, phase_of, over_of, state_of, heard_by};
 ghost use Rattle.fk_checkpoint.specs.Phases.{IsBrief, IsOpened, IsOver, HasHeard, HasRoomIn, HasRoom};
 
 use crate::ending::{Ending, make};
 use crate::left::spaces_left;
+use crate::way::Way;
 use fk_finish::Finish;
 use fk_gathering::{Content, Gather, Read};
 use fk_model::limits::{FIRST_SCRATCH_SLOT, OWN_SPACE};
@@ -66,7 +68,7 @@ pub enum Phase {
     /// It releases the subtree.
     Releases(Ending),
     /// It has ended.
-    Over(Finish),
+    Over(Way),
 }
 
 /// A checkpoint of the subtree in a slot of its nester.
@@ -234,7 +236,7 @@ fn released(ending: Ending) -> Phase
     ensures { (slot : _) → phase_of slot result ≡ Over (ending_of slot ending) }
 {
     match ending {
-        Ending::Made(finish) => Phase::Over(finish),
+        Ending::Made(way) => Phase::Over(way),
         _ => unreachable!(),
     }
 }
@@ -247,14 +249,14 @@ fn after(alloc: Global, slot: u8, phase: Phase, answer: &Answer) -> Phase
 {
     match phase {
         Phase::Holds if answer.status == OK => Phase::Readies(Scratch::Places),
-        Phase::Holds => Phase::Over(Finish::Dead),
+        Phase::Holds => Phase::Over(Way::new(Finish::Dead)),
         Phase::Readies(scratch) => readied(alloc, scratch),
         Phase::Seeks { walk, seek } => sought(slot, walk, seek, answer),
         Phase::Walks(_) | Phase::Closed(_) | Phase::Reads(_) | Phase::Gathers { .. } =>
             unreachable!(),
         Phase::Drops { scratch, ending } => dropped(scratch, ending),
         Phase::Releases(ending) => released(ending),
-        Phase::Over(finish) => Phase::Over(finish),
+        Phase::Over(way) => Phase::Over(way),
     }
 }
 
@@ -390,24 +392,27 @@ impl Checkpoint {
         }
     }
 
-    /// How it has ended; nothing while it has a call to make.
+    /// How it has ended, as a checkpoint does: with an image, where the subtree isn't closed, or without a space in its slot. Nothing while it has a
+    /// call to make.
     pub fn end(&self) -> Option<&Finish>
         ensures some { IfSome result (λ finish. machine.head self.now.slot (state_of self.now) ≡ Stops (end_of finish.now)) }
+        ensures way { IfSome result (λ finish. IsEnd finish.now) }
         ensures none { IfNone result (IsAtCall (checkpoint self.now.slot) (state_of self.now)) }
     {
         match &self.phase {
-            Phase::Over(finish) => Some(finish),
+            Phase::Over(way) => Some(way.get()),
             _ => None,
         }
     }
 
-    /// Hands out how it has ended.
+    /// The same, handed out.
     pub fn finish(self) -> Option<Finish>
         ensures some { IfSome result (λ finish. machine.head self.slot (state_of self) ≡ Stops (end_of finish)) }
+        ensures way { IfSome result IsEnd }
         ensures none { IfNone result (IsAtCall (checkpoint self.slot) (state_of self)) }
     {
         match self.phase {
-            Phase::Over(finish) => Some(finish),
+            Phase::Over(way) => Some(way.into_finish()),
             _ => None,
         }
     }

@@ -3,6 +3,7 @@ ghost use Rattle.std.specs.Prelude.{◌≡◌, IfOk, IfSome, IfNone, OnOk};
 ghost use Rattle.fk_checkpoint.specs.Checkpoints.{end_of, ending_of, IsReady};
 
 use crate::left::outwards;
+use crate::way::Way;
 use fk_assembly::assembled;
 use fk_finish::{Finish, Place, ValidImage};
 use fk_gathering::{Content, Lead};
@@ -27,7 +28,7 @@ pub enum Ending {
         leads: Vec<Lead>,
     },
     /// What it ends with is made.
-    Made(Finish),
+    Made(Way),
 }
 
 /// An image that was made, seen to be valid. Each that is made of a world is so; none other is handed out.
@@ -42,21 +43,21 @@ fn valid(alloc: Global, image: Image) -> Result<ValidImage, NoMemory>
 }
 
 /// What it ends with; nothing where that is made.
-fn made(alloc: Global, slot: u8, ending: &Ending) -> Result<Option<Finish>, NoMemory>
-    ensures made { IfOk result (λ finish. IfSome finish (λ f. ending_of slot ending.now ≡ end_of f)) }
-    ensures ready { IfOk result (λ finish. IfNone finish (IsReady ending.now)) }
+fn made(alloc: Global, slot: u8, ending: &Ending) -> Result<Option<Way>, NoMemory>
+    ensures made { IfOk result (λ made. IfSome made (λ way. ending_of slot ending.now ≡ end_of way)) }
+    ensures ready { IfOk result (λ made. IfNone made (IsReady ending.now)) }
 {
     match ending {
         Ending::Foreign { walk, at, field } => {
             let path = outwards(alloc, slot, met_at(walk.mets(), *at))?;
-            Ok(Some(Finish::Foreign(Place {
+            Ok(Some(Way::new(Finish::Foreign(Place {
                 path,
                 field: *field,
-            })))
+            }))))
         }
         Ending::Done { contents, leads } => {
             let image = assembled(alloc, contents.as_slice(), leads.as_slice())?;
-            Ok(Some(Finish::Image(valid(alloc, image)?)))
+            Ok(Some(Way::new(Finish::Image(valid(alloc, image)?))))
         }
         Ending::Made(_) => Ok(None),
     }
@@ -68,8 +69,8 @@ pub fn make(alloc: Global, slot: u8, ending: &mut Ending) -> Result<(), NoMemory
     ensures same { ending_of slot ending.new ≡ ending_of slot ending.old }
     ensures ready { OnOk result (IsReady ending.new) }
 {
-    if let Some(finish) = made(alloc, slot, ending)? {
-        *ending = Ending::Made(finish);
+    if let Some(way) = made(alloc, slot, ending)? {
+        *ending = Ending::Made(way);
     }
     Ok(())
 }

@@ -9,5 +9,6 @@
 mod checkpoint;
 mod ending;
 mod left;
+mod way;
 
 pub use checkpoint::Checkpoint;
