@@ -1,6 +1,7 @@
 //! How the jobs of a run have ended.
 ghost use Rattle.std.specs.Prelude.{◌≡◌, ◌++◌, ◌-◌, Some, None, IfOk, OnOk, map, length, replicate};
 ghost use Rattle.fk_checkpoint.specs.Checkpoints as checkpoints;
+ghost use Rattle.fk_checkpoint.specs.Ends as checkpoint_ends;
 ghost use Rattle.fk_jobs.specs.Jobs.{end_at, shown_end, shown_ends};
 ghost use Rattle.fk_porters.specs.Porters.{state_of};
 ghost use Rattle.fk_porters.specs.declared.porter.Porter.TheVariants as porters;
@@ -18,6 +19,7 @@ use std::alloc::Global;
 
 /// How a checkpoint has ended by its own moves, of which these are the first and the last.
 fn told_check(finish: Finish, hold: u64, release: u64) -> JobEnd
+    requires { checkpoint_ends.IsEnd finish }
     ensures { result ≡ definitions.told_check (checkpoints.end_of finish) hold release }
 {
     match finish {
@@ -32,20 +34,17 @@ fn told_check(finish: Finish, hold: u64, release: u64) -> JobEnd
             release,
         },
         Finish::Dead => JobEnd::Dead,
-        Finish::Restored => JobEnd::Dead,
-        Finish::Occupied => JobEnd::Dead,
-        Finish::NoPort(_) => JobEnd::Dead,
+        Finish::Restored | Finish::Occupied | Finish::NoPort(_) => unreachable!(),
     }
 }
 
 /// And a restore.
 fn told_restore(finish: Finish, make: u64, release: u64) -> JobEnd
+    requires { restores.IsEnd finish }
     ensures { result ≡ definitions.told_restore (restores.end_of finish) make release }
 {
     match finish {
-        Finish::Image(_) => JobEnd::Restored { make, release },
-        Finish::Foreign(_) => JobEnd::Restored { make, release },
-        Finish::Dead => JobEnd::Restored { make, release },
+        Finish::Image(_) | Finish::Foreign(_) | Finish::Dead => unreachable!(),
         Finish::Restored => JobEnd::Restored { make, release },
         Finish::Occupied => JobEnd::Occupied,
         Finish::NoPort(port) => JobEnd::NoPort {

@@ -3,6 +3,7 @@ use Rattle.std.specs.Prelude.{Option, Some, None}
 use Rattle.fk_image.specs.declared.image.Image.{Image}
 use Rattle.fk_checkpoint.specs.Phases as checkpoints
 use Rattle.fk_checkpoint.specs.Checkpoints as ends
+use Rattle.fk_checkpoint.specs.Ends as ways
 use Rattle.fk_finish.specs.declared.finish.Finish.{Finish}
 use Rattle.fk_restore.specs.declared.restore.Restore as code
 use Rattle.fk_restore.specs.Restores as restores
@@ -33,6 +34,11 @@ has_room (porters.Restore r) = Unit {0}
 abbrev pub end_of : Porter → Finish → End
 end_of (porters.Checkpoint c) finish = Checked (ends.end_of finish)
 end_of (porters.Restore r) finish = restored finish
+
+-- it is over as its job is
+abbrev pub IsEnd : Porter → Finish → Type 0
+IsEnd (porters.Checkpoint c) finish = ways.IsEnd finish
+IsEnd (porters.Restore r) finish = restores.IsEnd finish
 
 -- the image with which a checkpoint has ended, where it has
 abbrev pub image_in : Option Finish → Option Image

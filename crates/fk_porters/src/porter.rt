@@ -8,7 +8,7 @@ ghost use Rattle.laws_jobs.specs.Machines.Head.{Stops};
 ghost use Rattle.laws_restore.specs.Restore.State.{Makes};
 ghost use Rattle.laws_rooms.specs.Restoring.{IsRestoreJob};
 ghost use Rattle.fk_jobs.specs.Jobs.{call_at, call_with, end_at};
-ghost use Rattle.fk_porters.specs.Porters.{state_of, has_room, end_of, image_in};
+ghost use Rattle.fk_porters.specs.Porters.{state_of, has_room, end_of, IsEnd, image_in};
 
 use crate::sound::Sound;
 use fk_checkpoint::Checkpoint;
@@ -93,9 +93,10 @@ impl Worker for Porter {
 }
 
 impl Porter {
-    /// How its job has ended; nothing while it has a call to make.
+    /// How its job has ended, as a checkpoint or a restore does; nothing while it has a call to make.
     pub fn end(&self) -> Option<&Finish>
         ensures some { IfSome result (λ finish. machine.head (state_of self.now) ≡ Stops (end_of self.now finish.now)) }
+        ensures way { IfSome result (λ finish. IsEnd self.now finish.now) }
         ensures none { IfNone result (IsAtCall machine (state_of self.now)) }
     {
         match self {
@@ -107,6 +108,7 @@ impl Porter {
     /// The same, handed out.
     pub fn finish(self) -> Option<Finish>
         ensures some { IfSome result (λ finish. machine.head (state_of self) ≡ Stops (end_of self finish)) }
+        ensures way { IfSome result (IsEnd self) }
         ensures none { IfNone result (IsAtCall machine (state_of self)) }
     {
         match self {

@@ -8,6 +8,7 @@ ghost use Rattle.laws_restore.specs.Restore.State.{Makes};
 ghost use Rattle.laws_rooms.specs.Restoring.{IsRestoreJob};
 ghost use Rattle.fk_jobs.specs.Jobs.{call_at, call_with};
 ghost use Rattle.fk_porters.specs.Porters.{restoring, restored};
+ghost use Rattle.fk_restore.specs.Restores.{IsEnd};
 
 use fk_finish::{Finish, ValidImage};
 use fk_model::{Answer, List, Stage};
@@ -67,9 +68,10 @@ impl Sound {
         self.restore.absorb(answer);
     }
 
-    /// How it has ended; nothing while it has a call to make.
+    /// How it has ended, as a restore does; nothing while it has a call to make.
     pub fn end(&self) -> Option<&Finish>
         ensures some { IfSome result (λ finish. machine.head (restoring self.now) ≡ Stops (restored finish.now)) }
+        ensures way { IfSome result (λ finish. IsEnd finish.now) }
         ensures none { IfNone result (IsAtCall machine (restoring self.now)) }
     {
         self.restore.end()
@@ -78,6 +80,7 @@ impl Sound {
     /// The same, handed out.
     pub fn finish(self) -> Option<Finish>
         ensures some { IfSome result (λ finish. machine.head (restoring self) ≡ Stops (restored finish)) }
+        ensures way { IfSome result IsEnd }
         ensures none { IfNone result (IsAtCall machine (restoring self)) }
     {
         self.restore.finish()
