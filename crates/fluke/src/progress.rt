@@ -57,7 +57,7 @@ impl<'a, R: Clock + Eprint> Progress<'a, R> {
                 .compare_exchange(told, now, Ordering::SeqCst, Ordering::SeqCst)
                 .is_ok()
         {
-            // Whom it can't be told, it isn't.
+            // Where standard error can't be written, nobody is told.
             let _ = eprintln!(self.rt; "fluke: {turns} turns");
         }
     }
