@@ -3,11 +3,11 @@
 //! `asks CALL giving WORDS picking SPACE SLOT = STATUS LENGTH WORDS`: the porter asks for the stage of a
 //! call, by the registers, and gives words, zeros after them; the status, how many words it is answered,
 //! and the first of them. `bars` with the same before `=`: that move isn't ready. `unfit CALL giving
-//! WORDS`: that one isn't fit. `goes SLOT picking SPACE SLOT = REGISTERS`: a thread of the root makes a
-//! move; its first registers then. `waits SLOT picking SPACE SLOT`: it isn't ready to. `runs SLOT
-//! COUNT`: it makes so many moves. `shows SLOT = REGISTERS`: its first registers. `keeps SLOT = WORDS`:
-//! its state record from word 21 on, which is its talk's turn, the words moved, its fault, the page, and
-//! 1 for a write.
+//! WORDS`: that one isn't fit. `makes` with the same as `asks`: that move is ready, and is made by `step`.
+//!
+//! `goes SLOT picking SPACE SLOT = REGISTERS`: a thread of the root makes a move; its first registers then. `waits SLOT picking
+//! SPACE SLOT`: it isn't ready to. `runs SLOT COUNT`: it makes so many moves. `shows SLOT = REGISTERS`: its first registers.
+//! `keeps SLOT = WORDS`: its state record from word 21 on, which is its talk's turn, the words moved, its fault, the page, and 1 for a write.
 //!
 //! `takes PORT picking SPACE SLOT = RESUMED TURN MOVED`: the native server of a port of the root accepts
 //! a client, or takes up its talk: 1 where that was parked, whose turn it is, and the words moved. `gives
@@ -276,6 +276,27 @@ impl World {
         })
     }
 
+    /// What the porter asks for is ready, and as a step it is answered as a line wants it.
+    fn makes(&mut self, line: &Line) -> anyhow::Result<bool> {
+        let ask = ask_of(line.subject.as_slice(), line.given.as_slice())?;
+        let who = self.porter;
+        let pick = named(line.picked.as_slice());
+        let m = Move { who, pick };
+        if !self.kernel.is_fit(&m, &ask) {
+            bail!("not fit");
+        }
+        if !self.kernel.ready(&m, &ask) {
+            return Ok(false);
+        }
+        let Ok(said) = self.kernel.step(&m, &ask) else {
+            bail!("no memory");
+        };
+        Ok(match &said {
+            Said::Answer(answer) => is_answer(answer, line.wanted.as_slice()),
+            _ => false,
+        })
+    }
+
     /// A thread of the root makes a step, which is as a line says.
     fn thread_steps(&mut self, line: &Line) -> anyhow::Result<bool> {
         let who = in_root(line.subject.as_slice()).context("no thread")?;
@@ -370,6 +391,7 @@ impl World {
     pub fn steps(&mut self, line: &Line) -> anyhow::Result<bool> {
         match line.verb {
             "asks" | "bars" => self.asks(line),
+            "makes" => self.makes(line),
             "unfit" => Ok(!self.is_fit(line.subject.as_slice(), line.given.as_slice())?),
             "takes" | "untaken" | "gives" | "fills" | "ungiven" | "hands" | "unhanded" => {
                 self.acts(line)
