@@ -1,7 +1,7 @@
 //! Calls as text, by the registers that hold them: each stage that is left by its name, with its arguments as docs/CALLS.md names them.
 use crate::sheet::{Sheet, line_at, parted};
 use fk_model::{Stage, Todo};
-use fk_stages::words;
+use fk_stages::{todo, words};
 
 /// The stages that are left of a call, by its code, with an `@` for each argument. Behind the last code there is an empty line.
 const FORMS: &str = "
@@ -94,16 +94,16 @@ pub fn push_call(sheet: &Sheet, registers: &[u64; 16], is_first_alone: bool) {
     sheet.fill_all(form, arguments);
 }
 
-/// The code of the first stage of a call, as a call of that stage alone.
-pub fn first_stage(code: u64) -> u64 {
-    match code {
-        33 => 32,
-        34 => 37,
-        35 => 38,
-        49 => 48,
-        53 => 51,
-        54 => 52,
-        other => other,
+/// The stage that comes next of the call that registers hold, if they hold one.
+pub fn first_stage(registers: &[u64; 16]) -> Option<Stage> {
+    match todo(registers) {
+        Some(
+            Todo::One(stage)
+            | Todo::Two(stage, _)
+            | Todo::Three(stage, _, _)
+            | Todo::Four(stage, _, _, _),
+        ) => Some(stage),
+        None => None,
     }
 }
 

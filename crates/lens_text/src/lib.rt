@@ -25,7 +25,7 @@ mod store;
 mod words;
 
 pub use asked::{Asked, Verb, asked_in};
-pub use calls::{first_stage, push_asked, push_call};
+pub use calls::{push_asked, push_call};
 pub use faults::given;
 pub use files::{file_of, source_text};
 pub use images::{push_differences, push_image};
@@ -36,7 +36,7 @@ pub use sheet::{Sheet, line_at};
 pub use shown::Shown;
 pub use statuses::{HALTS, STATUSES};
 pub use store::{
-    handled, next_in_tree, object_named, push_at, push_between, push_home, push_named, push_object,
-    push_path, push_thread, push_tree, word_at,
+    handled, led_from, next_in_tree, next_stage, object_named, push_at, push_between, push_home,
+    push_named, push_object, push_path, push_thread, push_tree, word_at,
 };
 pub use words::push_words;

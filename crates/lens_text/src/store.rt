@@ -9,8 +9,8 @@ mod threads;
 mod tree;
 
 pub use names::{
-    handled, next_in_tree, object_named, path_from, push_between, push_named, push_path,
+    handled, led_from, next_in_tree, object_named, path_from, push_between, push_named, push_path,
 };
 pub use objects::{push_home, push_object, push_pages};
-pub use threads::{push_at, push_thread, word_at};
+pub use threads::{next_stage, push_at, push_thread, word_at};
 pub use tree::push_tree;

@@ -5,8 +5,11 @@
 
 mod acts;
 mod changes;
+mod few;
 mod lines;
 mod servers;
+mod sides;
 
-pub use acts::{peer_of, push_act};
+pub use acts::push_act;
 pub use lines::Steps;
+pub use sides::{ended_port, other_side};

@@ -4,6 +4,7 @@
 //! that; of a porter only where it is its job's turn; and of a trace's move that isn't ready, why it isn't. A mutex doesn't keep who
 //! locked it: the run so far tells.
 
+mod barred;
 mod blocked;
 mod holds;
 mod lines;
@@ -11,6 +12,5 @@ mod moves;
 mod places;
 mod reasons;
 mod talks;
-mod touched;
 
 pub use lines::Why;

@@ -67,15 +67,20 @@ pub fn push_pointer(sheet: &Sheet, store: &Store, pointer: Ptr) {
     }
 }
 
-/// The object that a slot of a space holds, or to which the reference there leads.
-pub fn handled(store: &Store, space: u32, slot: u64) -> Option<Who> {
+/// What is named by a slot of a space, if it has that slot.
+fn in_slot(space: u32, slot: u64) -> Option<Who> {
     if slot > 255 {
         return None;
     }
-    let who = Who {
+    Some(Who {
         space,
         slot: slot as u8,
-    };
+    })
+}
+
+/// The object that a slot of a space holds, or to which the reference there leads.
+pub fn handled(store: &Store, space: u32, slot: u64) -> Option<Who> {
+    let who = in_slot(space, slot)?;
     match store.at(who) {
         Some(&Body::Reference { to: Ptr::At(to) }) => Some(to),
         Some(Body::Reference { .. }) | None => None,
@@ -83,16 +88,39 @@ pub fn handled(store: &Store, space: u32, slot: u64) -> Option<Who> {
     }
 }
 
-/// The object in a slot of a place that is named in a space: 256 is that space itself.
-pub fn object_named(store: &Store, space: u32, place: u64, slot: u64) -> Option<Who> {
+/// The space that is named as a place in another: 256 is that one itself.
+fn place_named(store: &Store, space: u32, place: u64) -> Option<u32> {
     if place == OWN_SPACE {
-        return handled(store, space, slot);
+        return Some(space);
     }
-    let Some(home) = handled(store, space, place) else {
-        return None;
-    };
-    match store.at(home) {
-        Some(&Body::Space { birth, .. }) => handled(store, birth, slot),
+    match store.at(handled(store, space, place)?) {
+        Some(&Body::Space { birth, .. }) => Some(birth),
+        _ => None,
+    }
+}
+
+/// The object in a slot of a place that is named in a space, or to which the reference there leads.
+pub fn object_named(store: &Store, space: u32, place: u64, slot: u64) -> Option<Who> {
+    handled(store, place_named(store, space, place)?, slot)
+}
+
+/// Where the pointer of the mapping, the region or the reference in a slot of a place leads.
+pub fn led_from(store: &Store, space: u32, place: u64, slot: u64) -> Option<Who> {
+    let who = in_slot(place_named(store, space, place)?, slot)?;
+    match store.at(who) {
+        Some(
+            &Body::Mapping {
+                region: Ptr::At(to),
+                ..
+            },
+        ) => Some(to),
+        Some(
+            &Body::Region {
+                keeper: Ptr::At(to),
+                ..
+            },
+        ) => Some(to),
+        Some(&Body::Reference { to: Ptr::At(to) }) => Some(to),
         _ => None,
     }
 }

@@ -1,10 +1,10 @@
 //! Threads in words.
-use crate::calls::push_call;
+use crate::calls::{first_stage, push_call};
 use crate::instructions::push_instruction;
 use crate::sheet::{Sheet, line_at};
 use crate::statuses::HALTS;
 use crate::store::names::{push_between, push_path};
-use fk_model::{Mode, Peer, Thread, Turn, Who};
+use fk_model::{Mode, Peer, Stage, Thread, Turn, Who};
 use fk_store::{Reach, Store};
 
 /// The word at an address of a space, if its page is there.
@@ -15,6 +15,17 @@ pub fn word_at(store: &Store, space: u32, address: u64) -> Option<u64> {
         }
     }
     None
+}
+
+/// The stage that a thread makes next, where it is in a call.
+pub fn next_stage(store: &Store, who: Who) -> Option<Stage> {
+    match store.thread(who) {
+        Some(thread) => match thread.mode {
+            Mode::Calling => first_stage(&thread.regs),
+            _ => None,
+        },
+        None => None,
+    }
 }
 
 /// Adds what a thread does next: the instruction, or what is left of its call.

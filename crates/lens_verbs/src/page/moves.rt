@@ -1,5 +1,5 @@
 //! The page's data, move by move.
-use crate::page::changes::{Few, Known, few_changed, push_objects};
+use crate::page::changes::{Known, push_objects};
 use crate::page::template::{HEAD, SCRIPT};
 use crate::steps::Steps;
 use fk_first::{Seen, Stop};
@@ -16,8 +16,6 @@ pub struct Page {
     known: Known,
     /// The names of all that is known, in the order in which it was found.
     names: Vec<Who>,
-    /// Whom the last move may have changed; none where these may be many.
-    few: Option<Few>,
 }
 
 impl Page {
@@ -30,13 +28,12 @@ impl Page {
             steps: Steps::new(sheet, 0),
             known: BTreeMap::new(sheet.alloc),
             names: Vec::new(sheet.alloc),
-            few: None,
         }
     }
 
     /// Adds what isn't as it was before the last move, and at first all.
     fn push_changes(&mut self, sheet: &Sheet, store: &Store) {
-        if let Some(few) = &self.few {
+        if let Some(few) = &self.steps.few {
             return push_objects(sheet, &mut self.known, store, few);
         }
         sheet.put(b"=/\t/\t");
@@ -61,7 +58,6 @@ impl Page {
     pub fn before(&mut self, sheet: &Sheet, seen: Seen<'_>, one: &Move) {
         self.push_changes(sheet, seen.store);
         self.steps.before(sheet, seen, one);
-        self.few = few_changed(seen.store, one);
     }
 
     /// It sees what stands where the run stops, adds what the last move has changed, and says why no further one was made.

@@ -1,25 +1,10 @@
 //! What a mover is about to do.
+use crate::steps::sides::other_side;
 use fk_first::Seen;
-use fk_model::{Ask, Body, Mode, Move, Peer, Who};
+use fk_model::{Ask, Body, Mode, Move, Stage, Thread};
 use fk_natives::Service;
 use fk_store::Store;
-use lens_text::{Sheet, first_stage, push_asked, push_call, push_instruction, push_named, word_at};
-
-/// The other side of a thread's talk: the thread that serves it as a client, or the port of the native server that does;
-/// or the client that it serves. That of a native server is its client.
-pub fn peer_of(store: &Store, who: Who) -> Option<Who> {
-    match store.thread(who) {
-        Some(thread) => match thread.talk {
-            Some(talk) => match talk.peer {
-                Peer::Thread(peer) => Some(peer),
-                Peer::Service => Some(talk.port),
-                Peer::Parked => None,
-            },
-            None => store.served_by(who),
-        },
-        None => store.client_at(who),
-    }
-}
+use lens_text::{Sheet, next_stage, push_asked, push_call, push_instruction, push_named, word_at};
 
 /// Adds what the native server of a port is about to do.
 fn push_native_act(sheet: &Sheet, seen: &Seen<'_>, one: &Move) {
@@ -40,7 +25,25 @@ fn push_native_act(sheet: &Sheet, seen: &Seen<'_>, one: &Move) {
     sheet.put(b"nothing, it is its client's turn");
 }
 
-/// Adds what a mover is about to do: a calling thread's stage, with its peer or its pick.
+/// Adds the stage that a thread in a call makes next, with the other side of its talk or fault, or its pick.
+fn push_stage(sheet: &Sheet, store: &Store, one: &Move, thread: &Thread) {
+    push_call(sheet, &thread.regs, true);
+    if let Some(stage) = next_stage(store, one.who) {
+        let other = other_side(store, one.who, &stage);
+        match stage {
+            Stage::ClientSend { .. }
+            | Stage::ClientOver
+            | Stage::ServerSend { .. }
+            | Stage::ServerOver => push_named(sheet, store, b" to ", other),
+            Stage::Disconnect | Stage::ServerEnd | Stage::FaultDone => {
+                push_named(sheet, store, b" with ", other);
+            }
+            _ => push_named(sheet, store, b" of ", one.pick),
+        }
+    }
+}
+
+/// Adds what a mover is about to do.
 pub fn push_act(sheet: &Sheet, seen: &Seen<'_>, one: &Move) {
     match seen.store.at(one.who) {
         Some(Body::Thread(thread)) => match thread.mode {
@@ -48,19 +51,7 @@ pub fn push_act(sheet: &Sheet, seen: &Seen<'_>, one: &Move) {
                 Some(word) => push_instruction(sheet, word),
                 None => sheet.put(b"a word of a page that isn't there"),
             },
-            Mode::Calling => {
-                push_call(sheet, &thread.regs, true);
-                let peer = peer_of(seen.store, one.who);
-                match first_stage(thread.regs[0]) {
-                    // Words go, or the turn passes.
-                    37 | 51 => push_named(sheet, seen.store, b" to ", peer),
-                    38 | 52 => push_named(sheet, seen.store, b" to ", peer),
-                    // A talk ends, or a fault.
-                    39 | 55 => push_named(sheet, seen.store, b" with ", peer),
-                    56 => push_named(sheet, seen.store, b" with ", peer),
-                    _ => push_named(sheet, seen.store, b" of ", one.pick),
-                }
-            }
+            Mode::Calling => push_stage(sheet, seen.store, one, thread),
             Mode::Halted(_) => sheet.put(b"nothing, it has halted"),
             Mode::Native => match &seen.job {
                 Some(job) if job.porter == one.who => push_asked(sheet, &job.stage),

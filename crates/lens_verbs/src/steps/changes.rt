@@ -3,43 +3,28 @@ use fk_model::{Mode, Thread, Who};
 use fk_store::Store;
 use lens_text::{HALTS, STATUSES, Sheet, line_at, push_named, push_path};
 
-/// Somebody with what that is at, where that is a thread.
-pub type Kept = Option<(Who, Thread)>;
-
-/// Somebody with what that is at, where that is a thread.
-pub fn kept(store: &Store, who: Option<Who>) -> Kept {
-    match who {
-        Some(who) => match store.thread(who) {
-            Some(thread) => Some((who, *thread)),
-            None => None,
-        },
-        None => None,
-    }
-}
-
 /// Adds the registers of a thread that have changed, as `r1=5 r2=0`, behind its path where it isn't the mover, and behind those of others that begin at this
 /// place.
-pub fn push_changed(sheet: &Sheet, start: usize, store: &Store, mover: &Who, kept: &Kept) {
-    if let Some((who, before)) = kept {
-        if let Some(after) = store.thread(*who) {
-            let mut is_first = true;
-            for number in 0..16usize {
-                let value = after.regs[number];
-                if before.regs[number] != value {
-                    if !is_first {
-                        sheet.put(b" ");
-                    } else {
-                        if sheet.len() > start {
-                            sheet.put(b"; ");
-                        }
-                        if who != mover {
-                            push_path(sheet, store, *who);
-                            sheet.put(b" ");
-                        }
+pub fn push_changed(sheet: &Sheet, start: usize, store: &Store, mover: Who, kept: &(Who, Thread)) {
+    let (who, before) = kept;
+    if let Some(after) = store.thread(*who) {
+        let mut is_first = true;
+        for number in 0..16usize {
+            let value = after.regs[number];
+            if before.regs[number] != value {
+                if !is_first {
+                    sheet.put(b" ");
+                } else {
+                    if sheet.len() > start {
+                        sheet.put(b"; ");
                     }
-                    is_first = false;
-                    sheet.fill(b"r@=@", number as u64, value, 0);
+                    if *who != mover {
+                        push_path(sheet, store, *who);
+                        sheet.put(b" ");
+                    }
                 }
+                is_first = false;
+                sheet.fill(b"r@=@", number as u64, value, 0);
             }
         }
     }

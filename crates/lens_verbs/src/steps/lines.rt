@@ -1,10 +1,13 @@
 //! A line a move.
-use crate::steps::acts::{peer_of, push_act};
-use crate::steps::changes::{Kept, kept, push_changed, push_ending};
+use crate::steps::acts::push_act;
+use crate::steps::changes::{push_changed, push_ending};
+use crate::steps::few::{Few, few_changed};
 use crate::steps::servers::{ServerState, push_news, state_of};
+use crate::steps::sides::other_side;
 use fk_first::Seen;
-use fk_model::{Mode, Move, Who};
-use lens_text::{Sheet, first_stage, push_between};
+use fk_model::{Move, Stage, Thread, Who};
+use fk_store::Store;
+use lens_text::{Sheet, next_stage, push_between};
 
 /// Writes a line for each move of a run from one on. All else that it has is what was known before the move.
 #[derive(Drop)]
@@ -15,12 +18,12 @@ pub struct Steps {
     head: String,
     /// The mover is to send words.
     sends: bool,
-    /// Whom the mover deals with.
+    /// To whom these go.
     other: Option<Who>,
-    mover: Kept,
-    /// Whom the mover deals with, where that is a thread.
-    partner: Kept,
-    picked: Kept,
+    /// Whom the move may change; none where these may be many.
+    pub few: Option<Few>,
+    /// The threads that it may change, with what they were at: the mover first, where it is one.
+    threads: Vec<(Who, Thread)>,
     /// What native servers were at.
     servers: Vec<ServerState>,
 }
@@ -34,10 +37,46 @@ impl Steps {
             head: String::new(sheet.alloc),
             sends: false,
             other: None,
-            mover: None,
-            partner: None,
-            picked: None,
+            few: None,
+            threads: Vec::new(sheet.alloc),
             servers: Vec::new(sheet.alloc),
+        }
+    }
+
+    /// Keeps what somebody is at, if that is a thread.
+    fn keep(&mut self, sheet: &Sheet, store: &Store, who: Who) {
+        if let Some(thread) = store.thread(who) {
+            if self.threads.push((who, *thread)).is_err() {
+                sheet.lacks();
+            }
+        }
+    }
+
+    /// Keeps what all threads but the mover are at.
+    fn keep_others(&mut self, sheet: &Sheet, store: &Store, mover: Who) {
+        let mut next = store.after(None);
+        for _ in 0..u64::MAX {
+            let Some(who) = next else {
+                break;
+            };
+            if who != mover {
+                self.keep(sheet, store, who);
+            }
+            next = store.after(next);
+        }
+    }
+
+    /// Keeps what the threads are at that a move of this one may change.
+    fn keep_threads(&mut self, sheet: &Sheet, store: &Store, mover: Who) {
+        self.threads.clear();
+        self.keep(sheet, store, mover);
+        let Some(few) = self.few else {
+            return self.keep_others(sheet, store, mover);
+        };
+        for who in &few {
+            if *who != mover {
+                self.keep(sheet, store, *who);
+            }
         }
     }
 
@@ -56,19 +95,16 @@ impl Steps {
         head.fill(b"\t@", seen.events, 0, 0);
         push_between(&head, store, b"\t", who, b"\t");
         self.sends = false;
-        if let Some(thread) = store.thread(who) {
-            if let Mode::Calling = thread.mode {
-                self.sends = matches!(first_stage(thread.regs[0]), 37 | 51);
-            }
+        if let Some(stage) = next_stage(store, who) {
+            self.sends = matches!(stage, Stage::ClientSend { .. } | Stage::ServerSend { .. });
+            self.other = other_side(store, who, &stage);
         }
         if !self.sends {
             push_act(&head, &seen, one);
         }
         self.head = sheet.taken(head);
-        self.other = peer_of(store, who);
-        self.mover = kept(store, Some(who));
-        self.partner = kept(store, self.other);
-        self.picked = kept(store, one.pick);
+        self.few = few_changed(store, one);
+        self.keep_threads(sheet, store, who);
         self.servers.clear();
         for (_, native) in seen.services {
             if self.servers.push(state_of(native)).is_err() {
@@ -86,14 +122,17 @@ impl Steps {
         let store = seen.store;
         sheet.add(self.head.as_str());
         // Of a native server there is nothing more to say than its act.
-        if let Some((who, before)) = &self.mover {
-            push_ending(sheet, store, *who, before, self.sends, self.other);
+        match self.threads.first() {
+            Some((who, before)) if *who == one.who => {
+                push_ending(sheet, store, *who, before, self.sends, self.other);
+            }
+            _ => {}
         }
         sheet.put(b"\t");
         let start = sheet.len();
-        push_changed(sheet, start, store, &one.who, &self.mover);
-        push_changed(sheet, start, store, &one.who, &self.partner);
-        push_changed(sheet, start, store, &one.who, &self.picked);
+        for kept in &self.threads {
+            push_changed(sheet, start, store, one.who, kept);
+        }
         sheet.put(b"\t");
         let start = sheet.len();
         for (place, (port, native)) in seen.services.iter().enumerate() {

@@ -1,121 +1,102 @@
 //! Why a stage that a thread is free to make isn't ready.
+use crate::why::barred::barred_of;
 use crate::why::holds::{push_hold, push_holds};
 use crate::why::places::push_whereabouts;
 use crate::why::reasons::Lockers;
-use crate::why::talks::push_port;
-use crate::why::touched::touched_by;
-use fk_model::{Body, Peer, Thread, Who};
+use crate::why::talks::{push_port, push_talk};
+use fk_model::{Body, Stage, Who};
 use fk_store::Store;
-use lens_text::{Sheet, first_stage, handled, object_named, push_between, push_path};
+use lens_text::{Sheet, handled, object_named, push_between, push_path};
 
-/// Adds what the stage with this code, of the call that these registers hold, waits for, by what it names.
-fn push_awaited(
-    sheet: &Sheet,
-    store: &Store,
-    lockers: &Lockers,
-    space: u32,
-    code: u64,
-    registers: &[u64; 16],
-) {
-    let one = registers[1];
-    let named = match code {
-        13 => object_named(store, space, one, registers[2]),
-        _ => handled(store, space, one),
-    };
-    let Some(named) = named else {
+/// Adds that a hold waits for another's of that space, or for one of a porter beneath it.
+fn push_held(sheet: &Sheet, store: &Store, space: Who) {
+    if let Some(
+        Body::Space {
+            holder: Some(holder),
+            ..
+        },
+    ) = store.at(space)
+    {
+        push_between(sheet, store, b"waits until ", space, b" is released");
+        return push_whereabouts(sheet, store, b" by ", *holder);
+    }
+    sheet.put(b"waits until a porter releases a space beneath ");
+    push_path(sheet, store, space);
+}
+
+/// Adds that a mutex is locked, and who has locked it.
+fn push_locked(sheet: &Sheet, store: &Store, lockers: &Lockers, mutex: Who) {
+    push_between(sheet, store, b"waits until the mutex ", mutex, b" is");
+    match lockers.get(&mutex) {
+        Some(locker) => push_whereabouts(sheet, store, b" unlocked, which ", *locker),
+        None => sheet.put(b" unlocked, which no move so far"),
+    }
+    sheet.put(b" locked");
+}
+
+/// The object that a stage names and waits for.
+fn awaited(store: &Store, space: u32, stage: &Stage) -> Option<Who> {
+    match *stage {
+        Stage::SpaceHold { s, x } => object_named(store, space, s, x),
+        Stage::MutexLock { m: handle }
+        | Stage::CondAsleep { c: handle, .. }
+        | Stage::Connect { h: handle }
+        | Stage::Wait { set: handle } => handled(store, space, handle),
+        _ => None,
+    }
+}
+
+/// Adds what a stage waits for by what it names.
+fn push_awaited(sheet: &Sheet, store: &Store, lockers: &Lockers, space: u32, stage: &Stage) {
+    let Some(named) = awaited(store, space, stage) else {
         return push_holds(sheet, store);
     };
-    match code {
-        13 => match store.at(named) {
-            Some(
-                Body::Space {
-                    holder: Some(holder),
-                    ..
-                },
-            ) => {
-                push_between(sheet, store, b"waits until ", named, b" is released");
-                push_whereabouts(sheet, store, b" by ", *holder);
-            }
-            _ => {
-                sheet.put(b"waits until a porter releases a space beneath ");
-                push_path(sheet, store, named);
-            }
-        },
-        21 => {
-            push_between(sheet, store, b"waits until the mutex ", named, b" is");
-            match lockers.get(&named) {
-                Some(locker) => push_whereabouts(sheet, store, b" unlocked, which ", *locker),
-                None => sheet.put(b" unlocked, which no move so far"),
-            }
-            sheet.put(b" locked");
-        }
-        25 => push_between(
+    match stage {
+        Stage::SpaceHold { .. } => push_held(sheet, store, named),
+        Stage::MutexLock { .. } => push_locked(sheet, store, lockers, named),
+        Stage::CondAsleep { .. } => push_between(
             sheet,
             store,
             b"sleeps until the condition ",
             named,
             b" is signalled",
         ),
-        32 => push_port(
+        Stage::Connect { .. } => push_port(
             sheet,
             store,
             b"waits until its connect to ",
             named,
             b" is accepted",
         ),
-        48 => {
+        _ => {
             sheet.put(b"waits until a client or a fault comes to a port of the set ");
             push_path(sheet, store, named);
         }
-        _ => push_holds(sheet, store),
     }
 }
 
-/// Adds why the first stage of the call that these registers hold isn't ready, of a thread that is free or of a porter: the hold that is
-/// known to bar it, or who is waited for.
-pub fn push_blocked(
-    sheet: &Sheet,
-    store: &Store,
-    lockers: &Lockers,
-    who: &Who,
-    registers: &[u64; 16],
-) {
-    let code = first_stage(registers[0]);
-    match touched_by(store, who, code, registers) {
-        Some(object) if store.frozen_for(*who, object) => {
-            push_between(sheet, store, b"would change ", object, b" or lead there");
-            push_hold(sheet, store, b", which the hold of ", object, b" bars");
+/// Adds why a stage isn't ready, of a thread that is free or of a porter: the hold that is known to bar it, or who is waited for.
+pub fn push_blocked(sheet: &Sheet, store: &Store, lockers: &Lockers, who: Who, stage: &Stage) {
+    if let Some(object) = barred_of(store, who, stage) {
+        push_between(
+            sheet,
+            store,
+            b"would change ",
+            object,
+            b" or a pointer to it",
+        );
+        return push_hold(sheet, store, b", which the hold of ", object, b" bars");
+    }
+    match stage {
+        Stage::ClientReceive { .. } | Stage::ClientSend { .. } | Stage::ClientOver => {
+            push_talk(sheet, store, who);
         }
-        _ => match code {
-            36 | 37 | 38 => match store.thread(*who) {
-                Some(
-                    Thread {
-                        talk: Some(talk),
-                        ..
-                    },
-                ) => match talk.peer {
-                    Peer::Thread(server) => {
-                        push_whereabouts(sheet, store, b"waits for its server ", server);
-                    }
-                    Peer::Service => {
-                        sheet.put(b"waits for the native server of ");
-                        push_path(sheet, store, talk.port);
-                    }
-                    Peer::Parked => push_port(
-                        sheet,
-                        store,
-                        b"waits until its talk at ",
-                        talk.port,
-                        b" is taken up",
-                    ),
-                },
-                _ => sheet.put(b"has no talk"),
-            },
-            50 | 51 | 52 => match store.client_of(*who) {
+        Stage::ServerReceive { .. } | Stage::ServerSend { .. } | Stage::ServerOver => {
+            match store.client_of(who) {
                 Some(client) => push_whereabouts(sheet, store, b"waits for its client ", client),
                 None => sheet.put(b"has no client"),
-            },
-            _ => push_awaited(sheet, store, lockers, who.space, code, registers),
-        },
+            }
+        }
+        _ => push_awaited(sheet, store, lockers, who.space, stage),
     }
 }

@@ -2,9 +2,9 @@
 use crate::why::moves::push_move;
 use crate::why::reasons::{Lockers, push_reason};
 use fk_first::{Ready, Seen, Stop};
-use fk_model::{Mode, Who};
+use fk_model::{Mode, Stage, Who};
 use fk_store::Store;
-use lens_text::{Sheet, handled, next_in_tree, push_asked, push_at, push_between};
+use lens_text::{Sheet, handled, next_in_tree, next_stage, push_asked, push_at, push_between};
 use std::alloc::Global;
 use std::collections::BTreeMap;
 
@@ -12,7 +12,7 @@ use std::collections::BTreeMap;
 #[derive(Drop)]
 pub struct Why {
     lockers: Lockers,
-    /// The mutex that the mover names, where it isn't locked. Where it is after the move, that has locked it.
+    /// The mutex that the mover is to lock, where it isn't locked. Where it is after the move, that has locked it.
     locking: Option<Who>,
 }
 
@@ -43,6 +43,15 @@ fn push_thread(sheet: &Sheet, seen: &Seen<'_>, lockers: &Lockers, who: &Who) {
     }
 }
 
+/// The mutex that a handle names in a space, where it isn't locked.
+fn unlocked(store: &Store, space: u32, handle: u64) -> Option<Who> {
+    let mutex = handled(store, space, handle)?;
+    match store.mutex(mutex) {
+        Some(false) => Some(mutex),
+        _ => None,
+    }
+}
+
 impl Why {
     /// Nothing is said yet.
     pub fn new(alloc: Global) -> Why {
@@ -54,14 +63,12 @@ impl Why {
 
     /// It sees what stands before a move of somebody.
     pub fn before(&mut self, store: &Store, mover: Who) {
-        self.locking = None;
-        if let Some(thread) = store.thread(mover) {
-            if let Some(mutex) = handled(store, mover.space, thread.regs[1]) {
-                if let Some(false) = store.mutex(mutex) {
-                    self.locking = Some(mutex);
-                }
+        self.locking = match next_stage(store, mover) {
+            Some(Stage::MutexLock { m } | Stage::MutexTrylock { m }) => {
+                unlocked(store, mover.space, m)
             }
-        }
+            _ => None,
+        };
     }
 
     /// It sees what stands after that move, and notes who has locked a mutex.

@@ -4,9 +4,9 @@ use crate::why::holds::{push_hold, push_holds};
 use crate::why::places::push_whereabouts;
 use crate::why::talks::push_port;
 use fk_first::Seen;
-use fk_model::{Mode, Peer, Thread, Todo, Who};
-use fk_stages::words;
-use lens_text::{HALTS, Sheet, line_at};
+use fk_model::{Fault, Mode, Peer, Thread, Who};
+use fk_store::Store;
+use lens_text::{HALTS, Sheet, line_at, next_stage};
 use std::collections::BTreeMap;
 
 /// Who has locked a mutex last, by what the run so far tells.
@@ -19,12 +19,42 @@ fn push_job(sheet: &Sheet, seen: &Seen<'_>, lockers: &Lockers, porter: &Who) {
             if !job.is_at_work & (job.at > seen.events) {
                 let form = b"its job begins after @ moves, or where nobody else can move";
                 sheet.fill(form, job.at, 0, 0);
+            } else if seen.store.is_frozen(porter.space) {
+                push_hold(
+                    sheet,
+                    seen.store,
+                    b"is kept still by the hold of ",
+                    *porter,
+                    b"",
+                );
             } else {
-                let registers = words(&Todo::One(job.stage), &[0; 16]);
-                push_blocked(sheet, seen.store, lockers, porter, &registers);
+                push_blocked(sheet, seen.store, lockers, *porter, &job.stage);
             }
         }
         _ => sheet.put(b"it isn't the turn of a job of it"),
+    }
+}
+
+/// Adds what a thread with a fault waits for.
+fn push_fault(sheet: &Sheet, store: &Store, fault: &Fault) {
+    match fault.taker {
+        None => push_port(
+            sheet,
+            store,
+            b"waits until its fault at ",
+            fault.port,
+            b" is taken",
+        ),
+        Some(Peer::Thread(taker)) => {
+            push_whereabouts(sheet, store, b"waits until its fault is done by ", taker);
+        }
+        Some(_) => push_port(
+            sheet,
+            store,
+            b"waits until its parked fault at ",
+            fault.port,
+            b" is taken up",
+        ),
     }
 }
 
@@ -42,29 +72,11 @@ pub fn push_reason(sheet: &Sheet, seen: &Seen<'_>, lockers: &Lockers, who: &Who,
             if stops > 0 {
                 sheet.fill(b"is stopped, and needs @ thread_go", stops, 0, 0);
             } else if let Some(fault) = &thread.fault {
-                match fault.taker {
-                    None => push_port(
-                        sheet,
-                        store,
-                        b"waits until its fault at ",
-                        fault.port,
-                        b" is taken",
-                    ),
-                    Some(Peer::Thread(taker)) => {
-                        push_whereabouts(sheet, store, b"waits until its fault is done by ", taker);
-                    }
-                    Some(_) => push_port(
-                        sheet,
-                        store,
-                        b"waits until its parked fault at ",
-                        fault.port,
-                        b" is taken up",
-                    ),
-                }
+                push_fault(sheet, store, fault);
             } else if store.is_frozen(who.space) {
                 push_hold(sheet, store, b"is kept still by the hold of ", *who, b"");
-            } else if let Mode::Calling = thread.mode {
-                push_blocked(sheet, store, lockers, who, &thread.regs);
+            } else if let Some(stage) = next_stage(store, *who) {
+                push_blocked(sheet, store, lockers, *who, &stage);
             } else {
                 push_holds(sheet, store);
             }

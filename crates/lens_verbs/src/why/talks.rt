@@ -1,8 +1,8 @@
 //! Who could end a wait for somebody else.
 use crate::why::places::push_whereabouts;
-use fk_model::{Body, Mode, Who};
+use fk_model::{Body, Peer, Stage, Thread, Who};
 use fk_store::Store;
-use lens_text::{Sheet, first_stage, handled, push_between};
+use lens_text::{Sheet, handled, next_stage, push_between, push_path};
 
 /// Adds who could take what stands at a port of a set: the first thread of the set's space that stands at its wait on it, or the first
 /// thread there at all.
@@ -13,11 +13,10 @@ fn push_server(sheet: &Sheet, store: &Store, set: Who) {
             space: set.space,
             slot,
         };
-        if let Some(thread) = store.thread(who) {
-            let waits_here = match thread.mode {
-                Mode::Calling => {
-                    (first_stage(thread.regs[0]) == 48)
-                        & (handled(store, set.space, thread.regs[1]) == Some(set))
+        if let Some(_) = store.thread(who) {
+            let waits_here = match next_stage(store, who) {
+                Some(Stage::Wait { set: handle }) => {
+                    handled(store, set.space, handle) == Some(set)
                 }
                 _ => false,
             };
@@ -71,5 +70,33 @@ pub fn push_port<const N: usize, const M: usize>(
             }
         }
         _ => sheet.put(b"; there is no port"),
+    }
+}
+
+/// Adds whom a client waits for: its server, a native one, or who takes up its talk.
+pub fn push_talk(sheet: &Sheet, store: &Store, client: Who) {
+    match store.thread(client) {
+        Some(
+            Thread {
+                talk: Some(talk),
+                ..
+            },
+        ) => match talk.peer {
+            Peer::Thread(server) => {
+                push_whereabouts(sheet, store, b"waits for its server ", server);
+            }
+            Peer::Service => {
+                sheet.put(b"waits for the native server of ");
+                push_path(sheet, store, talk.port);
+            }
+            Peer::Parked => push_port(
+                sheet,
+                store,
+                b"waits until its talk at ",
+                talk.port,
+                b" is taken up",
+            ),
+        },
+        _ => sheet.put(b"has no talk"),
     }
 }

@@ -1,0 +1,45 @@
+//! Who is at the other side of what a stage deals with.
+use fk_model::{Peer, Stage, Talk, Thread, Who};
+use fk_store::Store;
+
+/// The talk that a thread has as a client.
+fn talk_of(store: &Store, client: Who) -> Option<Talk> {
+    store.thread(client)?.talk
+}
+
+/// Who serves a thread's talk: a thread, or the port of a native server.
+fn server_of(store: &Store, client: Who) -> Option<Who> {
+    let talk = talk_of(store, client)?;
+    match talk.peer {
+        Peer::Thread(server) => Some(server),
+        Peer::Service => Some(talk.port),
+        Peer::Parked => None,
+    }
+}
+
+/// The other side of a stage: of a client's who serves it, of a server's its client, and of `fault_done` the thread whose fault that is. None
+/// of the other stages.
+pub fn other_side(store: &Store, who: Who, stage: &Stage) -> Option<Who> {
+    match stage {
+        Stage::ClientReceive { .. }
+        | Stage::ClientSend { .. }
+        | Stage::ClientOver
+        | Stage::Disconnect => server_of(store, who),
+        Stage::ServerReceive { .. }
+        | Stage::ServerSend { .. }
+        | Stage::ServerOver
+        | Stage::ServerEnd => store.client_of(who),
+        Stage::FaultDone => store.faulter_of(who),
+        _ => None,
+    }
+}
+
+/// The port of what a stage ends: a talk, or a fault.
+pub fn ended_port(store: &Store, who: Who, stage: &Stage) -> Option<Who> {
+    match stage {
+        Stage::Disconnect => Some(talk_of(store, who)?.port),
+        Stage::ServerEnd => Some(talk_of(store, store.client_of(who)?)?.port),
+        Stage::FaultDone => Some(store.thread(store.faulter_of(who)?)?.fault?.port),
+        _ => None,
+    }
+}
