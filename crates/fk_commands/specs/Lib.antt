@@ -7,3 +7,4 @@ pub mod Exec
 pub mod Check
 pub mod Show
 pub mod Prepared
+pub mod Lent

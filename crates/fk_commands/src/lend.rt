@@ -1,7 +1,16 @@
 //! A scenario and an image, lent to who looks at them.
-ghost use Rattle.std.specs.Prelude.{◌≡◌, ◌≤◌, length, map};
+ghost use Rattle.std.specs.Prelude.{◌≡◌, ◌≤◌, true, length, map, string_bytes};
 ghost use Rattle.fk_model.specs.Answers.{answer, reply_words};
+ghost use Rattle.fk_image.specs.Valid.{is_valid};
+ghost use Rattle.fk_image.specs.declared.image.Image.{Image};
+ghost use Rattle.fk_image_format.specs.Reading.{image_reading};
 ghost use Rattle.fk_scenario.specs.Kept.{KeepsScenario, HasRules};
+ghost use Rattle.fk_scenario.specs.Reading.{scenario_reading};
+ghost use Rattle.fk_scenario.specs.Rules.{server_rules};
+ghost use Rattle.fk_scenario.specs.declared.scenario.Scenario.{Scenario};
+ghost use Rattle.fk_commands.specs.Lent.{IsLent};
+ghost use Rattle.fk_commands.specs.Prepared.{IsScenarioFail, IsImageFail};
+ghost use Rattle.fk_commands.specs.declared.status.Status.{Status};
 
 use crate::image::image_of;
 use crate::scenario::scenario_in;
@@ -15,28 +24,46 @@ use std::alloc::Global;
 /// The rules that have a responder.
 const RULES: [Rule; 3] = [Rule::Echo, Rule::Feed, Rule::Sum];
 
-/// Who looks at a scenario.
+/// Who looks at a scenario. What a call may make of it, from the reader before to the reader after, its two members say. Who lends knows no more of
+/// them, so a clause by them says that the call was made.
 pub trait ScenarioReader {
-    /// It looks at one, by a table that has the rules of its native servers.
+    ghost looks: { Self → Scenario → Self → Type 0 };
+
+    ghost hears: { Self → Status → Self → Type 0 };
+
+    /// It looks at one, by the table of the three responders, which has the rules of its native servers.
     fn scenario(&mut self, table: &Table, scenario: &Scenario)
         requires keeps { KeepsScenario scenario.now }
-        requires rules { HasRules (map (λ r. r.rule) table.now.list.items) scenario.now };
+        requires rules { HasRules (map (λ r. r.rule) table.now.list.items) scenario.now }
+        requires table { map (λ r. (string_bytes r.name, r.rule)) table.now.list.items ≡ server_rules }
+        ensures { looks self.old scenario.now self.new };
 
     /// It hears why there is none.
-    fn refused(&mut self, status: &Status);
+    fn refused(&mut self, status: &Status)
+        ensures { hears self.old status.now self.new };
 }
 
-/// Who looks at an image.
+/// Who looks at an image. What a call may make of it its two members say, as those of a `ScenarioReader` do.
 pub trait ImageReader {
+    ghost looks: { Self → Image → Self → Type 0 };
+
+    ghost hears: { Self → Status → Self → Type 0 };
+
     /// It looks at one.
-    fn image(&mut self, image: &Image);
+    fn image(&mut self, image: &Image)
+        requires valid { is_valid image.now ≡ true }
+        ensures { looks self.old image.now self.new };
 
     /// It hears why there is none.
-    fn refused(&mut self, status: &Status);
+    fn refused(&mut self, status: &Status)
+        ensures { hears self.old status.now self.new };
 }
 
 /// Lends the scenario that a text is, by a table of the three responders; or says why the text is none, as `scenario_in` has it.
-pub fn lend_scenario<W: ScenarioReader>(alloc: Global, text: &[u8], reader: &mut W) {
+pub fn lend_scenario<W: ScenarioReader>(alloc: Global, text: &[u8], reader: &mut W)
+    ensures { IsLent (λ scenario. W.looks reader.old scenario reader.new) (λ status. W.hears reader.old status reader.new)
+        IsScenarioFail (scenario_reading server_rules text.now) }
+{
     let mut list = Vec::new(alloc);
     for rule in &RULES {
         let rule = *rule;
@@ -64,7 +91,10 @@ pub fn lend_scenario<W: ScenarioReader>(alloc: Global, text: &[u8], reader: &mut
 }
 
 /// Lends the image that the bytes of a file with this name are; or says why they are none, as `image_of` has it.
-pub fn lend_image<W: ImageReader>(alloc: Global, name: &str, bytes: &[u8], reader: &mut W) {
+pub fn lend_image<W: ImageReader>(alloc: Global, name: &str, bytes: &[u8], reader: &mut W)
+    ensures { IsLent (λ image. W.looks reader.old image reader.new) (λ status. W.hears reader.old status reader.new)
+        (IsImageFail name.now) (image_reading bytes.now) }
+{
     match image_of(alloc, name, bytes) {
         Ok(image) => reader.image(&image),
         Err(status) => reader.refused(&status),

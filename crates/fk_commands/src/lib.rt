@@ -11,7 +11,8 @@
 //!
 //! It promises of each command the outcome and the output that its definition calls for (`specs/Exec.antt`,
 //! `Check.antt`, `Show.antt`), unless a get or the memory failed; that it answers a fault only where one
-//! happened in this call; and that `fault_line` says of a status what `specs/Status.antt` has.
+//! happened in this call; that `fault_line` says of a status what `specs/Status.antt` has; and that who looks is called once, with
+//! what was read or with why nothing was (`specs/Lent.antt`).
 #![tactic(auto)]
 
 pub mod check;

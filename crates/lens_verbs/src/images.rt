@@ -1,4 +1,6 @@
 //! The images of the shelf: shown as text, and for a scenario's jobs.
+ghost use Rattle.std.specs.Prelude.{⊤};
+
 use fk_causes::Shelf;
 use fk_commands::{ImageReader, Status, image_of, lend_image};
 use fk_finish::ValidImage;
@@ -43,6 +45,10 @@ struct ImageText<'a> {
 }
 
 impl ImageReader for ImageText<'_> {
+    ghost looks = { λ _ _ _. ⊤ };
+
+    ghost hears = { λ _ _ _. ⊤ };
+
     fn image(&mut self, image: &Image) {
         push_image(self.sheet, image.spaces.as_slice());
     }

@@ -1,5 +1,5 @@
 //! The verbs that watch a run.
-ghost use Rattle.std.specs.Prelude.{map};
+ghost use Rattle.std.specs.Prelude.{⊤, map};
 ghost use Rattle.fk_scenario.specs.Kept.{KeepsScenario, HasRules};
 
 use crate::images::Files;
@@ -23,6 +23,10 @@ struct Run<'a, 's, H: Shelf> {
 }
 
 impl<H: Shelf> ScenarioReader for Run<'_, '_, H> {
+    ghost looks = { λ _ _ _. ⊤ };
+
+    ghost hears = { λ _ _ _. ⊤ };
+
     fn scenario(&mut self, table: &Table, scenario: &Scenario)
         requires keeps { KeepsScenario scenario.now }
         requires rules { HasRules (map (λ r. r.rule) table.now.list.items) scenario.now }
