@@ -1,6 +1,7 @@
 -- Runs of books: none yet, and one move more.
 use Rattle.std.proofs.Common.{◌≡◌, ℕ, ◌+◌, ◌-◌, ◌≤◌, ◌<◌, List, [], ◌∷◌, ◌++◌}
-use Rattle.std.proofs.Common.{length, length-append, append-nil, append_assoc, Some, refl, sym, ap, subst, ◌∙◌, arith}
+use Rattle.std.proofs.Common.{length, length-append, append-nil, append_assoc, Some, None, refl, sym, ap, subst, ◌∙◌, arith}
+use Rattle.std.proofs.lemmas.List.{length-replicate}
 use Rattle.fk_model.specs.declared.moves.Move.{Move}
 use Rattle.fk_model.specs.declared.moves.Rule.{Rule}
 use Rattle.fk_model.specs.Searches.{depth}
@@ -9,8 +10,9 @@ use Rattle.laws_runs.specs.Cores.{IsRun}
 use Rattle.laws_runs.specs.Cores.IsRun.{Begins, Goes}
 use Rattle.fk_core.specs.Cores.{house, IsReadyMove, IsTurned}
 use Rattle.fk_core.specs.Served.{AllFit}
-use Rattle.fk_books.specs.Shown.{Shown, IsSound, Moves, HasRun, HasComeTo, IsFirstDue}
-use Rattle.fk_books.specs.Told.{Told, GoesOn, IsKept, HasOneMore, TakesDue}
+use Rattle.fk_burst.specs.Lease.{Lease}
+use Rattle.fk_books.specs.Shown.{Shown, IsSound, Moves, HasRun, HasComeTo, IsFirstDue, moves_of}
+use Rattle.fk_books.specs.Told.{Told, GoesOn, IsKept, IsSame, HasOneMore, HasMore, TakesDue, BeginsDue}
 use Rattle.fk_books.proofs.Fitting.{fits_along}
 
 -- none yet
@@ -89,6 +91,25 @@ module _ {C : Type 0} where
   -- it doesn't get shorter
   pub goes_longer : (b d : Told C) → GoesOn b d → length b.history ≤ length d.history
   goes_longer b d goes = let long = length-append b.history goes.more in let same = ap length goes.history in omega (arith, long, same)
+
+module _ {C : Type 0} (shown : C → Shown) where
+  -- by one move it gets longer by one
+  pub one_longer : (b d : Told C) → HasOneMore shown b d → length d.history ≡ length b.history + 1
+  one_longer b d more = ap length more.1.history ∙ length-append b.history (more.0 ∷ [])
+
+  -- where nothing has changed it is as long
+  pub as_long : (b d : Told C) → IsSame shown b d → length d.history ≡ length b.history
+  as_long b d same = ap length same.history
+
+  -- by a lease's moves it gets longer by as many as the lease has
+  pub lease_longer : (b d : Told C) (l : Lease) → HasMore shown b (moves_of l) d → length d.history ≡ length b.history + l.count
+  lease_longer b d l more = ap length more.history
+      ∙ (length-append b.history (moves_of l) ∙ ap (λ n. length b.history + n) (length-replicate l.count (record { who = l.thread; pick = None })))
+
+  -- whatever is made after the first move
+  pub begins_due : (b d e : Told C) → TakesDue shown b d.history → GoesOn d e → BeginsDue shown b e.history
+  begins_due b d e takes goes = λ even due its may. let taken = takes even due its may in
+      (taken.0, goes.more, goes.history ∙ (ap (λ h. h ++ goes.more) taken.1 ∙ append_assoc b.history (taken.0 ∷ []) goes.more), taken.2)
 
 -- nearer to its budget with each move
 pub closer : {C : Type 0} (shown : C → Shown) (b d : Told C) → IsKept shown d → HasOneMore shown b d

@@ -1,9 +1,10 @@
 -- What contracts see of a book, and what becomes of it.
-use Rattle.std.specs.Prelude.{◌≡◌, ◌%◌, true, List, [], ◌∷◌, ◌++◌, refl}
+use Rattle.std.specs.Prelude.{◌≡◌, ◌⊎◌, ℕ, ◌%◌, true, List, [], ◌∷◌, ◌++◌, refl}
 use Rattle.std.specs.Coded.{Coded, code_by, coded×, coded_list}
 use Rattle.fk_model.specs.declared.moves.Move.{Move}
 use Rattle.fk_model.specs.contracts.moves.Move as move
-use Rattle.fk_books.specs.Shown.{Shown, Moves, MovesSo, MayMove, HasRun, is_porter}
+use Rattle.fk_burst.specs.Lease.{Lease}
+use Rattle.fk_books.specs.Shown.{Shown, Moves, MovesSo, MayMove, MayBurst, HasRun, is_porter}
 
 -- what it was begun from, the core to which its moves have come, and these
 pub record Told (C : Type 0) : Type 0 where
@@ -51,3 +52,12 @@ module _ {C : Type 0} (shown : C → Shown) where
   abbrev pub TakesDue : Told C → List Move → Type 0
   TakesDue b after = (shown b.core).core.events % 2 ≡ 0 → (due : Move) → is_porter (shown b.core) due.who ≡ true → MayMove (shown b.core) due
       → (m : Move) × (after ≡ b.history ++ m ∷ []) × (is_porter (shown b.core) m.who ≡ true)
+
+  -- the same of the first of several
+  abbrev pub BeginsDue : Told C → List Move → Type 0
+  BeginsDue b after = (shown b.core).core.events % 2 ≡ 0 → (due : Move) → is_porter (shown b.core) due.who ≡ true → MayMove (shown b.core) due
+      → (m : Move) × (rest : List Move) × (after ≡ b.history ++ m ∷ rest) × (is_porter (shown b.core) m.who ≡ true)
+
+  -- so many of the moves are a lease's: all that it has where it may be committed, and none where it may not
+  abbrev pub MakesLease : Told C → Lease → ℕ → Type 0
+  MakesLease b l moves = (MayBurst (shown b.core) l × (moves ≡ l.count)) ⊎ ((MayBurst (shown b.core) l → ⊥) × (moves ≡ 0))

@@ -1,9 +1,9 @@
 //! The book of a run.
-ghost use Rattle.std.specs.Prelude.{◌≡◌, ◌≤◌, ◌<◌, [], length, map, IfOk, OnOk, OnErr};
+ghost use Rattle.std.specs.Prelude.{◌≡◌, ◌+◌, ◌≤◌, ◌<◌, [], length, map, if◌then◌else◌, IfOk, OnOk, OnErr};
 ghost use Rattle.std.specs.Bool.{OnTrue, OnFalse};
 ghost use Rattle.fk_core.specs.Served.{AllFit};
 ghost use Rattle.fk_books.specs.Shown.{IsSound, MayMove, MayBurst, moves_of, HasEnded};
-ghost use Rattle.fk_books.specs.Told.{Told, IsKept, IsSame, IsOneMore, HasMore, HasOneMore, TakesDue, GoesOn};
+ghost use Rattle.fk_books.specs.Told.{Told, IsKept, IsSame, IsOneMore, HasMore, HasOneMore, TakesDue, BeginsDue, MakesLease, GoesOn};
 
 use crate::playable::{Lent, Playable};
 use fk_burst::{Leased, count};
@@ -28,7 +28,8 @@ pub struct Book<C: Playable + Drop> {
     out: [Option<Who>; 8],
 }
 
-/// What comes of a turn at the lock: how many moves of a lease were committed, and whether another move was made.
+/// What comes of a turn at the lock: how many moves of a lease were committed, and whether more moves may be left: false only where one was sought
+/// and none was.
 #[derive(Clone, Copy)]
 pub struct Gone {
     pub moves: u64,
@@ -243,10 +244,12 @@ impl<C: Playable + Drop> Book<C> {
     /// # Errors
     ///
     /// There is no memory for what the move makes.
-    #[tactic(auto, using(crate::proofs::Runs::goes_further))]
+    #[tactic(auto, using(crate::proofs::Runs::goes_further, crate::proofs::Runs::one_longer, crate::proofs::Runs::as_long, crate::proofs::Runs::lease_longer))]
     pub fn go_burst(&mut self, table: &Table, lease: &Leased) -> Result<Gone, NoMemory>
         requires fits { AllFit (map (λ r. r.rule) table.now.list.items) (C.shown self.old.boot).core.servers }
         ensures goes { GoesOn self.old self.new }
+        ensures moves { IfOk result (λ gone. MakesLease C.shown self.old lease.now gone.moves) }
+        ensures made { IfOk result (λ gone. length self.new.history ≡ length self.old.history + gone.moves + (if gone.more then 1 else 0)) }
         ensures ended { IfOk result (λ gone. OnFalse gone.more (HasEnded (C.shown self.new.core))) }
     {
         let moves = if self.burst_held(lease) {
@@ -259,10 +262,11 @@ impl<C: Playable + Drop> Book<C> {
     }
 
     /// Makes moves while any is left, at most so many.
-    #[tactic(auto, using(crate::proofs::Runs::goes_further, crate::proofs::Runs::goes_not))]
+    #[tactic(auto, using(crate::proofs::Runs::goes_further, crate::proofs::Runs::goes_not, crate::proofs::Runs::one_longer, crate::proofs::Runs::as_long))]
     fn several(&mut self, table: &Table, most: u32) -> Result<(), NoMemory>
         requires fits { AllFit (map (λ r. r.rule) table.now.list.items) (C.shown self.old.boot).core.servers }
         ensures goes { GoesOn self.old self.new }
+        ensures most { length self.new.history ≤ length self.old.history + most }
     {
         for _ in 0..most {
             if !self.one(table)? {
@@ -278,10 +282,13 @@ impl<C: Playable + Drop> Book<C> {
     /// # Errors
     ///
     /// There is no memory for what a move makes. Those before it stand in the book.
-    #[tactic(auto, using(crate::proofs::Runs::goes_further, crate::proofs::Runs::goes_longer))]
+    #[tactic(auto, using(crate::proofs::Runs::goes_further, crate::proofs::Runs::goes_longer, crate::proofs::Runs::one_longer, crate::proofs::Runs::as_long, crate::proofs::Runs::begins_due))]
     pub fn go_on(&mut self, table: &Table) -> Result<bool, NoMemory>
         requires fits { AllFit (map (λ r. r.rule) table.now.list.items) (C.shown self.old.boot).core.servers }
         ensures goes { GoesOn self.old self.new }
+        ensures more { IfOk result (λ more. OnTrue more (length self.old.history < length self.new.history)) }
+        ensures most { length self.new.history ≤ length self.old.history + 64 }
+        ensures first { IfOk result (λ more. OnTrue more (BeginsDue C.shown self.old self.new.history)) }
         ensures ended { IfOk result (λ more. OnFalse more (HasEnded (C.shown self.new.core))) }
         ensures same { IfOk result (λ more. OnFalse more (IsSame C.shown self.old self.new)) }
     {
