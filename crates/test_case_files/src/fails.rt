@@ -1,5 +1,5 @@
 //! Which calls of a source, a sink and a shelf fail.
-use anyhow::{Context, bail};
+use anyhow::{Context, bail, ensure};
 use std::alloc::{AllocError, Global};
 
 /// What has calls that can fail.
@@ -82,6 +82,7 @@ impl Fails {
         if let Some((first, last)) = calls.split_once("..") {
             let first = first.parse::<u64>()?;
             let end = last.parse::<u64>()?.saturating_add(1);
+            ensure!(first > 0 && first < end, "no call is among these");
             self.turns = Some(Turns { object, first, end });
             return Ok(());
         }

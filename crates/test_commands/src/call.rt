@@ -4,7 +4,7 @@ use fk_causes::{MemShelf, MemSink, MemSource, NoMemory, Open, Shelf, Sink, Sourc
 use fk_responders::Table;
 use fk_run::{End, Outcome, Report, fault_line, fluke_top};
 use fk_trace_text::trace_text;
-use std::alloc::Global;
+use std::alloc::{AllocError, Global};
 use std::collections::BTreeMap;
 use std::sync::Wait;
 use std::thread::Threads;
@@ -13,14 +13,19 @@ use test_case_files::{Case, Ending, Fails};
 /// The files of a shelf.
 pub type FileMap = BTreeMap<String, Vec<u8>>;
 
+/// The numbers of calls that come behind so many others.
+fn moved_on(alloc: Global, calls: &[u64], by: u64) -> Result<Vec<u64>, AllocError> {
+    let mut numbers = Vec::new(alloc);
+    for call in calls {
+        numbers.push(call.saturating_add(by))?;
+    }
+    Ok(numbers)
+}
+
 /// A shelf with these files on it. What fails is counted from the next call on.
 pub fn shelf_of(alloc: Global, files: &FileMap, fails: &[u64]) -> Result<MemShelf, NoMemory> {
     let puts = files.len() as u64;
-    let mut numbers = Vec::new(alloc);
-    for call in fails {
-        numbers.push(call.saturating_add(puts))?;
-    }
-    let mut shelf = MemShelf::new(numbers);
+    let mut shelf = MemShelf::new(moved_on(alloc, fails, puts)?);
     for (name, bytes) in files {
         if shelf.put(name.as_str(), bytes).is_err() {
             return Err(NoMemory);

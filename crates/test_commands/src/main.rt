@@ -21,7 +21,7 @@
 //! hand it no such file.
 //!
 //! The program says of each case what differs, and ends with a line of counts; it fails where a case
-//! differs, and where it finds none. It promises no more than that it always ends.
+//! differs, and where a file has none. It promises no more than that it always ends.
 #![tactic(auto)]
 
 ghost use Rattle.std.specs.Prelude.{◌≡◌, ◌≤◌, length};
@@ -212,6 +212,7 @@ fn try_file<R: Files + Print + Eprint + AllocGlobal + Threads + Wait + Sync>(
     let text = fs::read_to_string(rt, path)?;
     let sections = sections_of(rt, text.as_str())?;
     let cases = cases_of(rt.alloc(), &sections)?;
+    ensure!(!cases.is_empty(), "no case was found");
     if path.starts_with("slow-") {
         return try_slowly(rt, table, tally, &cases);
     }

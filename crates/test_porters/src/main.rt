@@ -1,4 +1,4 @@
-//! Porters: the calls that porters make, which no scenario of today does, and what must come of them.
+//! Porters: the calls that porters make, each by itself and with every status, beside the few that jobs make; and what must come of them.
 //!
 //! Each file `NAME.steps` of the current folder begins worlds by `world SCENARIO SPACE SLOT`: the file of a
 //! scenario, and where a porter is put. The lines behind it are steps that are made there one after another
@@ -6,7 +6,7 @@
 //! rules of the calls. A new file of steps needs no other edit.
 //!
 //! The program says which steps differ, and ends with a line of counts; it fails where one differs, or where
-//! it finds none. It promises of the world to which it gives a porter that this stays valid, and nothing else.
+//! a file has none. It promises of the world to which it gives a porter that this stays valid, and nothing else.
 #![tactic(auto)]
 
 mod bursts;
@@ -95,7 +95,10 @@ fn try_file<R: Files + Print + AllocGlobal>(
     let text = fs::read_to_string(rt, path)?;
     // A world is large: it is dropped at one place alone.
     let mut world = None;
-    take_lines(rt, tally, &mut world, text.as_str())
+    let before = tally.steps;
+    take_lines(rt, tally, &mut world, text.as_str())?;
+    ensure!(tally.steps > before, "no step was found");
+    Ok(())
 }
 
 /// The files of steps in the folder, in the order of their names.
