@@ -24,7 +24,6 @@ pub mod Freezing
 pub mod Moves
 pub mod Runs
 pub mod Who
-pub mod Rules
 pub mod Shapes
 pub mod Valid
 pub mod Whole

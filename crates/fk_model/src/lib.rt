@@ -6,9 +6,11 @@
 #![tactic(auto)]
 
 mod body;
+pub mod call;
 mod file_name;
 mod instruction;
 mod job;
+pub mod kind;
 pub mod limits;
 mod list;
 mod moves;
