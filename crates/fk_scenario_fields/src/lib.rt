@@ -14,7 +14,7 @@ mod paths;
 pub use entries::{Entries, Keyed};
 pub use fail::{Fail, ScenarioError, ScenarioFail, index_at, rule};
 pub use fields::{
-    array_in, bytes_of, flag_in, has_key, integer_in, integers_in, integers_of, known,
-    needed_integer, needed_text, ranged, ranged_or, table_in, text_in, unless, words_of,
+    array_in, bytes_of, flag_in, integer_in, integers_in, integers_of, known, needed_integer,
+    needed_text, ranged, ranged_or, table_in, text_in, unless, words_of,
 };
 pub use paths::{Path, enclosing, is_name, optional_path, parse_path};
