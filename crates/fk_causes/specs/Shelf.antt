@@ -1,5 +1,5 @@
 -- What a shelf tells of its files, and what its calls do to them and to its counts.
-use Rattle.std.specs.Prelude.{◌≡◌, ◌≢◌, ◌⊎◌, ⊤, ℕ, Bool, true, false, if◌then◌else◌, ◌≤◌, List, Option, Some, None, Result, Ok, Err, map, String, Vec, string_bytes}
+use Rattle.std.specs.Prelude.{◌≡◌, ◌≢◌, ⊤, ℕ, Bool, true, false, if◌then◌else◌, ◌≤◌, List, Option, Some, None, Result, Ok, Err, map, String, Vec, string_bytes}
 use Rattle.std.specs.declared.alloc.Global.{Global}
 use Rattle.std.specs.FinMap.{FinMap, from_entries}
 use Rattle.std.specs.Ordering.{nat_cmp}
@@ -27,10 +27,6 @@ KeepsOthers (Some old) (Some new) name = (other : List ℕ) → other ≢ name �
 pub record HasShelfCause {T : Type 0} (before now : ℕ) (result : Result T ShelfFail) : Type 0 where
   pub later : before ≤ now
   pub failed : result ≡ Err Failed → Rose before now
-
--- the count of a shelf's faults is the sum of its failed gets and its failed puts: it rose where either rose
-abbrev pub ShelfRose : (gets_before gets_now puts_before puts_now : ℕ) → Type 0
-ShelfRose gets_before gets_now puts_before puts_now = Rose gets_before gets_now ⊎ Rose puts_before puts_now
 
 -- whether a call of a shelf failed, and not for want of memory
 abbrev pub has_failed : {T : Type 0} → Result T ShelfFail → Bool
