@@ -8,11 +8,11 @@ ghost use Rattle.laws_jobs.specs.Machines.{no_words};
 ghost use Rattle.fk_jobs.specs.Jobs.{job_of, unmoved_of, current, first_of, state_of, call_with, asked_by, begun_from, hears, passed, with_idle};
 ghost use Rattle.fk_jobs.specs.Jobs.{shown_end, shown_ends, made_state};
 ghost use Rattle.laws_runs.specs.Cores.JobEnd.{Idle};
-ghost use Rattle.fk_jobs.specs.Plain.{picks_nobody, AsksPlainly};
+ghost use Rattle.fk_jobs.specs.Plain.{picks_nobody};
 
 use crate::begins::{can_begin, first_call, make};
 use crate::plan::Plan;
-use crate::worker::{Worker, jobs_pick_nobody};
+use crate::worker::Worker;
 use fk_model::{Answer, NoMemory, Stage};
 use std::alloc::Global;
 use std::marker::Model;
@@ -214,13 +214,6 @@ impl<W: Worker + Drop> Jobs<W> {
             Some(worker) => worker.bare(),
             None => None,
         }
-    }
-
-    /// It picks nobody. Nothing is done: by this call that is known without the call at hand.
-    pub fn plainly(&self)
-        ensures { AsksPlainly self.now }
-    {
-        jobs_pick_nobody();
     }
 
     /// Makes room for one answer, and changes nothing else.
