@@ -1,5 +1,5 @@
 -- What the open path gives.
-use Rattle.std.specs.Prelude.{◌≡◌, ℕ, List, [], ◌∷◌, Option, Some, None, Result, Ok, Err}
+use Rattle.std.specs.Prelude.{◌≡◌, ℕ, List, Option, Result, Ok, Err}
 use Rattle.fk_model.specs.declared.no_memory.NoMemory.{NoMemory}
 use Rattle.fk_image.specs.declared.open.Open.{Open}
 use Rattle.fk_image.specs.Preorder.{from, room_under}

@@ -5,7 +5,7 @@ ghost use Rattle.fk_image.specs.Objects.{kind_of_rec, kind_in};
 
 use crate::image::{ObjectRec, Rec};
 use crate::objects::kind_of_rec;
-use fk_model::{Kind, NoMemory};
+use fk_model::{Kind, NoMemory, kind};
 use std::alloc::Global;
 
 /// The number of an object's kind.
@@ -13,29 +13,29 @@ pub fn number_of_rec(body: &Rec) -> u8
     ensures { words.numbered result ≡ Some (kind_of_rec body.now) }
 {
     match body {
-        Rec::Mutex { .. } => 1,
-        Rec::Cond => 2,
-        Rec::Mapping { .. } => 3,
-        Rec::Region { .. } => 4,
-        Rec::Port { .. } => 5,
-        Rec::Portset => 6,
-        Rec::Thread(_) => 8,
-        Rec::Reference { .. } => 9,
+        Rec::Mutex { .. } => kind::MUTEX as u8,
+        Rec::Cond => kind::COND as u8,
+        Rec::Mapping { .. } => kind::MAPPING as u8,
+        Rec::Region { .. } => kind::REGION as u8,
+        Rec::Port { .. } => kind::PORT as u8,
+        Rec::Portset => kind::PORTSET as u8,
+        Rec::Thread(_) => kind::THREAD as u8,
+        Rec::Reference { .. } => kind::REFERENCE as u8,
     }
 }
 
 fn numbered(number: u8) -> Option<Kind>
     ensures { result ≡ words.numbered number }
 {
-    match number {
-        1 => Some(Kind::Mutex),
-        2 => Some(Kind::Cond),
-        3 => Some(Kind::Mapping),
-        4 => Some(Kind::Region),
-        5 => Some(Kind::Port),
-        6 => Some(Kind::Portset),
-        8 => Some(Kind::Thread),
-        9 => Some(Kind::Reference),
+    match u64::from(number) {
+        kind::MUTEX => Some(Kind::Mutex),
+        kind::COND => Some(Kind::Cond),
+        kind::MAPPING => Some(Kind::Mapping),
+        kind::REGION => Some(Kind::Region),
+        kind::PORT => Some(Kind::Port),
+        kind::PORTSET => Some(Kind::Portset),
+        kind::THREAD => Some(Kind::Thread),
+        kind::REFERENCE => Some(Kind::Reference),
         _ => None,
     }
 }
