@@ -1,5 +1,5 @@
 -- Repeats: what their moves are when one is put behind them, and when they are written out.
-use Rattle.std.proofs.Common.{◌≡◌, ℕ, suc, zero, ◌+◌, ◌≤◌, List, [], ◌∷◌, ◌++◌, length, length-append, append-nil, append_assoc, replicate, refl, sym, ap, subst, ◌∙◌, arith}
+use Rattle.std.proofs.Common.{◌≡◌, ℕ, suc, zero, ◌+◌, ◌-◌, ◌≤◌, List, [], ◌∷◌, ◌++◌, length, append-nil, append_assoc, replicate, refl, sym, ap, ◌∙◌, arith}
 use Rattle.fk_model.specs.declared.moves.Move.{Move}
 use Rattle.fk_history.specs.declared.repeats.Repeat.{Repeat}
 use Rattle.fk_history.specs.Repeats.{moves_in}
@@ -21,6 +21,15 @@ replicate_more zero k x =
 replicate_more (suc n) k x =
     let more : suc n + k ≡ suc (n + k) = omega arith in
     ap (λ m. replicate m x) more ∙ ap (λ l. x ∷ l) (replicate_more n k x)
+
+-- some are put, and the others are left
+pub some_more : (rs new : List Repeat) (n left : ℕ) (m : Move) → new ≡ rs ++ record { m = m; times = n } ∷ [] → n ≤ left →
+    moves_in new ++ replicate (left - n) m ≡ moves_in rs ++ replicate left m
+some_more rs new n left m is few =
+    let all : n + (left - n) ≡ left = omega (arith, few) in
+    ap (λ l. moves_in l ++ replicate (left - n) m) is ∙ ap (λ l. l ++ replicate (left - n) m) (moves_more rs (record { m = m; times = n }))
+    ∙ append_assoc (moves_in rs) (replicate n m) (replicate (left - n) m)
+    ∙ ap (λ l. moves_in rs ++ l) (sym (replicate_more n (left - n) m) ∙ ap (λ k. replicate k m) all)
 
 snoc-replicate : {X : Type 0} (n : ℕ) (x : X) → replicate n x ++ x ∷ [] ≡ replicate (suc n) x
 snoc-replicate zero x = refl

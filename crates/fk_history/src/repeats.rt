@@ -1,5 +1,5 @@
 //! Moves that are made so many times in a row.
-ghost use Rattle.std.specs.Prelude.{◌≡◌, ◌+◌, ◌<◌, ◌≤◌, ◌++◌, length, replicate, vec_capacity, OnOk};
+ghost use Rattle.std.specs.Prelude.{◌≡◌, ◌+◌, ◌≤◌, ◌++◌, length, replicate, vec_capacity, OnOk};
 ghost use Rattle.fk_history.specs.Repeats.{moves_in};
 
 use fk_model::{Move, NoMemory};
@@ -8,18 +8,27 @@ use fk_model::{Move, NoMemory};
 #[derive(Clone, Copy)]
 pub(crate) struct Repeat {
     pub m: Move,
-    pub times: u64,
+    pub times: u32,
 }
 
-/// So many times a move go behind the others, if it is made at all. Then there is room for one more.
+// A history has room for one a move.
+const _: () = prove!(size_of::<Repeat>() == 24);
+
+/// So many times a move go behind the others, in as few lines as can count them.
 pub(crate) fn put(repeats: &mut Vec<Repeat>, m: Move, times: u64)
-    requires { 0 < times → length repeats.old.items < vec_capacity repeats.old }
+    requires { length repeats.old.items + times ≤ vec_capacity repeats.old }
     ensures moves { moves_in repeats.new.items ≡ moves_in repeats.old.items ++ replicate times m }
     ensures few { length repeats.new.items ≤ length repeats.old.items + times }
     ensures capacity { vec_capacity repeats.new ≡ vec_capacity repeats.old }
 {
-    if times > 0 {
-        repeats.push_reserved(Repeat { m, times });
+    let mut left = times;
+    while left > 0 {
+        let some = left.min(u64::from(u32::MAX));
+        repeats.push_reserved(Repeat {
+            m,
+            times: some as u32,
+        });
+        left -= some;
     }
 }
 
@@ -38,7 +47,7 @@ pub(crate) fn write_all(all: &mut Vec<Move>, repeats: &[Repeat]) -> Result<(), N
     ensures { OnOk result (all.new.items ≡ all.old.items ++ moves_in repeats.now) }
 {
     for one in repeats {
-        write(all, one.m, one.times)?;
+        write(all, one.m, u64::from(one.times))?;
     }
     Ok(())
 }

@@ -1,5 +1,4 @@
-use Rattle.std.proofs.Common.{◌≡◌, ◌++◌, replicate, append-nil, sym, subst, arith}
-use Rattle.fk_history.proofs.Repeating.{pushed_more}
+use Rattle.std.proofs.Common.{append-nil, sym}
 use Rattle.fk_history.proofs.repeats.write.Goals as goal
 
 pub loop-k-init : goal.loop-k-init
