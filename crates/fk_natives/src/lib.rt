@@ -6,7 +6,7 @@
 //! whenever: a console keeps each word that it is sent; a server keeps the first 64 words of a request,
 //! replies by its rule when its client hands over, gives the reply and hands back; a talk that is taken up
 //! has an empty request, and at the server's turn the reply to that without the words that were moved. So one reply is what the
-//! server's rule answers, and services that are alike answer alike (`specs/Answers.antt`).
+//! server's rule answers, and services that are alike answer alike (`specs/Answers.antt`). Memory lacks for a console's words alone.
 #![tactic(auto)]
 
 mod answers;

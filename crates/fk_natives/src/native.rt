@@ -1,5 +1,6 @@
 //! The two kinds of native servers, as one type.
-ghost use Rattle.std.specs.Prelude.{◌≡◌};
+ghost use Rattle.std.specs.Prelude.{◌≡◌, true, OnOk, OnErr};
+ghost use Rattle.fk_natives.specs.Both.{meaning, has_room, is_console};
 
 use crate::console::Console;
 use crate::server::Server;
@@ -28,7 +29,11 @@ impl Service for Native {
         }
     }
 
-    fn reserve(&mut self) -> Result<(), NoMemory> {
+    fn reserve(&mut self) -> Result<(), NoMemory>
+        ensures same { meaning self.new ≡ meaning self.old }
+        ensures room { OnOk result (has_room self.new ≡ true) }
+        ensures console { OnErr result (is_console self.old ≡ true) }
+    {
         match self {
             Native::Console(console) => console.reserve(),
             Native::Server(server) => server.reserve(),

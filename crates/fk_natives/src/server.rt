@@ -1,5 +1,5 @@
 //! Servers that reply by a rule.
-ghost use Rattle.std.specs.Prelude.{◌≡◌, map, []};
+ghost use Rattle.std.specs.Prelude.{◌≡◌, map, [], IsOk};
 ghost use Rattle.fk_model.specs.Answers.{reply_words};
 ghost use Rattle.fk_natives.specs.Natives.{meaning_of, DoesFit, replies, gives_left};
 ghost use Rattle.fk_natives.specs.Natives.State.{OfServer};
@@ -87,7 +87,10 @@ impl Service for Server {
         }
     }
 
-    fn reserve(&mut self) -> Result<(), NoMemory> {
+    fn reserve(&mut self) -> Result<(), NoMemory>
+        ensures same { meaning_of self.new ≡ meaning_of self.old }
+        ensures done { IsOk result }
+    {
         Ok(())
     }
 
