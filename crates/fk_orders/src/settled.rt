@@ -3,7 +3,6 @@ ghost use Rattle.std.specs.Prelude.{◌≡◌, ◌<◌, ◌≤◌, ◌+◌, ◌^
 ghost use Rattle.fk_image.specs.Valid.{is_valid};
 ghost use Rattle.laws_rooms.specs.Restoring.{bound_by};
 ghost use Rattle.fk_positions.specs.Positions.{rest, order_at, IsPosition};
-ghost use Rattle.fk_positions.specs.Code as code;
 ghost use Rattle.fk_positions.specs.Code.{stays_within};
 ghost use Rattle.fk_positions.specs.Doing as doing;
 ghost use Rattle.fk_positions.specs.Positions as places;
@@ -11,10 +10,9 @@ ghost use Rattle.fk_orders.specs.Left.{image_of};
 ghost use Rattle.fk_orders.specs.Left as left;
 
 use crate::used::used_from;
-use fk_image::{FaultRec, Link, ObjectRec, Rec, SpaceRec, TalkRec};
+use fk_image::{Link, ObjectRec, Rec, SpaceRec};
 use fk_positions::{
-    Pass, Position, Spot, Walk, fault_of, is_out, leads_within, link_of, next_item, next_of,
-    stage_at, talk_of,
+    Pass, Position, Spot, Walk, leads_out, link_of, next_item, next_of, stage_at, ties_inside,
 };
 
 /// The first position of a script.
@@ -79,55 +77,6 @@ fn leads_nowhere(to: Link) -> bool
     !matches!(to, Link::In { .. } | Link::Root | Link::Dead)
 }
 
-/// Whether the port of a talk is that in a slot of the nester.
-fn talk_is_out(out: u8, talk: Option<TalkRec>) -> bool
-    ensures { result ≡ code.talk_is_out out talk }
-{
-    match talk {
-        None => false,
-        Some(talk) => is_out(out, talk.port),
-    }
-}
-
-/// The same of a fault.
-fn fault_is_out(out: u8, fault: Option<FaultRec>) -> bool
-    ensures { result ≡ code.fault_is_out out fault }
-{
-    match fault {
-        None => false,
-        Some(fault) => is_out(out, fault.port),
-    }
-}
-
-/// Whether an object leads to the port in a slot of the nester.
-fn leads_out(out: u8, body: &Rec) -> bool
-    ensures { result ≡ code.leads_out out body.now }
-{
-    is_out(out, link_of(body))
-        || talk_is_out(out, talk_of(body))
-        || fault_is_out(out, fault_of(body))
-}
-
-/// Whether the port of a talk is inside.
-fn talk_is_within(talk: Option<TalkRec>) -> bool
-    ensures { result ≡ code.talk_is_within talk }
-{
-    match talk {
-        None => false,
-        Some(talk) => leads_within(talk.port),
-    }
-}
-
-/// The same of a fault.
-fn fault_is_within(fault: Option<FaultRec>) -> bool
-    ensures { result ≡ code.fault_is_within fault }
-{
-    match fault {
-        None => false,
-        Some(fault) => leads_within(fault.port),
-    }
-}
-
 /// Whether nothing is done at an object in a pass.
 fn is_idle(pass: Pass, body: &Rec) -> bool
     ensures { result ≡ left.is_idle pass body.now }
@@ -135,7 +84,7 @@ fn is_idle(pass: Pass, body: &Rec) -> bool
     match pass {
         Pass::Inward => leads_nowhere(link_of(body)),
         Pass::Outward(out) => !leads_out(out, body),
-        Pass::Ties => !(talk_is_within(talk_of(body)) || fault_is_within(fault_of(body))),
+        Pass::Ties => !ties_inside(body),
         Pass::Spaces | Pass::Fills | Pass::Holds => false,
     }
 }

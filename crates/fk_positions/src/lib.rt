@@ -4,8 +4,7 @@
 //! these, so it takes no memory. From a position on the orders are the script's rest (`specs/Positions.antt`), and one step goes to the
 //! next place with what stands at it: none, or one order.
 //!
-//! Its code tells the call at a position (`stage_at`) and the next position (`next_of`), and what these are made of: the calls of a walk
-//! (`walk_stage`, `walk_next`, `goes`, `leads`), where a pass works (`visits`, `site`), and the parts of items (`part_at`).
+//! Its code tells the call at a position (`stage_at`) and the next position (`next_of`).
 //!
 //! It stands on `laws_rooms` for the rooms of an image and on `laws_restore` for the script.
 #![tactic(auto)]
@@ -23,14 +22,12 @@ ghost use Rattle.fk_positions.specs.Laws.{PositionsAreThePlaces, ScriptFromTheFi
 
 pub use binding::bound;
 pub use next::{next_item, next_of};
-pub use parts::{Doing, part_at};
 pub use passes::{
-    any_space_leads_out, are_within, fault_of, is_out, leads_out_any, leads_within, link_of, site,
-    talk_of, visits,
+    are_within, fault_of, is_out, leads_out, leads_out_any, leads_within, link_of, talk_of,
+    ties_inside,
 };
 pub use position::{Pass, Position, Spot, Walk};
 pub use stages::stage_at;
-pub use walks::{goes, leads, walk_next, walk_stage};
 
 /// From a position on the script has the order that stands there, and then what it has from the next position on.
 pub fn a_step_takes_one_order()

@@ -112,7 +112,8 @@ fn leads_in(body: &Rec) -> bool
     }
 }
 
-fn leads_out(slot: u8, body: &Rec) -> bool
+/// Whether an object leads to the port in this slot of the nester.
+pub fn leads_out(slot: u8, body: &Rec) -> bool
     ensures { result ≡ code.leads_out slot body.now }
 {
     is_out(slot, link_of(body))
@@ -120,7 +121,8 @@ fn leads_out(slot: u8, body: &Rec) -> bool
         || fault_is_out(slot, fault_of(body))
 }
 
-fn ties_inside(body: &Rec) -> bool
+/// Whether an object's talk or fault is at a port inside.
+pub fn ties_inside(body: &Rec) -> bool
     ensures { result ≡ code.ties_inside body.now }
 {
     talk_is_within(talk_of(body)) || fault_is_within(fault_of(body))
