@@ -66,7 +66,8 @@ fn push_out<S: Service>(text: &mut String, service: &S) -> Result<(), AllocError
     text.push_str("\n")
 }
 
-fn end_word(end: End) -> &'static str
+/// The word for how a run ends.
+pub fn end_word(end: End) -> &'static str
     ensures { result.now ≡ definitions.end_word end }
 {
     match end {

@@ -2,12 +2,12 @@
 ghost use Rattle.std.specs.Prelude.{◌≡◌, ◌+◌, ◌%◌, ◌^◌, IfOk, length, sum, take, string_bytes};
 ghost use Rattle.std.specs.List.{flat_map};
 ghost use Rattle.fk_natives.specs.Natives.{printed_by};
-ghost use Rattle.fk_report.specs.Report.{end_word, states};
+ghost use Rattle.fk_report.specs.Report.{states};
 ghost use Rattle.fk_soak.specs.Line as definitions;
 
 use fk_model::{NoMemory, Who};
 use fk_natives::Service;
-use fk_report::End;
+use fk_report::{End, end_word};
 use std::alloc::{AllocError, Global};
 
 /// The sum of words and a number, modulo 2^64.
@@ -41,17 +41,6 @@ fn count_printed<S: Service>(services: &[(Who, S)]) -> u64
         count = count.wrapping_add(service.printed().len() as u64);
     }
     count
-}
-
-fn end_word(end: End) -> &'static str
-    ensures { result.now ≡ end_word end }
-{
-    match end {
-        End::Halted => "halted",
-        End::Quiet => "quiet",
-        End::Budget => "budget",
-        End::Listed => "listed",
-    }
 }
 
 /// The line of what was counted.
