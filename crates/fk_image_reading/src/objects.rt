@@ -12,7 +12,7 @@ use crate::fields::{read_below, read_byte, read_link, read_u16, read_words, refu
 use crate::threads::read_thread;
 use fk_image::{ObjectRec, Objects, PageRec, Rec, is_extent, is_set_word};
 use fk_image_format::reason;
-use fk_model::{List, NoMemory};
+use fk_model::{List, NoMemory, kind};
 use std::alloc::Global;
 
 /// A first page and a count.
@@ -123,16 +123,16 @@ fn add_body<'a>(
     ensures read { Decodes (λ rest. (objects.new, rest.now)) result (with_body objects.old slot (words.read_body bytes.now)) }
     ensures last { OnOk result (next_slot objects.new ≡ slot + 1) }
 {
-    let (kind, rest) = read_byte(bytes)?;
-    match kind {
-        1 => Ok(add(objects, slot, read_mutex(rest)?)?),
-        2 => Ok(add(objects, slot, (Rec::Cond, rest))?),
-        3 => Ok(add(objects, slot, read_mapping(rest)?)?),
-        4 => Ok(add(objects, slot, read_region(rest)?)?),
-        5 => Ok(add(objects, slot, read_port(rest)?)?),
-        6 => Ok(add(objects, slot, (Rec::Portset, rest))?),
-        8 => Ok(add(objects, slot, read_thread(alloc, rest)?)?),
-        9 => Ok(add(objects, slot, read_reference(rest)?)?),
+    let (number, rest) = read_byte(bytes)?;
+    match u64::from(number) {
+        kind::MUTEX => Ok(add(objects, slot, read_mutex(rest)?)?),
+        kind::COND => Ok(add(objects, slot, (Rec::Cond, rest))?),
+        kind::MAPPING => Ok(add(objects, slot, read_mapping(rest)?)?),
+        kind::REGION => Ok(add(objects, slot, read_region(rest)?)?),
+        kind::PORT => Ok(add(objects, slot, read_port(rest)?)?),
+        kind::PORTSET => Ok(add(objects, slot, (Rec::Portset, rest))?),
+        kind::THREAD => Ok(add(objects, slot, read_thread(alloc, rest)?)?),
+        kind::REFERENCE => Ok(add(objects, slot, read_reference(rest)?)?),
         _ => Err(refused(bytes, reason::RANGE)),
     }
 }
