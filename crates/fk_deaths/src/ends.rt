@@ -10,6 +10,10 @@ ghost use Rattle.fk_store.specs.Paths.{path, place};
 ghost use Rattle.fk_store.specs.World.{world};
 ghost use Rattle.fk_deaths.specs.Ends.{begins_talking, talking, ended_where, is_in_list, ends_led};
 
+use fk_model::call::{
+    CLIENT_OVER, CLIENT_OVER_RECEIVE, CLIENT_RECEIVE, CLIENT_SEND, CLIENT_SEND_OVER_RECEIVE,
+    SERVER_OVER, SERVER_OVER_RECEIVE, SERVER_RECEIVE, SERVER_SEND, SERVER_SEND_OVER_RECEIVE,
+};
 use fk_model::status::ENDED;
 use fk_model::{Mode, Thread, Turn, Who};
 use fk_store::Store;
@@ -19,8 +23,22 @@ fn begins_talking(side: Turn, code: u64) -> bool
     ensures { result ≡ begins_talking side code }
 {
     match side {
-        Turn::Client => matches!(code, 34 | 35 | 36 | 37 | 38),
-        Turn::Server => matches!(code, 50 | 51 | 52 | 53 | 54),
+        Turn::Client => matches!(
+            code,
+            CLIENT_SEND_OVER_RECEIVE
+                | CLIENT_OVER_RECEIVE
+                | CLIENT_RECEIVE
+                | CLIENT_SEND
+                | CLIENT_OVER
+        ),
+        Turn::Server => matches!(
+            code,
+            SERVER_RECEIVE
+                | SERVER_SEND
+                | SERVER_OVER
+                | SERVER_SEND_OVER_RECEIVE
+                | SERVER_OVER_RECEIVE
+        ),
     }
 }
 

@@ -16,7 +16,7 @@ ghost use Rattle.fk_readers.specs.Callers.{caller_by, mapped};
 use crate::caller::Caller;
 use crate::readers::slot_for;
 use fk_model::status::{BADHANDLE, WRONGKIND};
-use fk_model::{Body, Ptr, Who};
+use fk_model::{Body, Ptr, Who, kind};
 use fk_store::Store;
 
 /// The object in a slot of a space.
@@ -59,15 +59,15 @@ pub fn kind_number(body: &Body) -> u64
     ensures { (p : ℕ → Path) → result ≡ number_of_kind (kind_of (body_by p body.now)) }
 {
     match body {
-        Body::Mutex { .. } => 1,
-        Body::Cond => 2,
-        Body::Mapping { .. } => 3,
-        Body::Region { .. } => 4,
-        Body::Port { .. } => 5,
-        Body::Portset => 6,
-        Body::Space { .. } => 7,
-        Body::Thread(_) => 8,
-        Body::Reference { .. } => 9,
+        Body::Mutex { .. } => kind::MUTEX,
+        Body::Cond => kind::COND,
+        Body::Mapping { .. } => kind::MAPPING,
+        Body::Region { .. } => kind::REGION,
+        Body::Port { .. } => kind::PORT,
+        Body::Portset => kind::PORTSET,
+        Body::Space { .. } => kind::SPACE,
+        Body::Thread(_) => kind::THREAD,
+        Body::Reference { .. } => kind::REFERENCE,
     }
 }
 
