@@ -1,9 +1,13 @@
 -- Promises: what the laws of state and holds say of a kernel's steps.
-use Rattle.std.proofs.Common.{◌≡◌, true, Option, Some, None, Result, Ok, Err, IsSome, IfOk, IfSome, IfNone, refl}
+use Rattle.std.proofs.Common.{◌≡◌, ◌≤◌, true, Option, Some, None, Result, Ok, Err, IsSome, IfOk, IfSome, IfNone, refl}
 use Rattle.fk_model.specs.declared.moves.Ask.{Ask}
 use Rattle.fk_model.specs.declared.moves.Move.{Move}
 use Rattle.fk_model.specs.declared.moves.Said.{Said}
+use Rattle.fk_model.specs.World.{World}
+use Rattle.fk_model.specs.Searches.{depth}
 use Rattle.fk_model.specs.Moves.{IsReady}
+use Rattle.fk_model.specs.Valid.{IsValid}
+use Rattle.fk_model.specs.Whole.{HasFullPages}
 use Rattle.fk_model.specs.Who.{space_born, event_of}
 use Rattle.fk_store.specs.Contents.{Contents}
 use Rattle.fk_store.specs.Moves.{said_by}
@@ -11,9 +15,14 @@ use Rattle.fk_store.specs.Paths.{path}
 use Rattle.fk_store.specs.World.{world}
 use Rattle.fk_steps.specs.Tellings.{Told}
 use Rattle.fk_steps.specs.Judgements.{is_fit_move, IsReadyMove, IsStepTo}
+use Rattle.laws_whole.specs.Runnable.{HasRegisters, IsRunnable}
 use Rattle.laws_prompt.specs.Events.{IsPrompt, IsCorrect}
 use Rattle.laws_prompt.proofs.Events.{prompt_is_ready, correct_step}
 use Rattle.fk_kernel.specs.Events.{is_fit_event}
+
+-- a store's world is runnable, by what a store tells of it
+pub sized-runnable : (w : World) → IsValid w → w.next ≤ depth → HasFullPages w → HasRegisters w → IsRunnable w
+sized-runnable w valid few full registers = record { whole = record { valid = valid; few = few; full = full }; registers = registers }
 
 module _ (m : Contents) (move : Move) (ask : Ask) (born : path m ≡ space_born (world m)) where
   -- a fit event is a fit move
@@ -25,17 +34,17 @@ module _ (m : Contents) (move : Move) (ask : Ask) (born : path m ≡ space_born 
   prompt-ready prompt = rw born (prompt_is_ready (world m) (event_of (world m) ask move) prompt)
 
   -- a step is correct
-  pub correct-made : (n : Contents) (said : Said) → IsStepTo m move ask n said →
+  pub correct-made : IsRunnable (world m) → (n : Contents) (said : Said) → IsStepTo m move ask n said →
       IsCorrect (world m) (event_of (world m) ask move) (world n) (said_by (path n) said)
-  correct-made n said is =
-      correct_step (world m) (event_of (world m) ask move) (world n) (said_by (path n) said) (rw born at is)
+  correct-made runs n said is =
+      correct_step (world m) (event_of (world m) ask move) (world n) (said_by (path n) said) runs (rw born at is)
 
-  pub correct-tried : {E : Type 0} (n : Contents) (R : Type 0) (r : Result (Option Told) E) →
+  pub correct-tried : {E : Type 0} → IsRunnable (world m) → (n : Contents) (R : Type 0) (r : Result (Option Told) E) →
       IfOk r (λ tried. IfSome tried (λ told. R × IsStepTo m move ask n told.said)) →
       IfOk r (λ tried. IfSome tried (λ told. IsCorrect (world m) (event_of (world m) ask move) (world n) (said_by (path n) told.said)))
-  correct-tried n R (Ok (Some told)) made = correct-made n told.said made.1
-  correct-tried n R (Ok None) made = made
-  correct-tried n R (Err e) made = made
+  correct-tried runs n R (Ok (Some told)) made = correct-made runs n told.said made.1
+  correct-tried runs n R (Ok None) made = made
+  correct-tried runs n R (Err e) made = made
 
   -- a prompt move that is tried is made
   pub prompt-tried : {E : Type 0} (N : Type 0) (r : Result (Option Told) E) →
@@ -45,7 +54,7 @@ module _ (m : Contents) (move : Move) (ask : Ask) (born : path m ≡ space_born 
   prompt-tried N (Ok None) unready prompt = absurd (unready.0 (prompt-ready prompt))
   prompt-tried N (Err e) unready prompt = unready
 
-  pub correct-step : {E : Type 0} (n : Contents) (r : Result Said E) → IfOk r (λ said. IsStepTo m move ask n said) →
+  pub correct-step : {E : Type 0} → IsRunnable (world m) → (n : Contents) (r : Result Said E) → IfOk r (λ said. IsStepTo m move ask n said) →
       IfOk r (λ said. IsCorrect (world m) (event_of (world m) ask move) (world n) (said_by (path n) said))
-  correct-step n (Ok said) is = correct-made n said is
-  correct-step n (Err e) is = is
+  correct-step runs n (Ok said) is = correct-made runs n said is
+  correct-step runs n (Err e) is = is

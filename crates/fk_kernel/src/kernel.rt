@@ -137,6 +137,7 @@ impl Kernel {
         ensures done { may_lack (world_of self.old) (event_of (world_of self.old) ask.now m.now) ≡ false → IsOk result }
     {
         self.store.names();
+        self.store.sizes();
         fk_steps::take(&mut self.store, &mut self.turns, m, ask)
     }
 
@@ -167,6 +168,7 @@ impl Kernel {
         ensures done { may_lack (world_of self.old) (event_of (world_of self.old) ask.now m.now) ≡ false → IsOk result }
     {
         self.store.names();
+        self.store.sizes();
         let tried = fk_steps::attempt(&mut self.store, &mut self.turns, m, ask);
         // And so they do in the world that the move leaves.
         self.store.names();

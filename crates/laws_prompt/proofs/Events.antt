@@ -4,6 +4,7 @@ use Rattle.fk_model.specs.World.{World}
 use Rattle.fk_model.specs.Outcomes.{Said}
 use Rattle.fk_model.specs.Moves.{Step, step}
 use Rattle.fk_model.specs.Runs.{Event}
+use Rattle.laws_whole.specs.Runnable.{IsRunnable}
 use Rattle.laws_whole.proofs.Laws.{keeps_runnable}
 use Rattle.laws_prompt.specs.Events.{PromptIsReady, IsCorrect, StepsAreCorrect}
 use Rattle.laws_prompt.specs.Events.IsPrompt.{Gets, PorterGets, Holds, PorterHolds}
@@ -21,18 +22,18 @@ prompt_is_ready w _ (Holds space slot s x at may) = space_hold_is_prompt w space
 prompt_is_ready w _ (PorterHolds space slot s x words at may) = porters_space_hold_is_prompt w space slot s x words at may
 
 pub steps_are_correct : StepsAreCorrect
-steps_are_correct w e = record {
-  got = λ space slot s x address is runs at. rw is (get_state_shows w space slot s x address runs at);
+steps_are_correct w e runs = record {
+  got = λ space slot s x address is at. rw is (get_state_shows w space slot s x address runs at);
   answered = λ space slot s x address words answer is at. rw is (get_state_answers w space slot s x address words answer at);
-  set = λ space slot s x address is runs at meets. rw is (set_state_of_itself w space slot s x address runs.registers at meets);
+  set = λ space slot s x address is at meets. rw is (set_state_of_itself w space slot s x address runs.registers at meets);
   given = λ space slot s x address words is at gives. rw is (porters_set_state_of_itself w space slot s x address words at gives);
   destroyed = λ space slot s x is at. rw is (users_destroy_one w space slot s x at);
   removed = λ space slot s x words is at. rw is (porters_destroy_one w space slot s x words at);
   brief = moves_are_brief w e.mover e.pick e.ask;
-  runs = keeps_runnable w e;
+  runs = keeps_runnable w e runs;
 }
 
 -- for a step that is known by what it leads to and tells
-pub correct_step : (w : World) (e : Event) (v : World) (said : Said) →
+pub correct_step : (w : World) (e : Event) (v : World) (said : Said) → IsRunnable w →
     step w e.mover e.pick e.ask ≡ record { world = v; said = said } → IsCorrect w e v said
-correct_step w e v said is = subst (λ (step : Step). IsCorrect w e step.world step.said) is (steps_are_correct w e)
+correct_step w e v said runs is = subst (λ (step : Step). IsCorrect w e step.world step.said) is (steps_are_correct w e runs)

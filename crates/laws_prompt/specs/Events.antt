@@ -53,11 +53,11 @@ PromptIsReady = (w : World) (e : Event) → IsPrompt w e → IsReady w e.mover e
 -- an event leads from one world to another, and tells this: what is got is the record, what is set again changes nothing, a
 -- stage of destroy that goes removes one object, all that is done is brief, and pages keep all their words and threads their registers
 pub record IsCorrect (w : World) (e : Event) (v : World) (said : Said) : Type 0 where
-  pub got : (space : Path) (slot s x address : ℕ) → e ≡ users_event space slot → IsRunnable w → IsUserAt w space slot (GetState s x address) →
+  pub got : (space : Path) (slot s x address : ℕ) → e ≡ users_event space slot → IsUserAt w space slot (GetState s x address) →
       is_done v (slot ∷ space) ≡ true → ShowsRecord w v (user_at (slot ∷ space)) s x address
   pub answered : (space : Path) (slot s x address : ℕ) (words answer : List ℕ) → e ≡ porters_event space slot (GetState s x address) words →
       IsPorterFor w space slot (GetState s x address) → said ≡ Answered OK answer → AnswersRecord w (porter_at (slot ∷ space) words) s x answer
-  pub set : (space : Path) (slot s x address : ℕ) → e ≡ users_event space slot → IsRunnable w → IsUserAt w space slot (SetState s x address) →
+  pub set : (space : Path) (slot s x address : ℕ) → e ≡ users_event space slot → IsUserAt w space slot (SetState s x address) →
       MeetsItself w (user_at (slot ∷ space)) s x address → is_done v (slot ∷ space) ≡ true → v ≡ apply (Alter (slot ∷ space) (Finish [])) w
   pub given : (space : Path) (slot s x address : ℕ) (words : List ℕ) → e ≡ porters_event space slot (SetState s x address) words →
       IsPorterFor w space slot (SetState s x address) → GivesItself w (porter_at (slot ∷ space) words) s x → said ≡ Answered OK [] → v ≡ w
@@ -66,9 +66,9 @@ pub record IsCorrect (w : World) (e : Event) (v : World) (said : Said) : Type 0 
   pub removed : (space : Path) (slot s x : ℕ) (words : List ℕ) → e ≡ porters_event space slot (Destroy s x) words →
       IsPorterFor w space slot (Destroy s x) → Destroys w v (destroy w (porter_at (slot ∷ space) words) s x)
   pub brief : AreBrief (listed (outcome w e.mover e.pick e.ask))
-  pub runs : IsRunnable w → IsDue w e → w.next + 1 ≤ depth → IsRunnable v
+  pub runs : IsDue w e → w.next + 1 ≤ depth → IsRunnable v
 
--- so it is with every step
+-- so it is with every step from a runnable world
 abbrev pub StepsAreCorrect : Type 0
-StepsAreCorrect = (w : World) (e : Event) →
+StepsAreCorrect = (w : World) (e : Event) → IsRunnable w →
     IsCorrect w e (step w e.mover e.pick e.ask).world (step w e.mover e.pick e.ask).said

@@ -2,7 +2,8 @@ use Rattle.std.proofs.Common.{sym}
 use Rattle.fk_kernel.proofs.Endings.{ended-tried, heard-tried}
 use Rattle.fk_steps.specs.Waiting.{standing}
 use Rattle.fk_kernel.proofs.Kept.{same-lacking, same-unready}
-use Rattle.fk_kernel.proofs.Promises.{correct-tried, fit-move, prompt-tried}
+use Rattle.fk_store.specs.World.{world}
+use Rattle.fk_kernel.proofs.Promises.{correct-tried, fit-move, prompt-tried, sized-runnable}
 use Rattle.fk_kernel.proofs.kernel.Kernel.attempt.Goals as goal
 
 pub invariant_of-self : goal.invariant_of-self
@@ -19,9 +20,10 @@ returns-clause-prompt c prompt =
 
 pub returns-clause-correct : goal.returns-clause-correct
 returns-clause-correct c =
+    let m = c.self.inside.store in
+    let runs = sized-runnable (world m) c.self.invariant.valid c.names.ensures.few c.sizes.ensures.pages c.sizes.ensures.registers in
     let correct =
-    correct-tried c.self.inside.store c.args.m.now c.args.ask.now c.names.ensures.born c.attempt-tried.new.store _ c.attempt-tried.result
-    c.attempt-tried.ensures.made in
+    correct-tried m c.args.m.now c.args.ask.now c.names.ensures.born runs c.attempt-tried.new.store _ c.attempt-tried.result c.attempt-tried.ensures.made in
     rw (← c.self.view_is) correct
 
 pub returns-clause-ended : goal.returns-clause-ended

@@ -1,7 +1,8 @@
 use Rattle.std.proofs.Common.{sym}
 use Rattle.fk_steps.specs.Waiting.{standing}
 use Rattle.fk_kernel.proofs.Kept.{same-err}
-use Rattle.fk_kernel.proofs.Promises.{correct-step, fit-move}
+use Rattle.fk_store.specs.World.{world}
+use Rattle.fk_kernel.proofs.Promises.{correct-step, fit-move, sized-runnable}
 use Rattle.fk_kernel.proofs.kernel.Kernel.step.Goals as goal
 
 pub invariant_of-self : goal.invariant_of-self
@@ -9,7 +10,9 @@ invariant_of-self c = record { valid = c.take.ensures.valid; kept = c.take.ensur
 
 pub returns-clause-correct : goal.returns-clause-correct
 returns-clause-correct c =
-    let correct = correct-step c.self.inside.store c.args.m.now c.args.ask.now c.names.ensures.born c.take.new.store c.take.result c.take.ensures.step in
+    let m = c.self.inside.store in
+    let runs = sized-runnable (world m) c.self.invariant.valid c.names.ensures.few c.sizes.ensures.pages c.sizes.ensures.registers in
+    let correct = correct-step m c.args.m.now c.args.ask.now c.names.ensures.born runs c.take.new.store c.take.result c.take.ensures.step in
     rw (← c.self.view_is) correct
 
 pub take-requires-clause-fit : goal.take-requires-clause-fit
