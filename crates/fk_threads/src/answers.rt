@@ -17,6 +17,10 @@ ghost use Rattle.fk_store.specs.World.{world};
 ghost use Rattle.fk_threads.specs.Answers.{all_four, listed, code_after, LeaveArguments};
 
 use crate::going::go_on;
+use fk_model::call::{
+    CLIENT_OVER_RECEIVE, CLIENT_RECEIVE, CLIENT_SEND_OVER_RECEIVE, CONNECT_SEND_OVER_RECEIVE,
+    SERVER_OVER_RECEIVE, SERVER_RECEIVE, SERVER_SEND_OVER_RECEIVE, WAIT_RECEIVE,
+};
 use fk_model::{Mode, Thread, Who, status};
 use fk_store::Store;
 
@@ -35,12 +39,12 @@ fn code_after(code: u64) -> Option<u64>
     ensures { result ≡ code_after code }
 {
     match code {
-        33 => Some(34),
-        34 => Some(35),
-        35 => Some(36),
-        49 => Some(50),
-        53 => Some(54),
-        54 => Some(50),
+        CONNECT_SEND_OVER_RECEIVE => Some(CLIENT_SEND_OVER_RECEIVE),
+        CLIENT_SEND_OVER_RECEIVE => Some(CLIENT_OVER_RECEIVE),
+        CLIENT_OVER_RECEIVE => Some(CLIENT_RECEIVE),
+        WAIT_RECEIVE => Some(SERVER_RECEIVE),
+        SERVER_SEND_OVER_RECEIVE => Some(SERVER_OVER_RECEIVE),
+        SERVER_OVER_RECEIVE => Some(SERVER_RECEIVE),
         _ => None,
     }
 }

@@ -15,6 +15,10 @@ ghost use Rattle.fk_store.specs.Threads.{todo_of_mode};
 ghost use Rattle.fk_store.specs.World.{world};
 ghost use Rattle.fk_threads.specs.Shifted.{moving, address_in, address_of, shifted_registers, receive_code, IsLow};
 
+use fk_model::call::{
+    CLIENT_RECEIVE, CLIENT_SEND, CLIENT_SEND_OVER_RECEIVE, SERVER_RECEIVE, SERVER_SEND,
+    SERVER_SEND_OVER_RECEIVE,
+};
 use fk_model::{Mode, Thread, Turn, Who};
 use fk_store::Store;
 
@@ -32,11 +36,11 @@ fn shift(registers: &mut [u64; 16], count: u64)
     ensures { registers.new ≡ shifted_registers count registers.old }
 {
     match registers[0] {
-        34 | 37 | 51 | 53 => {
+        CLIENT_SEND_OVER_RECEIVE | CLIENT_SEND | SERVER_SEND | SERVER_SEND_OVER_RECEIVE => {
             registers[2] = registers[2] + count;
             registers[3] = less(registers[3], count);
         }
-        36 | 50 => {
+        CLIENT_RECEIVE | SERVER_RECEIVE => {
             registers[4] = registers[4] + count;
             registers[5] = less(registers[5], count);
         }
@@ -91,8 +95,8 @@ fn receive_code(side: Turn) -> u64
     ensures { result ≡ receive_code side }
 {
     match side {
-        Turn::Client => 36,
-        Turn::Server => 50,
+        Turn::Client => CLIENT_RECEIVE,
+        Turn::Server => SERVER_RECEIVE,
     }
 }
 

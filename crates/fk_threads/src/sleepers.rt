@@ -19,6 +19,7 @@ ghost use Rattle.fk_threads.specs.Firsts.{IsFirst};
 ghost use Rattle.fk_threads.specs.Sleepers.{asleep_in, fallen, is_changed, IsAsleep};
 
 use crate::going::go_on;
+use fk_model::call::{COND_ASLEEP, COND_WAIT, MUTEX_LOCK};
 use fk_model::{Mode, Thread, Who};
 use fk_store::Store;
 
@@ -26,7 +27,7 @@ use fk_store::Store;
 fn asleep_in(registers: &[u64; 16], cond: u64) -> Option<u64>
     ensures { result ≡ asleep_in cond registers.now }
 {
-    if registers[0] == 25 && registers[1] == cond {
+    if registers[0] == COND_ASLEEP && registers[1] == cond {
         return Some(registers[2]);
     }
     None
@@ -80,7 +81,7 @@ fn awake(mut thread: Thread, mutex: u64) -> Thread
     ensures stops { result.stops ≡ thread.stops }
     ensures call { HasCall result.mode result.regs }
 {
-    thread.regs[0] = 21;
+    thread.regs[0] = MUTEX_LOCK;
     thread.regs[1] = mutex;
     thread
 }
@@ -131,8 +132,8 @@ fn fallen(registers: [u64; 16]) -> [u64; 16]
     ensures { result ≡ fallen registers }
 {
     let mut written = registers;
-    if registers[0] == 24 {
-        written[0] = 25;
+    if registers[0] == COND_WAIT {
+        written[0] = COND_ASLEEP;
     }
     written
 }
