@@ -15,6 +15,7 @@ ghost use Rattle.fk_store.specs.Paths.{path, place};
 ghost use Rattle.fk_store.specs.World.{world, IsLive};
 ghost use Rattle.fk_plans.specs.Plans.{IsMaking, IsMakingHeld, made};
 
+use fk_model::kind::{COND, MAPPING, MUTEX, PORT, PORTSET, REFERENCE, REGION, SPACE, THREAD};
 use fk_model::{Body, Mode, NoMemory, Ptr, Thread, Who};
 use fk_store::Store;
 
@@ -27,32 +28,32 @@ fn blank(kind: u64, birth: u32) -> Body
     ensures sized { IsSized result }
 {
     match kind {
-        1 => Body::Mutex { locked: false },
-        2 => Body::Cond,
-        3 => Body::Mapping {
+        MUTEX => Body::Mutex { locked: false },
+        COND => Body::Cond,
+        MAPPING => Body::Mapping {
             first: 0,
             count: 1,
             offset: 0,
             write: false,
             region: Ptr::Null,
         },
-        4 => Body::Region {
+        REGION => Body::Region {
             first: 0,
             count: 1,
             write: false,
             keeper: Ptr::Null,
         },
-        5 => Body::Port {
+        PORT => Body::Port {
             set: None,
             served: false,
         },
-        6 => Body::Portset,
-        7 => Body::Space {
+        PORTSET => Body::Portset,
+        SPACE => Body::Space {
             birth,
             holder: None,
         },
-        8 => Body::Thread(new_thread()),
-        9 => Body::Reference { to: Ptr::Null },
+        THREAD => Body::Thread(new_thread()),
+        REFERENCE => Body::Reference { to: Ptr::Null },
         _ => unreachable!(),
     }
 }
