@@ -56,7 +56,10 @@ impl Leased {
     }
 
     /// A lease of nobody, to be renewed: no instruction can be made in it.
-    pub fn blank() -> Leased {
+    pub fn blank() -> Leased
+        ensures idle { bursts.instructed (burst_of result.copy) ≡ None }
+        ensures count { result.count ≡ 0 }
+    {
         let taken = Copied::blank();
         Leased {
             thread: Who { space: 0, slot: 0 },

@@ -8,7 +8,7 @@ use Rattle.fk_model.specs.Instructions.{next}
 use Rattle.fk_model.specs.Places.{Path, parent}
 use Rattle.fk_model.specs.Valid.{IsPaged}
 use Rattle.fk_model.specs.World.{World}
-use Rattle.laws_bursts.specs.Bursts.{using, write}
+use Rattle.laws_bursts.specs.Bursts.{instructed, using, write}
 use Rattle.laws_bursts.specs.Laws.{HasPages}
 use Rattle.fk_copies.specs.declared.copied.Copied.{Copied}
 use Rattle.fk_copies.specs.Copies.{for_page, burst_of, begun, laid, IsSameAt}
@@ -327,3 +327,15 @@ on-true false P Q f h = h
 pub on-false : (r : Bool) (P Q : Type 0) → (P → Q) → OnFalse r P → OnFalse r Q
 on-false true P Q f h = h
 on-false false P Q f h = f h
+
+-- where it has no page no instruction can be made
+pub none_instructed : (registers : List ℕ) (used : List Bool) (words : List (List ℕ)) → instructed (burst_of (record {
+  registers = registers;
+  counter = 0;
+  first = 0;
+  there = false ∷ false ∷ false ∷ false ∷ [];
+  used = used;
+  words = words;
+})) ≡ None
+unfolding burst_of
+none_instructed registers used words = refl

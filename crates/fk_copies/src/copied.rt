@@ -91,6 +91,7 @@ impl Copied {
     pub fn blank() -> Copied
         ensures first { result.first ≡ result.counter / 64 }
         ensures unused { (page : ℕ) → (burst_of result).used page ≡ false }
+        ensures idle { instructed (burst_of result) ≡ None }
     {
         Copied {
             registers: [0; 16],
