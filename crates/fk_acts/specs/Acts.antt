@@ -84,7 +84,8 @@ pub record IsGift (w : World) (p : ℕ → Path) (words : List ℕ) (client : Wh
 -- a free thread; one that begins a talk has none, one that goes on with its talk waits to be taken up
 abbrev pub IsFor : World → (ℕ → Path) → List ℕ → Act → Type 0
 IsFor w p words (acts.Takes client) = (is_free_at w (place p client) ≡ true) × (talk_at w (place p client) ≡ None)
-IsFor w p words (acts.Resumes client turn moved) = (is_free_at w (place p client) ≡ true) × (holds (λ (talk : Talk). is_parked (Some talk.peer)) (talk_at w (place p client)) ≡ true)
+IsFor w p words (acts.Resumes client turn moved) =
+    (is_free_at w (place p client) ≡ true) × (holds (λ (talk : Talk). is_parked (Some talk.peer)) (talk_at w (place p client)) ≡ true)
 IsFor w p words acts.GivesNothing = ⊤
 IsFor w p words (acts.Gives client to into count) = (is_free_at w (place p client) ≡ true) × IsGift w p words client to into count
 IsFor w p words (acts.Fills client) = is_free_at w (place p client) ≡ true

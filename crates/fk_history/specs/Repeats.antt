@@ -11,7 +11,8 @@ pub record Kept : Type 0 where
   pub room : ℕ
 
 abbrev pub kept_code : Coded Kept
-kept_code = code_by (List Move × ℕ) (coded× (coded_list move.the_row.coded) coded_ℕ) (λ k. (k.moves, k.room)) (λ p. record { moves = p.0; room = p.1 }) (λ _. refl)
+kept_code = code_by (List Move × ℕ) (coded× (coded_list move.the_row.coded) coded_ℕ)
+    (λ k. (k.moves, k.room)) (λ p. record { moves = p.0; room = p.1 }) (λ _. refl)
 
 -- the moves that such repeats are
 abbrev pub moves_in : List Repeat → List Move

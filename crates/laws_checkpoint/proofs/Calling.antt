@@ -285,6 +285,7 @@ pub checkpoint_leaves_rest : CheckpointLeavesRest
 checkpoint_leaves_rest slot birth w nester low may sound = record {
   first = λ ready. first_leaves nester slot low birth w may sound ready;
   later = λ v t stage words work e now ready.
-      known_leaves nester slot low v stage words (known_at nester slot low birth w may v t stage words now (came slot birth w nester low may v t work) e).1 ready;
+      known_leaves nester slot low v stage words
+      (known_at nester slot low birth w may v t stage words now (came slot birth w nester low may v t work) e).1 ready;
   ends = λ v t end work stops space. unheld_at_end nester slot low birth w may v t end (came slot birth w nester low may v t work) stops space;
 }
