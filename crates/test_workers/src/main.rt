@@ -67,11 +67,11 @@ fn outs(alloc: Global, output: &str) -> anyhow::Result<Vec<&str>> {
     Ok(outs)
 }
 
-/// Whether one line's words, behind `out` and a name, end as those of the other.
+/// Whether a copy's line has words behind `out` and a name, and those of the other line end so.
 fn ends_as(alloc: Global, line: &str, copy: &str) -> anyhow::Result<bool> {
     let words: Vec<&str> = line.split(' ').skip(2).collect(alloc)?;
     let copied: Vec<&str> = copy.split(' ').skip(2).collect(alloc)?;
-    Ok(words.ends_with(&copied))
+    Ok(!copied.is_empty() && words.ends_with(&copied))
 }
 
 /// Whether what each of the ten copies was sent is what its original, one of the last ten of forty, was sent last.
@@ -87,7 +87,32 @@ fn are_suffixes(alloc: Global, outs: &[&str]) -> anyhow::Result<bool> {
     Ok(true)
 }
 
-/// Twenty runs of 40 processes: what their consoles were sent, and whether it was the same each time.
+/// Whether a report has a line that begins so.
+fn has_line(output: &str, front: &str) -> bool {
+    for line in output.lines() {
+        if line.starts_with(front) {
+            return true;
+        }
+    }
+    false
+}
+
+/// Whether all threads have halted, and the ten were saved and made again.
+fn is_whole(output: &str) -> bool {
+    has_line(output, "end halted")
+        && has_line(output, "job 0 checkpoint done ")
+        && has_line(output, "job 1 restore done ")
+}
+
+/// Prints the first of some lines, so many.
+fn print_first<R: Print>(rt: &R, lines: &[&str], count: usize) -> anyhow::Result<()> {
+    for line in lines.iter().take(count) {
+        println!(rt; "{line}")?;
+    }
+    Ok(())
+}
+
+/// Twenty runs of 40 processes: what their consoles were sent, whether it was the same each time, and whether each run came to its end.
 fn many<R: Print + Files + AllocGlobal + Threads + Wait + Sync>(
     rt: &R,
     table: &Table,
@@ -95,11 +120,10 @@ fn many<R: Print + Files + AllocGlobal + Threads + Wait + Sync>(
     let text = fs::read_to_string(rt, "many.toml")?;
     let first = call(rt, rt.alloc(), table, &["run"], text.as_str(), &Open)?;
     let wanted = outs(rt.alloc(), first.output.as_str())?;
-    for line in wanted.iter().take(40) {
-        println!(rt; "{line}")?;
-    }
+    print_first(rt, &wanted, 40)?;
     let mut alike = 0u32;
     let mut suffixes = 0u32;
+    let mut whole = 0u32;
     for _ in 0..20 {
         let again = call(rt, rt.alloc(), table, &["run"], text.as_str(), &Open)?;
         let found = outs(rt.alloc(), again.output.as_str())?;
@@ -109,8 +133,13 @@ fn many<R: Print + Files + AllocGlobal + Threads + Wait + Sync>(
         if are_suffixes(rt.alloc(), &found)? {
             suffixes = suffixes.saturating_add(1);
         }
+        if is_whole(again.output.as_str()) {
+            whole = whole.saturating_add(1);
+        }
     }
-    println!(rt; "{alike} runs alike, in {suffixes} the copies end as their originals")?;
+    println!(rt;
+        "{alike} runs alike, in {suffixes} the copies end as their originals, in {whole} all have halted and both jobs are done"
+    )?;
     Ok(())
 }
 
