@@ -11,6 +11,7 @@ ghost use Rattle.fk_store.specs.World.{world, IsLive};
 ghost use Rattle.fk_links.specs.Candidates.{candidate_by, IsCandidate};
 ghost use Rattle.fk_links.specs.Connects.{connect_first, is_connecting};
 
+use fk_model::call::{CONNECT, CONNECT_SEND_OVER_RECEIVE};
 use fk_model::{Body, Fault, Kind, Mode, Peer, Talk, Thread, Who};
 use fk_plans::{Caller, handle, is_in};
 use fk_store::Store;
@@ -98,7 +99,7 @@ fn faulting(store: &Store, space: u32, set: u64, thread: &Thread) -> Option<Cand
 fn is_connect(code: u64) -> bool
     ensures { result ≡ (code == 32 || code == 33) }
 {
-    code == 32 || code == 33
+    code == CONNECT || code == CONNECT_SEND_OVER_RECEIVE
 }
 
 /// The handle of the port to which a thread connects.
