@@ -1,4 +1,4 @@
-use Rattle.std.proofs.Common.{sym, ◌∙◌}
+use Rattle.std.proofs.Common.{sym, true, ◌∙◌}
 use Rattle.fk_steps.proofs.Giving.{lacks, stage_lacks}
 use Rattle.fk_steps.proofs.room.reserve_for_stage.Goals as goal
 
