@@ -1,5 +1,5 @@
 -- Cutting: what a turn does to plain subtrees.
-use Rattle.std.proofs.Common.{◌≡◌, ℕ, ◌<◌, Bool, true, false, List, [], ◌∷◌, Ok, inl, inr, refl, sym, subst, ◌∙◌}
+use Rattle.std.proofs.Common.{◌≡◌, ℕ, ◌<◌, Bool, true, false, List, [], ◌∷◌, Ok, inl, inr, refl, sym, subst, ◌∙◌, arith}
 use Rattle.fk_model.specs.declared.moves.Ask.TheVariants as asks
 use Rattle.fk_model.specs.declared.moves.Move.{Move}
 use Rattle.fk_model.specs.Cut.{cut, IsPlain}
@@ -11,6 +11,7 @@ use Rattle.fk_model.specs.Seen.{Seen, IsSeen}
 use Rattle.fk_model.specs.Seen.Seen.{Onwards, Unseen, Other}
 use Rattle.fk_model.specs.Valid.{is_fit}
 use Rattle.fk_model.specs.Who.{event_of, named}
+use Rattle.fk_model.specs.Whole.{IsWhole}
 use Rattle.fk_model.specs.World.{World}
 use Rattle.laws_cut.specs.CutLaws.{HasDone as HasMoved}
 use Rattle.laws_cut.proofs.joined.Every.{event_keeps}
@@ -29,6 +30,7 @@ use Rattle.fk_core.specs.Cores.{RunCore, house, IsReadyMove, IsTurned, IsTried}
 use Rattle.fk_core.specs.Cuts.{IsEvent, HasDone, KeepsCuts, LeavesStrangers, IsOfStranger}
 use Rattle.fk_core.specs.Goings.{HasCome}
 use Rattle.fk_rounds.proofs.Asking.{asked_other}
+use Rattle.fk_core.proofs.Bursting.{come_sound}
 use Rattle.fk_core.proofs.Going.{job_fits}
 use Rattle.fk_rounds.proofs.Acts.{fit-asked}
 
@@ -80,27 +82,37 @@ has-done w v e nester slot (Onwards m) goes sees done =
 has-done w v e nester slot Unseen goes sees done = subst (λ v. IsPlain v nester slot × (cut v nester slot ≡ cut w nester slot)) (sym goes) (done, sees.1.0)
 has-done w v e nester slot Other goes sees done = tt
 
+-- the world to which a run has come is whole
+is-whole : (q : Queue) (w : World) (services : Services) (events budget : ℕ) → HasCome q.jobs budget (core_of w services q events) → events < budget
+    → IsWhole w
+is-whole q w services events budget come below =
+    (come_sound q.jobs budget (core_of w services q events) come (let few = below in omega (arith, few))).whole
+
 pub keeps_cuts : (q : Queue) (w : World) (services : Services) (events budget : ℕ) (m : Move) (d : RunCore) →
     HasCome q.jobs budget (core_of w services q events) → events < budget →
     IsReadyMove q.jobs (core_of w services q events) m → IsTurned q.jobs (core_of w services q events) m d
     → KeepsCuts q.jobs (core_of w services q events) m d.world
-keeps_cuts q w services events budget m d come below ready turned whole e is nester slot seen plain sees =
+keeps_cuts q w services events budget m d come below ready turned e is nester slot seen plain sees =
     let turn = made q w services events budget m d e come below ready turned is in
-    has-done w d.world e nester slot seen turn.goes sees (event_keeps w nester slot e whole plain turn.fit turn.ready seen sees)
+    has-done w d.world e nester slot seen turn.goes sees
+    (event_keeps w nester slot e (is-whole q w services events budget come below) plain turn.fit turn.ready seen sees)
 
 pub leaves_strangers : (q : Queue) (w : World) (services : Services) (events budget : ℕ) (m : Move) (d : RunCore) →
     HasCome q.jobs budget (core_of w services q events) → events < budget →
     IsReadyMove q.jobs (core_of w services q events) m → IsTurned q.jobs (core_of w services q events) m d
     → LeavesStrangers q.jobs (core_of w services q events) m d.world
-leaves_strangers q w services events budget m d come below ready turned whole e is nester slot plain none stranger = by stranger
+leaves_strangers q w services events budget m d come below ready turned e is nester slot plain none stranger = by stranger
   where
+    whole : IsWhole w
+    whole = is-whole q w services events budget come below
+
     turn : IsMade (core_of w services q events) d e
     turn = made q w services events budget m d e come below ready turned is
 
     by : IsOfStranger w nester slot e → HasDone w d.world nester slot Unseen
-    by (inl thread) = keeps_cuts q w services events budget m d come below ready turned whole e is nester slot Unseen plain
+    by (inl thread) = keeps_cuts q w services events budget m d come below ready turned e is nester slot Unseen plain
         (strangers_move_unseen w nester slot e whole plain none thread.0 thread.1 turn.fit)
-    by (inr server) = keeps_cuts q w services events budget m d come below ready turned whole e is nester slot Unseen plain
+    by (inr server) = keeps_cuts q w services events budget m d come below ready turned e is nester slot Unseen plain
         (strangers_act_unseen w nester slot e whole plain none server.0 server.1 turn.ready)
 
 -- a ready move that is tried is made

@@ -1,5 +1,5 @@
 -- Leaving: what a job's move leaves, by the law of its machine.
-use Rattle.std.proofs.Common.{◌≡◌, ℕ, ◌+◌, ◌≤◌, ◌⊎◌, inl, inr, List, [], ◌∷◌, ◌++◌, length, Some, option_map, refl, sym, ap, ◌∙◌, subst, arith}
+use Rattle.std.proofs.Common.{◌≡◌, ℕ, ◌+◌, ◌<◌, ◌≤◌, ◌⊎◌, inl, inr, List, [], ◌∷◌, ◌++◌, length, Some, option_map, refl, sym, ap, ◌∙◌, subst, arith}
 use Rattle.std.proofs.lemmas.List.{length-append}
 use Rattle.fk_image.specs.declared.image.Image.{Image}
 use Rattle.fk_image.specs.Picture.{picture}
@@ -21,7 +21,7 @@ use Rattle.laws_checkpoint.proofs.Calling.{checkpoint_leaves_rest}
 use Rattle.laws_house.specs.Houses.{Job, State, machine}
 use Rattle.laws_house.specs.Houses.End.{Checked, Restored}
 use Rattle.laws_house.specs.Houses.State.{Checking, Restoring}
-use Rattle.laws_house.specs.Laws.{IsGrounded}
+use Rattle.laws_house.specs.Laws.{NameUsersSlots}
 use Rattle.laws_house.proofs.House.{checkpoint_part, restore_part, house_is_tidy}
 use Rattle.laws_house.proofs.Moving.{Starts, starts}
 use Rattle.laws_house.proofs.Moving.Starts.{AsCheckpoint, AsRestore}
@@ -38,7 +38,7 @@ use Rattle.laws_restore.specs.Roomed.{IsRoomed}
 use Rattle.laws_restore.proofs.Resting.{leaves_far}
 use Rattle.laws_rooms.specs.Rooms.{rooms_of}
 use Rattle.laws_rooms.specs.Restoring.{bound_by, restore_of}
-use Rattle.laws_runs.specs.Composed.{AreTidy}
+use Rattle.laws_runs.specs.Composed.{AreTidy, IsStart}
 use Rattle.laws_runs.specs.Cores.{IsRun, IsReadyBy, asker, world_at}
 use Rattle.laws_runs.specs.Cores.Asker.{Job as OfJob}
 use Rattle.laws_runs.specs.Cores.IsRun.{Goes}
@@ -49,8 +49,11 @@ use Rattle.laws_runs.proofs.Named.{named_there, caller_there}
 use Rattle.laws_runs.proofs.Turning.{jobs_moves}
 use Rattle.laws_savable.specs.Savable.{IsSound}
 use Rattle.fk_rounds.specs.Served.{servers}
+use Rattle.fk_rounds.proofs.Acts.{servers_ask_as_users}
 use Rattle.fk_core.specs.Cores.{RunCore, house, IsReadyMove, IsTurned}
+use Rattle.fk_core.specs.Goings.{HasCome}
 use Rattle.fk_core.specs.Leaves.{LeavesBeside, LeavesTheRest}
+use Rattle.fk_core.proofs.Going.{counted}
 
 same_check : (slot other : ℕ) (s t : checkpoints.State) → Checking slot s ≡ Checking other t → (slot ≡ other) × (s ≡ t)
 same_check slot other s t e = (cc, cc)
@@ -66,23 +69,24 @@ behind : (slot k : ℕ) (x y : Path) → slot ∷ x ≡ k ∷ y → x ≡ y
 behind slot k x y same = cc
 
 module _ (jobs : List Job) (c : RunCore) (m : Move) (d : RunCore) (ready : IsReadyMove jobs c m) (turned : IsTurned jobs c m d) (first : RunCore)
-    (past : List Move) (run : IsRun (house jobs) first past c) (grounded : IsGrounded jobs servers first (past ++ m ∷ [])) where
+    (past : List Move) (run : IsRun (house jobs) first past c) (slots : NameUsersSlots jobs) (begins : IsStart first)
+    (enough : first.world.next + length (past ++ m ∷ []) ≤ depth) where
   longer : length (past ++ m ∷ []) ≡ length past + 1
   longer = length-append past (m ∷ [])
 
   few : first.world.next + (length past + 1) ≤ depth
-  few = let long = longer in let all = grounded.few in omega (arith, long, all)
+  few = let long = longer in let all = enough in omega (arith, long, all)
 
   fewer : first.world.next + length past ≤ depth
   fewer = let all = few in omega (arith, all)
 
   tidy : AreTidy (house jobs)
-  tidy = house_is_tidy jobs servers grounded.slots
+  tidy = house_is_tidy jobs servers slots
 
   -- ---- before the move and after it
 
-  stand : Stands (house jobs) first grounded.users tidy grounded.start run
-  stand = stands (house jobs) first grounded.users tidy grounded.start run fewer
+  stand : Stands (house jobs) first servers_ask_as_users tidy begins run
+  stand = stands (house jobs) first servers_ask_as_users tidy begins run fewer
 
   sound : IsSound c.world
   sound = subst IsSound stand.last (stand.sound (length past) (omega arith))
@@ -90,20 +94,20 @@ module _ (jobs : List Job) (c : RunCore) (m : Move) (d : RunCore) (ready : IsRea
   abbrev all : IsRun (house jobs) first (past ++ m ∷ []) d
   all = Goes past c m d run ready turned
 
-  then_stand : Stands (house jobs) first grounded.users tidy grounded.start all
-  then_stand = stands (house jobs) first grounded.users tidy grounded.start all grounded.few
+  then_stand : Stands (house jobs) first servers_ask_as_users tidy begins all
+  then_stand = stands (house jobs) first servers_ask_as_users tidy begins all enough
 
   then_sound : IsSound d.world
   then_sound = subst IsSound then_stand.last (then_stand.sound (length (past ++ m ∷ [])) (omega arith))
 
-  made : Made_here (house jobs) first grounded.users tidy grounded.start past c m d run ready turned stand few
-  made = made_here (house jobs) first grounded.users tidy grounded.start past c m d run ready turned stand few
+  made : Made_here (house jobs) first servers_ask_as_users tidy begins past c m d run ready turned stand few
+  made = made_here (house jobs) first servers_ask_as_users tidy begins past c m d run ready turned stand few
 
   -- ---- a job's move
 
   module _ (begun : ℕ) (state : State) (stage : Stage) (words : List ℕ) (asks : asker (house jobs) c m.who ≡ OfJob begun state stage words) where
     its : IsJobsMove run m begun state stage words
-    its = jobs_moves (house jobs) first c past run grounded.users tidy grounded.start fewer m begun state stage words asks ready
+    its = jobs_moves (house jobs) first c past run servers_ask_as_users tidy begins fewer m begun state stage words asks ready
 
     asked_ready : IsReadyAt c.world (event_of c.world (asks_for.Call stage words) m)
     asked_ready = (subst (IsReadyBy (house jobs) c m) asks ready).1
@@ -124,7 +128,7 @@ module _ (jobs : List Job) (c : RunCore) (m : Move) (d : RunCore) (ready : IsRea
         (named_there c.world sound.whole.valid sound.whole.few m.who.space m.who.slot there)
 
     begins_so : Starts its.job its.start
-    begins_so = starts its.job c.ends its.start (grounded.slots (length c.ends) its.job its.its) its.starts
+    begins_so = starts its.job c.ends its.start (slots (length c.ends) its.job its.its) its.starts
 
     begins_now : begun ≡ length past → MayBegin c.world its.nester its.job.nester
     begins_now here = subst (λ w. MayBegin w its.nester its.job.nester) (ap (λ k. world_at run k) here ∙ stand.last) its.may
@@ -274,6 +278,10 @@ module _ (jobs : List Job) (c : RunCore) (m : Move) (d : RunCore) (ready : IsRea
     leaves = restores_it begun slot pairs image s stage words asks (begins_so begun (Restoring slot pairs image s) stage words asks);
   }
 
-pub leaves_the_rest : (jobs : List Job) (c : RunCore) (m : Move) (d : RunCore) → IsReadyMove jobs c m → IsTurned jobs c m d → LeavesTheRest jobs c m d
-leaves_the_rest jobs c m d ready turned first past run grounded begun state stage words asks =
-    leaves jobs c m d ready turned first past run grounded begun state stage words asks
+pub leaves_the_rest : (jobs : List Job) (budget : ℕ) (c : RunCore) (m : Move) (d : RunCore) → HasCome jobs budget c → c.events < budget →
+    IsReadyMove jobs c m → IsTurned jobs c m d → LeavesTheRest jobs c m d
+leaves_the_rest jobs budget c m d come below ready turned begun state stage words asks =
+    let long = counted jobs come.first c come.past come.run come.start.events in
+    let longer = length-append come.past (m ∷ []) in
+    let few = come.few in
+    leaves jobs c m d ready turned come.first come.past come.run come.slots come.start (omega (arith, long, longer, few, below)) begun state stage words asks

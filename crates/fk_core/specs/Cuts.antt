@@ -7,7 +7,6 @@ use Rattle.fk_model.specs.Places.{Path}
 use Rattle.fk_model.specs.Runs.{Event}
 use Rattle.fk_model.specs.Seen.{Seen, IsSeen, IsStranger}
 use Rattle.fk_model.specs.Seen.Seen.{Onwards, Unseen, Other}
-use Rattle.fk_model.specs.Whole.{IsWhole}
 use Rattle.fk_model.specs.World.{World}
 use Rattle.laws_further.specs.Strangers.{HasNoWindow, IsStrangersPort, is_of_thread, is_of_server}
 use Rattle.laws_house.specs.Houses.{Job}
@@ -26,9 +25,9 @@ HasDone w v nester slot (Onwards m) = IsPlain v nester slot × ((told : List Tol
 HasDone w v nester slot Unseen = IsPlain v nester slot × (cut v nester slot ≡ cut w nester slot)
 HasDone w v nester slot Other = Unit {0}
 
--- so it is with every plain subtree, where the world is whole before the move
+-- so it is with every plain subtree
 abbrev pub KeepsCuts : List Job → RunCore → Move → World → Type 0
-KeepsCuts jobs c m v = IsWhole c.world → (e : Event) → IsEvent jobs c m e → (nester : Path) (slot : ℕ) (seen : Seen) →
+KeepsCuts jobs c m v = (e : Event) → IsEvent jobs c m e → (nester : Path) (slot : ℕ) (seen : Seen) →
     IsPlain c.world nester slot → IsSeen c.world nester slot e seen → HasDone c.world v nester slot seen
 
 -- a stranger to a subtree moves: a thread that stands away from it, or a server by such a port
@@ -38,5 +37,5 @@ IsOfStranger w nester slot e =
 
 -- no stranger's move is seen, where no mapping outside leads to a region inside
 abbrev pub LeavesStrangers : List Job → RunCore → Move → World → Type 0
-LeavesStrangers jobs c m v = IsWhole c.world → (e : Event) → IsEvent jobs c m e → (nester : Path) (slot : ℕ) →
+LeavesStrangers jobs c m v = (e : Event) → IsEvent jobs c m e → (nester : Path) (slot : ℕ) →
     IsPlain c.world nester slot → HasNoWindow c.world nester slot → IsOfStranger c.world nester slot e → HasDone c.world v nester slot Unseen

@@ -1,5 +1,5 @@
--- What a job's move leaves, in each run that has come to it.
-use Rattle.std.specs.Prelude.{◌≡◌, ℕ, List, [], ◌∷◌, ◌++◌, Some}
+-- What a job's move leaves.
+use Rattle.std.specs.Prelude.{◌≡◌, ℕ, List, Some}
 use Rattle.fk_model.specs.declared.moves.Move.{Move}
 use Rattle.fk_model.specs.declared.stage.Stage.{Stage}
 use Rattle.fk_model.specs.Places.{Path}
@@ -7,11 +7,9 @@ use Rattle.fk_model.specs.Valid.{birth_at}
 use Rattle.laws_checkpoint.specs.Laws.{IsSameBeside}
 use Rattle.laws_house.specs.Houses.{Job, State}
 use Rattle.laws_house.specs.Houses.State.{Checking, Restoring}
-use Rattle.laws_house.specs.Laws.{IsGrounded}
 use Rattle.laws_restore.specs.Rest.{IsSameFar}
-use Rattle.laws_runs.specs.Cores.{IsRun, asker}
+use Rattle.laws_runs.specs.Cores.{asker}
 use Rattle.laws_runs.specs.Cores.Asker.{Job as OfJob}
-use Rattle.fk_rounds.specs.Served.{servers}
 use Rattle.fk_core.specs.Cores.{RunCore, house}
 
 -- a checkpoint's move leaves every page, and every object but its nester's scratch and who holds the subtree's root; a restore's leaves
@@ -27,6 +25,5 @@ pub record LeavesBeside (state : State) (c : RunCore) (m : Move) (d : RunCore) :
   pub leaves : LeavesBy state nester c d
 
 abbrev pub LeavesTheRest : List Job → RunCore → Move → RunCore → Type 0
-LeavesTheRest jobs c m d = (first : RunCore) (past : List Move) → IsRun (house jobs) first past c →
-    IsGrounded jobs servers first (past ++ m ∷ []) → (begun : ℕ) (state : State) (stage : Stage) (words : List ℕ) →
+LeavesTheRest jobs c m d = (begun : ℕ) (state : State) (stage : Stage) (words : List ℕ) →
     asker (house jobs) c m.who ≡ OfJob begun state stage words → LeavesBeside state c m d

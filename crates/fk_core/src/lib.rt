@@ -7,7 +7,8 @@
 //! It promises that `turn` is the turn of a run: the machine's step, that each server hears what the move tells
 //! at its port, or that its talk has ended, that the job whose move it is hears the answer, and that jobs end that are due and can't begin
 //! (`specs/Cores.antt`); that `burst` is as many turns as moves of a running thread were made at once; that each plain subtree stays so, and its cut
-//! does the move as which it sees this one, or nothing (`specs/Cuts.antt`); that for want of memory all is as
+//! does the move as which it sees this one, or nothing (`specs/Cuts.antt`); that a job's move leaves all but its nester's scratch and, of a checkpoint,
+//! who holds the subtree, of a restore the new space (`specs/Leaves.antt`); that for want of memory all is as
 //! before; that `choose` finds a ready move, of a thread, a server or a due job, wherever there is one and the
 //! budget isn't used, and at an even number of moves a due job's; and that `ended` tells how a run has ended (`fk_moment`).
 #![tactic(auto)]

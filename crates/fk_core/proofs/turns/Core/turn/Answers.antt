@@ -21,7 +21,7 @@ returns-clause-strangers g c =
 pub returns-clause-rest : goal.returns-clause-rest
 returns-clause-rest g c =
     let old = c.args.self.now in
-    leaves_the_rest old.jobs.jobs (run_core old) c.args.m.now (run_core c.go.new.self) c.requires.ready
+    leaves_the_rest old.jobs.jobs old.budget (run_core old) c.args.m.now (run_core c.go.new.self) c.requires.come c.requires.few c.requires.ready
     (of-ready c.in_ok-go.field-0 _ _ (run_core c.args.self.now) c.args.m.now (run_core c.go.new.self) c.requires.ready c.in_ok-go.ensures.tried)
 
 pub returns-clause-turned : goal.returns-clause-turned
