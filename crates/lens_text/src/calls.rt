@@ -1,5 +1,9 @@
 //! Calls as text, by the registers that hold them: each stage that is left by its name, with its arguments as docs/CALLS.md names them.
 use crate::sheet::{Sheet, line_at, parted};
+use fk_model::call::{
+    CLIENT_OVER_RECEIVE, CLIENT_RECEIVE, CLIENT_SEND, CLIENT_SEND_OVER_RECEIVE,
+    SERVER_OVER_RECEIVE, SERVER_RECEIVE, SERVER_SEND, SERVER_SEND_OVER_RECEIVE, WAIT_RECEIVE,
+};
 use fk_model::{Stage, Todo};
 use fk_stages::{todo, words};
 
@@ -86,9 +90,13 @@ pub fn push_call(sheet: &Sheet, registers: &[u64; 16], is_first_alone: bool) {
         return sheet.fill(b"no call, @", code, 0, 0);
     }
     let arguments = match code {
-        34 | 37 | 51 | 53 => &registers[2..6],
-        35 | 36 | 50 | 54 => &registers[4..6],
-        49 => return sheet.fill_all(form, &[registers[1], registers[4], registers[5]]),
+        CLIENT_SEND_OVER_RECEIVE | CLIENT_SEND | SERVER_SEND | SERVER_SEND_OVER_RECEIVE => {
+            &registers[2..6]
+        }
+        CLIENT_OVER_RECEIVE | CLIENT_RECEIVE | SERVER_RECEIVE | SERVER_OVER_RECEIVE => {
+            &registers[4..6]
+        }
+        WAIT_RECEIVE => return sheet.fill_all(form, &[registers[1], registers[4], registers[5]]),
         _ => &registers[1..6],
     };
     sheet.fill_all(form, arguments);
