@@ -16,6 +16,7 @@ use Rattle.fk_store.specs.World.{world}
 use Rattle.fk_steps.specs.Tellings.{Told}
 use Rattle.fk_steps.specs.Judgements.{is_fit_move, IsReadyMove, IsStepTo}
 use Rattle.laws_whole.specs.Runnable.{HasRegisters, IsRunnable}
+use Rattle.laws_prompt.specs.Correct.{HasShapes}
 use Rattle.laws_prompt.specs.Events.{IsPrompt, IsCorrect}
 use Rattle.laws_prompt.proofs.Events.{prompt_is_ready, correct_step}
 use Rattle.fk_kernel.specs.Events.{is_fit_event}
@@ -34,17 +35,17 @@ module _ (m : Contents) (move : Move) (ask : Ask) (born : path m ≡ space_born 
   prompt-ready prompt = rw born (prompt_is_ready (world m) (event_of (world m) ask move) prompt)
 
   -- a step is correct
-  pub correct-made : IsRunnable (world m) → (n : Contents) (said : Said) → IsStepTo m move ask n said →
+  pub correct-made : IsRunnable (world m) → HasShapes (world m) → (n : Contents) (said : Said) → IsStepTo m move ask n said →
       IsCorrect (world m) (event_of (world m) ask move) (world n) (said_by (path n) said)
-  correct-made runs n said is =
-      correct_step (world m) (event_of (world m) ask move) (world n) (said_by (path n) said) runs (rw born at is)
+  correct-made runs shapes n said is =
+      correct_step (world m) (event_of (world m) ask move) (world n) (said_by (path n) said) runs shapes (rw born at is)
 
-  pub correct-tried : {E : Type 0} → IsRunnable (world m) → (n : Contents) (R : Type 0) (r : Result (Option Told) E) →
+  pub correct-tried : {E : Type 0} → IsRunnable (world m) → HasShapes (world m) → (n : Contents) (R : Type 0) (r : Result (Option Told) E) →
       IfOk r (λ tried. IfSome tried (λ told. R × IsStepTo m move ask n told.said)) →
       IfOk r (λ tried. IfSome tried (λ told. IsCorrect (world m) (event_of (world m) ask move) (world n) (said_by (path n) told.said)))
-  correct-tried runs n R (Ok (Some told)) made = correct-made runs n told.said made.1
-  correct-tried runs n R (Ok None) made = made
-  correct-tried runs n R (Err e) made = made
+  correct-tried runs shapes n R (Ok (Some told)) made = correct-made runs shapes n told.said made.1
+  correct-tried runs shapes n R (Ok None) made = made
+  correct-tried runs shapes n R (Err e) made = made
 
   -- a prompt move that is tried is made
   pub prompt-tried : {E : Type 0} (N : Type 0) (r : Result (Option Told) E) →
@@ -54,7 +55,8 @@ module _ (m : Contents) (move : Move) (ask : Ask) (born : path m ≡ space_born 
   prompt-tried N (Ok None) unready prompt = absurd (unready.0 (prompt-ready prompt))
   prompt-tried N (Err e) unready prompt = unready
 
-  pub correct-step : {E : Type 0} → IsRunnable (world m) → (n : Contents) (r : Result Said E) → IfOk r (λ said. IsStepTo m move ask n said) →
+  pub correct-step : {E : Type 0} → IsRunnable (world m) → HasShapes (world m) → (n : Contents) (r : Result Said E) →
+      IfOk r (λ said. IsStepTo m move ask n said) →
       IfOk r (λ said. IsCorrect (world m) (event_of (world m) ask move) (world n) (said_by (path n) said))
-  correct-step runs n (Ok said) is = correct-made runs n said is
-  correct-step runs n (Err e) is = is
+  correct-step runs shapes n (Ok said) is = correct-made runs shapes n said is
+  correct-step runs shapes n (Err e) is = is

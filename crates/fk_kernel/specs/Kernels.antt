@@ -1,11 +1,9 @@
 -- Kernels: what the clauses of a kernel speak of. Whatever a kernel may hold beside its store, these lines say what of it
 -- the machine sees.
-use Rattle.std.specs.Prelude.{◌≡◌, ℕ, List, Some, refl}
+use Rattle.std.specs.Prelude.{ℕ, List, refl}
 use Rattle.std.specs.Coded.{Coded, code_by, coded×, coded_list}
 use Rattle.fk_model.specs.declared.names.Who.{Who}
-use Rattle.fk_model.specs.Objects.{Thread, thread_of, and_then}
 use Rattle.fk_model.specs.Places.{Path}
-use Rattle.fk_model.specs.Shapes.{IsShapedMode}
 use Rattle.fk_model.specs.World.{World}
 use Rattle.fk_model.specs.Valid.{IsValid}
 use Rattle.fk_store.specs.Contents.{Contents, coded_contents}
@@ -46,7 +44,3 @@ world_of kernel = worlds.world (store_of kernel)
 -- the paths of its spaces, by their birth numbers
 abbrev pub path_of : Kept → ℕ → Path
 path_of kernel = paths.path (store_of kernel)
-
--- a calling thread has the stages of a call before it and the rest beside them, any other 16 registers
-abbrev pub HasShapes : World → Type 0
-HasShapes w = (x : Path) (t : Thread) → and_then thread_of (w.body x) ≡ Some t → IsShapedMode t.mode

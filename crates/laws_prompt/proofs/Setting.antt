@@ -20,6 +20,7 @@ use Rattle.fk_model.specs.Holds.{is_frozen_for}
 use Rattle.fk_model.specs.Readers.{object_in, anything, space_argument, own_page_at}
 use Rattle.fk_model.specs.LinkRows.{user_at}
 use Rattle.fk_model.specs.Records.{record_of, record_registers, set_edits, takes_state}
+use Rattle.fk_model.specs.Shapes.{IsShaped}
 use Rattle.fk_model.specs.StateRows.{is_bad_record_address, is_native, is_still, sets_record, record_at, set_state}
 use Rattle.fk_model.specs.Moves.{Step, call_row, closed, stepped, porter_at}
 use Rattle.laws_machine.proofs.Records.{record_changes_nothing_lem}
@@ -52,7 +53,7 @@ module _ (w : World) (registers : HasRegisters w) (space : Path) (slot s x addre
   kept-refuse status true go told going = kept-refused status told
   kept-refuse status false go told going = going refl
 
-  module _ (meets : MeetsItself w (user_at (slot ∷ space)) s x address) where
+  module _ (meets : MeetsItself w (user_at (slot ∷ space)) s x address) (shaped : IsShaped meets.body) where
     there : w.body (x ∷ meets.named.space) ≡ Some meets.body
     there = object-there w (user_at (slot ∷ space)) x meets.named.space meets.body meets.named.object
 
@@ -62,7 +63,7 @@ module _ (w : World) (registers : HasRegisters w) (space : Path) (slot s x addre
     unfolding apply_all
     kept-set off =
         apply_all-append (map (Alter (x ∷ meets.named.space)) (set_edits meets.body (record_of meets.body))) (Alter (slot ∷ space) (Finish []) ∷ []) w
-        ∙ ap (apply_all (Alter (slot ∷ space) (Finish []) ∷ [])) (record_changes_nothing_lem w (x ∷ meets.named.space) meets.body there meets.shaped off)
+        ∙ ap (apply_all (Alter (slot ∷ space) (Finish []) ∷ [])) (record_changes_nothing_lem w (x ∷ meets.named.space) meets.body there shaped off)
 
     kept-record : is_native meets.body ≡ false →
         Kept (sets_record w (user_at (slot ∷ space)) meets.named.space (x ∷ meets.named.space) meets.body (record_of meets.body))
@@ -94,11 +95,11 @@ module _ (w : World) (registers : HasRegisters w) (space : Path) (slot s x addre
 
 pub set_state_of_itself : SetStateOfItself
 unfolding call_row
-set_state_of_itself w space slot s x address registers at meets =
+set_state_of_itself w space slot s x address registers at meets shaped =
     subst (λ (step : Step). is_done step.world (slot ∷ space) ≡ true → step.world ≡ apply (Alter (slot ∷ space) (Finish [])) w)
     (sym (users-step w space slot (SetState s x address) at
     ∙ ap (λ o. stepped w (closed (user_at (slot ∷ space)) o)) (unpicked (set_state w (user_at (slot ∷ space)) s x address))))
-    (row-kept w registers space slot s x address at meets)
+    (row-kept w registers space slot s x address at meets shaped)
 
 -- ---- a porter, whose words may be more than a record has
 
@@ -138,7 +139,8 @@ edits-first (Thread_of t) words =
     ) refl
 edits-first b words = refl
 
-module _ (w : World) (space : Path) (slot s x address : ℕ) (given : List ℕ) (gives : GivesItself w (porter_at (slot ∷ space) given) s x) where
+module _ (w : World) (space : Path) (slot s x address : ℕ) (given : List ℕ) (gives : GivesItself w (porter_at (slot ∷ space) given) s x)
+    (shaped : IsShaped gives.body) where
   abbrev PorterKept : Outcome → Type 0
   PorterKept o = (stepped w (closed (porter_at (slot ∷ space) given) o)).said ≡ Answered OK [] →
       (stepped w (closed (porter_at (slot ∷ space) given) o)).world ≡ w
@@ -161,7 +163,7 @@ module _ (w : World) (space : Path) (slot s x address : ℕ) (given : List ℕ) 
       ap (λ edits. apply_all (map (Alter (x ∷ gives.named.space)) edits) w)
       (sym (edits-first gives.body given) ∙ ap (set_edits gives.body) gives.given)
       ∙ record_changes_nothing_lem w (x ∷ gives.named.space) gives.body
-      (object-there w (porter_at (slot ∷ space) given) x gives.named.space gives.body gives.named.object) gives.shaped off
+      (object-there w (porter_at (slot ∷ space) given) x gives.named.space gives.body gives.named.object) shaped off
 
   row-porter : PorterKept (set_state w (porter_at (slot ∷ space) given) s x address)
   unfolding set_state
@@ -175,8 +177,8 @@ module _ (w : World) (space : Path) (slot s x address : ℕ) (given : List ℕ) 
 
 pub porters_set_state_of_itself : PortersSetStateOfItself
 unfolding call_row
-porters_set_state_of_itself w space slot s x address given at gives =
+porters_set_state_of_itself w space slot s x address given at gives shaped =
     subst (λ (step : Step). step.said ≡ Answered OK [] → step.world ≡ w)
     (sym (porters-step w space slot (SetState s x address) given at
     ∙ ap (λ o. stepped w (closed (porter_at (slot ∷ space) given) o)) (unpicked (set_state w (porter_at (slot ∷ space) given) s x address))))
-    (row-porter w space slot s x address given gives)
+    (row-porter w space slot s x address given gives shaped)

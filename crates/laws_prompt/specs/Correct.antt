@@ -5,7 +5,7 @@ use Rattle.fk_model.specs.declared.limits.TheConstants.{RECORD_WORDS}
 use Rattle.fk_model.specs.declared.stage.Stage.TheVariants.{GetState, SetState}
 use Rattle.fk_model.specs.declared.statuses.status.TheConstants.{OK}
 use Rattle.fk_model.specs.Places.{Path}
-use Rattle.fk_model.specs.Objects.{Body}
+use Rattle.fk_model.specs.Objects.{Body, Thread, thread_of, and_then}
 use Rattle.fk_model.specs.World.{World, apply}
 use Rattle.fk_model.specs.World.Change.{Alter}
 use Rattle.fk_model.specs.World.Edit.{Finish}
@@ -17,7 +17,7 @@ use Rattle.fk_model.specs.Readers.{object_in, anything, space_argument}
 use Rattle.fk_model.specs.LinkRows.{user_at}
 use Rattle.fk_model.specs.Records.{record_of}
 use Rattle.fk_model.specs.StateRows.{record_at}
-use Rattle.fk_model.specs.Shapes.{IsShaped}
+use Rattle.fk_model.specs.Shapes.{IsShapedMode, IsShaped}
 use Rattle.fk_model.specs.Moves.{porter_at}
 use Rattle.laws_whole.specs.Runnable.{HasRegisters, IsRunnable}
 use Rattle.laws_prompt.specs.Callers.{IsUserAt, IsPorterFor, users_step, porters_step, is_done}
@@ -65,18 +65,20 @@ GetStateAnswers = (w : World) (space : Path) (slot s x address : ℕ) (words ans
 
 -- ---- set_state
 
--- a caller names an object, and at its address stands the record that the object shows. The object is well shaped, as
--- each is that a machine makes
+-- a calling thread has the stages of a call before it and the rest beside them, any other 16 registers
+abbrev pub HasShapes : World → Type 0
+HasShapes w = (x : Path) (t : Thread) → and_then thread_of (w.body x) ≡ Some t → IsShapedMode t.mode
+
+-- a caller names an object, and at its address stands the record that the object shows
 pub record MeetsItself (w : World) (c : Caller) (s x address : ℕ) : Type 0 where
   pub body : Body
   pub named : IsNamed w c s x body
-  pub shaped : IsShaped body
   pub held : record_found w c.space address ≡ Some (record_of body)
 
--- a set_state that is done, of the record that the object shows, changes nothing but the end of its caller's call
+-- a set_state that is done, of the record that a well shaped object shows, changes nothing but the end of its caller's call
 abbrev pub SetStateOfItself : Type 0
 SetStateOfItself = (w : World) (space : Path) (slot s x address : ℕ) → HasRegisters w →
-    IsUserAt w space slot (SetState s x address) → MeetsItself w (user_at (slot ∷ space)) s x address →
+    IsUserAt w space slot (SetState s x address) → (meets : MeetsItself w (user_at (slot ∷ space)) s x address) → IsShaped meets.body →
     is_done (users_step w space slot).world (slot ∷ space) ≡ true →
     (users_step w space slot).world ≡ apply (Alter (slot ∷ space) (Finish [])) w
 
@@ -84,12 +86,11 @@ SetStateOfItself = (w : World) (space : Path) (slot s x address : ℕ) → HasRe
 pub record GivesItself (w : World) (c : Caller) (s x : ℕ) : Type 0 where
   pub body : Body
   pub named : IsNamed w c s x body
-  pub shaped : IsShaped body
   pub given : take RECORD_WORDS c.words ≡ record_of body
 
 -- and where it is answered OK nothing is changed
 abbrev pub PortersSetStateOfItself : Type 0
 PortersSetStateOfItself = (w : World) (space : Path) (slot s x address : ℕ) (words : List ℕ) →
-    IsPorterFor w space slot (SetState s x address) → GivesItself w (porter_at (slot ∷ space) words) s x →
+    IsPorterFor w space slot (SetState s x address) → (gives : GivesItself w (porter_at (slot ∷ space) words) s x) → IsShaped gives.body →
     (porters_step w space slot (SetState s x address) words).said ≡ Answered OK [] →
     (porters_step w space slot (SetState s x address) words).world ≡ w

@@ -19,7 +19,7 @@ use Rattle.fk_model.specs.Moves.{IsReady, outcome, step, porter_at}
 use Rattle.fk_model.specs.Runs.{Event}
 use Rattle.laws_whole.specs.Runnable.{IsRunnable, IsDue}
 use Rattle.laws_prompt.specs.Callers.{IsUserAt, IsPorterFor, is_done}
-use Rattle.laws_prompt.specs.Correct.{ShowsRecord, AnswersRecord, MeetsItself, GivesItself}
+use Rattle.laws_prompt.specs.Correct.{ShowsRecord, AnswersRecord, HasShapes, MeetsItself, GivesItself}
 use Rattle.laws_prompt.specs.Prompt.{is_open, may_hold}
 use Rattle.laws_prompt.specs.Brief.{AreBrief, Destroys}
 
@@ -68,7 +68,7 @@ pub record IsCorrect (w : World) (e : Event) (v : World) (said : Said) : Type 0 
   pub brief : AreBrief (listed (outcome w e.mover e.pick e.ask))
   pub runs : IsDue w e → w.next + 1 ≤ depth → IsRunnable v
 
--- so it is with every step from a runnable world
+-- so it is with every step from a runnable world with well shaped threads
 abbrev pub StepsAreCorrect : Type 0
-StepsAreCorrect = (w : World) (e : Event) → IsRunnable w →
+StepsAreCorrect = (w : World) (e : Event) → IsRunnable w → HasShapes w →
     IsCorrect w e (step w e.mover e.pick e.ask).world (step w e.mover e.pick e.ask).said

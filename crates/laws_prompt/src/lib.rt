@@ -63,7 +63,8 @@ pub fn a_prompt_move_is_ready()
     ensures { PromptIsReady }
 {}
 
-/// Every step from a runnable world is correct and brief: it does what the laws of states, records and destruction say.
+/// Every step from a runnable world, whose threads are well shaped, is correct and brief: it does what the laws of states, records
+/// and destruction say.
 pub fn a_step_is_correct()
     ensures { StepsAreCorrect }
 {}

@@ -23,7 +23,8 @@ returns-clause-correct c =
     let m = c.self.inside.store in
     let runs = sized-runnable (world m) c.self.invariant.valid c.names.ensures.few c.sizes.ensures.pages c.sizes.ensures.registers in
     let correct =
-    correct-tried m c.args.m.now c.args.ask.now c.names.ensures.born runs c.attempt-tried.new.store _ c.attempt-tried.result c.attempt-tried.ensures.made in
+    correct-tried m c.args.m.now c.args.ask.now c.names.ensures.born runs c.sizes.ensures.shaped c.attempt-tried.new.store _ c.attempt-tried.result
+    c.attempt-tried.ensures.made in
     rw (← c.self.view_is) correct
 
 pub returns-clause-ended : goal.returns-clause-ended

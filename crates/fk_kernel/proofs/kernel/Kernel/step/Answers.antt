@@ -12,7 +12,8 @@ pub returns-clause-correct : goal.returns-clause-correct
 returns-clause-correct c =
     let m = c.self.inside.store in
     let runs = sized-runnable (world m) c.self.invariant.valid c.names.ensures.few c.sizes.ensures.pages c.sizes.ensures.registers in
-    let correct = correct-step m c.args.m.now c.args.ask.now c.names.ensures.born runs c.take.new.store c.take.result c.take.ensures.step in
+    let correct =
+    correct-step m c.args.m.now c.args.ask.now c.names.ensures.born runs c.sizes.ensures.shaped c.take.new.store c.take.result c.take.ensures.step in
     rw (← c.self.view_is) correct
 
 pub take-requires-clause-fit : goal.take-requires-clause-fit
