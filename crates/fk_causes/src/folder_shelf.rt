@@ -5,8 +5,8 @@ ghost use Rattle.fk_causes.specs.Shelf.{HasAt, HasShelfCause, CountsFailure};
 ghost use Rattle.fk_causes.specs.declared.shelf.ShelfFail.TheVariants as fails;
 
 use crate::shelf::{Shelf, ShelfFail};
-use std::fs::OpenFile;
-use std::io::{ErrorKind, Read};
+use std::fs::{File, OpenFile};
+use std::io::{ErrorKind, Read, Write};
 use std::rt::Files;
 use std::{fs, io};
 
@@ -15,6 +15,8 @@ pub const FILE_LIMIT: u64 = 1 << 30;
 
 /// The files of the current folder. It tells nothing of what they hold. A file that is missing is
 /// none; one of more than `FILE_LIMIT` bytes counts as a fault, when it is read and when it is put.
+/// A put writes the file `NAME.new` and has it take the place of `NAME`: a put that fails, or is cut
+/// off, leaves what was under `NAME`.
 #[derive(Drop)]
 pub struct FolderShelf<'a, R> {
     rt: &'a R,
@@ -53,6 +55,29 @@ fn read_file<R: Files + AllocGlobal>(rt: &R, name: &str) -> io::Result<Option<Ve
     } else {
         Ok(Some(bytes))
     }
+}
+
+/// Writes bytes into a new file and onto its disk. A file that a process that was cut off has left under this name goes.
+fn write_file<R: Files>(rt: &R, name: &str, bytes: &[u8]) -> io::Result<()> {
+    let _ = fs::remove_file(rt, name);
+    let mut file = File::create_new(rt, name)?;
+    file.write_all(bytes)?;
+    file.sync_all()
+}
+
+/// Has the file of this name hold these bytes. They are written beside it first, so that it holds what it did until all of them are
+/// there.
+fn replace_file<R: Files + AllocGlobal>(rt: &R, name: &str, bytes: &[u8]) -> io::Result<()> {
+    let beside = format!(in rt.alloc(); "{name}.new")?;
+    let put = match write_file(rt, beside.as_str(), bytes) {
+        Ok(()) => fs::rename(rt, beside.as_str(), name),
+        Err(error) => Err(error),
+    };
+    if put.is_err() {
+        // What failed is told; that this fails too says nothing more.
+        let _ = fs::remove_file(rt, beside.as_str());
+    }
+    put
 }
 
 fn is_long(bytes: &[u8]) -> bool
@@ -95,8 +120,14 @@ impl<R: Files + AllocGlobal> Shelf for FolderShelf<'_, R> {
         ensures puts { CountsFailure self.old.failed_puts self.new.failed_puts result }
         ensures long { FILE_LIMIT < length bytes.now → result ≡ Err fails.Failed }
     {
-        if !is_long(bytes) && fs::write(self.rt, name, bytes).is_ok() {
-            return Ok(());
+        if !is_long(bytes) {
+            match replace_file(self.rt, name, bytes) {
+                Ok(()) => return Ok(()),
+                Err(error) if error.kind() == ErrorKind::OutOfMemory => {
+                    return Err(ShelfFail::NoMemory);
+                }
+                Err(_) => {}
+            }
         }
         self.failed_puts = self.failed_puts.saturating_add(1);
         Err(ShelfFail::Failed)
