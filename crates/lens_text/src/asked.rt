@@ -35,7 +35,7 @@ pub struct Asked<'a> {
     pub other: &'a str,
     /// The first move that is shown.
     pub first: u64,
-    /// Before which move a run is to stop.
+    /// Before which move a run is to stop; the last number where it is to go on to the end.
     pub end: u64,
 }
 
@@ -81,6 +81,14 @@ fn place_of(word: &str) -> Option<usize> {
     None
 }
 
+/// Before which move a run is to stop whose steps are shown: behind the last that is asked for, or nowhere.
+fn end_of(words: &[String]) -> u64 {
+    match plain_number_up_to(MOST, text_at(words, 2).as_bytes()) {
+        Some(last) => last.saturating_add(1),
+        None => u64::MAX,
+    }
+}
+
 /// What a verb with these words behind it asks for: so many names at most, and then numbers of moves. Of the first that isn't what is wanted
 /// there the line says so.
 fn asked_of<'a>(line: &Sheet, verb: Verb, words: &'a [String]) -> Option<Asked<'a>> {
@@ -102,12 +110,17 @@ fn asked_of<'a>(line: &Sheet, verb: Verb, words: &'a [String]) -> Option<Asked<'
     }
     let other = text_at(words, 1);
     let one = plain_number_up_to(MOST, other.as_bytes()).unwrap_or(0);
-    let last = plain_number_up_to(MOST, text_at(words, 2).as_bytes()).unwrap_or(MOST - 1);
     let (first, end) = match verb {
         Verb::Tree | Verb::Why => (0, one),
-        Verb::Steps => (one, last.saturating_add(1)),
+        Verb::Steps => (one, end_of(words)),
         _ => (0, u64::MAX),
     };
+    if let Some(word) = words.get(2) {
+        if end <= first {
+            line.put_wrong(word, "a move that isn't before the first");
+            return None;
+        }
+    }
     Some(Asked {
         verb,
         name: text_at(words, 0),

@@ -22,7 +22,7 @@ const READY: &str =
 /// Says what is wrong where a run by a trace stopped before what is asked for. The line of the first move is the second.
 pub fn check_stop(sheet: &Sheet, asked: &Asked<'_>, stop: Stop) {
     let (form, index) = match (stop, asked.verb) {
-        (Stop::Ended, Verb::Tree | Verb::Why) => {
+        (Stop::Ended, _) if asked.end < u64::MAX => {
             return given(sheet, asked.name, MORE, asked.end, 0, "");
         }
         (Stop::Enough | Stop::Ended, _) | (Stop::NoTrace, Verb::First) => return,
