@@ -5,7 +5,7 @@ ghost use Rattle.fk_core.specs.Served.{AllFit};
 ghost use Rattle.fk_books.specs.Shown.{IsSound, MayMove, MayBurst, moves_of, HasEnded};
 ghost use Rattle.fk_books.specs.Told.{Told, IsKept, IsSame, IsOneMore, HasMore, HasOneMore, TakesDue, BeginsDue, MakesLease, GoesOn};
 
-use crate::playable::{Lent, Playable};
+use crate::playable::{Lent, Playable, WORKERS};
 use fk_burst::{Leased, count};
 use fk_history::{History, Moves as Listed};
 use fk_model::{Move, NoMemory, Who};
@@ -25,7 +25,7 @@ pub struct Book<C: Playable + Drop> {
     history: History,
     core: C,
     /// Whom the workers have out, so that none is leased twice. It is a hint alone.
-    out: [Option<Who>; 8],
+    out: [Option<Who>; WORKERS],
 }
 
 /// What comes of a turn at the lock: how many moves of a lease were committed, and whether more moves may be left: false only where one was sought
@@ -81,7 +81,7 @@ impl<C: Playable + Drop> Book<C> {
             boot,
             core: first,
             history,
-            out: [None; 8],
+            out: [None; WORKERS],
         })
     }
 
@@ -208,7 +208,7 @@ impl<C: Playable + Drop> Book<C> {
     pub fn lease(&mut self, worker: u32, stays: bool, lease: &mut Leased) -> Lent
         ensures same { IsSame C.shown self.old self.new }
     {
-        let place = worker as usize % 8;
+        let place = worker as usize % WORKERS;
         let mut others = self.out;
         others[place] = None;
         let lent = self.core.lease(&others, stays, lease);
@@ -224,7 +224,7 @@ impl<C: Playable + Drop> Book<C> {
     pub fn rest(&mut self, worker: u32)
         ensures same { IsSame C.shown self.old self.new }
     {
-        self.has_out(worker as usize % 8, None);
+        self.has_out(worker as usize % WORKERS, None);
     }
 
     /// A worker has this out.

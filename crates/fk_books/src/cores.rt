@@ -2,7 +2,7 @@
 ghost use Rattle.fk_burst.specs.Commits.{CommitsSo};
 ghost use Rattle.fk_core.specs.Cores.{run_core};
 
-use crate::playable::{Lent, Playable};
+use crate::playable::{Lent, Playable, WORKERS};
 use fk_burst::{Leased, commit_held, count};
 use fk_core::{Core, Kernel};
 use fk_jobs::Worker;
@@ -34,7 +34,7 @@ impl<S: Service + Drop, W: Worker + Drop> Playable for Core<S, W> {
         }
     }
 
-    fn lease(&self, out: &[Option<Who>; 8], stays: bool, lease: &mut Leased) -> Lent {
+    fn lease(&self, out: &[Option<Who>; WORKERS], stays: bool, lease: &mut Leased) -> Lent {
         // A job's moves come at every other plain one, so bursts would make it late.
         if self.jobs().current().is_some() {
             return Lent::Refused;
@@ -68,11 +68,11 @@ impl<S: Service + Drop, W: Worker + Drop> Playable for Core<S, W> {
 /// A lease is renewed with the first of the ready that isn't out.
 fn lease_other<S: Service + Drop, W: Worker + Drop>(
     core: &Core<S, W>,
-    out: &[Option<Who>; 8],
+    out: &[Option<Who>; WORKERS],
     lease: &mut Leased,
 ) -> Lent {
     let mut after = None;
-    for _ in 0..8 {
+    for _ in 0..WORKERS {
         let Some(who) = core.next_thread(after) else {
             break;
         };
@@ -101,7 +101,7 @@ fn renewed(is: bool) -> Lent {
 fn renews<S: Service + Drop, W: Worker + Drop>(
     core: &Core<S, W>,
     thread: Option<Who>,
-    out: &[Option<Who>; 8],
+    out: &[Option<Who>; WORKERS],
     lease: &mut Leased,
 ) -> bool {
     match thread {
@@ -117,7 +117,7 @@ fn renews<S: Service + Drop, W: Worker + Drop>(
 }
 
 /// Whether a name is among those that are out.
-fn is_out(out: &[Option<Who>; 8], who: Who) -> bool {
+fn is_out(out: &[Option<Who>; WORKERS], who: Who) -> bool {
     for one in out {
         if *one == Some(who) {
             return true;

@@ -17,5 +17,5 @@ pub use book::{Book, Gone};
 pub use fk_burst::{Leased, count, run};
 pub use fk_history::{History, Moves};
 pub use fk_model::NoMemory;
-pub use playable::{Lent, Playable};
+pub use playable::{Lent, Playable, WORKERS};
 pub use plays::{PlayFail, play_all};

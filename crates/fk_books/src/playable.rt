@@ -8,6 +8,9 @@ use fk_burst::Leased;
 use fk_model::{Move, NoMemory, Who};
 use fk_responders::Table;
 
+/// The most workers that share a book.
+pub const WORKERS: usize = 8;
+
 /// What comes of asking for a lease.
 #[derive(Clone, Copy)]
 pub enum Lent {
@@ -50,7 +53,7 @@ pub trait Playable {
     /// Renews a lease, with a thread that is ready in running mode and not among these, and says whether it did: with the one that moved
     /// last, or with another; not while a job is left. Which one it is, and whether there is one, is a hint: a lease of any thread may
     /// be committed where it is as it was.
-    fn lease(&self, out: &[Option<Who>; 8], stays: bool, lease: &mut Leased) -> Lent;
+    fn lease(&self, out: &[Option<Who>; WORKERS], stays: bool, lease: &mut Leased) -> Lent;
 
     /// Makes the moves of a lease at once where it may be committed with what is left of the budget, and answers whether it did. Else all
     /// is as before.

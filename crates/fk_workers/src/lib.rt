@@ -9,6 +9,7 @@
 #![tactic(auto)]
 
 mod crew;
+mod plan;
 mod worker;
 
 pub use crew::run_all;
