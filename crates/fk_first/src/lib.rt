@@ -17,6 +17,6 @@ mod watching;
 pub use first::first_core;
 pub use fk_boot::Kernel;
 pub use fk_core::Core;
-pub use plans::{maker_of, plans_of};
+pub use plans::maker_of;
 pub use seen::{Images, Job, Ready, Seen, Stop, Trace, Watcher};
 pub use watching::watch;

@@ -112,10 +112,9 @@ fn play_to_stop<V: Watcher>(
     Ok(stop)
 }
 
-/// The image that the job at a place needs of who has images: that of a restore which no job before it makes.
+/// The image that a job behind others needs of who has images: that of a restore which none of them makes.
 fn image_for<I: Images>(
-    jobs: &[JobSpec],
-    place: usize,
+    before: &[JobSpec],
     job: &JobSpec,
     images: &mut I,
 ) -> Result<Option<ValidImage>, I::Fault> {
@@ -123,9 +122,9 @@ fn image_for<I: Images>(
         return Ok(None);
     };
     let name = image.as_str();
-    match maker_of(jobs, name) {
-        Some(maker) if maker < place => Ok(None),
-        _ => Ok(Some(images.image(name)?)),
+    match maker_of(before, name) {
+        Some(_) => Ok(None),
+        None => Ok(Some(images.image(name)?)),
     }
 }
 
@@ -136,8 +135,8 @@ fn images_for<I: Images>(
     images: &mut I,
 ) -> Result<Vec<Option<ValidImage>>, I::Fault> {
     let mut list = Vec::new(alloc);
-    for job in jobs {
-        let image = image_for(jobs, list.len(), job, images)?;
+    while let Some(job) = jobs.get(list.len()) {
+        let image = image_for(&jobs[..list.len()], job, images)?;
         if list.push(image).is_err() {
             return Err(I::Fault::from(NoMemory));
         }
