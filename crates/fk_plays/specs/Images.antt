@@ -40,7 +40,8 @@ Finds files (Some name) found = (file : Option (List ℕ)) × HasAt files (image
 pub data FindsImages (files : Option FileMap) : List JobSpec → List JobSpec → Result (List (Option Image)) Status → Type 0 where
   NoJob : (before : List JobSpec) → FindsImages files before [] (Ok [])
   Found : (before : List JobSpec) (job : JobSpec) (jobs : List JobSpec) (image : Option Image) (images : List (Option Image)) →
-      Finds files (needed before job) (Ok image) → FindsImages files (before ++ job ∷ []) jobs (Ok images) → FindsImages files before (job ∷ jobs) (Ok (image ∷ images))
+      Finds files (needed before job) (Ok image) → FindsImages files (before ++ job ∷ []) jobs (Ok images)
+      → FindsImages files before (job ∷ jobs) (Ok (image ∷ images))
   Refused : (before : List JobSpec) (job : JobSpec) (jobs : List JobSpec) (status : Status) →
       Finds files (needed before job) (Err status) → FindsImages files before (job ∷ jobs) (Err status)
   Later : (before : List JobSpec) (job : JobSpec) (jobs : List JobSpec) (image : Option Image) (status : Status) →

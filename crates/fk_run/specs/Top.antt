@@ -46,14 +46,16 @@ pub record IsDue (rules : Rules) (command : Option Command) (left : Option (List
   pub called_for : IsCalledFor rules command files bytes outcome text
 
 -- a call did what is due, and wrote all of its output
-pub record IsDone (rules : Rules) (command : Option Command) (left : Option (List ℕ)) (files : Option FileMap) (old new : Option (List ℕ)) (outcome : Outcome) : Type 0 where
+pub record IsDone (rules : Rules) (command : Option Command) (left : Option (List ℕ)) (files : Option FileMap)
+    (old new : Option (List ℕ)) (outcome : Outcome) : Type 0 where
   pub text : List ℕ
   pub due : IsDue rules command left files outcome text
   pub written : Appends old new text
 
 -- a call did what is due up to its writing, of which only a front was done: its outcome is the due one but for the status, and
 -- that is one after which all is written
-pub record IsCutOff (rules : Rules) (command : Option Command) (left : Option (List ℕ)) (files : Option FileMap) (old new : Option (List ℕ)) (outcome : Outcome) : Type 0 where
+pub record IsCutOff (rules : Rules) (command : Option Command) (left : Option (List ℕ)) (files : Option FileMap)
+    (old new : Option (List ℕ)) (outcome : Outcome) : Type 0 where
   pub status : Status
   pub finished : progress_of status ≡ Finished
   pub text : List ℕ

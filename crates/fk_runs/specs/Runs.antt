@@ -68,6 +68,7 @@ pub record IsSoakFrom (count : ℕ) (s : Scenario) (outcome : Outcome) (text : L
 
 -- the trace of a run by itself plays to the same status, report and text. The names in a history are as small as their types
 abbrev pub RunPlaysAgain : Type 0
-RunPlaysAgain = (specs : List JobSpec) (given : Images) (first : RunCore) (budget : ℕ) (status : Status) (report : Report) (text : List ℕ) → All IsMove report.history
+RunPlaysAgain = (specs : List JobSpec) (given : Images) (first : RunCore) (budget : ℕ) (status : Status) (report : Report) (text : List ℕ)
+    → All IsMove report.history
     → IsAlone (IsText specs) specs given first budget status (Some report) text
     → IsPlayed specs given first budget (trace_text report.history) status (Some report) text

@@ -8,7 +8,8 @@ use Rattle.fk_report.specs.Report.{end_word}
 -- how many processes there are, how the run has ended, how many words were sent, and their sum
 abbrev pub line_of : ℕ → End → ℕ → ℕ → List ℕ
 line_of count end words total =
-    codes "soak " ++ (decimal count ++ (codes " end " ++ (end_word end ++ (codes " words " ++ (decimal words ++ (codes " sum " ++ (decimal total ++ codes "\n")))))))
+    codes "soak " ++ (decimal count ++ (codes " end " ++ (end_word end ++
+    (codes " words " ++ (decimal words ++ (codes " sum " ++ (decimal total ++ codes "\n")))))))
 
 -- of what the consoles `p0` to `p(N - 1)` were sent, in which a scenario's servers begin; number and sum modulo 2^64
 abbrev pub soak_line : ℕ → End → List State → List ℕ
