@@ -10,17 +10,26 @@ use fk_rlock::Ruled;
 use tally::Tally;
 use workers::{deal, gather, work_all};
 
+/// How many workers there are.
+const WORKERS: u32 = 4;
+
+/// The number that the tally is begun from.
+const BEGUN: u64 = 7;
+
 fn main(rt: HostRuntime) -> anyhow::Result<()> {
     let alloc = rt.alloc();
-    let first = Tally { begun: 7, turns: 0 };
-    let (lock, pass) = Ruled::new(alloc, first, 4)
+    let first = Tally {
+        begun: BEGUN,
+        turns: 0,
+    };
+    let (lock, pass) = Ruled::new(alloc, first, WORKERS)
         .ok()
         .context("no memory for the lock")?;
-    let mut passes = deal(alloc, &lock, pass, 4)
+    let mut passes = deal(alloc, &lock, pass, WORKERS)
         .ok()
         .context("no memory for the passes")?;
-    work_all(&rt, &lock, 7, passes.as_mut_slice());
-    let pass = gather(&lock, 7, passes).context("no pass")?;
+    work_all(&rt, &lock, BEGUN, passes.as_mut_slice());
+    let pass = gather(&lock, BEGUN, passes).context("no pass")?;
     let tally = lock.close(pass);
     println!(rt; "begun from {}, {} turns", tally.begun, tally.turns)?;
     Ok(())

@@ -8,14 +8,17 @@ use std::alloc::Global;
 use std::sync::Wait;
 use std::thread::{Threads, for_each_mut};
 
-// Takes 250 turns.
+/// How many turns each worker takes.
+const TURNS: u32 = 250;
+
+/// Takes the turns of one worker.
 fn work<R: Wait>(rt: &R, lock: &Ruled<Tally>, pass: &mut Pass<Tally>)
     requires lock { pass.old.lock ≡ lock.now.id }
     ensures lock { pass.new.lock ≡ pass.old.lock }
     ensures begun { pass.new.boot ≡ pass.old.boot }
     ensures parts { pass.new.parts ≡ pass.old.parts }
 {
-    for _ in 0..250 {
+    for _ in 0..TURNS {
         lock.turn(rt, pass, |tally: &mut Tally| tally.add());
     }
 }
