@@ -35,6 +35,14 @@ pub fn nest(
     showing::all(alloc, store)
 }
 
+/// Makes a cond in each of the first four slots of a space.
+fn make_conds(store: &mut Store, space: u32) -> anyhow::Result<()> {
+    for slot in 0..4u8 {
+        make_twice(store, Who { space, slot }, &Thing::Cond)?;
+    }
+    Ok(())
+}
+
 /// Makes so many spaces in one, four conds in each of the first 250, and shows the store then.
 pub fn fill(alloc: Global, store: &mut Store, who: Who, count: u64) -> anyhow::Result<String> {
     let outer = born(store, who);
@@ -45,9 +53,7 @@ pub fn fill(alloc: Global, store: &mut Store, who: Who, count: u64) -> anyhow::R
         };
         make_twice(store, at, &Thing::Space)?;
         let space = born(store, at);
-        for slot in 0..4u8 {
-            make_twice(store, Who { space, slot }, &Thing::Cond)?;
-        }
+        make_conds(store, space)?;
     }
     showing::all(alloc, store)
 }
