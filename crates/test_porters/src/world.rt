@@ -24,7 +24,7 @@
 use crate::bursts::Held;
 use crate::line::Line;
 use crate::porter::put_porter;
-use anyhow::{Context, bail};
+use anyhow::{Context, bail, ensure};
 use fk_boot::first_store;
 use fk_kernel::Kernel;
 use fk_model::{Answer, Ask, Body, Move, Said, Todo, Turn, Who};
@@ -78,6 +78,14 @@ fn named(numbers: &[u64]) -> Option<Who> {
     }
 }
 
+/// The name that is wanted; none where nobody is.
+fn wanted_name(wanted: &[u64]) -> anyhow::Result<Option<Who>> {
+    if wanted.is_empty() {
+        return Ok(None);
+    }
+    Ok(Some(named(wanted).context("no name is wanted")?))
+}
+
 /// The thread in a slot of the root.
 fn in_root(numbers: &[u64]) -> Option<Who> {
     name_of(0, *numbers.first()?)
@@ -90,6 +98,12 @@ fn begins(words: &[u64], wanted: &[u64]) -> bool {
         return false;
     }
     &words[..n] == wanted
+}
+
+/// The wanted words, of which there is at least one.
+fn some_of(wanted: &[u64]) -> anyhow::Result<&[u64]> {
+    ensure!(!wanted.is_empty(), "nothing is wanted");
+    Ok(wanted)
 }
 
 /// These numbers, and zeros after them.
@@ -306,8 +320,8 @@ impl World {
             "goes" => self.moves(who, pick)? && self.shows(who, wanted),
             "waits" => !self.moves(who, pick)?,
             "runs" => self.runs(who, *line.subject.last().context("how often")?)?,
-            "shows" => self.shows(who, wanted),
-            "keeps" => self.keeps(who, wanted)?,
+            "shows" => self.shows(who, some_of(wanted)?),
+            "keeps" => self.keeps(who, some_of(wanted)?)?,
             _ => bail!("no step"),
         })
     }
@@ -326,7 +340,8 @@ impl World {
         let port = in_root(line.subject.as_slice());
         Ok(match line.verb {
             "meets" => {
-                self.kernel.ready_accept(port.context("no port")?) == named(line.wanted.as_slice())
+                let wanted = wanted_name(line.wanted.as_slice())?;
+                self.kernel.ready_accept(port.context("no port")?) == wanted
             }
             "lost" => port.is_some() && self.ended == port,
             "kept" => self.ended.is_none(),
@@ -363,10 +378,10 @@ impl World {
             ("queued", []) => wanted == [self.kernel.waits().len()].as_slice(),
             ("first", [slot]) => {
                 let cause = name_of(0, *slot).context("no object")?;
-                self.kernel.waits().first(cause) == named(wanted)
+                self.kernel.waits().first(cause) == wanted_name(wanted)?
             }
             ("next", []) => match self.kernel.next() {
-                Some(m) => Some(m.who) == named(wanted),
+                Some(m) => Some(m.who) == wanted_name(wanted)?,
                 None => wanted.is_empty(),
             },
             _ => bail!("no step"),
