@@ -24,7 +24,7 @@
 use crate::bursts::Held;
 use crate::line::Line;
 use crate::porter::put_porter;
-use anyhow::{Context, bail, ensure};
+use anyhow::{Context, bail};
 use fk_boot::first_store;
 use fk_kernel::Kernel;
 use fk_model::{Answer, Ask, Body, Move, Said, Todo, Turn, Who};
@@ -78,12 +78,12 @@ fn named(numbers: &[u64]) -> Option<Who> {
     }
 }
 
-/// The name that is wanted; none where nobody is.
-fn wanted_name(wanted: &[u64]) -> anyhow::Result<Option<Who>> {
-    if wanted.is_empty() {
-        return Ok(None);
+/// Whether who was found is wanted, or nobody is where nobody was.
+fn is_wanted(found: Option<Who>, wanted: &[u64]) -> bool {
+    match found {
+        Some(who) => named(wanted) == Some(who),
+        None => wanted.is_empty(),
     }
-    Ok(Some(named(wanted).context("no name is wanted")?))
 }
 
 /// The thread in a slot of the root.
@@ -98,12 +98,6 @@ fn begins(words: &[u64], wanted: &[u64]) -> bool {
         return false;
     }
     &words[..n] == wanted
-}
-
-/// The wanted words, of which there is at least one.
-fn some_of(wanted: &[u64]) -> anyhow::Result<&[u64]> {
-    ensure!(!wanted.is_empty(), "nothing is wanted");
-    Ok(wanted)
 }
 
 /// These numbers, and zeros after them.
@@ -320,8 +314,9 @@ impl World {
             "goes" => self.moves(who, pick)? && self.shows(who, wanted),
             "waits" => !self.moves(who, pick)?,
             "runs" => self.runs(who, *line.subject.last().context("how often")?)?,
-            "shows" => self.shows(who, some_of(wanted)?),
-            "keeps" => self.keeps(who, some_of(wanted)?)?,
+            // A look that wants nothing would always be right.
+            "shows" => !wanted.is_empty() && self.shows(who, wanted),
+            "keeps" => !wanted.is_empty() && self.keeps(who, wanted)?,
             _ => bail!("no step"),
         })
     }
@@ -340,8 +335,8 @@ impl World {
         let port = in_root(line.subject.as_slice());
         Ok(match line.verb {
             "meets" => {
-                let wanted = wanted_name(line.wanted.as_slice())?;
-                self.kernel.ready_accept(port.context("no port")?) == wanted
+                let met = self.kernel.ready_accept(port.context("no port")?);
+                is_wanted(met, line.wanted.as_slice())
             }
             "lost" => port.is_some() && self.ended == port,
             "kept" => self.ended.is_none(),
@@ -378,12 +373,9 @@ impl World {
             ("queued", []) => wanted == [self.kernel.waits().len()].as_slice(),
             ("first", [slot]) => {
                 let cause = name_of(0, *slot).context("no object")?;
-                self.kernel.waits().first(cause) == wanted_name(wanted)?
+                is_wanted(self.kernel.waits().first(cause), wanted)
             }
-            ("next", []) => match self.kernel.next() {
-                Some(m) => Some(m.who) == wanted_name(wanted)?,
-                None => wanted.is_empty(),
-            },
+            ("next", []) => is_wanted(self.kernel.next().map(|m| m.who), wanted),
             _ => bail!("no step"),
         })
     }
