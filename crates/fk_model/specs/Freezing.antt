@@ -50,11 +50,12 @@ are_unfrozen w me ps = not (list_any (leads_to_frozen w me) ps)
 
 -- ---- what a destroyed or renamed object takes with it
 
--- the body at q has a pointer to x, or is a port in the set at x
+-- the body at q is a port in the set at x
 abbrev pub is_in_set : Path → Path → Body → Bool
 is_in_set x q (Port set served) = holds (λ k. same_path (set_at q k) x) set
 is_in_set x q other = false
 
+-- what stands at q has a pointer to x, or is a port in the set at x
 abbrev pub is_swept : Path → Path → Option Body → Bool
 is_swept x q None = false
 is_swept x q (Some b) = list_any (leads_to x) (pointers b) || is_in_set x q b

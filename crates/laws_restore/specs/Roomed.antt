@@ -27,12 +27,12 @@ IsAim bind c b (Out i) = (i ≤ LAST_USER_SLOT) × (bind i ≤ LAST_USER_SLOT) �
 IsAim bind c b Outside = ⊥
 IsAim bind c b Far = ⊥
 
--- somebody at a port: a thread inside at a port inside, a peer outside at a port outside
--- in one space
+-- two objects in one space
 abbrev pub AreBeside : Path → Path → Type 0
 AreBeside (j ∷ p) (k ∷ q) = p ≡ q
 AreBeside x y = ⊥
 
+-- somebody at a port: a thread inside, beside a port inside; a peer outside at a port outside
 abbrev pub IsPair : (ℕ → ℕ) → World → Ptr → Peer → Type 0
 IsPair bind c (At port) (Server (At thread)) = IsWay (there c) port × (there c port ≡ Some kinds.Port) × IsWay (there c) thread
     × (there c thread ≡ Some kinds.Thread) × AreBeside port thread

@@ -37,7 +37,8 @@ CheckpointsHold J S A V = (h : House J S A V) (first c : Core S A V) (past : Lis
     Saves h.machine (h.nester job) slot picture (world_at run begun) nester s) →
     slice_get c.ends index ≡ Some (Worked end begun last) → picture end ≡ Some saved → Checkpointed run (h.nester job) slot begun last saved
 
--- a restore that is done, of what a checkpoint of the same run has saved: the cuts, and the further runs
+-- a restore that is done, made at a place of the history: behind its last move the subtree there is plain, and is what was saved, with its ports
+-- bound
 pub record Restored {J S A V : Type 0} {h : House J S A V} {first c : Core S A V} {past : List Move} (run : IsRun h first past c)
     (birth slot begun last : ℕ) (bind : ℕ → ℕ) (saved : World) : Type 0 where
   pub nester : Path
