@@ -12,7 +12,7 @@ use crate::links::{link_at, peer_at};
 use crate::words::{byte, half, registers, word};
 use fk_gathering::{Content, Item, Lead};
 use fk_image::{BoxedThread, FaultRec, Rec, TalkRec, ThreadRec};
-use fk_model::NoMemory;
+use fk_model::{NoMemory, kind};
 use std::alloc::Global;
 
 /// The talk of a thread, by the words of its record that show it.
@@ -101,17 +101,17 @@ pub fn rec(
     ensures { IfOk result (λ rec. rec ≡ narrow.narrow_rec (parts.rec_from (spaces_of contents.now) (item_of item.now).words (leads_of leads.now))) }
 {
     Ok(match word(item, 0) {
-        1 => Rec::Mutex {
+        kind::MUTEX => Rec::Mutex {
             locked: byte(word(item, 1)),
         },
-        2 => Rec::Cond,
-        3 => mapping(contents, item, leads),
-        4 => region(contents, item, leads),
-        5 => Rec::Port {
+        kind::COND => Rec::Cond,
+        kind::MAPPING => mapping(contents, item, leads),
+        kind::REGION => region(contents, item, leads),
+        kind::PORT => Rec::Port {
             set: half(word(item, 1)),
         },
-        6 => Rec::Portset,
-        8 => Rec::Thread(BoxedThread::new(alloc, thread(contents, item, leads))?),
+        kind::PORTSET => Rec::Portset,
+        kind::THREAD => Rec::Thread(BoxedThread::new(alloc, thread(contents, item, leads))?),
         _ => Rec::Reference {
             to: link_at(contents, leads, 0),
         },

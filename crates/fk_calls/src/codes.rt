@@ -1,15 +1,7 @@
 //! Codes of calls: those that begin with a send, and those on objects, spaces and pages.
-
-/// The first call that isn't on objects, spaces or pages.
-const MUTEX_LOCK: u64 = 21;
-/// A client sends words, passes the turn and receives.
-const CLIENT_SEND_OVER_RECEIVE: u64 = 34;
-/// A client sends words.
-const CLIENT_SEND: u64 = 37;
-/// A server sends words.
-const SERVER_SEND: u64 = 51;
-/// A server sends words, passes the turn and receives.
-const SERVER_SEND_OVER_RECEIVE: u64 = 53;
+use fk_model::call::{
+    CLIENT_SEND, CLIENT_SEND_OVER_RECEIVE, MUTEX_LOCK, SERVER_SEND, SERVER_SEND_OVER_RECEIVE,
+};
 
 /// A call begins with a client's send.
 pub fn begins_with_client_send(code: u64) -> bool {

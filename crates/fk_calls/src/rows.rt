@@ -15,6 +15,7 @@ ghost use Rattle.fk_calls.specs.Rows.{are_given, takes_memory, IsFirst};
 
 use fk_acts::{connect, disconnect, link_park, link_set, over, receive, send, wait};
 use fk_faults::{fault_done, fault_park, fault_set};
+use fk_model::call::{COUNT_IN, FAULT_DONE, LINK_SET, MUTEX_LOCK, WAIT};
 use fk_model::status::DENIED;
 use fk_model::{Stage, Turn, Who};
 use fk_objects::{clear, count_in, create, destroy, locate, point, rename, search};
@@ -139,9 +140,9 @@ fn is_denied(caller: Caller, stage: &Stage) -> bool
 {
     let code = code_of_stage(stage);
     if caller.is_porter {
-        21 <= code && code <= 58 && !(code == 48 || code == 56)
+        MUTEX_LOCK <= code && code < LINK_SET && !(code == WAIT || code == FAULT_DONE)
     } else {
-        code == 8 || 60 <= code
+        code == COUNT_IN || LINK_SET <= code
     }
 }
 

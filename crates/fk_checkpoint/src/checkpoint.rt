@@ -19,15 +19,13 @@ use crate::left::spaces_left;
 use crate::way::Way;
 use fk_finish::Finish;
 use fk_gathering::{Content, Gather, Read};
+use fk_model::kind::REFERENCE;
 use fk_model::limits::{FIRST_SCRATCH_SLOT, OWN_SPACE};
 use fk_model::status::OK;
 use fk_model::{Answer, NoMemory, Stage};
 use fk_seeking::{Seek, Sought, Walk, words_of};
 use std::alloc::Global;
 use std::mem;
-
-/// The number of the kind of references.
-const REFERENCE: u64 = 9;
 
 /// A scratch reference: to the space in which an object lies, to what its field leads to, to the space down to which a descent has come.
 #[derive(Clone, Copy)]

@@ -5,12 +5,10 @@ ghost use Rattle.fk_gathering.specs.Gathering.{paths_left};
 ghost use Rattle.laws_checkpoint.specs.Assembly.{spaces_met};
 ghost use Rattle.fk_checkpoint.specs.Lefts.{space_in, spaces_in};
 
+use fk_model::kind::SPACE;
 use fk_model::{List, NoMemory};
 use fk_seeking::Met;
 use std::alloc::Global;
-
-/// The number of the kind of spaces.
-const SPACE: u64 = 7;
 
 /// The slots from the root down to a space that was met.
 fn path_of(alloc: Global, met: &Met) -> Result<List<u8>, NoMemory>

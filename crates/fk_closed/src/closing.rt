@@ -14,12 +14,10 @@ use crate::above::{has_own_path, path_from_nester};
 use crate::far::far_field;
 use crate::led::is_led_to;
 use crate::walk::objects_of;
+use fk_model::limits::LED_TO;
 use fk_model::{List, NoMemory, Who};
 use fk_store::Store;
 use std::alloc::Global;
-
-/// The field that says that something outside leads to an object.
-const LED_TO: u8 = 15;
 
 /// Where a subtree isn't closed.
 #[derive(Drop)]

@@ -3,6 +3,8 @@ ghost use Rattle.std.specs.Prelude.{◌≡◌, ◌==◌, ◌∷◌, [], length, 
 ghost use Rattle.fk_gathering.specs.Fields.{fields_in};
 ghost use Rattle.laws_checkpoint.specs.Assembly.{pointers_by};
 
+use fk_model::kind::{MAPPING, REFERENCE, REGION, THREAD};
+
 /// Fields by rising number, those that are left.
 #[derive(Clone, Copy)]
 pub enum Fields {
@@ -43,8 +45,8 @@ pub fn pointers_by(kind: u64) -> Fields
     ensures { fields_in result ≡ pointers_by kind }
 {
     match kind {
-        8 => Fields::ZeroToThree,
-        3 | 4 | 9 => Fields::Zero,
+        THREAD => Fields::ZeroToThree,
+        MAPPING | REGION | REFERENCE => Fields::Zero,
         _ => Fields::Nothing,
     }
 }
@@ -54,8 +56,8 @@ pub fn asked_of(kind: u64) -> usize
     ensures { result ≡ length (pointers_by kind) }
 {
     match kind {
-        8 => 4,
-        3 | 4 | 9 => 1,
+        THREAD => 4,
+        MAPPING | REGION | REFERENCE => 1,
         _ => 0,
     }
 }

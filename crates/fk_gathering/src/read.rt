@@ -7,15 +7,13 @@ ghost use Rattle.fk_seeking.specs.Seeking.{answered, up};
 ghost use Rattle.fk_gathering.specs.Gathering.{read_of, was_read, HasRoom, HasRoomForContent, item_of, items_of, contents_of, paths_left};
 
 use crate::content::{Content, Item};
+use fk_model::kind::SPACE;
 use fk_model::limits::{PAGES, SLOTS};
 use fk_model::status::OK;
 use fk_model::{Answer, List, NoMemory, Stage};
 use fk_seeking::{space_of, way, words_of};
 use std::alloc::Global;
 use std::mem;
-
-/// The number of the kind of spaces.
-const SPACE: u64 = 7;
 
 /// What a reader does next.
 #[derive(Clone, Copy)]

@@ -30,3 +30,5 @@ pub const BLOCK_WORDS: u64 = 64;
 pub const RECORD_WORDS: u64 = 32;
 /// In an address's place: a page of zeros.
 pub const ZEROS: u64 = 0xffff_ffff_ffff_ffff;
+/// What stands for a pointer field where a checkpoint tells that something outside leads to an object.
+pub const LED_TO: u8 = 15;

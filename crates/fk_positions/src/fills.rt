@@ -10,21 +10,21 @@ ghost use Rattle.fk_positions.specs.Doing.{doing_of};
 use crate::parts::Doing;
 use crate::walks::PLACES;
 use fk_image::{ObjectRec, PageRec, Rec, SpaceRec};
-use fk_model::Stage;
+use fk_model::{Stage, kind};
 
 /// The number of an object's kind.
 fn kind_number(body: &Rec) -> u64
     ensures { (ss : List records.SpaceRec) → result ≡ number_of_kind (kind_of (pictured_body ss body.now)) }
 {
     match body {
-        Rec::Mutex { .. } => 1,
-        Rec::Cond => 2,
-        Rec::Mapping { .. } => 3,
-        Rec::Region { .. } => 4,
-        Rec::Port { .. } => 5,
-        Rec::Portset => 6,
-        Rec::Thread(_) => 8,
-        Rec::Reference { .. } => 9,
+        Rec::Mutex { .. } => kind::MUTEX,
+        Rec::Cond => kind::COND,
+        Rec::Mapping { .. } => kind::MAPPING,
+        Rec::Region { .. } => kind::REGION,
+        Rec::Port { .. } => kind::PORT,
+        Rec::Portset => kind::PORTSET,
+        Rec::Thread(_) => kind::THREAD,
+        Rec::Reference { .. } => kind::REFERENCE,
     }
 }
 

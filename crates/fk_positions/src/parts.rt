@@ -9,9 +9,9 @@ use crate::binding::bound;
 use crate::fills::fills_part;
 use crate::passes::{are_within, fault_of, is_out, leads_within, link_of, talk_of};
 use crate::position::{Pass, Walk};
-use crate::walks::{NESTER, PLACES, leads};
+use crate::walks::{DEAD, NESTER, PEERS, PLACES, TARGETS, leads};
 use fk_image::{FaultRec, Link, ObjectRec, Rec, SpaceRec, TalkRec};
-use fk_model::Stage;
+use fk_model::{Stage, kind};
 
 /// What a part of an item comes to.
 #[derive(Clone, Copy)]
@@ -21,13 +21,6 @@ pub enum Doing {
     Walks(Walk),
     Asks(Stage),
 }
-
-/// The scratch references to what a pointer shall lead to, to a peer, and to what was destroyed.
-const TARGETS: u8 = 241;
-
-const PEERS: u8 = 242;
-
-const DEAD: u8 = 243;
 
 /// A pointer that stays inside: the way to what it leads to, and then it is set.
 fn inward_part(spaces: &[SpaceRec], slot: u8, number: u32, x: u8, body: &Rec, part: u8) -> Doing
@@ -314,7 +307,7 @@ fn makes_part(space: &SpaceRec, part: u8) -> Doing
         Doing::Asks(Stage::Create {
             s: u64::from(PLACES),
             x: u64::from(space.slot),
-            kind: 7,
+            kind: kind::SPACE,
         })
     } else {
         Doing::Nothing

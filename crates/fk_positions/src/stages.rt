@@ -12,39 +12,32 @@ use crate::binding::bound;
 use crate::parts::{Doing, part_at};
 use crate::passes::leads_out_any;
 use crate::position::{Pass, Position, Spot, Walk};
-use crate::walks::{NESTER, walk_stage};
+use crate::walks::{DEAD, NESTER, PEERS, PLACES, TARGETS, walk_stage};
 use fk_image::SpaceRec;
-use fk_model::Stage;
+use fk_model::limits::FIRST_SCRATCH_SLOT;
+use fk_model::{Stage, kind};
 
-/// The scratch references, and the pin in the new space.
-const PLACES: u64 = 240;
-
-const TARGETS: u64 = 241;
-
-const PEERS: u64 = 242;
-
-const DEAD: u64 = 243;
-
-const PIN: u64 = 240;
+/// The reference in the new space that is led to a port of the nester.
+const PIN: u64 = FIRST_SCRATCH_SLOT;
 
 /// A scratch reference is made.
-fn readies(scratch: u64) -> Stage
+fn readies(scratch: u8) -> Stage
     ensures { result ≡ stages.Create 256 scratch 9 }
 {
     Stage::Create {
         s: NESTER,
-        x: scratch,
-        kind: 9,
+        x: u64::from(scratch),
+        kind: kind::REFERENCE,
     }
 }
 
 /// A scratch reference is led to a slot of a space.
-fn leads(scratch: u64, name: u64, slot: u64) -> Stage
+fn leads(scratch: u8, name: u64, slot: u64) -> Stage
     ensures { result ≡ stages.Point 256 scratch name slot }
 {
     Stage::Point {
         s: NESTER,
-        x: scratch,
+        x: u64::from(scratch),
         s2: name,
         x2: slot,
     }
@@ -54,6 +47,13 @@ fn destroys(space: u64, slot: u64) -> Stage
     ensures { result ≡ stages.Destroy space slot }
 {
     Stage::Destroy { s: space, x: slot }
+}
+
+/// A scratch reference is gone.
+fn drops(scratch: u8) -> Stage
+    ensures { result ≡ stages.Destroy 256 scratch }
+{
+    destroys(NESTER, u64::from(scratch))
 }
 
 /// The calls with which the script begins.
@@ -69,14 +69,14 @@ fn opens(slot: u8) -> [Stage; 9]
         Stage::Create {
             s: new,
             x: 0,
-            kind: 4,
+            kind: kind::REGION,
         },
         leads(DEAD, new, 0),
         destroys(new, 0),
         Stage::Create {
             s: new,
             x: PIN,
-            kind: 9,
+            kind: kind::REFERENCE,
         },
         leads(PLACES, NESTER, new),
     ]
@@ -91,10 +91,10 @@ fn closes(slot: u8) -> [Stage; 7]
         leads(TARGETS, NESTER, new),
         leads(PEERS, NESTER, new),
         destroys(new, PIN),
-        destroys(NESTER, PLACES),
-        destroys(NESTER, TARGETS),
-        destroys(NESTER, PEERS),
-        destroys(NESTER, DEAD),
+        drops(PLACES),
+        drops(TARGETS),
+        drops(PEERS),
+        drops(DEAD),
     ]
 }
 
@@ -112,7 +112,7 @@ fn looks(slot: u8, port: u8) -> [Stage; 3]
         },
         leads(TARGETS, new, PIN),
         Stage::Locate {
-            reference: TARGETS,
+            reference: u64::from(TARGETS),
             s: NESTER,
         },
     ]

@@ -7,12 +7,19 @@ ghost use Rattle.fk_positions.specs.Walks as words;
 use crate::position::Walk;
 use fk_image::{Link, SpaceRec};
 use fk_model::Stage;
+use fk_model::limits::{FIRST_SCRATCH_SLOT, OWN_SPACE};
 
-/// The scratch reference that names places.
-pub const PLACES: u8 = 240;
+/// The scratch references: to the place that is worked at, to what a pointer shall lead to, to a peer, and to what was destroyed.
+pub const PLACES: u8 = FIRST_SCRATCH_SLOT as u8;
+
+pub const TARGETS: u8 = PLACES + 1;
+
+pub const PEERS: u8 = PLACES + 2;
+
+pub const DEAD: u8 = PLACES + 3;
 
 /// The nester, as its porter names it.
-pub const NESTER: u64 = 256;
+pub const NESTER: u64 = OWN_SPACE;
 
 fn parent_of(spaces: &[SpaceRec], number: u32) -> u32
     ensures { result ≡ words.parent_of spaces.now number }

@@ -7,6 +7,7 @@ ghost use Rattle.fk_restore.specs.Bounds.{bound_here};
 ghost use Rattle.fk_restore.specs.Restores.{inner};
 
 use fk_image::SpaceRec;
+use fk_model::limits::FIRST_SCRATCH_SLOT;
 use fk_positions::{bound, leads_out_any};
 
 /// What stands in a space, and the space itself where it isn't the first.
@@ -45,7 +46,7 @@ pub fn lowest_bound(spaces: &[SpaceRec], pairs: &[(u8, u8)], port: u8) -> u8
     ensures { result ≡ machine.lowest_bound (bound_by pairs.now) (rooms_from spaces.now 0 spaces.now) port 240 0 }
 {
     let mut slot: u8 = 0;
-    let mut left: u8 = 240;
+    let mut left = FIRST_SCRATCH_SLOT as u8;
     while left > 0 {
         if is_bound_here(spaces, pairs, port, slot) {
             return slot;

@@ -18,12 +18,16 @@ ghost use Rattle.fk_restore.specs.Restores.{answered, clears, missing, goes_on, 
 use crate::counting::{count_objects, lowest_bound};
 use fk_finish::{Finish, ValidImage};
 use fk_image::{Image, SpaceRec};
-use fk_model::limits::OWN_SPACE;
+use fk_model::kind::PORT;
+use fk_model::limits::{FIRST_SCRATCH_SLOT, OWN_SPACE};
 use fk_model::status::OK;
 use fk_model::{Answer, List, NoMemory, Stage};
 use fk_orders::{Look, first, is_over, look_at, settled_from, words_at};
 use fk_positions::{Position, next_of, stage_at};
 use std::mem;
+
+/// How many scratch references a restore makes.
+const SCRATCH: u8 = 4;
 
 /// What a restore is at.
 #[derive(Drop)]
@@ -59,7 +63,7 @@ fn tells_port(port: u8, words: &[u64]) -> bool
     ensures { result ≡ is_port_in port words.now }
 {
     match words {
-        [slot, deeper, kind] => *slot == u64::from(port) && *deeper == 0 && *kind == 5,
+        [slot, deeper, kind] => *slot == u64::from(port) && *deeper == 0 && *kind == PORT,
         _ => false,
     }
 }
@@ -132,7 +136,7 @@ fn cleared(dropped: u8, more: u128, port: u8) -> Phase
     ensures state { (ss : List records.SpaceRec) (slot : ℕ) (pairs : List (ℕ × ℕ)) (bind : ℕ → ℕ) (rooms : List Room) (status : ℕ) (words : List ℕ)
         → phase_of ss slot pairs result ≡ machine.next slot bind rooms (clears dropped more port) status words }
 {
-    if dropped < 4 {
+    if dropped < SCRATCH {
         Phase::Clears {
             dropped: dropped + 1,
             more,
@@ -226,10 +230,10 @@ fn releases(slot: u8) -> Stage
 fn clearing(slot: u8, dropped: u8) -> Stage
     ensures { (more port : ℕ) → machine.head slot (clears dropped more port) ≡ Asks result no_words }
 {
-    if dropped < 4 {
+    if dropped < SCRATCH {
         Stage::Destroy {
             s: OWN_SPACE,
-            x: 240 + u64::from(dropped),
+            x: FIRST_SCRATCH_SLOT + u64::from(dropped),
         }
     } else {
         Stage::Destroy {

@@ -3,6 +3,8 @@ ghost use Rattle.std.specs.Prelude.{◌≡◌, ◌∷◌, [], IfSome, IfNone};
 ghost use Rattle.fk_seeking.specs.Seeking.{fields_in};
 ghost use Rattle.laws_checkpoint.specs.Assembly.{fields_by, is_strict_number};
 
+use fk_model::kind::{MAPPING, REFERENCE, REGION, SPACE, THREAD};
+
 /// Fields by rising number.
 #[derive(Clone, Copy)]
 pub enum Fields {
@@ -32,8 +34,8 @@ pub fn fields_by(kind: u64) -> Fields
     ensures { fields_in result ≡ fields_by kind }
 {
     match kind {
-        8 => Fields::ZeroTwo,
-        3 | 4 | 7 | 9 => Fields::Zero,
+        THREAD => Fields::ZeroTwo,
+        MAPPING | REGION | SPACE | REFERENCE => Fields::Zero,
         _ => Fields::Nothing,
     }
 }
@@ -42,5 +44,5 @@ pub fn fields_by(kind: u64) -> Fields
 pub fn is_strict(kind: u64) -> bool
     ensures { result ≡ is_strict_number kind }
 {
-    kind == 3 || kind == 7
+    kind == MAPPING || kind == SPACE
 }

@@ -11,13 +11,12 @@ use crate::descent::way;
 use crate::fields::{Fields, fields_by, is_strict};
 use crate::met::Met;
 use fk_model::Stage;
-use fk_model::limits::{FIRST_SCRATCH_SLOT, OWN_SPACE};
+use fk_model::kind::PORT;
+use fk_model::limits::{FIRST_SCRATCH_SLOT, LED_TO, OWN_SPACE};
 use fk_model::status::OK;
 
 /// The scratch reference that is led to what a field leads to.
 const TARGETS: u64 = FIRST_SCRATCH_SLOT + 1;
-/// The field that says that something outside leads to an object.
-const LED_TO: u8 = 15;
 
 /// What a search does next with its object.
 #[derive(Clone, Copy)]
@@ -132,7 +131,7 @@ pub fn tells_port(words: &[u64]) -> bool
     ensures { result ≡ seeks.tells_port words.now }
 {
     match words {
-        [_, far, kind, ..] => *far == 0 && *kind == 5,
+        [_, far, kind, ..] => *far == 0 && *kind == PORT,
         _ => false,
     }
 }

@@ -7,14 +7,12 @@ ghost use Rattle.fk_seeking.specs.Seeking.{step_of, walk_of, walked, HasRoom, Ha
 
 use crate::descent::{space_of, way};
 use crate::met::Met;
+use fk_model::kind::SPACE;
 use fk_model::limits::SLOTS;
 use fk_model::status::OK;
 use fk_model::{List, NoMemory, Stage};
 use std::alloc::Global;
 use std::mem;
-
-/// The number of the kind of spaces.
-const SPACE: u64 = 7;
 
 /// What a walk does next.
 #[derive(Clone, Copy)]

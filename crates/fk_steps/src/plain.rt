@@ -17,20 +17,15 @@ ghost use Rattle.fk_turns_moved.specs.Told.{runs_on_at};
 ghost use Rattle.fk_steps.specs.Steps.{touches_only, AreApart, AreRousedAt, AreUnknown, ComesByPorter, IsApartAt};
 ghost use Rattle.fk_steps.specs.Steps.{IsCalm, IsGentle, IsOneApart, IsQuietFrom, IsTurned, MayBeQuiet};
 
+use fk_model::call::{
+    CLIENT_OVER, CLIENT_OVER_RECEIVE, CLIENT_SEND, CLIENT_SEND_OVER_RECEIVE, DISCONNECT,
+    MUTEX_TRYLOCK, MUTEX_UNLOCK,
+};
 use fk_model::{Ask, Mode, Move, Peer, Thread, Who};
 use fk_store::Store;
 use fk_turns::Turns;
 use fk_turns_next::{after, ready};
 use fk_wakes::Touched;
-
-/// A client sends words.
-const CLIENT_SEND: u64 = 37;
-/// A client sends words, passes the turn and receives.
-const CLIENT_SEND_OVER_RECEIVE: u64 = 34;
-/// A client passes the turn.
-const CLIENT_OVER: u64 = 38;
-/// A client passes the turn and receives.
-const CLIENT_OVER_RECEIVE: u64 = 35;
 
 /// The lists after a move. Where that touched nobody else, who moved goes on and nothing is held, and it was an instruction, or nobody is queued whom any
 /// move may free, who moved goes from first to last, and nobody is looked at.
@@ -611,7 +606,7 @@ fn acts_later(code: u64) -> bool
 fn acts_besides(code: u64) -> bool
     ensures { result ≡ steps_of.acts_besides code }
 {
-    code == 22 || code == 23 || code == 39
+    code == MUTEX_TRYLOCK || code == MUTEX_UNLOCK || code == DISCONNECT
 }
 
 /// In a call, it sends words or passes the turn to a native server.
