@@ -64,10 +64,17 @@ pub record IsWhole (w : World) : Type 0 where
   pub few : w.next ≤ depth
   pub full : HasFullPages w
 
+-- a space is younger than the one in which it lies
+abbrev pub IsYounger : World → Type 0
+IsYounger w = (k : ℕ) (x : Path) (birth above : ℕ) → birth_at w (k ∷ x) ≡ Some birth → birth_at w x ≡ Some above → above < birth
+
+-- porters stand in last slots alone, references alone in those of scratch, and no porter elsewhere
+abbrev pub KeepsSlots : World → Type 0
+KeepsSlots w = (k : ℕ) (x : Path) (b : Body) → w.body (k ∷ x) ≡ Some b → stands_in k b ≡ true
+
 -- what a subtree needs besides, so that it can be saved, and made again from what was saved
 pub record IsSavable (w : World) : Type 0 where
-  -- a space is younger than the one in which it lies
-  pub younger : (k : ℕ) (x : Path) (birth above : ℕ) → birth_at w (k ∷ x) ≡ Some birth → birth_at w x ≡ Some above → above < birth
+  pub younger : IsYounger w
   -- a thread is in a call that there is, and its numbers are in range
   pub shaped : (x : Path) (t : Thread) → and_then thread_of (w.body x) ≡ Some t → IsShapedMode t.mode
   pub few_stops : (x : Path) (t : Thread) → and_then thread_of (w.body x) ≡ Some t → t.stops ≤ MOST_STOPS
@@ -78,7 +85,7 @@ pub record IsSavable (w : World) : Type 0 where
   pub talks_placed : (x : Path) (talk : Talk) → talk_at w x ≡ Some talk → is_placed w talk.port talk.peer ≡ true
   pub faults_placed : (x : Path) (fault : Fault) (taker : Peer) → fault_at w x ≡ Some fault → fault.taker ≡ Some taker → is_placed w fault.port taker ≡ true
   -- slots above 239 are for porters and their scratch
-  pub slots_kept : (k : ℕ) (x : Path) (b : Body) → w.body (k ∷ x) ≡ Some b → stands_in k b ≡ true
+  pub slots_kept : KeepsSlots w
   pub scratch_kept : (k : ℕ) (x : Path) → is_scratch_slot k ≡ true → IsSome (w.body (k ∷ x)) → is_porters w x ≡ true
   -- and an image has room for each number
   pub numbers : HasNumbers w

@@ -13,14 +13,14 @@ use Rattle.fk_model.specs.StateRows.{is_native}
 use Rattle.fk_model.specs.Outcomes.{Outcome, listed}
 use Rattle.fk_model.specs.Outcomes.Outcome.{Refused, Waits, Goes}
 use Rattle.fk_model.specs.Moves.{outcome, step, stepped}
-use Rattle.fk_model.specs.Whole.{stands_in}
+use Rattle.fk_model.specs.Whole.{stands_in, KeepsSlots}
 use Rattle.fk_model.proofs.walks.PlaceLaws.{same_path_eq}
 use Rattle.laws_machine.proofs.safety.Safe.{IsSafe, AreSafe}
 use Rattle.laws_machine.proofs.safety.Outcomes.{SafeOutcome}
 use Rattle.laws_machine.proofs.safety.Moves.{outcome-safe}
 use Rattle.laws_machine.proofs.validity.Steps.{facts_of}
 use Rattle.laws_frozen.specs.Users.{is_low, IsUsers, AreUsers}
-use Rattle.laws_frozen.specs.Slots.{KeepsSlots, UsersKeepSlots}
+use Rattle.laws_frozen.specs.Slots.{UsersKeepSlots}
 use Rattle.laws_frozen.proofs.Edited.{is_proceed, same-native, same-reference}
 use Rattle.laws_frozen.proofs.Users.{users_name_low}
 

@@ -9,6 +9,7 @@ use Rattle.fk_model.specs.Outcomes.{Outcome, listed}
 use Rattle.fk_model.specs.Outcomes.Outcome.{Refused, Waits, Goes}
 use Rattle.fk_model.specs.Moves.{outcome, step, stepped}
 use Rattle.fk_model.specs.Valid.{IsConsistent, kind_there, birth_of, birth_at}
+use Rattle.fk_model.specs.Whole.{IsYounger}
 use Rattle.fk_model.proofs.walks.PlaceLaws.{same_path_eq, same_path_above}
 use Rattle.laws_machine.proofs.validity.Outlines.{Outline, outline_of, outline-birth}
 use Rattle.laws_machine.proofs.validity.Edits.{outline-edited}
@@ -19,7 +20,7 @@ use Rattle.laws_machine.proofs.validity.Steps.{facts_of}
 use Rattle.laws_machine.proofs.safety.Safe.{is_plain, IsSafe, AreSafe}
 use Rattle.laws_machine.proofs.safety.Outcomes.{SafeOutcome}
 use Rattle.laws_machine.proofs.safety.Moves.{outcome-safe}
-use Rattle.laws_whole.specs.Runnable.{IsYounger, makes_space, FitMoveKeepsYounger, OnlySpacesAreNumbered}
+use Rattle.laws_whole.specs.Runnable.{makes_space, FitMoveKeepsYounger, OnlySpacesAreNumbered}
 
 -- ---- births
 

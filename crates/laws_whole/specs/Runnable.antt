@@ -1,6 +1,6 @@
 -- What a world keeps while a machine runs: it is whole, and each thread has its registers. A run supplies this at each of
 -- its moves, from its beginning alone.
-use Rattle.std.specs.Prelude.{◌≡◌, ℕ, ◌+◌, ◌<◌, ◌≤◌, Bool, true, false, ◌&&◌, ◌==◌, List, [], ◌∷◌, length, Some}
+use Rattle.std.specs.Prelude.{◌≡◌, ◌+◌, ◌≤◌, Bool, true, false, ◌&&◌, ◌==◌, List, [], ◌∷◌, length, Some}
 use Rattle.fk_model.specs.declared.limits.TheConstants.{PAGE_WORDS}
 use Rattle.fk_model.specs.declared.moves.Ask.{Ask}
 use Rattle.fk_model.specs.declared.moves.Ask.TheVariants as asks
@@ -12,8 +12,8 @@ use Rattle.fk_model.specs.Searches.{depth}
 use Rattle.fk_model.specs.Outcomes.{listed}
 use Rattle.fk_model.specs.Moves.{outcome}
 use Rattle.fk_model.specs.Runs.{Event, after, run}
-use Rattle.fk_model.specs.Valid.{IsValid, birth_at, is_fit}
-use Rattle.fk_model.specs.Whole.{are_words, IsWhole, IsSavable}
+use Rattle.fk_model.specs.Valid.{IsValid, is_fit}
+use Rattle.fk_model.specs.Whole.{are_words, IsWhole, IsYounger, IsSavable}
 
 -- every thread has 16 registers
 abbrev pub HasRegisters : World → Type 0
@@ -66,10 +66,6 @@ makes_space (c ∷ cs) = makes_space cs
 abbrev pub OnlySpacesAreNumbered : Type 0
 OnlySpacesAreNumbered = (w : World) (e : Event) → makes_space (listed (outcome w e.mover e.pick e.ask)) ≡ false → (after w e).next ≡ w.next
 
--- a space is younger than the one in which it lies
-abbrev pub IsYounger : World → Type 0
-IsYounger w = (k : ℕ) (x : Path) (birth above : ℕ) → birth_at w (k ∷ x) ≡ Some birth → birth_at w x ≡ Some above → above < birth
-
--- so it stays with every fit move
+-- each space stays younger than the one in which it lies, with every fit move
 abbrev pub FitMoveKeepsYounger : Type 0
 FitMoveKeepsYounger = (w : World) (e : Event) → IsValid w → w.next ≤ depth → is_fit w e.mover e.ask ≡ true → IsYounger w → IsYounger (after w e)
