@@ -11,7 +11,7 @@ use Rattle.fk_model.specs.Outcomes.Outcome.{Refused, Waits, Goes}
 use Rattle.fk_model.specs.Moves.{outcome, step, stepped}
 use Rattle.fk_model.specs.Runs.{after, run}
 use Rattle.fk_model.specs.Valid.{IsConsistent, is_fit}
-use Rattle.fk_model.specs.Whole.{HasNumbers, IsSavable}
+use Rattle.fk_model.specs.Whole.{HasNumbers, IsSavable, KeepsSlots}
 use Rattle.laws_machine.proofs.validity.Changes.{valid-apply}
 use Rattle.laws_machine.proofs.validity.Steps.{facts_of}
 use Rattle.laws_machine.proofs.safety.Safe.{AreSafe}
@@ -27,7 +27,6 @@ use Rattle.laws_savable.proofs.Pages.{PagesHaveWords, pages-apply}
 use Rattle.laws_savable.proofs.Scratch.{ScratchKept, scratch-apply}
 use Rattle.laws_savable.proofs.Bodies.{AllTidy, all-tidy, are-tidy, tidy-apply}
 use Rattle.laws_savable.proofs.Holders.{HoldersOutside, outside-apply}
-use Rattle.laws_savable.proofs.Standing.{AllStand}
 use Rattle.laws_savable.proofs.Sorts.{stand-apply}
 use Rattle.laws_savable.proofs.Placed.{TalksPlaced, FaultsPlaced, talks-apply, faults-apply}
 use Rattle.laws_savable.proofs.Moves.{Premise, outcome-kept}
@@ -39,7 +38,7 @@ pub record Saved (v : World) : Type 0 where
   pub outside : HoldersOutside v
   pub talks : TalksPlaced v
   pub faults : FaultsPlaced v
-  pub stand : AllStand v
+  pub stand : KeepsSlots v
   pub scratch : ScratchKept v
   pub pages : PagesHaveWords v
 

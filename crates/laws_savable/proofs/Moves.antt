@@ -27,7 +27,7 @@ use Rattle.fk_model.specs.Moves.{stage_row, is_for_porters, is_denied, allowed_r
 use Rattle.fk_model.specs.Moves.{porter_move, outcome}
 use Rattle.fk_model.specs.Calls.{arguments}
 use Rattle.fk_model.specs.Valid.{IsConsistent, IsRooted, are_talk_words, are_fault_words, is_fit_stage, is_fit}
-use Rattle.fk_model.specs.Whole.{are_words, HasFullPages}
+use Rattle.fk_model.specs.Whole.{are_words, HasFullPages, KeepsSlots}
 use Rattle.laws_machine.proofs.safety.Reads.{IsCaller, kind-there, body-thread_of}
 use Rattle.laws_machine.proofs.safety.Moves.{thread-caller}
 use Rattle.laws_whole.specs.Runnable.{has_all_words}
@@ -38,7 +38,7 @@ use Rattle.laws_savable.proofs.Scratch.{ScratchKept}
 use Rattle.laws_savable.proofs.Reached.{Memory}
 use Rattle.laws_savable.proofs.Kept.{AreTidy, is_single, leaves_room, of_thread, KeptOutcome, refused, waits, goes, kept-when, if-kept}
 use Rattle.laws_savable.proofs.Todos.{is_last_receive, opens, is_wait, opens_first, GoesOn, has_rest}
-use Rattle.laws_savable.proofs.Standing.{AllStand, native-last}
+use Rattle.laws_savable.proofs.Standing.{native-last}
 use Rattle.laws_savable.proofs.Rows.{run_row-kept, mutex_lock-kept, mutex_trylock-kept, mutex_unlock-kept, cond_wait-kept, cond_asleep-kept, cond_signal-kept}
 use Rattle.laws_savable.proofs.Rows.{cond_broadcast-kept, send-kept, receive-kept, over-kept, thread_stop-kept, thread_go-kept, page_give-kept, page_take-kept}
 use Rattle.laws_savable.proofs.Rows.{page_read-kept, page_next-kept}
@@ -55,7 +55,7 @@ pub record Premise (w : World) : Type 0 where
   pub pages : HasFullPages w
   pub words : PagesHaveWords w
   pub tidy : AreTidy w
-  pub stand : AllStand w
+  pub stand : KeepsSlots w
   pub scratch : ScratchKept w
 
 -- a porter in its space's last slot gives 64 words in their ranges, and what its call owes

@@ -29,7 +29,7 @@ use Rattle.fk_model.specs.StateRows.{is_bad_record_address}
 use Rattle.fk_model.specs.ObjectRows.{new_object, create, kills, destroys, destroy, rename, search as search_row, point, clear, target_of, way_to, kind_number}
 use Rattle.fk_model.specs.ObjectRows.{locate, count_in}
 use Rattle.fk_model.specs.Valid.{IsConsistent, IsRooted, kind_there}
-use Rattle.fk_model.specs.Whole.{is_scratch_slot, is_porters}
+use Rattle.fk_model.specs.Whole.{is_scratch_slot, is_porters, KeepsSlots}
 use Rattle.fk_model.proofs.walks.PlaceLaws.{same_path_eq, same_path_refl, strip_some, leads_to_at}
 use Rattle.laws_machine.proofs.safety.Reads.{IsCaller, kind-there, object_in-found}
 use Rattle.laws_savable.specs.Savable.{may_make, MayMake, NamesHolderOutside, LeavesNoScratch}
@@ -41,7 +41,7 @@ use Rattle.laws_savable.proofs.Scratch.{ScratchKept, stands-porter}
 use Rattle.laws_savable.proofs.Kept.{IsTidyThread, IsTidy, AreTidy, IsUsersMode, KeepsScratch, IsOutside, IsKept, AreKept, KeptOutcome, kept-end_all, if-kept}
 use Rattle.laws_savable.proofs.Kept.{kept-done, kept-done_at, kept-answers, kept-stays, kept-telling}
 use Rattle.laws_savable.proofs.Persisting.{fits-single, single-pointed}
-use Rattle.laws_savable.proofs.Standing.{AllStand, low-stands, scratch-stands, last-kill}
+use Rattle.laws_savable.proofs.Standing.{low-stands, scratch-stands, last-kill}
 use Rattle.laws_savable.proofs.Rows.{own_page-kept, overwritten-words, GivesWords, IsLastStage, answers-alone, runs, halts, calls}
 
 -- ---- slots that a user can name
@@ -157,7 +157,7 @@ module _ (w : World) where
   scratch-low : (k : ℕ) → nat_le k LAST_USER_SLOT ≡ true → nat_le k LAST_SCRATCH_SLOT ≡ true
   scratch-low k low = let few = leb-true k LAST_USER_SLOT low in le-leb k LAST_SCRATCH_SLOT (omega (arith, few))
 
-  destroy-goes : AllStand w → (c : Caller) (x : ℕ) (space : Path) (b : Body) → IfPorter c (nat_le x LAST_SCRATCH_SLOT ≡ true) →
+  destroy-goes : KeepsSlots w → (c : Caller) (x : ℕ) (space : Path) (b : Body) → IfPorter c (nat_le x LAST_SCRATCH_SLOT ≡ true) →
       object_in w c anything space x ≡ Ok b → KeptOutcome w (destroys w c (x ∷ space) (leaf w (x ∷ space)))
   destroy-goes stand c x space b owed read = destroys-kept c (x ∷ space) (leaf w (x ∷ space)) (last-kill w stand x space (named c.is_porter refl))
     where
@@ -165,7 +165,7 @@ module _ (w : World) where
       named true e = owed e
       named false e = scratch-low x (object-low c e w anything space x b read)
 
-  pub destroy-kept : AllStand w → (c : Caller) (s x : ℕ) → IfPorter c (nat_le x LAST_SCRATCH_SLOT ≡ true) → KeptOutcome w (destroy w c s x)
+  pub destroy-kept : KeepsSlots w → (c : Caller) (s x : ℕ) → IfPorter c (nat_le x LAST_SCRATCH_SLOT ≡ true) → KeptOutcome w (destroy w c s x)
   unfolding destroy
   destroy-kept stand c s x owed = search (kept_row, destroy-goes) depth 9
 
@@ -293,7 +293,7 @@ module _ (w : World) where
   abbrev pub IsUsersHold : Caller → Type 0
   IsUsersHold c = c.is_porter ≡ false → holds is_native (w.body (path_of c)) ≡ false
 
-  release-goes : AllStand w → IsConsistent w → ScratchKept w → (c : Caller) → IsUsersHold c → (s x : ℕ) → IfPorter c (LeavesNoScratch w c s x) →
+  release-goes : KeepsSlots w → IsConsistent w → ScratchKept w → (c : Caller) → IsUsersHold c → (s x : ℕ) → IfPorter c (LeavesNoScratch w c s x) →
       (space : Path) (holder : Option Ptr) → space_argument w c s ≡ Ok space → object_in w c space_of space x ≡ Ok holder →
       not (holds (leads_to (path_of c)) holder) ≡ false → KeptOutcome w (done c (Alter (x ∷ space) (SetHolder None) ∷ []) [])
   release-goes stand valid kept c users s x owed space holder place read own =
@@ -326,7 +326,7 @@ module _ (w : World) where
           by false e = or-either (holds is_native (w.body (LAST_PORTER_SLOT ∷ x ∷ space))) _ false
               (λ h. absurd (test holder refl e (rw held at h) own)) (kept k (x ∷ space) scratch live)
 
-  pub space_release-kept : AllStand w → IsConsistent w → ScratchKept w → (c : Caller) → IsUsersHold c → (s x : ℕ) → IfPorter c (LeavesNoScratch w c s x) →
+  pub space_release-kept : KeepsSlots w → IsConsistent w → ScratchKept w → (c : Caller) → IsUsersHold c → (s x : ℕ) → IfPorter c (LeavesNoScratch w c s x) →
       KeptOutcome w (space_release w c s x)
   unfolding space_release
   space_release-kept stand valid kept c users s x owed = search (kept_row, release-goes) depth 9

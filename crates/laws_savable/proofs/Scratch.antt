@@ -14,11 +14,10 @@ use Rattle.fk_model.specs.World.Edit.{SetHolder}
 use Rattle.fk_model.specs.Holds.{holder_of}
 use Rattle.fk_model.specs.StateRows.{is_native}
 use Rattle.fk_model.specs.Valid.{IsConsistent, kind_there, all_in, is_good, is_one_of}
-use Rattle.fk_model.specs.Whole.{stands_in, is_scratch_slot, is_porters}
+use Rattle.fk_model.specs.Whole.{stands_in, is_scratch_slot, is_porters, KeepsSlots}
 use Rattle.fk_model.proofs.walks.PlaceLaws.{same_path_eq, same_path_refl, leads_to_at}
 use Rattle.laws_machine.proofs.safety.Safe.{IsSafe}
 use Rattle.laws_savable.proofs.Kept.{KeepsScratch, IsLastKill, IsKeptEdit, IsKept}
-use Rattle.laws_savable.proofs.Standing.{AllStand}
 use Rattle.laws_savable.proofs.Sorts.{native-edited, native-through}
 use Rattle.laws_savable.proofs.Holders.{mapped-holder}
 
@@ -85,7 +84,7 @@ slots-apart k j x y apart = by (same_path (k ∷ x) (j ∷ y)) refl
     by true e = let here = same_path_eq (k ∷ x) (j ∷ y) e in let slot : k ≡ j = cc in absurd (apart slot)
     by false e = refl
 
-module _ (v : World) (valid : IsConsistent v) (stand : AllStand v) where
+module _ (v : World) (valid : IsConsistent v) (stand : KeepsSlots v) where
   -- who holds a space from the last slot beside it is a porter
   pub stands-porter : (z : Path) → holder_of (v.body z) ≡ Some (At (LAST_PORTER_SLOT ∷ parent z))
       → holds is_native (v.body (LAST_PORTER_SLOT ∷ parent z)) ≡ true
@@ -105,7 +104,7 @@ module _ (v : World) (valid : IsConsistent v) (stand : AllStand v) where
       there (Some b) e kind = stand LAST_PORTER_SLOT (parent z) b e
       there None e kind = cc
 
-module _ (v : World) (valid : IsConsistent v) (stand : AllStand v) (kept : ScratchKept v) where
+module _ (v : World) (valid : IsConsistent v) (stand : KeepsSlots v) (kept : ScratchKept v) where
   -- what has something in it is a space, and a space lies in a user's slot
   space-there : (k : ℕ) (x : Path) → IsSome (v.body (k ∷ x)) → IsSome (v.body x)
   unfolding kind_there

@@ -9,12 +9,12 @@ use Rattle.fk_model.specs.World.Change.{Alter, Make, MakeSpace, Kill, Move, PutP
 use Rattle.fk_model.specs.World.Edit.{Proceed}
 use Rattle.fk_model.specs.Holds.{is_porter}
 use Rattle.fk_model.specs.StateRows.{is_native}
-use Rattle.fk_model.specs.Whole.{stands_in}
+use Rattle.fk_model.specs.Whole.{stands_in, KeepsSlots}
 use Rattle.fk_model.proofs.walks.PlaceLaws.{same_path_eq}
 use Rattle.laws_machine.proofs.safety.Safe.{IsSafe}
 use Rattle.laws_frozen.proofs.Edited.{same-native, same-reference}
 use Rattle.laws_savable.proofs.Kept.{IsKeptEdit, IsKept}
-use Rattle.laws_savable.proofs.Standing.{AllStand, low-stands, same-stands, stands-native}
+use Rattle.laws_savable.proofs.Standing.{low-stands, same-stands, stands-native}
 
 -- ---- edits
 
@@ -56,8 +56,8 @@ low-native k b low h = by (is_native b) refl
     by true e = let last = stands-native k b h e in let high : nat_le LAST_PORTER_SLOT LAST_USER_SLOT ≡ true = rw last at low in cc
     by false e = refl
 
-module _ (v : World) (stand : AllStand v) where
-  altered : (y : Path) (edit : Edit) → IsKeptEdit v y edit → AllStand (apply (Alter y edit) v)
+module _ (v : World) (stand : KeepsSlots v) where
+  altered : (y : Path) (edit : Edit) → IsKeptEdit v y edit → KeepsSlots (apply (Alter y edit) v)
   unfolding apply
   altered y edit kept k x b h = by (same_path (k ∷ x) y) refl h
     where
@@ -81,7 +81,7 @@ module _ (v : World) (stand : AllStand v) where
   swept f k x q b h = let was = mapped (through f q) (v.body (k ∷ x)) b h in
       rw (was.2) (same-stands k (through f q was.0) was.0 (native-through f q was.0) (reference-through f q was.0) (stand k x was.0 was.1))
 
-  killed : (y : Path) → AllStand (apply (Kill y) v)
+  killed : (y : Path) → KeepsSlots (apply (Kill y) v)
   unfolding apply
   killed y k x b h = by (same_path (k ∷ x) y) h
     where
@@ -89,7 +89,7 @@ module _ (v : World) (stand : AllStand v) where
       by true h = cc
       by false h = swept (death_sweep y) k x (k ∷ x) b h
 
-  renamed : (i : ℕ) (s : Path) (j : ℕ) → nat_le i LAST_USER_SLOT ≡ true → nat_le j LAST_USER_SLOT ≡ true → AllStand (apply (Move (i ∷ s) j) v)
+  renamed : (i : ℕ) (s : Path) (j : ℕ) → nat_le i LAST_USER_SLOT ≡ true → nat_le j LAST_USER_SLOT ≡ true → KeepsSlots (apply (Move (i ∷ s) j) v)
   unfolding apply
   renamed i s j low there k x b h = by (same_path (k ∷ x) (j ∷ s)) refl (same_path (k ∷ x) (i ∷ s)) h
     where
@@ -105,7 +105,7 @@ module _ (v : World) (stand : AllStand v) where
       by false e true h = cc
       by false e false h = swept (following (i ∷ s) (j ∷ s)) k x (k ∷ x) b h
 
-  pub stand-apply : (c : Change) → IsSafe v c → IsKept v c → AllStand (apply c v)
+  pub stand-apply : (c : Change) → IsSafe v c → IsKept v c → KeepsSlots (apply c v)
   unfolding apply
   stand-apply (Alter y edit) safe kept = altered y edit kept
   stand-apply (Make [] body) safe kept = absurd safe

@@ -9,13 +9,9 @@ use Rattle.fk_model.specs.Objects.Body.{Mutex, Port, Thread_of}
 use Rattle.fk_model.specs.World.{World}
 use Rattle.fk_model.specs.Searches.{lowest, depth, first_resident, leaf_from, leaf_by, leaf}
 use Rattle.fk_model.specs.StateRows.{is_native}
-use Rattle.fk_model.specs.Whole.{stands_in}
+use Rattle.fk_model.specs.Whole.{stands_in, KeepsSlots}
 use Rattle.fk_model.proofs.walks.Lowest.{lowest_none}
 use Rattle.laws_savable.proofs.Kept.{is_port, IsLastKill}
-
--- what stands in each slot may stand there
-abbrev pub AllStand : World → Type 0
-AllStand w = (k : ℕ) (x : Path) (b : Body) → w.body (k ∷ x) ≡ Some b → stands_in k b ≡ true
 
 pub low-stands : (k : ℕ) (b : Body) → nat_le k LAST_USER_SLOT ≡ true → is_native b ≡ false → stands_in k b ≡ true
 low-stands k b low user = rw (low, user) refl
@@ -44,7 +40,7 @@ stands-native k (Thread_of t) h native = by (nat_le k LAST_USER_SLOT) (nat_le k 
 stands-native k (Mutex locked) h native = cc
 stands-native k b h native = cc
 
-pub native-last : (w : World) → AllStand w → (k : ℕ) (x : Path) → holds is_native (w.body (k ∷ x)) ≡ true → k ≡ LAST_PORTER_SLOT
+pub native-last : (w : World) → KeepsSlots w → (k : ℕ) (x : Path) → holds is_native (w.body (k ∷ x)) ≡ true → k ≡ LAST_PORTER_SLOT
 native-last w stand k x h = by (w.body (k ∷ x)) refl h
   where
     by : (o : Option Body) → w.body (k ∷ x) ≡ o → holds is_native o ≡ true → k ≡ LAST_PORTER_SLOT
@@ -60,7 +56,7 @@ stands-port k set served h = by (nat_le k LAST_USER_SLOT) (nat_le k LAST_SCRATCH
     by false false true h = cc
     by false false false h = cc
 
-pub port-low : (w : World) → AllStand w → (k : ℕ) (x : Path) → is_port (w.body (k ∷ x)) ≡ true → nat_le k LAST_USER_SLOT ≡ true
+pub port-low : (w : World) → KeepsSlots w → (k : ℕ) (x : Path) → is_port (w.body (k ∷ x)) ≡ true → nat_le k LAST_USER_SLOT ≡ true
 port-low w stand k x h = by (w.body (k ∷ x)) refl h
   where
     by : (o : Option Body) → w.body (k ∷ x) ≡ o → is_port o ≡ true → nat_le k LAST_USER_SLOT ≡ true
@@ -108,7 +104,7 @@ leaf_by-first (suc n) w x = by (first_resident w x) refl (λ j. leaf_by-first n 
     by None e rest = Itself refl
     by (Some j) e rest = deeper j (leaf_by n w (j ∷ x)) e (rest j)
 
-pub last-kill : (w : World) → AllStand w → (x : ℕ) (space : Path) → nat_le x LAST_SCRATCH_SLOT ≡ true → IsLastKill w (leaf w (x ∷ space))
+pub last-kill : (w : World) → KeepsSlots w → (x : ℕ) (space : Path) → nat_le x LAST_SCRATCH_SLOT ≡ true → IsLastKill w (leaf w (x ∷ space))
 unfolding leaf
 last-kill w stand x space named native = by (leaf_by depth w (x ∷ space)) (leaf_by-first depth w (x ∷ space)) native
   where
