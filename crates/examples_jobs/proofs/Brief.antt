@@ -115,14 +115,14 @@ module _ (slot birth : ℕ) (w : World) (nester : Path) (low : slot ≤ LAST_USE
   unfolding is_fit
   owed_first stage words e =
       asked (SpaceHold OWN_SPACE slot) stage no_words words e (λ (st : Stage) (ws : List ℕ). IsOwedCall w nester st ws)
-      (record { due = record { fit = refl; words = refl }; owes = tt; unpicking = refl })
+      (record { proper = record { fit = refl; words = refl }; owes = tt; unpicking = refl })
 
   owed_at : (v : World) (t : Brief) (stage : Stage) (words : List ℕ) → Stands v t → head slot t ≡ Asks stage words → IsOwedCall v nester stage words
   unfolding is_fit
   owed_at v _ stage words (AtReleases its tidy) e =
       asked (SpaceRelease OWN_SPACE slot) stage no_words words e (λ (st : Stage) (ws : List ℕ). IsOwedCall v nester st ws)
       (record {
-        due = record { fit = refl; words = refl };
+        proper = record { fit = refl; words = refl };
         owes = owed_release v nester slot (λ k is live. (tidy.clean (slot ∷ nester) k (scratch_of (slot ∷ nester) k is) live).1);
         unpicking = refl;
       })

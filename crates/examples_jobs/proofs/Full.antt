@@ -12,7 +12,7 @@ use Rattle.fk_model.specs.Searches.{depth}
 use Rattle.laws_whole.proofs.Laws.{keeps_runnable, savable_runnable}
 use Rattle.laws_savable.specs.Savable.{IsSound, Owes}
 use Rattle.laws_savable.proofs.Laws.{keeps_savable}
-use Rattle.laws_whole.specs.Runnable.{IsDue}
+use Rattle.laws_whole.specs.Runnable.{IsProper}
 use Rattle.laws_further.specs.ClosedLaws.{IsUncut, IsUsersAlone}
 use Rattle.laws_jobs.specs.Machines.{IsReadyAt}
 use Rattle.laws_jobs.specs.Jobs.{IsClean, MayBegin}
@@ -80,13 +80,13 @@ full_users = users_alone full [] 1 (plain full listed (λ x. refl) [] 1 refl 1 N
 
 -- ---- a call, and what comes of it
 
-pub sound_after : (e : Event) → IsDue full e → Owes full e → IsSound (after full e)
+pub sound_after : (e : Event) → IsProper full e → Owes full e → IsSound (after full e)
 unfolding premises
-sound_after e due owes =
+sound_after e proper owes =
     let left : full.next + 1 ≤ depth = omega arith in
     record {
-      whole = (keeps_runnable full e (savable_runnable full full_whole full_savable) due left).whole;
-      savable = keeps_savable full e full_whole full_savable due owes;
+      whole = (keeps_runnable full e (savable_runnable full full_whole full_savable) proper left).whole;
+      savable = keeps_savable full e full_whole full_savable proper owes;
     }
 
 pub full_ready : IsReadyAt full (hold [] 1)

@@ -10,7 +10,7 @@ use Rattle.fk_model.specs.Readers.{space_argument}
 use Rattle.fk_model.specs.Runs.{Event, after}
 use Rattle.fk_model.specs.Searches.{depth}
 use Rattle.laws_whole.proofs.Laws.{keeps_runnable, savable_runnable}
-use Rattle.laws_whole.specs.Runnable.{IsDue}
+use Rattle.laws_whole.specs.Runnable.{IsProper}
 use Rattle.laws_savable.specs.Savable.{may_make, Owes, IsSound}
 use Rattle.laws_savable.proofs.Laws.{keeps_savable}
 use Rattle.laws_jobs.specs.Machines.{no_words, call_of, IsReadyAt, AtWork}
@@ -44,10 +44,10 @@ made_sound : IsSound made
 unfolding premises
 made_sound = sound_after makes (record { fit = refl; words = refl }) refl
 
-sound_next : (w : World) (e : Event) → IsSound w → w.next + 1 ≤ depth → IsDue w e → Owes w e → IsSound (after w e)
-sound_next w e sound left due owes = record {
-  whole = (keeps_runnable w e (savable_runnable w sound.whole sound.savable) due left).whole;
-  savable = keeps_savable w e sound.whole sound.savable due owes;
+sound_next : (w : World) (e : Event) → IsSound w → w.next + 1 ≤ depth → IsProper w e → Owes w e → IsSound (after w e)
+sound_next w e sound left proper owes = record {
+  whole = (keeps_runnable w e (savable_runnable w sound.whole sound.savable) proper left).whole;
+  savable = keeps_savable w e sound.whole sound.savable proper owes;
 }
 
 left : made.next + 1 ≤ depth

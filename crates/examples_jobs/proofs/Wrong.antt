@@ -47,7 +47,7 @@ pub scratch : IsTidyJob leaves_scratch 0 First → ⊥
 unfolding premises
 scratch tidy =
     let first = tidy.first full [] full_may (Create OWN_SPACE 240 9) no_words refl in
-    let work = worked (Create OWN_SPACE 240 9) ready_to_make (sound_after (call_of [] (Create OWN_SPACE 240 9) no_words) first.due first.owes) in
+    let work = worked (Create OWN_SPACE 240 9) ready_to_make (sound_after (call_of [] (Create OWN_SPACE 240 9) no_words) first.proper first.owes) in
     let clean = tidy.ends full [] (after full (call_of [] (Create OWN_SPACE 240 9) no_words)) Over true full_may work refl [] 240 refl in
     cc
 

@@ -4,20 +4,20 @@
 
 ghost use Rattle.fk_model.specs.Runs.{after};
 ghost use Rattle.fk_model.specs.Whole.{IsWhole, IsSavable};
-ghost use Rattle.laws_whole.specs.Runnable.{IsDue};
+ghost use Rattle.laws_whole.specs.Runnable.{IsProper};
 ghost use Rattle.examples_moves.specs.Worked.{IsReadyTo};
 ghost use Rattle.laws_savable.specs.Savable.{Owes};
 ghost use Rattle.examples_owed.specs.Owed.{leads_within, leads_outside, unheld, scratched, scratched_unheld, scratched_deeper, with_register, with_counter};
 ghost use Rattle.examples_owed.specs.Owed.{with_moved, with_missing, with_word, gives_hold, makes_in, makes_within, releases, makes_held_in, destroys_in};
 ghost use Rattle.examples_owed.specs.Owed.{renames_from};
 
-/// A whole and savable world in which a porter makes calls that are due, and gives what they owe: it
+/// A whole and savable world in which a porter makes proper calls, and gives what they owe: it
 /// holds by itself, makes references in its scratch and users' objects elsewhere, and destroys these.
 /// It is ready to set the hold, and the world can be saved afterwards.
 pub fn a_porter_gives_what_it_owes()
     ensures whole { IsWhole leads_outside }
     ensures savable { IsSavable leads_outside }
-    ensures due { IsDue leads_outside gives_hold }
+    ensures proper { IsProper leads_outside gives_hold }
     ensures hold { Owes leads_outside gives_hold }
     ensures mutex { Owes leads_outside (makes_in 3 1) }
     ensures reference { Owes leads_outside (makes_in 241 9) }
@@ -63,7 +63,7 @@ pub fn numbers_that_an_image_holds()
 pub fn a_holder_that_lives_within()
     ensures whole { IsWhole leads_within }
     ensures savable { IsSavable leads_within }
-    ensures due { IsDue leads_within gives_hold }
+    ensures proper { IsProper leads_within gives_hold }
     ensures owes { Owes leads_within gives_hold → ⊥ }
     ensures after { IsSavable (after leads_within gives_hold) → ⊥ }
 {}

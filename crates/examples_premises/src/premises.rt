@@ -13,7 +13,7 @@ ghost use Rattle.fk_model.specs.Closed.{IsClosed};
 ghost use Rattle.laws_frozen.specs.Holding.{IsHolding, IsUsersMove};
 ghost use Rattle.laws_further.specs.ClosedLaws.{IsUncut, IsUsersAlone};
 ghost use Rattle.laws_further.specs.Strangers.{HasNoWindow, IsStrangersPort};
-ghost use Rattle.laws_whole.specs.Runnable.{IsDue};
+ghost use Rattle.laws_whole.specs.Runnable.{IsProper};
 ghost use Rattle.examples_moves.specs.Worked.{IsReadyTo, accepts, goes, thread_in_mode};
 ghost use Rattle.examples_premises.specs.Premises.{nesters_porter, within, full_of_all, held_with, with_object, with_one_page, served_within, fault_within};
 ghost use Rattle.examples_premises.specs.Premises.{nesters_window, with_user, users_goes, asks_with, parks_talk, parks_fault, with_stranger, strangers_port};
@@ -85,20 +85,20 @@ pub fn a_porter_that_holds()
     ensures deeper { IsHolding (1 ∷ []) 6 (held_with (Reference (At (within 5)))) → ⊥ }
 {}
 
-/// A user's move is due, and so are an act of a native server and a call for which a porter gives 64
+/// A user's move is proper, and so are an act of a native server and a call for which a porter gives 64
 /// words, in their ranges; not one with fewer or more words, nor with a turn, a count of words or a
 /// taker that there isn't.
-pub fn a_move_that_is_due()
-    ensures user { IsDue with_user users_goes }
-    ensures server { IsDue with_user (accepts (9 ∷ []) (within 0)) }
-    ensures porter { IsDue with_user (asks_with 64) }
-    ensures parks { IsDue with_user (parks_talk 2 65535) }
-    ensures parks_fault { IsDue with_user (parks_fault 1) }
-    ensures few { IsDue with_user (asks_with 63) → ⊥ }
-    ensures many { IsDue with_user (asks_with 65) → ⊥ }
-    ensures no_turn { IsDue with_user (parks_talk 3 0) → ⊥ }
-    ensures long { IsDue with_user (parks_talk 1 65536) → ⊥ }
-    ensures no_taker { IsDue with_user (parks_fault 2) → ⊥ }
+pub fn a_proper_move()
+    ensures user { IsProper with_user users_goes }
+    ensures server { IsProper with_user (accepts (9 ∷ []) (within 0)) }
+    ensures porter { IsProper with_user (asks_with 64) }
+    ensures parks { IsProper with_user (parks_talk 2 65535) }
+    ensures parks_fault { IsProper with_user (parks_fault 1) }
+    ensures few { IsProper with_user (asks_with 63) → ⊥ }
+    ensures many { IsProper with_user (asks_with 65) → ⊥ }
+    ensures no_turn { IsProper with_user (parks_talk 3 0) → ⊥ }
+    ensures long { IsProper with_user (parks_talk 1 65536) → ⊥ }
+    ensures no_taker { IsProper with_user (parks_fault 2) → ⊥ }
 {}
 
 /// A user moves beside a subtree that a porter holds; that is no move of the porter, nor of a thread

@@ -58,7 +58,7 @@ pub record HasNumbers (w : World) : Type 0 where
 abbrev pub HasFullPages : World → Type 0
 HasFullPages w = (s : Path) (page : ℕ) (words : List ℕ) → w.page s page ≡ Some words → length words ≡ PAGE_WORDS
 
--- valid, with birth numbers below 2^32 and full pages: what the law of the cut supposes, and every due move keeps
+-- valid, with birth numbers below 2^32 and full pages: what the law of the cut supposes, and every proper move keeps
 pub record IsWhole (w : World) : Type 0 where
   pub valid : IsValid w
   pub few : w.next ≤ depth

@@ -240,61 +240,61 @@ module _ (slot : ℕ) (v : World) (nester : Path) where
   unfolding is_fit
   owed_walks (w_Down from [] q k got) stage words e = cc
   owed_walks (w_Down from (way ∷ ways) q k got) stage words e = given_by v nester (Point OWN_SPACE PLACES from way) stage words e
-      (record { due = record { fit = refl; words = refl }; owes = tt; unpicking = refl })
+      (record { proper = record { fit = refl; words = refl }; owes = tt; unpicking = refl })
   owed_walks (w_Searches q k got) stage words e = given_by v nester (Search (walks.space_at slot q) k) stage words e
-      (record { due = record { fit = refl; words = refl }; owes = tt; unpicking = refl })
+      (record { proper = record { fit = refl; words = refl }; owes = tt; unpicking = refl })
   owed_walks (w_Over got) stage words e = cc
 
   owed_count : (q : Path) → IsOwedCall v nester (seeks.counting slot q) no_words
   unfolding is_fit
-  owed_count [] = record { due = record { fit = refl; words = refl }; owes = tt; unpicking = refl }
-  owed_count (k ∷ q) = record { due = record { fit = refl; words = refl }; owes = tt; unpicking = refl }
+  owed_count [] = record { proper = record { fit = refl; words = refl }; owes = tt; unpicking = refl }
+  owed_count (k ∷ q) = record { proper = record { fit = refl; words = refl }; owes = tt; unpicking = refl }
 
   owed_read : (q : Path) (n : ℕ) → IsOwedCall v nester (seeks.reading q n) no_words
   unfolding is_fit
-  owed_read [] n = record { due = record { fit = refl; words = refl }; owes = tt; unpicking = refl }
-  owed_read (k ∷ q) n = record { due = record { fit = refl; words = refl }; owes = tt; unpicking = refl }
+  owed_read [] n = record { proper = record { fit = refl; words = refl }; owes = tt; unpicking = refl }
+  owed_read (k ∷ q) n = record { proper = record { fit = refl; words = refl }; owes = tt; unpicking = refl }
 
   pub owed_seeks : (s : seeks.State) (stage : Stage) (words : List ℕ) → seeks.head slot s ≡ Asks stage words → IsOwedCall v nester stage words
   unfolding is_fit
   owed_seeks (s_Down from [] t ts) stage words e = cc
   owed_seeks (s_Down from (way ∷ ways) t ts) stage words e = given_by v nester (Point OWN_SPACE PLACES from way) stage words e
-      (record { due = record { fit = refl; words = refl }; owes = tt; unpicking = refl })
+      (record { proper = record { fit = refl; words = refl }; owes = tt; unpicking = refl })
   owed_seeks (s_Fields [] t ts) stage words e = given_by v nester (seeks.counting slot t.path) stage words e (owed_count t.path)
   owed_seeks (s_Fields (n ∷ fs) t ts) stage words e = given_by v nester (seeks.reading t.path n) stage words e (owed_read t.path n)
   owed_seeks (s_Inside n fs t ts) stage words e = given_by v nester (Locate TARGETS slot) stage words e
-      (record { due = record { fit = refl; words = refl }; owes = tt; unpicking = refl })
+      (record { proper = record { fit = refl; words = refl }; owes = tt; unpicking = refl })
   owed_seeks (s_Beside n fs t ts) stage words e = given_by v nester (Locate TARGETS OWN_SPACE) stage words e
-      (record { due = record { fit = refl; words = refl }; owes = tt; unpicking = refl })
+      (record { proper = record { fit = refl; words = refl }; owes = tt; unpicking = refl })
   owed_seeks (s_Over place) stage words e = cc
 
   pub owed_reads : (s : reads.State) (stage : Stage) (words : List ℕ) → reads.head slot s ≡ Asks stage words → IsOwedCall v nester stage words
   unfolding is_fit
   owed_reads (r_Down from [] q qs got) stage words e = cc
   owed_reads (r_Down from (way ∷ ways) q qs got) stage words e = given_by v nester (Point OWN_SPACE PLACES from way) stage words e
-      (record { due = record { fit = refl; words = refl }; owes = tt; unpicking = refl })
+      (record { proper = record { fit = refl; words = refl }; owes = tt; unpicking = refl })
   owed_reads (r_Searches k objects q qs got) stage words e = given_by v nester (Search (walks.space_at slot q) k) stage words e
-      (record { due = record { fit = refl; words = refl }; owes = tt; unpicking = refl })
+      (record { proper = record { fit = refl; words = refl }; owes = tt; unpicking = refl })
   owed_reads (r_Reads j objects q qs got) stage words e = given_by v nester (GetState (walks.space_at slot q) j 0) stage words e
-      (record { due = record { fit = refl; words = refl }; owes = tt; unpicking = refl })
+      (record { proper = record { fit = refl; words = refl }; owes = tt; unpicking = refl })
   owed_reads (r_Looks from objects pages q qs got) stage words e = given_by v nester (PageNext (walks.space_at slot q) from) stage words e
-      (record { due = record { fit = refl; words = refl }; owes = tt; unpicking = refl })
+      (record { proper = record { fit = refl; words = refl }; owes = tt; unpicking = refl })
   owed_reads (r_Copies page objects pages q qs got) stage words e = given_by v nester (PageRead (walks.space_at slot q) page 0) stage words e
-      (record { due = record { fit = refl; words = refl }; owes = tt; unpicking = refl })
+      (record { proper = record { fit = refl; words = refl }; owes = tt; unpicking = refl })
   owed_reads (r_Over got) stage words e = cc
 
   pub owed_gathers : (s : gathers.State) (stage : Stage) (words : List ℕ) → gathers.head slot s ≡ Asks stage words → IsOwedCall v nester stage words
   unfolding is_fit
   owed_gathers (g_Down from [] t ts got) stage words e = cc
   owed_gathers (g_Down from (way ∷ ways) t ts got) stage words e = given_by v nester (Point OWN_SPACE PLACES from way) stage words e
-      (record { due = record { fit = refl; words = refl }; owes = tt; unpicking = refl })
+      (record { proper = record { fit = refl; words = refl }; owes = tt; unpicking = refl })
   owed_gathers (g_Fields n fs t ts got) stage words e = given_by v nester (seeks.reading t.path n) stage words e (owed_read t.path n)
   owed_gathers (g_Looks at n fs t ts got) stage words e = given_by v nester (Locate TARGETS (gathers.place_at slot at)) stage words e
-      (record { due = record { fit = refl; words = refl }; owes = tt; unpicking = refl })
+      (record { proper = record { fit = refl; words = refl }; owes = tt; unpicking = refl })
   owed_gathers (g_Leads k at n fs t ts got) stage words e = given_by v nester (Point OWN_SPACE STEPS (gathers.place_at slot at) k) stage words e
-      (record { due = record { fit = refl; words = refl }; owes = tt; unpicking = refl })
+      (record { proper = record { fit = refl; words = refl }; owes = tt; unpicking = refl })
   owed_gathers (g_Beside n fs t ts got) stage words e = given_by v nester (Locate TARGETS OWN_SPACE) stage words e
-      (record { due = record { fit = refl; words = refl }; owes = tt; unpicking = refl })
+      (record { proper = record { fit = refl; words = refl }; owes = tt; unpicking = refl })
   owed_gathers (g_Over got) stage words e = cc
 
 -- ---- its scratch is made beside its porter, and there is none where it releases
@@ -336,25 +336,25 @@ module _ (slot birth : ℕ) (w : World) (nester : Path) (low : slot ≤ LAST_USE
       Phase nester slot birth low w may held sound v t → head slot t ≡ Asks stage words → IsOwedCall v nester stage words
   unfolding is_fit
   owed_in held sound v _ stage words (AtFirst its tidy) e = given_by v nester (Create OWN_SPACE PLACES 9) stage words e
-      (record { due = record { fit = refl; words = refl }; owes = owed_make v nester PLACES Places its.holding.porter; unpicking = refl })
+      (record { proper = record { fit = refl; words = refl }; owes = owed_make v nester PLACES Places its.holding.porter; unpicking = refl })
   owed_in held sound v _ stage words (AtSecond its places tidy) e = given_by v nester (Create OWN_SPACE TARGETS 9) stage words e
-      (record { due = record { fit = refl; words = refl }; owes = owed_make v nester TARGETS Targets its.holding.porter; unpicking = refl })
+      (record { proper = record { fit = refl; words = refl }; owes = owed_make v nester TARGETS Targets its.holding.porter; unpicking = refl })
   owed_in held sound v _ stage words (AtThird its places targets tidy) e = given_by v nester (Create OWN_SPACE STEPS 9) stage words e
-      (record { due = record { fit = refl; words = refl }; owes = owed_make v nester STEPS Steps its.holding.porter; unpicking = refl })
+      (record { proper = record { fit = refl; words = refl }; owes = owed_make v nester STEPS Steps its.holding.porter; unpicking = refl })
   owed_in held sound v _ stage words (AtWalks s its asking tidy) e = owed_walks slot v nester s stage words (asks_back (walks.head slot s) stage words e)
   owed_in held sound v _ stage words (AtSeeks s its asking tidy) e = owed_seeks slot v nester s stage words (asks_back (seeks.head slot s) stage words e)
   owed_in held sound v _ stage words (AtReads s closed its asking tidy) e = owed_reads slot v nester s stage words (asks_back (reads.head slot s) stage words e)
   owed_in held sound v _ stage words (AtGathers s closed its asking tidy) e = owed_gathers slot v nester s stage words
       (asks_back (gathers.head slot s) stage words e)
   owed_in held sound v _ stage words (AtDrops end verdict its scratched tidy) e = given_by v nester (Destroy OWN_SPACE STEPS) stage words e
-      (record { due = record { fit = refl; words = refl }; owes = refl; unpicking = refl })
+      (record { proper = record { fit = refl; words = refl }; owes = refl; unpicking = refl })
   owed_in held sound v _ stage words (AtTwoLeft end verdict its targets places tidy) e = given_by v nester (Destroy OWN_SPACE TARGETS) stage words e
-      (record { due = record { fit = refl; words = refl }; owes = refl; unpicking = refl })
+      (record { proper = record { fit = refl; words = refl }; owes = refl; unpicking = refl })
   owed_in held sound v _ stage words (AtOneLeft end verdict its places tidy) e = given_by v nester (Destroy OWN_SPACE PLACES) stage words e
-      (record { due = record { fit = refl; words = refl }; owes = refl; unpicking = refl })
+      (record { proper = record { fit = refl; words = refl }; owes = refl; unpicking = refl })
   owed_in held sound v _ stage words (AtReleases end verdict its tidy) e = given_by v nester (SpaceRelease OWN_SPACE slot) stage words e
       (record {
-        due = record { fit = refl; words = refl };
+        proper = record { fit = refl; words = refl };
         owes = owed_release v nester slot (λ k is live. (tidy.clean (slot ∷ nester) k (scratch_of (slot ∷ nester) k is) live).1);
         unpicking = refl;
       })
@@ -363,7 +363,7 @@ module _ (slot birth : ℕ) (w : World) (nester : Path) (low : slot ≤ LAST_USE
   owed_first : (stage : Stage) (words : List ℕ) → head slot Holds ≡ Asks stage words → IsOwedCall w nester stage words
   unfolding is_fit
   owed_first stage words e = given_by w nester (SpaceHold OWN_SPACE slot) stage words e
-      (record { due = record { fit = refl; words = refl }; owes = tt; unpicking = refl })
+      (record { proper = record { fit = refl; words = refl }; owes = tt; unpicking = refl })
 
   owed_later : (v : World) (t : State) (stage : Stage) (words : List ℕ) → Came slot birth w nester low may v t → head slot t ≡ Asks stage words
       → IsOwedCall v nester stage words

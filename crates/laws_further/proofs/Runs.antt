@@ -11,26 +11,28 @@ use Rattle.laws_cut.specs.CutLaws.IsWatched.{Ends as WatchEnds, Sees as WatchSee
 use Rattle.laws_cut.proofs.likeness.Instances.{cut-like, like-cut_world}
 use Rattle.laws_cut.proofs.joined.Rebinding.{move_rebinds}
 use Rattle.laws_cut.proofs.joined.Runs.{run_keeps}
-use Rattle.laws_whole.specs.Runnable.{IsRunnable, AreDue}
+use Rattle.laws_whole.specs.Runnable.{IsRunnable, AreProper}
 use Rattle.laws_whole.proofs.Laws.{gives_one_number, keeps_runnable}
-use Rattle.laws_further.specs.Runs.{IsSeenRun, DueRunKeepsCut, CutIsCutWorld, FurtherStaysCutWorld}
+use Rattle.laws_further.specs.Runs.{IsSeenRun, ProperRunKeepsCut, CutIsCutWorld, FurtherStaysCutWorld}
 use Rattle.laws_further.specs.Runs.IsSeenRun.{Ends, Sees, Misses}
 
-watch : (nester : Path) (slot : ℕ) (w : World) (es : List Event) (ms : List Onward) → IsRunnable w → w.next + length es ≤ depth → AreDue w es →
+watch : (nester : Path) (slot : ℕ) (w : World) (es : List Event) (ms : List Onward) → IsRunnable w → w.next + length es ≤ depth → AreProper w es →
     IsSeenRun nester slot w es ms → IsWatched nester slot w ms (run w es)
 unfolding run
-watch nester slot w _ _ runs left due (Ends _) = WatchEnds w
-watch nester slot w _ _ runs left due (Sees _ e es m ms ready seen rest) =
-    let one = gives_one_number w e runs due.0 in
-    let next = keeps_runnable w e runs due.0 (omega (arith, left)) in
-    WatchSees w (run (after w e) es) e m ms runs.whole due.0.fit ready seen (watch nester slot (after w e) es ms next (omega (arith, one, left)) due.1 rest)
-watch nester slot w _ _ runs left due (Misses _ e es ms ready seen rest) =
-    let one = gives_one_number w e runs due.0 in
-    let next = keeps_runnable w e runs due.0 (omega (arith, left)) in
-    WatchMisses w (run (after w e) es) e ms runs.whole due.0.fit ready seen (watch nester slot (after w e) es ms next (omega (arith, one, left)) due.1 rest)
+watch nester slot w _ _ runs left proper (Ends _) = WatchEnds w
+watch nester slot w _ _ runs left proper (Sees _ e es m ms ready seen rest) =
+    let one = gives_one_number w e runs proper.0 in
+    let next = keeps_runnable w e runs proper.0 (omega (arith, left)) in
+    WatchSees w (run (after w e) es) e m ms runs.whole proper.0.fit ready seen
+    (watch nester slot (after w e) es ms next (omega (arith, one, left)) proper.1 rest)
+watch nester slot w _ _ runs left proper (Misses _ e es ms ready seen rest) =
+    let one = gives_one_number w e runs proper.0 in
+    let next = keeps_runnable w e runs proper.0 (omega (arith, left)) in
+    WatchMisses w (run (after w e) es) e ms runs.whole proper.0.fit ready seen
+    (watch nester slot (after w e) es ms next (omega (arith, one, left)) proper.1 rest)
 
-pub due_run_keeps : DueRunKeepsCut
-due_run_keeps w nester slot es ms runs left due seen plain = run_keeps w (run w es) nester slot ms (watch nester slot w es ms runs left due seen) plain
+pub proper_run_keeps : ProperRunKeepsCut
+proper_run_keeps w nester slot es ms runs left proper seen plain = run_keeps w (run w es) nester slot ms (watch nester slot w es ms runs left proper seen) plain
 
 pub cut_is_cut_world : CutIsCutWorld
 cut_is_cut_world w nester slot plain = like-cut_world (cut-like w nester slot plain)

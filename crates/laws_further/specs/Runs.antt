@@ -1,4 +1,4 @@
--- The laws of the cut for runs, with what a run supplies: its first world is runnable, and each of its moves is due.
+-- The laws of the cut for runs, with what a run supplies: its first world is runnable, and each of its moves is proper.
 use Rattle.std.specs.Prelude.{ℕ, ◌+◌, ◌≤◌, List, [], ◌∷◌, length}
 use Rattle.fk_model.specs.Places.{Path}
 use Rattle.fk_model.specs.World.{World}
@@ -10,7 +10,7 @@ use Rattle.fk_model.specs.Further.{Onward, Told, IsFurther}
 use Rattle.fk_model.specs.Seen.{IsSeen}
 use Rattle.fk_model.specs.Seen.Seen.{Onwards, Unseen}
 use Rattle.laws_cut.specs.Likeness.{IsCutWorld}
-use Rattle.laws_whole.specs.Runnable.{IsRunnable, AreDue}
+use Rattle.laws_whole.specs.Runnable.{IsRunnable, AreProper}
 
 -- moves of the world one after the other, each ready, and the moves as which a subtree sees them: none of them as other
 pub data IsSeenRun (nester : Path) (slot : ℕ) : World → List Event → List Onward → Type 0 where
@@ -21,8 +21,8 @@ pub data IsSeenRun (nester : Path) (slot : ℕ) : World → List Event → List 
       IsSeen w nester slot e Unseen → IsSeenRun nester slot (after w e) es ms → IsSeenRun nester slot w (e ∷ es) ms
 
 -- the subtree does the moves as which it sees those of the run, and ends where the run does
-abbrev pub DueRunKeepsCut : Type 0
-DueRunKeepsCut = (w : World) (nester : Path) (slot : ℕ) (es : List Event) (ms : List Onward) → IsRunnable w → w.next + length es ≤ depth → AreDue w es →
+abbrev pub ProperRunKeepsCut : Type 0
+ProperRunKeepsCut = (w : World) (nester : Path) (slot : ℕ) (es : List Event) (ms : List Onward) → IsRunnable w → w.next + length es ≤ depth → AreProper w es →
     IsSeenRun nester slot w es ms → IsPlain w nester slot →
     IsPlain (run w es) nester slot × ((told : List Told) × IsFurther (cut w nester slot) ms told (cut (run w es) nester slot))
 

@@ -7,12 +7,12 @@
 ghost use Rattle.laws_further.specs.ClosedLaws.{ClosedIsPlain};
 ghost use Rattle.laws_further.specs.Strangers.{StrangersMoveUnseen, StrangersActUnseen};
 ghost use Rattle.laws_further.specs.Told.{EndsAreTold, FaultsAreTold, RenamesTellNoEnds, WordsAreTold, OversAreTold, TouchesTellNothing};
-ghost use Rattle.laws_further.specs.Runs.{DueRunKeepsCut, CutIsCutWorld, FurtherStaysCutWorld};
+ghost use Rattle.laws_further.specs.Runs.{ProperRunKeepsCut, CutIsCutWorld, FurtherStaysCutWorld};
 
 /// Whatever a machine does, where it begins in a runnable world and no move is seen as other: the
 /// subtree stays plain, and its cut does the moves as which these are seen, and ends where they end.
 pub fn a_run_from_its_start_keeps_the_cut()
-    ensures { DueRunKeepsCut }
+    ensures { ProperRunKeepsCut }
 {}
 
 /// The cut of a plain subtree is a world that shows nothing but what lies in it.

@@ -77,7 +77,7 @@ module _ {V : Type 0} (jobs : List Job) (servers : Servers V) (first c : Core St
       let there = named_is c.world sound.whole.valid sound.whole.few w.worked.job.nester w.worked.nester porter.named in
       let space : space_born c.world who.space ≡ w.worked.nester = ap (space_born c.world) (it.space ∙ ap (λ (j : Job). j.nester) same_job) ∙ there in
       let at : named c.world who ≡ LAST_PORTER_SLOT ∷ w.worked.nester = λ i. it.slot i ∷ space i in
-      (subst (λ (x : Path). is_fit c.world x (asks.Call stage words) ≡ true) (sym at) owed.due.fit, owed.unpicking)
+      (subst (λ (x : Path). is_fit c.world x (asks.Call stage words) ≡ true) (sym at) owed.proper.fit, owed.unpicking)
 
   fits : Fits stage
   fits = by c.work refl

@@ -83,7 +83,7 @@ module _ {J S A V : Type 0} (h : House J S A V) (first : Core S A V) (users : As
       let made = made_here h first users tidy start past c m d run ready settles stand (omega (arith, left, longer)) in
       let sound = subst IsSound stand.last (stand.sound (length past) (omega arith)) in
       subst (Stood first.world) (sym made.goes)
-      (stood_on first.world c.world made.event (uncut_run h first run uncut) sound made.due.fit (stood_now run (omega (arith, left, longer))))
+      (stood_on first.world c.world made.event (uncut_run h first run uncut) sound made.proper.fit (stood_now run (omega (arith, left, longer))))
 
   pub stood_at : {c : Core S A V} {past : List Move} (run : IsRun h first past c) → first.world.next + length past ≤ depth → (k : ℕ)
       → Stood first.world (world_at run k)

@@ -81,13 +81,13 @@ users_fill_low w e rooted users x k high there =
 
 -- ---- what they owe is nothing
 
-pub users_due : (w : World) (x : Path) (ask : Ask) → is_users ask ≡ true → (is_fit w x ask ≡ true) × OwesAsk w x ask
+pub users_owed : (w : World) (x : Path) (ask : Ask) → is_users ask ≡ true → (is_fit w x ask ≡ true) × OwesAsk w x ask
 unfolding is_fit
-users_due w x asks.Run users = (refl, tt)
-users_due w x (asks.Call stage words) users = cc
-users_due w x asks.Accept users = (refl, tt)
-users_due w x (asks.Give words len) users = (refl, tt)
-users_due w x asks.Over users = (refl, tt)
+users_owed w x asks.Run users = (refl, tt)
+users_owed w x (asks.Call stage words) users = cc
+users_owed w x asks.Accept users = (refl, tt)
+users_owed w x (asks.Give words len) users = (refl, tt)
+users_owed w x asks.Over users = (refl, tt)
 
 pub scratch_high : (s : Path) (k : ℕ) → is_scratch s (k ∷ s) ≡ true → nat_le k LAST_USER_SLOT ≡ false
 scratch_high s k h = by (nat_le k LAST_USER_SLOT) refl

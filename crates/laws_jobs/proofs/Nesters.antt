@@ -19,7 +19,7 @@ use Rattle.laws_machine.proofs.safety.Moves.{outcome-safe}
 use Rattle.laws_frozen.specs.Users.{AreUsers}
 use Rattle.laws_frozen.proofs.Users.{users_name_low}
 use Rattle.laws_jobs.specs.Nesters.{NesterStays}
-use Rattle.laws_jobs.proofs.Filling.{were_there, users_due}
+use Rattle.laws_jobs.proofs.Filling.{were_there, users_owed}
 
 -- ---- and so with the moves of users
 
@@ -45,8 +45,8 @@ some_held None h = cc
 pub nester_stays : NesterStays
 unfolding step
 nester_stays w e valid few users nester porter =
-    let due = users_due w e.mover e.ask users in
+    let proper = users_owed w e.mover e.ask users in
     birth_stepped w LAST_PORTER_SLOT nester refl (outcome w e.mover e.pick e.ask) valid.consistent
-    (outcome-safe w e.mover e.pick e.ask (facts_of w valid few) due.0)
+    (outcome-safe w e.mover e.pick e.ask (facts_of w valid few) proper.0)
     (users_name_low w e.mover e.pick e.ask valid.rooted users)
     (some_held ((after w e).body (LAST_PORTER_SLOT ∷ nester)) porter)

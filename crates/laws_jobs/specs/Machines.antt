@@ -13,7 +13,7 @@ use Rattle.fk_model.specs.Outcomes.Said.{Answered}
 use Rattle.fk_model.specs.Moves.{chooses, porter_at, IsReady, step}
 use Rattle.fk_model.specs.Runs.{Event, after}
 use Rattle.laws_frozen.specs.Holding.{IsUsersMove}
-use Rattle.laws_whole.specs.Runnable.{IsDue}
+use Rattle.laws_whole.specs.Runnable.{IsProper}
 use Rattle.laws_savable.specs.Savable.{Owes, IsSound}
 
 -- a porter's call with the words that it gives, or the end
@@ -103,7 +103,7 @@ calls_made work = suc (own_moves work.run)
 
 -- what a call owes to the world in which it is made, so that this can be saved afterwards as before. It picks nobody
 pub record IsOwedCall (w : World) (nester : Path) (stage : Stage) (words : List ℕ) : Type 0 where
-  pub due : IsDue w (call_of nester stage words)
+  pub proper : IsProper w (call_of nester stage words)
   pub owes : Owes w (call_of nester stage words)
   pub unpicking : chooses stage ≡ false
 

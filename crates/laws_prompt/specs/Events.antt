@@ -17,7 +17,7 @@ use Rattle.fk_model.specs.LinkRows.{user_at}
 use Rattle.fk_model.specs.ObjectRows.{destroy}
 use Rattle.fk_model.specs.Moves.{IsReady, outcome, step, porter_at}
 use Rattle.fk_model.specs.Runs.{Event}
-use Rattle.laws_whole.specs.Runnable.{IsRunnable, IsDue}
+use Rattle.laws_whole.specs.Runnable.{IsRunnable, IsProper}
 use Rattle.laws_prompt.specs.Callers.{IsUserAt, IsPorterFor, is_done}
 use Rattle.laws_prompt.specs.Correct.{ShowsRecord, AnswersRecord, HasShapes, MeetsItself, GivesItself}
 use Rattle.laws_prompt.specs.Prompt.{is_open, may_hold}
@@ -66,7 +66,7 @@ pub record IsCorrect (w : World) (e : Event) (v : World) (said : Said) : Type 0 
   pub removed : (space : Path) (slot s x : ℕ) (words : List ℕ) → e ≡ porters_event space slot (Destroy s x) words →
       IsPorterFor w space slot (Destroy s x) → Destroys w v (destroy w (porter_at (slot ∷ space) words) s x)
   pub brief : AreBrief (listed (outcome w e.mover e.pick e.ask))
-  pub runs : IsDue w e → w.next + 1 ≤ depth → IsRunnable v
+  pub runs : IsProper w e → w.next + 1 ≤ depth → IsRunnable v
 
 -- so it is with every step from a runnable world with well shaped threads
 abbrev pub StepsAreCorrect : Type 0

@@ -45,7 +45,7 @@ module _ (slot birth : ℕ) (bind : ℕ → ℕ) (c : World) (rooms : List Room)
 
   release_owed : (v : World) (g : Site) → Shows nester slot g v → g ≡ finished bind c → IsOwedCall v nester (SpaceRelease OWN_SPACE slot) no_words
   unfolding is_fit
-  release_owed v g shows is = record { due = record { fit = refl; words = refl }; owes = owes; unpicking = refl }
+  release_owed v g shows is = record { proper = record { fit = refl; words = refl }; owes = owes; unpicking = refl }
     where
       owes : LeavesNoScratch v (porter nester no_words) OWN_SPACE slot
       owes space at k scratch live =
@@ -58,15 +58,15 @@ module _ (slot birth : ℕ) (bind : ℕ → ℕ) (c : World) (rooms : List Room)
 
   destroy_owed : (v : World) → IsOwedCall v nester (Destroy OWN_SPACE slot) no_words
   unfolding is_fit
-  destroy_owed v = record { due = record { fit = refl; words = refl }; owes = le-leb slot LAST_SCRATCH_SLOT (omega (arith, low)); unpicking = refl }
+  destroy_owed v = record { proper = record { fit = refl; words = refl }; owes = le-leb slot LAST_SCRATCH_SLOT (omega (arith, low)); unpicking = refl }
 
   drop_owed : (v : World) (r : ℕ) → nat_le r LAST_SCRATCH_SLOT ≡ true → IsOwedCall v nester (Destroy OWN_SPACE r) no_words
   unfolding is_fit
-  drop_owed v r few = record { due = record { fit = refl; words = refl }; owes = few; unpicking = refl }
+  drop_owed v r few = record { proper = record { fit = refl; words = refl }; owes = few; unpicking = refl }
 
   first_owed : IsOwedCall w nester (SpaceMakeHeld slot) no_words
   unfolding is_fit
-  first_owed = record { due = record { fit = refl; words = refl }; owes = le-leb slot LAST_USER_SLOT low; unpicking = refl }
+  first_owed = record { proper = record { fit = refl; words = refl }; owes = le-leb slot LAST_USER_SLOT low; unpicking = refl }
 
   pub owed_at : (v : World) (t : State) → IsSound v → Came slot birth bind c rooms w nester low its may_begin v t → (stage : Stage) (words : List ℕ)
       → head slot t ≡ Asks stage words → IsOwedCall v nester stage words

@@ -19,8 +19,8 @@ use Rattle.fk_model.specs.Moves.{chooses}
 use Rattle.fk_model.specs.Who.{event_of, space_born, named}
 use Rattle.laws_frozen.specs.Users.{is_users}
 use Rattle.laws_frozen.specs.Holding.{IsUsersMove}
-use Rattle.laws_jobs.proofs.Filling.{users_due, clean_on}
-use Rattle.laws_whole.specs.Runnable.{has_all_words, IsDue}
+use Rattle.laws_jobs.proofs.Filling.{users_owed, clean_on}
+use Rattle.laws_whole.specs.Runnable.{has_all_words, IsProper}
 use Rattle.laws_whole.proofs.Laws.{gives_one_number, keeps_runnable, savable_runnable}
 use Rattle.laws_savable.specs.Savable.{Owes, IsSound}
 use Rattle.laws_savable.proofs.Laws.{keeps_savable}
@@ -46,13 +46,13 @@ record Kept (w : World) (e : Event) : Type 0 where
   sound : IsSound (after w e)
   number : (after w e).next ≤ w.next + 1
 
-kept : (w : World) (e : Event) → IsSound w → IsDue w e → Owes w e → w.next + 1 ≤ depth → Kept w e
-kept w e sound due owes left =
+kept : (w : World) (e : Event) → IsSound w → IsProper w e → Owes w e → w.next + 1 ≤ depth → Kept w e
+kept w e sound proper owes left =
     let runs = savable_runnable w sound.whole sound.savable in
-    let next = keeps_runnable w e runs due left in
+    let next = keeps_runnable w e runs proper left in
     record {
-      sound = record { whole = next.whole; savable = keeps_savable w e sound.whole sound.savable due owes };
-      number = gives_one_number w e runs due;
+      sound = record { whole = next.whole; savable = keeps_savable w e sound.whole sound.savable proper owes };
+      number = gives_one_number w e runs proper;
     }
 
 -- ---- lists of ends
@@ -289,11 +289,11 @@ module _ {J S A V : Type 0} (h : House J S A V) (first : Core S A V) (users : As
     users_move : (ask : Ask) → is_users ask ≡ true → IsReadyAt c.world (event_of c.world ask m) → (nester : Path) →
         holds is_native (c.world.body (LAST_PORTER_SLOT ∷ nester)) ≡ true → IsUsersMove nester c.world (event_of c.world ask m)
     users_move ask is ready nester native =
-        let due = users_due c.world (named c.world m.who) ask is in
+        let proper = users_owed c.world (named c.world m.who) ask is in
         record {
           valid = sound_now.whole.valid;
           few = sound_now.whole.few;
-          fit = due.0;
+          fit = proper.0;
           ready = ready;
           users = is;
           other = apart_from_porter c.world (LAST_PORTER_SLOT ∷ nester) (named c.world m.who) (option_map (named c.world) m.pick) ask native is ready;
@@ -313,19 +313,19 @@ module _ {J S A V : Type 0} (h : House J S A V) (first : Core S A V) (users : As
         w.stage w.words w.asked in
         let none = counts (Others ask) theirs in
         let e = event_of c.world ask m in
-        let due = users_due c.world (named c.world m.who) ask is in
+        let proper = users_owed c.world (named c.world m.who) ask is in
         goes_next k w k.state upto up
         (same_work w.worked.nester w.worked.start (world_at run k.begun) (world_at run k.begun) (after c.world e) d.world k.state _ _ _ _ refl goes refl
         (omega (arith, none))
         (work_waits h.machine w.worked.nester (world_at run k.begun) w.worked.start c.world k.state e (job_moves run k.begun)
         (job_moves run (length past)) w.now (w.stage, w.words, w.asked) (users_move ask is ready w.worked.nester porter.porter)
-        (kept c.world e sound_now (record { fit = due.0; words = words }) due.1 few_now).sound))
+        (kept c.world e sound_now (record { fit = proper.0; words = words }) proper.1 few_now).sound))
 
     -- ---- a move of the job's
 
     -- what is known of it
     record Made (begun : ℕ) (t : S) (e : Event) : Type 0 where
-      due : IsDue c.world e
+      proper : IsProper c.world e
       owes : Owes c.world e
       next : (upto : ℕ) → upto ≡ length past + 1 → d.world ≡ after c.world e → Next begun upto (heard h.machine t (said_of c.world e))
 
@@ -352,7 +352,7 @@ module _ {J S A V : Type 0} (h : House J S A V) (first : Core S A V) (users : As
         let is = same_event w.worked.nester stage words asks_it.slot space owed.unpicking ready in
         let call = call_of w.worked.nester stage words in
         record {
-          due = subst (IsDue c.world) (sym is) owed.due;
+          proper = subst (IsProper c.world) (sym is) owed.proper;
           owes = subst (Owes c.world) (sym is) owed.owes;
           next = λ upto up goes. goes_next k w (heard h.machine k.state (said_of c.world (event_of c.world (asks.Call stage words) m))) upto up
               (subst (λ y. WorksSo h.machine w.worked.nester (world_at run k.begun) w.worked.start y
@@ -364,7 +364,7 @@ module _ {J S A V : Type 0} (h : House J S A V) (first : Core S A V) (users : As
               (work_goes_on h.machine w.worked.nester (world_at run k.begun) w.worked.start c.world k.state stage words (job_moves run k.begun)
               (job_moves run (length past))
               (job_moves all (length past + 1)) one w.now asks_it.asked
-              (subst (IsReadyAt c.world) is ready) (kept c.world call sound_now owed.due owed.owes few_now).sound)));
+              (subst (IsReadyAt c.world) is ready) (kept c.world call sound_now owed.proper owed.owes few_now).sound)));
         }
 
     made_first : OneMore → (begun : ℕ) (t : S) (stage : Stage) (words : List ℕ) (asks_it : JobAsks h c m.who begun t stage words) → c.work ≡ None
@@ -382,7 +382,7 @@ module _ {J S A V : Type 0} (h : House J S A V) (first : Core S A V) (users : As
         let is = same_event nester stage words asks_it.slot (ap (space_born c.world) asks_it.space) owed.unpicking ready in
         let events = stands.events in
         record {
-          due = subst (IsDue c.world) (sym is) owed.due;
+          proper = subst (IsProper c.world) (sym is) owed.proper;
           owes = subst (Owes c.world) (sym is) owed.owes;
           next = λ upto up goes. begins_next asks_it.job t nester begun
               (heard h.machine t (said_of c.world (event_of c.world (asks.Call stage words) m))) upto up
@@ -394,7 +394,7 @@ module _ {J S A V : Type 0} (h : House J S A V) (first : Core S A V) (users : As
               (job_moves all (length past + 1))) (sym is)
               (work_begins h.machine nester c.world t stage words (job_moves run (length past)) (job_moves all (length past + 1)) one asks_it.asked
               (subst (IsReadyAt c.world) is ready)
-              (kept c.world (call_of nester stage words) sound_now owed.due owed.owes few_now).sound)));
+              (kept c.world (call_of nester stage words) sound_now owed.proper owed.owes few_now).sound)));
         }
 
     made : (begun : ℕ) (t : S) (stage : Stage) (words : List ℕ) → asker h c m.who ≡ Job begun t stage words →
@@ -430,11 +430,11 @@ module _ {J S A V : Type 0} (h : House J S A V) (first : Core S A V) (users : As
     -- ---- all together
 
     -- what every move gives
-    assembled : (e : Event) → IsDue c.world e → Owes c.world e → d.world ≡ after c.world e → d.events ≡ c.events + 1 → (d.work ≡ None → IsClean d.world) →
+    assembled : (e : Event) → IsProper c.world e → Owes c.world e → d.world ≡ after c.world e → d.events ≡ c.events + 1 → (d.work ≡ None → IsClean d.world) →
         ((index : ℕ) (end : A) (begun last : ℕ) → slice_get d.ends index ≡ Some (Worked end begun last) → HasEnded all index end begun last) →
         ((k : Work S) → d.work ≡ Some k → Working all k) → Stands all
-    assembled e due owes goes events clean ended working =
-        let after_it = kept c.world e sound_now due owes few_now in
+    assembled e proper owes goes events clean ended working =
+        let after_it = kept c.world e sound_now proper owes few_now in
         let number = after_it.number in
         let before = stands.number in
         let counted = stands.events in
@@ -469,8 +469,8 @@ module _ {J S A V : Type 0} (h : House J S A V) (first : Core S A V) (users : As
     moved_others ask e now settling =
         let is = others_of h c m.who users ask e in
         let still = settled (others_moved h c (event_of c.world ask m)) d settling in
-        let due = users_due c.world (named c.world m.who) ask is.0 in
-        assembled (event_of c.world ask m) (record { fit = due.0; words = is.1 }) due.1 still.world still.events
+        let proper = users_owed c.world (named c.world m.who) ask is.0 in
+        assembled (event_of c.world ask m) (record { fit = proper.0; words = is.1 }) proper.1 still.world still.events
         (λ idle. subst IsClean (sym still.world) (clean_on c.world (event_of c.world ask m) sound_now.whole.valid.rooted is.0
         (stands.clean (sym still.work ∙ idle))))
         (ended_still (others_moved h c (event_of c.world ask m)) still refl)
@@ -600,13 +600,13 @@ module _ {J S A V : Type 0} (h : House J S A V) (first : Core S A V) (users : As
         by : (head : Head A) → h.machine.head later ≡ head → Settles h (job_moved h c event begun later head) d → Stands all
         by (Asks more given) asks_on settling =
             let still = settled (job_moved h c event begun later (Asks more given)) d settling in
-            assembled event done.due done.owes still.world still.events
+            assembled event done.proper done.owes still.world still.events
             (λ idle. (let works = sym still.work ∙ idle in absurd (cc)))
             (ended_still (job_moved h c event begun later (Asks more given)) still refl)
             (λ k works. (let same : work ≡ k = (let both = sym still.work ∙ works in cc) in subst (Working all) same (working more given still asks_on)))
         by (Stops end) stops settling =
             let still = settled (job_moved h c event begun later (Stops end)) d settling in
-            assembled event done.due done.owes still.world still.events
+            assembled event done.proper done.owes still.world still.events
             (λ idle. cleaned end stops still.world)
             (ends_with end stops still)
             (λ k works. (let idle = sym still.work ∙ works in absurd (cc)))
@@ -615,7 +615,7 @@ module _ {J S A V : Type 0} (h : House J S A V) (first : Core S A V) (users : As
     pub record Made_here : Type 0 where
       pub event : Event
       pub is : event_by c.world m (asker h c m.who) ≡ event ∷ []
-      pub due : IsDue c.world event
+      pub proper : IsProper c.world event
       pub goes : d.world ≡ after c.world event
 
     pub made_here : Made_here
@@ -625,11 +625,11 @@ module _ {J S A V : Type 0} (h : House J S A V) (first : Core S A V) (users : As
         by Nobody e now settling = absurd now
         by (Others ask) e now settling =
             let is = others_of h c m.who users ask e in
-            let due = users_due c.world (named c.world m.who) ask is.0 in
+            let proper = users_owed c.world (named c.world m.who) ask is.0 in
             record {
               event = event_of c.world ask m;
               is = ap (event_by c.world m) e;
-              due = record { fit = due.0; words = is.1 };
+              proper = record { fit = proper.0; words = is.1 };
               goes = (settled (others_moved h c (event_of c.world ask m)) d settling).world;
             }
         by (Job begun t stage words) e now settling =
@@ -638,7 +638,7 @@ module _ {J S A V : Type 0} (h : House J S A V) (first : Core S A V) (users : As
             record {
               event = event;
               is = ap (event_by c.world m) e;
-              due = (made begun t stage words e now.1).due;
+              proper = (made begun t stage words e now.1).proper;
               goes = (settled (job_hears h c event begun t) d settling).world ∙ job_world event begun later (h.machine.head later);
             }
           where

@@ -11,11 +11,11 @@ use Rattle.fk_model.specs.Runs.{Event, after, run as events_run}
 use Rattle.fk_model.specs.Cut.{cut, IsPlain}
 use Rattle.fk_model.specs.Further.{Onward, Told, IsFurther}
 use Rattle.fk_model.specs.Rebind.{rebound, rebound_told}
-use Rattle.laws_whole.specs.Runnable.{IsDue, AreDue}
+use Rattle.laws_whole.specs.Runnable.{IsProper, AreProper}
 use Rattle.laws_whole.proofs.Laws.{savable_runnable, gives_one_number}
 use Rattle.laws_savable.specs.Savable.{IsSound}
 use Rattle.laws_further.specs.Runs.{IsSeenRun}
-use Rattle.laws_further.proofs.Runs.{due_run_keeps, cut_is_cut_world}
+use Rattle.laws_further.proofs.Runs.{proper_run_keeps, cut_is_cut_world}
 use Rattle.laws_cut.proofs.joined.Rebinding.{run_rebinds}
 use Rattle.laws_runs.specs.Cores.{House, Core, asker, IsReadyIn, moved, Settles, IsRun, world_at}
 use Rattle.laws_runs.specs.Cores.IsRun.{Begins, Goes}
@@ -38,19 +38,19 @@ pub run_one : (w : World) (e : Event) → events_run w (e ∷ []) ≡ after w e
 unfolding events_run
 run_one w e = refl
 
-due-append : (w : World) (xs ys : List Event) → AreDue w xs → AreDue (events_run w xs) ys → AreDue w (xs ++ ys)
+proper-append : (w : World) (xs ys : List Event) → AreProper w xs → AreProper (events_run w xs) ys → AreProper w (xs ++ ys)
 unfolding events_run
-due-append w [] ys first rest = rest
-due-append w (x ∷ xs) ys first rest = (first.0, due-append (after w x) xs ys first.1 rest)
+proper-append w [] ys first rest = rest
+proper-append w (x ∷ xs) ys first rest = (first.0, proper-append (after w x) xs ys first.1 rest)
 
-due-before : (w : World) (xs ys : List Event) → AreDue w (xs ++ ys) → AreDue w xs
-due-before w [] ys due = tt
-due-before w (x ∷ xs) ys due = (due.0, due-before (after w x) xs ys due.1)
+proper-before : (w : World) (xs ys : List Event) → AreProper w (xs ++ ys) → AreProper w xs
+proper-before w [] ys proper = tt
+proper-before w (x ∷ xs) ys proper = (proper.0, proper-before (after w x) xs ys proper.1)
 
-due-behind : (w : World) (xs ys : List Event) → AreDue w (xs ++ ys) → AreDue (events_run w xs) ys
+proper-behind : (w : World) (xs ys : List Event) → AreProper w (xs ++ ys) → AreProper (events_run w xs) ys
 unfolding events_run
-due-behind w [] ys due = due
-due-behind w (x ∷ xs) ys due = due-behind (after w x) xs ys due.1
+proper-behind w [] ys proper = proper
+proper-behind w (x ∷ xs) ys proper = proper-behind (after w x) xs ys proper.1
 
 length-take : {A : Type 0} (n : ℕ) (xs : List A) → length (take n xs) ≤ n
 length-take zero xs = omega arith
@@ -65,14 +65,14 @@ take_none (suc k) = refl
 
 module _ {J S A V : Type 0} (h : House J S A V) (first : Core S A V) (users : AskAsUsers h) (tidy : AreTidy h) (start : IsStart first) where
   record Traced {c : Core S A V} {past : List Move} (run : IsRun h first past c) : Type 0 where
-    due : AreDue first.world (events_of run)
+    proper : AreProper first.world (events_of run)
     long : length (events_of run) ≡ length past
     worlds : (k : ℕ) → k ≤ length past → events_run first.world (take k (events_of run)) ≡ world_at run k
     numbers : (k : ℕ) → k ≤ length past → (world_at run k).next ≤ first.world.next + k
 
   module _ (past : List Move) (c : Core S A V) (m : Move) (d : Core S A V) (run : IsRun h first past c) (ready : IsReadyIn h c m)
       (settles : Settles h (moved h c m) d) (before : Traced run) (stand : Stands h first users tidy start run) (event : Event)
-      (is : event_by c.world m (asker h c m.who) ≡ event ∷ []) (due : IsDue c.world event) (goes : d.world ≡ after c.world event) where
+      (is : event_by c.world m (asker h c m.who) ≡ event ∷ []) (proper : IsProper c.world event) (goes : d.world ≡ after c.world event) where
     abbrev all : IsRun h first (past ++ m ∷ []) d
     all = Goes past c m d run ready settles
 
@@ -115,7 +115,7 @@ module _ {J S A V : Type 0} (h : House J S A V) (first : Core S A V) (users : As
     number_on k (inl low) = subst (λ (w : World). w.next ≤ first.world.next + k) (sym (earlier k low)) (before.numbers k low)
     number_on k (inr up) =
         let sound = subst IsSound stand.last (stand.sound (length past) (omega arith)) in
-        let one = gives_one_number c.world event (savable_runnable c.world sound.whole sound.savable) due in
+        let one = gives_one_number c.world event (savable_runnable c.world sound.whole sound.savable) proper in
         let number = stand.number in
         let next : d.world.next ≡ (after c.world event).next = ap (λ (w : World). w.next) goes in
         subst (λ (w : World). w.next ≤ first.world.next + k) (sym (latest k up)) (omega (arith, up, one, number, next))
@@ -126,8 +126,8 @@ module _ {J S A V : Type 0} (h : House J S A V) (first : Core S A V) (users : As
         let whole = length-append (events_of run) (event ∷ []) in
         let count : length (events_of all) ≡ length (events_of run ++ event ∷ []) = ap (λ (ys : List Event). length ys) same in
         record {
-          due = subst (AreDue first.world) (sym same)
-              (due-append first.world (events_of run) (event ∷ []) before.due (subst (λ w. IsDue w event) (sym arrives) due, tt));
+          proper = subst (AreProper first.world) (sym same)
+              (proper-append first.world (events_of run) (event ∷ []) before.proper (subst (λ w. IsProper w event) (sym arrives) proper, tt));
           long = omega (arith, count, whole, long, longer);
           worlds = λ k low. world_on k (splits k (length past) (omega (arith, low, longer)));
           numbers = λ k low. number_on k (splits k (length past) (omega (arith, low, longer)));
@@ -135,7 +135,7 @@ module _ {J S A V : Type 0} (h : House J S A V) (first : Core S A V) (users : As
 
   traced : {c : Core S A V} {past : List Move} (run : IsRun h first past c) → first.world.next + length past ≤ depth → Traced run
   traced Begins left = record {
-    due = tt;
+    proper = tt;
     long = refl;
     worlds = λ k low. ap (events_run first.world) (take_none k) ∙ run_nothing first.world;
     numbers = λ k low. omega arith;
@@ -145,7 +145,7 @@ module _ {J S A V : Type 0} (h : House J S A V) (first : Core S A V) (users : As
       let before = traced run (omega (arith, left, longer)) in
       let stand = stands h first users tidy start run (omega (arith, left, longer)) in
       let here = made_here h first users tidy start past c m d run ready settles stand (omega (arith, left, longer)) in
-      on past c m d run ready settles before stand here.event here.is here.due here.goes
+      on past c m d run ready settles before stand here.event here.is here.proper here.goes
 
   goes_on : {c : Core S A V} {past : List Move} (run : IsRun h first past c) → first.world.next + length past ≤ depth →
       (k n : ℕ) → k + n ≤ length past → (nester : Path) (slot : ℕ) (ms : List Onward) → IsPlain (world_at run k) nester slot →
@@ -163,16 +163,16 @@ module _ {J S A V : Type 0} (h : House J S A V) (first : Core S A V) (users : As
       let there : events_run (world_at run k) (between run k n) ≡ world_at run (k + n) =
       ap (λ (w : World). events_run w (take n (drop k es))) (sym here)
       ∙ (sym (run-append first.world (take k es) (take n (drop k es))) ∙ (ap (events_run first.world) parts ∙ trace.worlds (k + n) low)) in
-      let all_due : AreDue first.world (take (k + n) es) =
-      due-before first.world (take (k + n) es) (drop (k + n) es) (subst (AreDue first.world) (sym (take-append-drop (k + n) es)) trace.due) in
-      let due : AreDue (world_at run k) (between run k n) =
-      subst (λ w. AreDue w (take n (drop k es))) here
-      (due-behind first.world (take k es) (take n (drop k es)) (subst (AreDue first.world) (sym parts) all_due)) in
+      let all_proper : AreProper first.world (take (k + n) es) =
+      proper-before first.world (take (k + n) es) (drop (k + n) es) (subst (AreProper first.world) (sym (take-append-drop (k + n) es)) trace.proper) in
+      let proper : AreProper (world_at run k) (between run k n) =
+      subst (λ w. AreProper w (take n (drop k es))) here
+      (proper-behind first.world (take k es) (take n (drop k es)) (subst (AreProper first.world) (sym parts) all_proper)) in
       let number = trace.numbers k (omega (arith, low)) in
       let short = length-take n (drop k es) in
       subst (λ (v : World). IsPlain v nester slot × ((told : List Told) × IsFurther (cut (world_at run k) nester slot) ms told (cut v nester slot))) there
-      (due_run_keeps (world_at run k) nester slot (between run k n) ms (savable_runnable (world_at run k) sound.whole sound.savable)
-      (omega (arith, number, short, low, left)) due seen plain)
+      (proper_run_keeps (world_at run k) nester slot (between run k n) ms (savable_runnable (world_at run k) sound.whole sound.savable)
+      (omega (arith, number, short, low, left)) proper seen plain)
 
 pub run_goes_on : {J S A V : Type 0} → RunGoesOn J S A V
 run_goes_on h first c past run users tidy start left k n low nester slot ms plain seen =

@@ -23,7 +23,7 @@ use Rattle.laws_jobs.specs.Machines.{Head, Machine, heard, call_of, said_of, IsR
 use Rattle.laws_jobs.specs.Machines.Head.{Stops, Asks}
 use Rattle.laws_jobs.specs.Machines.Interleaved.{Here, Another, Own}
 use Rattle.laws_jobs.specs.Jobs.{IsClean, MayBegin}
-use Rattle.laws_jobs.proofs.Filling.{users_due}
+use Rattle.laws_jobs.proofs.Filling.{users_owed}
 use Rattle.laws_runs.specs.Cores.{House, JobEnd, Work, Core, current, Asker, asker, work_of, IsReadyBy, others_moved, job_moved, job_hears, moved_by, Settles}
 use Rattle.laws_runs.specs.Cores.{IsRun, world_at}
 use Rattle.laws_runs.specs.Cores.Asker.{Nobody, Others, Job}
@@ -137,11 +137,11 @@ module _ {J S A V : Type 0} (h : House J S A V) (first : Core S A V) (users : As
       let porter = law.stays (world_at run begun) its.nester w t its.may its.work on.0 on.1 on.2 in
       let native : holds is_native ((at k).world.body (LAST_PORTER_SLOT ∷ its.nester)) ≡ true =
       subst (λ (u : World). holds is_native (u.body (LAST_PORTER_SLOT ∷ its.nester)) ≡ true) (sym (here k)) porter.porter in
-      let due = users_due w (named (at k).world m.who) ask is in
+      let proper = users_owed w (named (at k).world m.who) ask is in
       let move : IsUsersMove its.nester w e = record {
         valid = now.whole.valid;
         few = now.whole.few;
-        fit = due.0;
+        fit = proper.0;
         ready = subst (λ (u : World). IsReadyAt u e) (here k) ready;
         users = is;
         other = apart_from_porter (at k).world (LAST_PORTER_SLOT ∷ its.nester) (named (at k).world m.who)

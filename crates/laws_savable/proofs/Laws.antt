@@ -1,4 +1,4 @@
--- A due move keeps a world savable, and so does a run of them.
+-- A proper move keeps a world savable, and so does a run of them.
 use Rattle.std.proofs.Common.{◌≡◌, ◌<◌, ◌≤◌, [], ◌∷◌, true, List, Option, Some, None, refl, arith}
 use Rattle.fk_model.specs.declared.limits.TheConstants.{MOST_MOVED, PAGES}
 use Rattle.fk_model.specs.declared.moves.Ask.{Ask}
@@ -20,7 +20,7 @@ use Rattle.laws_machine.proofs.safety.Moves.{outcome-safe}
 use Rattle.laws_frozen.specs.Users.{is_users}
 use Rattle.laws_whole.proofs.Younger.{younger-all}
 use Rattle.laws_whole.proofs.Laws.{savable_runnable, keeps_runnable, gives_one_number}
-use Rattle.laws_savable.specs.Savable.{OwesAsk, DueMoveKeepsSavable, UsersMoveKeepsSavable, RunKeepsSavable}
+use Rattle.laws_savable.specs.Savable.{OwesAsk, ProperMoveKeepsSavable, UsersMoveKeepsSavable, RunKeepsSavable}
 use Rattle.laws_savable.proofs.Words.{all-words, words-all, numbered-of, of-numbered}
 use Rattle.laws_savable.proofs.Kept.{IsFewMoved, IsOnPage, AreTidy, AreKept, KeptOutcome}
 use Rattle.laws_savable.proofs.Pages.{PagesHaveWords, pages-apply}
@@ -132,9 +132,9 @@ savable-stepped w Waits valid savable safe kept = savable
 
 -- ---- a move, and a run
 
-pub keeps_savable : DueMoveKeepsSavable
+pub keeps_savable : ProperMoveKeepsSavable
 unfolding step
-keeps_savable w e whole savable due owes =
+keeps_savable w e whole savable proper owes =
     let premise : Premise w = record {
       valid = whole.valid.consistent;
       rooted = whole.valid.rooted;
@@ -145,21 +145,21 @@ keeps_savable w e whole savable due owes =
       scratch = savable.scratch_kept;
     } in
     savable-stepped w (outcome w e.mover e.pick e.ask) whole.valid.consistent savable
-    (outcome-safe w e.mover e.pick e.ask (facts_of w whole.valid whole.few) due.fit)
-    (outcome-kept w premise e.mover e.pick e.ask due.fit due.words owes)
+    (outcome-safe w e.mover e.pick e.ask (facts_of w whole.valid whole.few) proper.fit)
+    (outcome-kept w premise e.mover e.pick e.ask proper.fit proper.words owes)
 
-users-due : (w : World) (x : Path) (ask : Ask) → is_users ask ≡ true → (is_fit w x ask ≡ true) × OwesAsk w x ask
+users-owed : (w : World) (x : Path) (ask : Ask) → is_users ask ≡ true → (is_fit w x ask ≡ true) × OwesAsk w x ask
 unfolding is_fit
-users-due w x asks.Run users = (refl, tt)
-users-due w x (asks.Call stage words) users = cc
-users-due w x asks.Accept users = (refl, tt)
-users-due w x (asks.Give words len) users = (refl, tt)
-users-due w x asks.Over users = (refl, tt)
+users-owed w x asks.Run users = (refl, tt)
+users-owed w x (asks.Call stage words) users = cc
+users-owed w x asks.Accept users = (refl, tt)
+users-owed w x (asks.Give words len) users = (refl, tt)
+users-owed w x asks.Over users = (refl, tt)
 
 pub users_keep_savable : UsersMoveKeepsSavable
 users_keep_savable w e whole savable users words =
-    let due = users-due w e.mover e.ask users in
-    keeps_savable w e whole savable (record { fit = due.0; words = words }) due.1
+    let proper = users-owed w e.mover e.ask users in
+    keeps_savable w e whole savable (record { fit = proper.0; words = words }) proper.1
 
 pub run_keeps_savable : RunKeepsSavable
 unfolding run

@@ -1,4 +1,4 @@
--- What can be saved stays so: each move that is due keeps a world savable, where a porter's call gives what it owes.
+-- What can be saved stays so: each proper move keeps a world savable, where a porter's call gives what it owes.
 use Rattle.std.specs.Prelude.{◌≡◌, ℕ, ◌+◌, ◌≤◌, Bool, true, false, ◌&&◌, ◌||◌, ◌==◌, nat_le, IsSome, List, [], ◌∷◌, length, Ok}
 use Rattle.fk_model.specs.declared.limits.TheConstants.{LAST_USER_SLOT, LAST_SCRATCH_SLOT, LAST_PORTER_SLOT}
 use Rattle.fk_model.specs.declared.moves.Ask.{Ask}
@@ -18,7 +18,7 @@ use Rattle.fk_model.specs.Objects.{holds}
 use Rattle.fk_model.specs.StateRows.{is_native}
 use Rattle.fk_model.specs.Whole.{is_scratch_slot, is_porters, IsWhole, IsSavable}
 use Rattle.laws_frozen.specs.Users.{is_users}
-use Rattle.laws_whole.specs.Runnable.{has_all_words, IsDue}
+use Rattle.laws_whole.specs.Runnable.{has_all_words, IsProper}
 
 -- a user's slot, or for a reference a slot of scratch where a porter may have it
 abbrev pub may_make : World → Path → ℕ → ℕ → Bool
@@ -57,18 +57,18 @@ OwesAsk w x other = Unit {0}
 abbrev pub Owes : World → Event → Type 0
 Owes w e = OwesAsk w e.mover e.ask
 
--- a move that is due keeps a world savable
-abbrev pub DueMoveKeepsSavable : Type 0
-DueMoveKeepsSavable = (w : World) (e : Event) → IsWhole w → IsSavable w → IsDue w e → Owes w e → IsSavable (after w e)
+-- a proper move keeps a world savable
+abbrev pub ProperMoveKeepsSavable : Type 0
+ProperMoveKeepsSavable = (w : World) (e : Event) → IsWhole w → IsSavable w → IsProper w e → Owes w e → IsSavable (after w e)
 
 -- so do all moves of users, and of native servers that give words
 abbrev pub UsersMoveKeepsSavable : Type 0
 UsersMoveKeepsSavable = (w : World) (e : Event) → IsWhole w → IsSavable w → is_users e.ask ≡ true → has_all_words e.ask ≡ true → IsSavable (after w e)
 
--- each move is due at its place, and gives what it owes
+-- each move is proper at its place, and gives what it owes
 abbrev pub AreOwed : World → List Event → Type 0
 AreOwed w [] = Unit {0}
-AreOwed w (e ∷ es) = IsDue w e × Owes w e × AreOwed (after w e) es
+AreOwed w (e ∷ es) = IsProper w e × Owes w e × AreOwed (after w e) es
 
 -- what can be saved: a world that is whole and savable
 pub record IsSound (w : World) : Type 0 where

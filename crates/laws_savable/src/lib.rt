@@ -1,17 +1,17 @@
-//! What can be saved stays so: the premise of checkpointers is kept by every move that is due, each law the contract of a
+//! What can be saved stays so: the premise of checkpointers is kept by every proper move, each law the contract of a
 //! function that does nothing. Users and native servers owe nothing for it; a porter's call owes little, so that a job's
 //! proof can give it.
 //!
 //! It stands on `fk_model`, whose definitions the laws are about, on `laws_machine`, `laws_frozen` and `laws_whole`.
 #![tactic(auto)]
 
-ghost use Rattle.laws_savable.specs.Savable.{DueMoveKeepsSavable, RunKeepsSavable, UsersMoveKeepsSavable};
+ghost use Rattle.laws_savable.specs.Savable.{ProperMoveKeepsSavable, RunKeepsSavable, UsersMoveKeepsSavable};
 
-/// A move that is due keeps a whole world savable, where a porter's call gives what it owes: users'
+/// A proper move keeps a whole world savable, where a porter's call gives what it owes: users'
 /// objects in users' slots, references in scratch of its own space or of one that it holds there, and
 /// none left where the hold is given up; and a holder outside of what it is to hold.
-pub fn a_due_move_keeps_a_savable_world()
-    ensures { DueMoveKeepsSavable }
+pub fn a_proper_move_keeps_a_savable_world()
+    ensures { ProperMoveKeepsSavable }
 {}
 
 /// Every move of a user or a native server keeps one savable, where what the server gives is words.

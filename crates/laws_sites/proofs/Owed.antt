@@ -122,7 +122,7 @@ module _ (nester : Path) (slot : ℕ) (g : Site) (w : World) (shows : Shows nest
         → Suits g (LinksTalk s q x r u port server words) → IsOwedCall w nester (LinkSet s x r u) words
     unfolding is_fit
     links_talk-owed s q x r u port server words may suits = record {
-      due = record {
+      proper = record {
         fit = rw (
           suits.1,
           port_at s q x r u port server may suits.2 words,
@@ -140,7 +140,7 @@ module _ (nester : Path) (slot : ℕ) (g : Site) (w : World) (shows : Shows nest
         → Suits g (LinksFault s q x r u port server words) → IsOwedCall w nester (FaultSet s x r u) words
     unfolding is_fit
     links_fault-owed s q x r u port server words may suits = record {
-      due = record {
+      proper = record {
         fit = rw (
           suits.1,
           no_place u may.second,
@@ -159,7 +159,7 @@ module _ (nester : Path) (slot : ℕ) (g : Site) (w : World) (shows : Shows nest
         → IsOwedCall w nester (FaultSet s x r OWN_SPACE) words
     unfolding is_fit
     raises_fault-owed s q x r port words may suits = record {
-      due = record {
+      proper = record {
         fit = rw suits.1 (by (referred w (porter nester words) kinds.Port r));
         words = suits.0;
       };
@@ -176,7 +176,7 @@ module _ (nester : Path) (slot : ℕ) (g : Site) (w : World) (shows : Shows nest
     holds-owed : (s : ℕ) (q : Path) (x r : ℕ) (holder : Path) → MayHold g slot s q x r holder → Suits g (Holds s q x r holder)
         → IsOwedCall w nester (HoldSet s x r) no_words
     unfolding is_fit
-    holds-owed s q x r holder may suits = record { due = record { fit = refl; words = refl }; owes = (outside, bare_there); unpicking = refl }
+    holds-owed s q x r holder may suits = record { proper = record { fit = refl; words = refl }; owes = (outside, bare_there); unpicking = refl }
       where
         place : space_argument w (porter nester no_words) s ≡ Ok (q ++ root)
         place = place-row nester slot g w shows no_words s q may.place
@@ -209,26 +209,30 @@ module _ (nester : Path) (slot : ℕ) (g : Site) (w : World) (shows : Shows nest
 
     pub owed : (o : Order) → May slot o g → Suits g o → IsOwedCall w nester (stage_of slot o) (words_of o)
     unfolding is_fit
-    owed (Readies r) may suits = record { due = record { fit = refl; words = refl }; owes = make_scratch r may.0; unpicking = refl }
-    owed (Leads r s q x) may suits = record { due = record { fit = refl; words = refl }; owes = tt; unpicking = refl }
-    owed (LeadsTop r) may suits = record { due = record { fit = refl; words = refl }; owes = tt; unpicking = refl }
+    owed (Readies r) may suits = record { proper = record { fit = refl; words = refl }; owes = make_scratch r may.0; unpicking = refl }
+    owed (Leads r s q x) may suits = record { proper = record { fit = refl; words = refl }; owes = tt; unpicking = refl }
+    owed (LeadsTop r) may suits = record { proper = record { fit = refl; words = refl }; owes = tt; unpicking = refl }
     owed (Makes s q x kind) may suits = record {
-      due = record { fit = refl; words = refl };
+      proper = record { fit = refl; words = refl };
       owes = make_low no_words s x (number_of_kind kind) may.low;
       unpicking = refl;
     }
-    owed (Sets s q x words) may suits = record { due = record { fit = refl; words = suits }; owes = tt; unpicking = refl }
-    owed (Points s q x r) may suits = record { due = record { fit = refl; words = refl }; owes = tt; unpicking = refl }
-    owed (Gives s q page words) may suits = record { due = record { fit = refl; words = suits }; owes = tt; unpicking = refl }
-    owed MakesPin may suits = record { due = record { fit = refl; words = refl }; owes = make_pin; unpicking = refl }
-    owed (Pins i) may suits = record { due = record { fit = refl; words = refl }; owes = tt; unpicking = refl }
-    owed (Takes r) may suits = record { due = record { fit = refl; words = refl }; owes = tt; unpicking = refl }
-    owed (Checks r i) may suits = record { due = record { fit = refl; words = refl }; owes = tt; unpicking = refl }
-    owed (ParksTalk s q x i words) may suits = record { due = record { fit = suits.1; words = suits.0 }; owes = tt; unpicking = refl }
-    owed (ParksFault s q x i taken words) may suits = record { due = record { fit = rw (suits.1, suits.2) refl; words = suits.0 }; owes = tt; unpicking = refl }
-    owed (Drops r) may suits = record { due = record { fit = refl; words = refl }; owes = low_scratch r may.0; unpicking = refl }
-    owed DropsPin may suits = record { due = record { fit = refl; words = refl }; owes = refl; unpicking = refl }
-    owed (Deadens r) may suits = record { due = record { fit = refl; words = refl }; owes = refl; unpicking = refl }
+    owed (Sets s q x words) may suits = record { proper = record { fit = refl; words = suits }; owes = tt; unpicking = refl }
+    owed (Points s q x r) may suits = record { proper = record { fit = refl; words = refl }; owes = tt; unpicking = refl }
+    owed (Gives s q page words) may suits = record { proper = record { fit = refl; words = suits }; owes = tt; unpicking = refl }
+    owed MakesPin may suits = record { proper = record { fit = refl; words = refl }; owes = make_pin; unpicking = refl }
+    owed (Pins i) may suits = record { proper = record { fit = refl; words = refl }; owes = tt; unpicking = refl }
+    owed (Takes r) may suits = record { proper = record { fit = refl; words = refl }; owes = tt; unpicking = refl }
+    owed (Checks r i) may suits = record { proper = record { fit = refl; words = refl }; owes = tt; unpicking = refl }
+    owed (ParksTalk s q x i words) may suits = record { proper = record { fit = suits.1; words = suits.0 }; owes = tt; unpicking = refl }
+    owed (ParksFault s q x i taken words) may suits = record {
+      proper = record { fit = rw (suits.1, suits.2) refl; words = suits.0 };
+      owes = tt;
+      unpicking = refl;
+    }
+    owed (Drops r) may suits = record { proper = record { fit = refl; words = refl }; owes = low_scratch r may.0; unpicking = refl }
+    owed DropsPin may suits = record { proper = record { fit = refl; words = refl }; owes = refl; unpicking = refl }
+    owed (Deadens r) may suits = record { proper = record { fit = refl; words = refl }; owes = refl; unpicking = refl }
     owed (LinksTalk s q x r u port server words) may suits = links_talk-owed s q x r u port server words may suits
     owed (RaisesFault s q x r port words) may suits = raises_fault-owed s q x r port words may suits
     owed (LinksFault s q x r u port taker words) may suits = links_fault-owed s q x r u port taker words may suits

@@ -1,10 +1,10 @@
--- A due move keeps a world runnable, and so does a run of them.
+-- A proper move keeps a world runnable, and so does a run of them.
 use Rattle.std.proofs.Common.{◌≡◌, [], ◌∷◌, length, ◌∙◌, arith}
 use Rattle.fk_model.specs.World.{World}
 use Rattle.fk_model.specs.Moves.{outcome, step}
 use Rattle.fk_model.specs.Runs.{Event, after, run}
 use Rattle.laws_machine.proofs.validity.Steps.{step_keeps_valid_lem}
-use Rattle.laws_whole.specs.Runnable.{IsRunnable, IsDue, DueMoveGivesOneNumber, DueMoveKeepsRunnable, RunKeepsRunnable, SavableIsRunnable}
+use Rattle.laws_whole.specs.Runnable.{IsRunnable, IsProper, ProperMoveGivesOneNumber, ProperMoveKeepsRunnable, RunKeepsRunnable, SavableIsRunnable}
 use Rattle.fk_model.specs.Objects.{Mode, registers_of}
 use Rattle.fk_model.specs.Objects.Mode.{Running, Calling, Halted, Native}
 use Rattle.fk_model.specs.Shapes.{IsShapedMode}
@@ -13,25 +13,25 @@ use Rattle.laws_whole.proofs.Outcomes.{FullOutcome}
 use Rattle.laws_whole.proofs.Moves.{outcome-full}
 use Rattle.laws_whole.proofs.Kept.{all-have, registers-of, IsFilled, filled-stepped, next-stepped}
 
-event-full : (w : World) (e : Event) → IsRunnable w → IsDue w e → FullOutcome (outcome w e.mover e.pick e.ask)
-event-full w e runs due = outcome-full w e.mover e.pick e.ask runs.whole.full runs.registers due.words
+event-full : (w : World) (e : Event) → IsRunnable w → IsProper w e → FullOutcome (outcome w e.mover e.pick e.ask)
+event-full w e runs proper = outcome-full w e.mover e.pick e.ask runs.whole.full runs.registers proper.words
 
-pub gives_one_number : DueMoveGivesOneNumber
+pub gives_one_number : ProperMoveGivesOneNumber
 unfolding step
-gives_one_number w e runs due = next-stepped w (outcome w e.mover e.pick e.ask) (event-full w e runs due)
+gives_one_number w e runs proper = next-stepped w (outcome w e.mover e.pick e.ask) (event-full w e runs proper)
 
-filled_after : (w : World) (e : Event) → IsRunnable w → IsDue w e → IsFilled (after w e)
+filled_after : (w : World) (e : Event) → IsRunnable w → IsProper w e → IsFilled (after w e)
 unfolding step
-filled_after w e runs due =
-    filled-stepped w (outcome w e.mover e.pick e.ask) (record { pages = runs.whole.full; all = all-have w runs.registers }) (event-full w e runs due)
+filled_after w e runs proper =
+    filled-stepped w (outcome w e.mover e.pick e.ask) (record { pages = runs.whole.full; all = all-have w runs.registers }) (event-full w e runs proper)
 
-pub keeps_runnable : DueMoveKeepsRunnable
-keeps_runnable w e runs due left =
-    let filled = filled_after w e runs due in
-    let one = gives_one_number w e runs due in
+pub keeps_runnable : ProperMoveKeepsRunnable
+keeps_runnable w e runs proper left =
+    let filled = filled_after w e runs proper in
+    let one = gives_one_number w e runs proper in
     record {
       whole = record {
-        valid = step_keeps_valid_lem w e.mover e.pick e.ask runs.whole.valid runs.whole.few due.fit;
+        valid = step_keeps_valid_lem w e.mover e.pick e.ask runs.whole.valid runs.whole.few proper.fit;
         few = omega (arith, one, left);
         full = filled.pages;
       };
@@ -40,10 +40,10 @@ keeps_runnable w e runs due left =
 
 pub run_keeps_runnable : RunKeepsRunnable
 unfolding run
-run_keeps_runnable w [] runs left due = runs
-run_keeps_runnable w (e ∷ es) runs left due =
-    let one = gives_one_number w e runs due.0 in
-    run_keeps_runnable (after w e) es (keeps_runnable w e runs due.0 (omega (arith, left))) (omega (arith, one, left)) due.1
+run_keeps_runnable w [] runs left proper = runs
+run_keeps_runnable w (e ∷ es) runs left proper =
+    let one = gives_one_number w e runs proper.0 in
+    run_keeps_runnable (after w e) es (keeps_runnable w e runs proper.0 (omega (arith, left))) (omega (arith, one, left)) proper.1
 
 -- a mode that is well shaped has 16 registers
 shaped_registers : (mode : Mode) → IsShapedMode mode → length (registers_of mode) ≡ 16

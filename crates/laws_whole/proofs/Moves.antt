@@ -1,4 +1,4 @@
--- What a due move comes to leaves pages and registers full.
+-- What a proper move comes to leaves pages and registers full.
 use Rattle.std.proofs.Common.{◌≡◌, ℕ, Bool, true, false, if◌then◌else◌, ◌&&◌, ◌==◌, length, List, ◌∷◌, take, Option, Some, None, refl}
 use Rattle.std.proofs.lemmas.Bool.{and_parts, eqb-true}
 use Rattle.fk_model.specs.declared.limits.TheConstants.{PAGE_WORDS}

@@ -29,27 +29,27 @@ has_all_words (asks.Call stage words) = length words == PAGE_WORDS && are_words 
 has_all_words (asks.Give words len) = are_words words
 has_all_words other = true
 
--- a move that a machine may make: it is fit, and what a porter or a native server gives is words, a porter's 64
-pub record IsDue (w : World) (e : Event) : Type 0 where
+-- a proper move, which a machine may make: it is fit, and what a porter or a native server gives is words, a porter's 64
+pub record IsProper (w : World) (e : Event) : Type 0 where
   pub fit : is_fit w e.mover e.ask ≡ true
   pub words : has_all_words e.ask ≡ true
 
 -- it gives out one birth number at most
-abbrev pub DueMoveGivesOneNumber : Type 0
-DueMoveGivesOneNumber = (w : World) (e : Event) → IsRunnable w → IsDue w e → (after w e).next ≤ w.next + 1
+abbrev pub ProperMoveGivesOneNumber : Type 0
+ProperMoveGivesOneNumber = (w : World) (e : Event) → IsRunnable w → IsProper w e → (after w e).next ≤ w.next + 1
 
 -- and keeps a world runnable, where a birth number is left
-abbrev pub DueMoveKeepsRunnable : Type 0
-DueMoveKeepsRunnable = (w : World) (e : Event) → IsRunnable w → IsDue w e → w.next + 1 ≤ depth → IsRunnable (after w e)
+abbrev pub ProperMoveKeepsRunnable : Type 0
+ProperMoveKeepsRunnable = (w : World) (e : Event) → IsRunnable w → IsProper w e → w.next + 1 ≤ depth → IsRunnable (after w e)
 
--- each move is due at its place
-abbrev pub AreDue : World → List Event → Type 0
-AreDue w [] = Unit {0}
-AreDue w (e ∷ es) = IsDue w e × AreDue (after w e) es
+-- each move is proper at its place
+abbrev pub AreProper : World → List Event → Type 0
+AreProper w [] = Unit {0}
+AreProper w (e ∷ es) = IsProper w e × AreProper (after w e) es
 
 -- a run ends in a runnable world where it begins in one, with a birth number left for each of its moves
 abbrev pub RunKeepsRunnable : Type 0
-RunKeepsRunnable = (w : World) (es : List Event) → IsRunnable w → w.next + length es ≤ depth → AreDue w es → IsRunnable (run w es)
+RunKeepsRunnable = (w : World) (es : List Event) → IsRunnable w → w.next + length es ≤ depth → AreProper w es → IsRunnable (run w es)
 
 -- a world that is whole and can be saved is runnable
 abbrev pub SavableIsRunnable : Type 0

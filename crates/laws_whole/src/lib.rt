@@ -4,18 +4,18 @@
 //! is kept by each move that a machine may make, so that a run supplies it from its first world alone.
 #![tactic(auto)]
 
-ghost use Rattle.laws_whole.specs.Runnable.{DueMoveGivesOneNumber, DueMoveKeepsRunnable, RunKeepsRunnable, SavableIsRunnable, OnlySpacesAreNumbered};
+ghost use Rattle.laws_whole.specs.Runnable.{ProperMoveGivesOneNumber, ProperMoveKeepsRunnable, RunKeepsRunnable, SavableIsRunnable, OnlySpacesAreNumbered};
 ghost use Rattle.laws_whole.specs.Runnable.{FitMoveKeepsYounger};
 
-/// A move that is due gives out one birth number at most.
-pub fn a_due_move_gives_one_number()
-    ensures { DueMoveGivesOneNumber }
+/// A proper move gives out one birth number at most.
+pub fn a_proper_move_gives_one_number()
+    ensures { ProperMoveGivesOneNumber }
 {}
 
-/// A move that is due keeps a world valid, its pages full and each thread's registers 16, where a
+/// A proper move keeps a world valid, its pages full and each thread's registers 16, where a
 /// birth number is left.
-pub fn a_due_move_keeps_a_runnable_world()
-    ensures { DueMoveKeepsRunnable }
+pub fn a_proper_move_keeps_a_runnable_world()
+    ensures { ProperMoveKeepsRunnable }
 {}
 
 /// A run of such moves does, where it begins so, with a birth number left for each of its moves.

@@ -9,9 +9,9 @@ returns-clause-whole c = whole-within
 pub returns-clause-savable : goal.returns-clause-savable
 returns-clause-savable c = savable-within
 
-pub returns-clause-due : goal.returns-clause-due
+pub returns-clause-proper : goal.returns-clause-proper
 unfolding premises
-returns-clause-due c = record { fit = refl; words = refl }
+returns-clause-proper c = record { fit = refl; words = refl }
 
 pub returns-clause-owes : goal.returns-clause-owes
 unfolding premises

@@ -12,9 +12,9 @@ returns-clause-whole c = whole-outside
 pub returns-clause-savable : goal.returns-clause-savable
 returns-clause-savable c = savable-outside
 
-pub returns-clause-due : goal.returns-clause-due
+pub returns-clause-proper : goal.returns-clause-proper
 unfolding premises
-returns-clause-due c = record { fit = refl; words = refl }
+returns-clause-proper c = record { fit = refl; words = refl }
 
 pub returns-clause-hold : goal.returns-clause-hold
 unfolding premises
@@ -60,7 +60,7 @@ unfolding premises
 returns-clause-ready c = (legal-tested leads_outside (gives_hold ∷ []) refl).0
 
 pub returns-clause-after : goal.returns-clause-after
-returns-clause-after c = keeps_savable leads_outside gives_hold whole-outside savable-outside (returns-clause-due c) (returns-clause-hold c)
+returns-clause-after c = keeps_savable leads_outside gives_hold whole-outside savable-outside (returns-clause-proper c) (returns-clause-hold c)
 
 pub returns-clause-made_within : goal.returns-clause-made_within
 unfolding premises

@@ -1,6 +1,6 @@
 use Rattle.std.proofs.Common.{refl}
 use Rattle.examples_premises.specs.Premises.{premises}
-use Rattle.examples_premises.proofs.premises.a_move_that_is_due.Goals as goal
+use Rattle.examples_premises.proofs.premises.a_proper_move.Goals as goal
 
 pub returns-clause-user : goal.returns-clause-user
 unfolding premises
@@ -24,20 +24,20 @@ returns-clause-parks_fault c = record { fit = refl; words = refl }
 
 pub returns-clause-few : goal.returns-clause-few
 unfolding premises
-returns-clause-few c = λ due. let h = due.words in cc
+returns-clause-few c = λ proper. let h = proper.words in cc
 
 pub returns-clause-many : goal.returns-clause-many
 unfolding premises
-returns-clause-many c = λ due. let h = due.words in cc
+returns-clause-many c = λ proper. let h = proper.words in cc
 
 pub returns-clause-no_turn : goal.returns-clause-no_turn
 unfolding premises
-returns-clause-no_turn c = λ due. let h = due.fit in cc
+returns-clause-no_turn c = λ proper. let h = proper.fit in cc
 
 pub returns-clause-long : goal.returns-clause-long
 unfolding premises
-returns-clause-long c = λ due. let h = due.fit in cc
+returns-clause-long c = λ proper. let h = proper.fit in cc
 
 pub returns-clause-no_taker : goal.returns-clause-no_taker
 unfolding premises
-returns-clause-no_taker c = λ due. let h = due.fit in cc
+returns-clause-no_taker c = λ proper. let h = proper.fit in cc
