@@ -1,6 +1,6 @@
 -- A valid image is kept as it is.
 use Rattle.std.specs.Prelude.{slice_index}
-use Rattle.std.proofs.Common.{is_some, ◌≡◌, ℕ, suc, ◌+◌, ◌-◌, ◌^◌, ◌≤◌, Bool, true, false, cond, ltb, ◌&&◌, ◌||◌, not, ◌==◌, List, [], ◌∷◌, ◌++◌, map, length}
+use Rattle.std.proofs.Common.{is_some, ◌≡◌, ℕ, suc, ◌-◌, ◌^◌, ◌≤◌, Bool, true, false, cond, ltb, ◌&&◌, ◌||◌, not, ◌==◌, List, [], ◌∷◌, ◌++◌, map, length}
 use Rattle.std.proofs.Common.{replicate, Option, Some, None, option_map, refl, sym, ap, subst, ◌∙◌, arith, ◌⊎◌, inl, inr, eqb-true}
 use Rattle.std.proofs.lemmas.Bool.{and_parts, lt-ltb, leb-true}
 use Rattle.std.proofs.lemmas.List.{append-nil}
@@ -18,13 +18,13 @@ use Rattle.fk_image.specs.declared.image.PageRec.{PageRec}
 use Rattle.fk_image.specs.declared.image.SpaceRec.{SpaceRec}
 use Rattle.fk_image.specs.declared.image.Image.{Image}
 use Rattle.fk_image.specs.declared.open.Open.{Open}
-use Rattle.fk_image.specs.Ranges.{is_slot, is_bit, is_byte, is_half, is_word, is_set_word, is_turn, is_mode_byte, is_call_code, is_code, is_extent, are_words}
+use Rattle.fk_image.specs.Ranges.{is_slot, is_bit, is_byte, is_half, is_word, is_turn, is_mode_byte, is_call_code, is_code, is_extent, are_words}
 use Rattle.fk_image.specs.Ranges.{fits_link, fits_talk, fits_taker, fits_fault, fits_thread, fits_body}
 use Rattle.fk_image.specs.Preorder.{root_path, after_space, room_under, has_room}
 use Rattle.fk_image.specs.Links.{kind_in_space, all_lead}
-use Rattle.fk_image.specs.Valid.{all_from, fits_object, after_object, fits_page, after_page, fits_objects, fits_pages, fits_space, stands_in_order, is_first}
-use Rattle.fk_image.specs.Valid.{is_next, is_null, fits_spaces, is_valid}
-use Rattle.laws_checkpoint.specs.Narrow.{within, byte, half, number, narrow_link, narrow_talk, narrow_fault, narrow_thread, narrow_rec, narrow_object, rising}
+use Rattle.fk_image.specs.Valid.{all_from, fits_object, after_object, fits_page, after_page, fits_objects, fits_pages, fits_space, stands_in_order}
+use Rattle.fk_image.specs.Valid.{is_null, fits_spaces, is_valid}
+use Rattle.laws_checkpoint.specs.Narrow.{within, number, narrow_link, narrow_talk, narrow_fault, narrow_thread, narrow_rec, rising}
 use Rattle.laws_checkpoint.specs.Narrow.{narrow_page, narrow_space, narrowed}
 
 -- ---- numbers

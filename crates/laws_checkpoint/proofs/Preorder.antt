@@ -15,7 +15,8 @@ use Rattle.fk_model.proofs.walks.Members.{IsIn, in_either, in_filter, of_filter,
 use Rattle.fk_model.proofs.walks.PlaceLaws.{same_path_refl, same_path_eq}
 use Rattle.fk_model.proofs.walks.WalkLaws.{walked}
 use Rattle.laws_pictures.specs.Imaged.{rank, Follows, AreItsSpaces}
-use Rattle.laws_checkpoint.specs.Walk.{Met, met, number_there}
+use Rattle.laws_checkpoint.specs.Foreign.{number_there}
+use Rattle.laws_checkpoint.specs.Walk.{Met, met}
 use Rattle.laws_checkpoint.specs.Assembly.{is_space_number, spaces_met}
 use Rattle.laws_checkpoint.proofs.Scans.{rising, slots_rise}
 use Rattle.laws_checkpoint.proofs.Tasks.{spaces_are}

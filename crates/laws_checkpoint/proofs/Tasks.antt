@@ -13,39 +13,15 @@ use Rattle.fk_model.specs.Valid.{kind_there}
 use Rattle.fk_model.specs.Closed.{far_field}
 use Rattle.fk_model.specs.Cut.{cut}
 use Rattle.fk_model.proofs.walks.Members.{IsIn, of_flat_map}
-use Rattle.laws_checkpoint.specs.Foreign.{Task, task_of, fields_of, is_strict}
-use Rattle.laws_checkpoint.specs.Walk.{Met, met, number_there}
+use Rattle.laws_checkpoint.specs.Foreign.{Task, number_there, task_of}
+use Rattle.laws_checkpoint.specs.Walk.{Met, met}
 use Rattle.laws_checkpoint.specs.Contents.{with_item, items_from, record_in, record_at, content}
 use Rattle.laws_checkpoint.specs.Gather.{pointer_fields}
-use Rattle.laws_checkpoint.specs.Assembly.{is_space_number, spaces_met, fields_by, is_strict_number, met_task, sought_tasks, pointers_by, item_task}
+use Rattle.laws_checkpoint.specs.Assembly.{is_space_number, spaces_met, met_task, sought_tasks, pointers_by, item_task}
 use Rattle.laws_checkpoint.specs.Assembly.{holder_task, content_tasks, gathered_tasks}
 use Rattle.laws_checkpoint.proofs.Gathers.{Tasks_ok}
 
 -- ---- the tasks of a seeker
-
-fields_are : (o : Option Body) → fields_by (number_there o) ≡ fields_of o
-fields_are None = refl
-fields_are (Some (Mutex locked)) = refl
-fields_are (Some Cond) = refl
-fields_are (Some (Mapping m)) = refl
-fields_are (Some (Region r)) = refl
-fields_are (Some (Port set served)) = refl
-fields_are (Some Portset) = refl
-fields_are (Some (Space birth holder)) = refl
-fields_are (Some (Thread_of t)) = refl
-fields_are (Some (Reference to)) = refl
-
-strict_is : (o : Option Body) → is_strict_number (number_there o) ≡ is_strict o
-strict_is None = refl
-strict_is (Some (Mutex locked)) = refl
-strict_is (Some Cond) = refl
-strict_is (Some (Mapping m)) = refl
-strict_is (Some (Region r)) = refl
-strict_is (Some (Port set served)) = refl
-strict_is (Some Portset) = refl
-strict_is (Some (Space birth holder)) = refl
-strict_is (Some (Thread_of t)) = refl
-strict_is (Some (Reference to)) = refl
 
 abbrev HasSlot : Path → Type 0
 HasSlot [] = ⊥
@@ -64,7 +40,7 @@ of_walk (suc n) c s x h =
 
 one_task : (c : World) (q : Path) → HasSlot q → met_task (met c q) ≡ task_of c q
 one_task c [] h = absurd h
-one_task c (k ∷ q) h = λ i. record { path = k ∷ q; fields = fields_are (c.body (k ∷ q)) i; strict = strict_is (c.body (k ∷ q)) i }
+one_task c (k ∷ q) h = refl
 
 met_tasks : (c : World) (qs : List Path) → ((q : Path) → IsIn q qs → HasSlot q) → map met_task (map (met c) qs) ≡ map (task_of c) qs
 met_tasks c [] h = refl

@@ -32,8 +32,8 @@ use Rattle.laws_jobs.specs.Machines.Interleaved.{Here, Another, Own}
 use Rattle.laws_jobs.proofs.Own.{own_body}
 use Rattle.laws_jobs.proofs.Rows.{own-place, point-row, search-row, found_as, taken_among, space_pointer, ref_named}
 use Rattle.laws_jobs.proofs.Weaving.{first_sound}
-use Rattle.laws_checkpoint.specs.Foreign.{PLACES, way_from}
-use Rattle.laws_checkpoint.specs.Walk.{Met, number_there, met, State, space_at, reach, arrive, leaves, enters, goes_on, head, found, next, walker, begin}
+use Rattle.laws_checkpoint.specs.Foreign.{PLACES, number_there, way_from}
+use Rattle.laws_checkpoint.specs.Walk.{Met, met, State, space_at, reach, arrive, leaves, enters, goes_on, head, found, next, walker, begin}
 use Rattle.laws_checkpoint.specs.Walk.{ObjectsAreMet}
 use Rattle.laws_checkpoint.specs.Walk.State.{Down, Searches, Over}
 use Rattle.laws_checkpoint.proofs.Scans.{rising, slots_rise, Scan, scan, lowest_none, lowest_first}

@@ -1,5 +1,5 @@
 -- The image of what was gathered: each space with its objects' records and pages, and the pointers as links.
-use Rattle.std.specs.Prelude.{ℕ, ◌==◌, ◌+◌, Bool, true, false, List, [], ◌∷◌, ◌++◌, map, filter, drop, length, Option, Some, None, if◌then◌else◌}
+use Rattle.std.specs.Prelude.{ℕ, ◌==◌, ◌+◌, false, List, [], ◌∷◌, ◌++◌, map, filter, drop, length, Option, Some, None, if◌then◌else◌}
 use Rattle.std.specs.List.{flat_map}
 use Rattle.fk_model.specs.declared.names.Kind.TheVariants as kinds
 use Rattle.fk_model.specs.Places.{Path, slot_of, Ptr}
@@ -18,28 +18,16 @@ use Rattle.fk_image.specs.declared.image.SpaceRec.{SpaceRec}
 use Rattle.fk_image.specs.declared.image.Image.{Image}
 use Rattle.laws_pictures.specs.Imaged.{link_of, parent_number}
 use Rattle.laws_checkpoint.specs.Foreign.{Task}
+pub use Rattle.laws_checkpoint.specs.Foreign.{is_space_number, fields_by, is_strict_number}
 use Rattle.laws_checkpoint.specs.Walk.{Met}
 use Rattle.laws_checkpoint.specs.Contents.{Item, Content}
+pub use Rattle.laws_checkpoint.specs.Gather.{pointers_by}
 
 -- ---- what is asked of the objects that were met
-
-abbrev pub is_space_number : ℕ → Bool
-is_space_number kind = kind == number_of_kind kinds.Space
 
 -- the spaces of a subtree, in preorder
 abbrev pub spaces_met : List Met → List Path
 spaces_met mets = [] ∷ map (λ (m : Met). m.path) (filter (λ (m : Met). is_space_number m.kind) mets)
-
--- the fields that count where it isn't closed, by the number of a kind
-abbrev pub fields_by : ℕ → List ℕ
-fields_by kind =
-    if kind == number_of_kind kinds.Thread then 0 ∷ 2 ∷ []
-    else (if kind == number_of_kind kinds.Mapping then 0 ∷ []
-    else (if kind == number_of_kind kinds.Region then 0 ∷ []
-    else (if is_space_number kind then 0 ∷ [] else (if kind == number_of_kind kinds.Reference then 0 ∷ [] else []))))
-
-abbrev pub is_strict_number : ℕ → Bool
-is_strict_number kind = if kind == number_of_kind kinds.Mapping then true else is_space_number kind
 
 abbrev pub met_task : Met → Task
 met_task m = record { path = m.path; fields = fields_by m.kind; strict = is_strict_number m.kind }
@@ -47,14 +35,6 @@ met_task m = record { path = m.path; fields = fields_by m.kind; strict = is_stri
 -- every object of the subtree, its root first
 abbrev pub sought_tasks : List Met → List Task
 sought_tasks mets = record { path = []; fields = []; strict = false } ∷ map met_task mets
-
--- the fields whose pointers an image keeps
-abbrev pub pointers_by : ℕ → List ℕ
-pointers_by kind =
-    if kind == number_of_kind kinds.Thread then 0 ∷ 1 ∷ 2 ∷ 3 ∷ []
-    else (if kind == number_of_kind kinds.Mapping then 0 ∷ []
-    else (if kind == number_of_kind kinds.Region then 0 ∷ []
-    else (if kind == number_of_kind kinds.Reference then 0 ∷ [] else [])))
 
 abbrev pub item_task : Path → Item → Task
 item_task q i = record { path = i.number ∷ q; fields = pointers_by (word i.words 0); strict = false }

@@ -6,7 +6,7 @@ use Rattle.fk_model.specs.declared.stage.Stage.TheVariants.{Search, Point, GetSt
 use Rattle.fk_model.specs.declared.statuses.status.TheConstants.{OK}
 use Rattle.fk_model.specs.Places.{Path}
 use Rattle.fk_model.specs.Objects.{Body, number_of_kind}
-use Rattle.fk_model.specs.Objects.Body.{Mutex, Cond, Mapping, Region, Port, Portset, Space, Thread_of, Reference}
+use Rattle.fk_model.specs.Objects.Body.{Space}
 use Rattle.fk_model.specs.World.{World}
 use Rattle.fk_model.specs.Records.{record_of}
 use Rattle.fk_model.specs.Runs.{Event}
@@ -43,15 +43,8 @@ items_from f (suc n) k = with_item k (f k) (items_from f n (suc k))
 -- a space has no record
 abbrev pub record_in : Option Body → Option (List ℕ)
 record_in None = None
-record_in (Some (Mutex locked)) = Some (record_of (Mutex locked))
-record_in (Some Cond) = Some (record_of Cond)
-record_in (Some (Mapping m)) = Some (record_of (Mapping m))
-record_in (Some (Region r)) = Some (record_of (Region r))
-record_in (Some (Port set served)) = Some (record_of (Port set served))
-record_in (Some Portset) = Some (record_of Portset)
 record_in (Some (Space birth holder)) = None
-record_in (Some (Thread_of t)) = Some (record_of (Thread_of t))
-record_in (Some (Reference to)) = Some (record_of (Reference to))
+record_in (Some other) = Some (record_of other)
 
 abbrev pub record_at : World → Path → ℕ → Option (List ℕ)
 record_at c q k = record_in (c.body (k ∷ q))

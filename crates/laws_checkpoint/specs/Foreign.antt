@@ -2,13 +2,14 @@
 use Rattle.std.specs.Prelude.{◌≡◌, ℕ, ◌+◌, ◌*◌, ◌≤◌, Bool, true, false, ◌&&◌, ◌||◌, ◌==◌, List, [], ◌∷◌, ◌++◌, map, length, Option, Some, None, option_map}
 use Rattle.std.specs.Prelude.{if◌then◌else◌}
 use Rattle.fk_model.specs.declared.limits.TheConstants.{OWN_SPACE}
+use Rattle.fk_model.specs.declared.names.Kind.TheVariants as kinds
 use Rattle.fk_model.specs.declared.stage.Stage.{Stage}
 use Rattle.fk_model.specs.declared.stage.Stage.TheVariants.{Point, GetPtr, Locate, CountIn}
 use Rattle.fk_model.specs.declared.statuses.status.TheConstants.{OK}
 use Rattle.fk_model.specs.Places.{Path, strip, Ptr}
 use Rattle.fk_model.specs.Places.Ptr.{At, Out, Far}
-use Rattle.fk_model.specs.Objects.{Body}
-use Rattle.fk_model.specs.Objects.Body.{Mutex, Cond, Mapping, Region, Port, Portset, Space, Thread_of, Reference}
+use Rattle.fk_model.specs.Objects.{Body, kind_of, number_of_kind}
+use Rattle.fk_model.specs.Objects.Body.{Reference}
 use Rattle.fk_model.specs.World.{World}
 use Rattle.fk_model.specs.Searches.{objects}
 use Rattle.fk_model.specs.Readers.{kind_at}
@@ -34,27 +35,32 @@ TARGETS = 241
 abbrev pub STEPS : ℕ
 STEPS = 242
 
--- ---- the fields that count, by kind
+-- ---- the fields that count, by the number of a kind
 
-abbrev pub fields_of : Option Body → List ℕ
-fields_of None = []
-fields_of (Some (Mapping m)) = 0 ∷ []
-fields_of (Some (Region r)) = 0 ∷ []
-fields_of (Some (Reference to)) = 0 ∷ []
-fields_of (Some (Space birth holder)) = 0 ∷ []
-fields_of (Some (Thread_of t)) = 0 ∷ 2 ∷ []
-fields_of (Some (Mutex locked)) = []
-fields_of (Some Cond) = []
-fields_of (Some (Port set served)) = []
-fields_of (Some Portset) = []
+abbrev pub is_space_number : ℕ → Bool
+is_space_number kind = kind == number_of_kind kinds.Space
+
+abbrev pub fields_by : ℕ → List ℕ
+fields_by kind =
+    if kind == number_of_kind kinds.Thread then 0 ∷ 2 ∷ []
+    else (if kind == number_of_kind kinds.Mapping then 0 ∷ []
+    else (if kind == number_of_kind kinds.Region then 0 ∷ []
+    else (if is_space_number kind then 0 ∷ [] else (if kind == number_of_kind kinds.Reference then 0 ∷ [] else []))))
 
 -- a port of the nester is no place for it either
+abbrev pub is_strict_number : ℕ → Bool
+is_strict_number kind = if kind == number_of_kind kinds.Mapping then true else is_space_number kind
+
+-- no kind has the number 0
+abbrev pub number_there : Option Body → ℕ
+number_there None = 0
+number_there (Some b) = number_of_kind (kind_of b)
+
+abbrev pub fields_of : Option Body → List ℕ
+fields_of o = fields_by (number_there o)
+
 abbrev pub is_strict : Option Body → Bool
-is_strict (Some (Mapping m)) = true
-is_strict (Some (Space birth holder)) = true
-is_strict (Some (Mutex locked)) = false
-is_strict (Some b) = false
-is_strict None = false
+is_strict o = is_strict_number (number_there o)
 
 -- an object to be looked at, by its path in the subtree. The root's own holder isn't looked at
 pub record Task : Type 0 where
@@ -126,7 +132,7 @@ read nowhere somewhere other (n ∷ ns) = if n == 0 || n == 1 then nowhere else 
 
 -- a port in one of the space's own slots
 abbrev pub tells_port : List ℕ → Bool
-tells_port (i ∷ far ∷ kind ∷ rest) = far == 0 && kind == 5
+tells_port (i ∷ far ∷ kind ∷ rest) = far == 0 && kind == number_of_kind kinds.Port
 tells_port other = false
 
 abbrev pub next : ℕ → State → ℕ → List ℕ → State

@@ -2,12 +2,13 @@
 use Rattle.std.specs.Prelude.{◌≡◌, ℕ, false, IsSome, ◌==◌, List, [], ◌∷◌, ◌++◌, map, Option, Some, None, if◌then◌else◌}
 use Rattle.std.specs.List.{flat_map}
 use Rattle.fk_model.specs.declared.limits.TheConstants.{OWN_SPACE}
+use Rattle.fk_model.specs.declared.names.Kind.TheVariants as kinds
 use Rattle.fk_model.specs.declared.stage.Stage.TheVariants.{Point, Locate}
 use Rattle.fk_model.specs.declared.statuses.status.TheConstants.{OK}
 use Rattle.fk_model.specs.Places.{Path, Ptr}
 use Rattle.fk_model.specs.Places.Ptr.{Null, Dead, At, Far}
-use Rattle.fk_model.specs.Objects.{Body}
-use Rattle.fk_model.specs.Objects.Body.{Mutex, Cond, Mapping, Region, Port, Portset, Space, Thread_of, Reference}
+use Rattle.fk_model.specs.Objects.{Body, kind_of, number_of_kind}
+use Rattle.fk_model.specs.Objects.Body.{Space}
 use Rattle.fk_model.specs.World.{World}
 use Rattle.fk_model.specs.StateRows.{Field, field_of}
 use Rattle.fk_model.specs.StateRows.Field.{Pointer, NoThread}
@@ -22,17 +23,18 @@ use Rattle.laws_checkpoint.specs.Foreign.{PLACES, TARGETS, STEPS, Task, reading,
 
 -- ---- the fields whose pointers an image keeps: with those of a thread also who serves its talk, and who has taken its fault
 
+-- by the number of a kind, but a space's: an image keeps its holder beside its objects
+abbrev pub pointers_by : ℕ → List ℕ
+pointers_by kind =
+    if kind == number_of_kind kinds.Thread then 0 ∷ 1 ∷ 2 ∷ 3 ∷ []
+    else (if kind == number_of_kind kinds.Mapping then 0 ∷ []
+    else (if kind == number_of_kind kinds.Region then 0 ∷ []
+    else (if kind == number_of_kind kinds.Reference then 0 ∷ [] else [])))
+
 abbrev pub pointer_fields : Option Body → List ℕ
 pointer_fields None = []
-pointer_fields (Some (Mapping m)) = 0 ∷ []
-pointer_fields (Some (Region r)) = 0 ∷ []
-pointer_fields (Some (Reference to)) = 0 ∷ []
 pointer_fields (Some (Space birth holder)) = 0 ∷ []
-pointer_fields (Some (Thread_of t)) = 0 ∷ 1 ∷ 2 ∷ 3 ∷ []
-pointer_fields (Some (Mutex locked)) = []
-pointer_fields (Some Cond) = []
-pointer_fields (Some (Port set served)) = []
-pointer_fields (Some Portset) = []
+pointer_fields (Some other) = pointers_by (number_of_kind (kind_of other))
 
 -- of the root none
 abbrev pub pointer_task : World → Path → Task

@@ -1,6 +1,6 @@
 -- What the fields of an image's records hold of an image: a number that a field can't hold isn't kept, and lists are as long
 -- as their fields. Each valid image is kept as it is.
-use Rattle.std.specs.Prelude.{ℕ, ◌+◌, ◌^◌, Bool, nat_lt, List, [], ◌∷◌, map, Option, option_map, if◌then◌else◌}
+use Rattle.std.specs.Prelude.{ℕ, ◌+◌, ◌^◌, nat_lt, List, [], ◌∷◌, map, option_map, if◌then◌else◌}
 use Rattle.fk_model.specs.Records.{padded}
 use Rattle.fk_image.specs.declared.image.Link.{Link}
 use Rattle.fk_image.specs.declared.image.Link.TheVariants.{Null, Dead, In, Out, Root, Outside}

@@ -1,11 +1,11 @@
 -- A walk over a held subtree: every object in preorder, with its kind, by a porter's calls.
-use Rattle.std.specs.Prelude.{◌≡◌, ℕ, ◌+◌, ◌&&◌, ◌==◌, nat_le, nat_lt, List, [], ◌∷◌, ◌++◌, map, Option, Some, None, if◌then◌else◌}
+use Rattle.std.specs.Prelude.{◌≡◌, ℕ, ◌+◌, ◌&&◌, ◌==◌, nat_le, nat_lt, List, [], ◌∷◌, ◌++◌, map, if◌then◌else◌}
 use Rattle.fk_model.specs.declared.limits.TheConstants.{OWN_SPACE, SLOTS}
 use Rattle.fk_model.specs.declared.names.Kind.TheVariants as kinds
 use Rattle.fk_model.specs.declared.stage.Stage.TheVariants.{Search, Point}
 use Rattle.fk_model.specs.declared.statuses.status.TheConstants.{OK}
 use Rattle.fk_model.specs.Places.{Path}
-use Rattle.fk_model.specs.Objects.{Body, kind_of, number_of_kind}
+use Rattle.fk_model.specs.Objects.{number_of_kind}
 use Rattle.fk_model.specs.World.{World}
 use Rattle.fk_model.specs.Searches.{objects}
 use Rattle.fk_model.specs.Runs.{Event}
@@ -14,16 +14,12 @@ use Rattle.laws_frozen.specs.Holding.{IsHolding}
 use Rattle.laws_savable.specs.Savable.{IsSound}
 use Rattle.laws_jobs.specs.Machines.{no_words, Head, Machine, Interleaved}
 use Rattle.laws_jobs.specs.Machines.Head.{Stops, Asks}
-use Rattle.laws_checkpoint.specs.Foreign.{PLACES, way_from, IsScratched}
+use Rattle.laws_checkpoint.specs.Foreign.{PLACES, number_there, way_from, IsScratched}
 
 -- an object that is met, by its path in the subtree, and the number of its kind
 pub record Met : Type 0 where
   pub path : Path
   pub kind : ℕ
-
-abbrev pub number_there : Option Body → ℕ
-number_there None = 0
-number_there (Some b) = number_of_kind (kind_of b)
 
 abbrev pub met : World → Path → Met
 met c q = record { path = q; kind = number_there (c.body q) }
