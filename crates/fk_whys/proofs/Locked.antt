@@ -9,7 +9,7 @@ use Rattle.fk_model.specs.Searches.{thread_at}
 use Rattle.fk_model.specs.Talks.{first_stage}
 use Rattle.fk_model.specs.World.{World}
 use Rattle.laws_waits.specs.Stuck.{is_resting}
-use Rattle.fk_whys.specs.Causes.{cause_at, fault_port, is_still, named, outermost, stage_cause, thread_cause}
+use Rattle.fk_whys.specs.Causes.{cause_at, fault_port, is_at_rest, named, outermost_held, stage_cause, thread_cause}
 use Rattle.fk_whys.specs.Whys.{IsLocked}
 use Rattle.fk_whys.proofs.Waited.{awake, none_held, or_second}
 
@@ -27,11 +27,11 @@ module _ (w : World) (x : Path) (t : Thread) (mutex slot : ℕ) (unheld : (q : P
   by_thread =
       let first = or_parts (not (t.stops == 0) || is_some t.fault) (not (is_user t.mode)) up in
       let rest = or_parts (not (t.stops == 0)) (is_some t.fault) first.0 in
-      awake (is_still t) (Some (slot ∷ parent x)) (fault_port t.fault (and_then (stage_cause w x t) (first_stage t.mode)))
+      awake (is_at_rest t) (Some (slot ∷ parent x)) (fault_port t.fault (and_then (stage_cause w x t) (first_stage t.mode)))
       (or_from (not (t.stops == 0)) (not (is_user t.mode)) rest.0 first.1)
       (by_stage ∙ ap (λ (o : Option Fault). fault_port o (and_then (stage_cause w x t) (first_stage t.mode))) (sym (no_fault t.fault rest.1)))
 
   pub lock_cause : (slot ∷ parent x) ≡ cause_at w x
   lock_cause =
-      or_second x (outermost w (parent x)) (and_then (thread_cause w x) (thread_at w x)) (slot ∷ parent x) (sym (none_held w unheld (parent x)))
+      or_second x (outermost_held w (parent x)) (and_then (thread_cause w x) (thread_at w x)) (slot ∷ parent x) (sym (none_held w unheld (parent x)))
       (by_thread ∙ ap (and_then (thread_cause w x)) there)

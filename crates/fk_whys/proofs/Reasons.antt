@@ -46,7 +46,7 @@ use Rattle.laws_waits.specs.Complete.{is_outer, HasReason, IsWholeWorld}
 use Rattle.laws_waits.proofs.Complete.{has_reason}
 use Rattle.fk_whys.specs.declared.whys.Why.{Why}
 use Rattle.fk_whys.specs.declared.whys.Why.TheVariants as whys
-use Rattle.fk_whys.specs.Causes.{named, outermost}
+use Rattle.fk_whys.specs.Causes.{named, outermost_held}
 use Rattle.fk_whys.specs.Whys.{IsAt, IsKnown, IsLocked, IsStill, IsThere, IsWhy}
 
 -- the first stage of a call, and that there is none where the registers name none
@@ -101,10 +101,10 @@ within_more s k x is = by (same_path (k ∷ x) s)
     by true = refl
     by false = some (strip s x) is
 
-outermost_is : (w : World) (x space : Path) → outermost w x ≡ Some space → (is_within space x ≡ true) × (is_held w space ≡ true)
-unfolding outermost
+outermost_is : (w : World) (x space : Path) → outermost_held w x ≡ Some space → (is_within space x ≡ true) × (is_held w space ≡ true)
+unfolding outermost_held
 outermost_is w [] space is = absurd (cc)
-outermost_is w (k ∷ x) space is = by (outermost w x) refl (λ h. outermost_is w x space h) is
+outermost_is w (k ∷ x) space is = by (outermost_held w x) refl (λ h. outermost_is w x space h) is
   where
     path_or : Option Path → Path
     path_or (Some y) = y
@@ -115,12 +115,12 @@ outermost_is w (k ∷ x) space is = by (outermost w x) refl (λ h. outermost_is 
         subst (λ (y : Path). (is_within y (k ∷ x) ≡ true) × (is_held w y ≡ true)) (ap path_or h) (within_self (k ∷ x), e)
     here false e h = absurd (cc)
 
-    by : (o : Option Path) → outermost w x ≡ o → (outermost w x ≡ Some space → (is_within space x ≡ true) × (is_held w space ≡ true)) → or_else o (if is_held w (k ∷ x) then Some (k ∷ x) else None) ≡ Some space →
-        (is_within space (k ∷ x) ≡ true) × (is_held w space ≡ true)
+    by : (o : Option Path) → outermost_held w x ≡ o → (outermost_held w x ≡ Some space → (is_within space x ≡ true) × (is_held w space ≡ true)) →
+        or_else o (if is_held w (k ∷ x) then Some (k ∷ x) else None) ≡ Some space → (is_within space (k ∷ x) ≡ true) × (is_held w space ≡ true)
     by (Some y) e above h = let further = above (e ∙ h) in (within_more space k x further.0, further.1)
     by None e above h = here (is_held w (k ∷ x)) refl h
 
-pub lies_beneath : (w : World) (x key : Path) → Some key ≡ outermost w (parent x) → IsAt w x key
+pub lies_beneath : (w : World) (x key : Path) → Some key ≡ outermost_held w (parent x) → IsAt w x key
 lies_beneath w x key is = record { reason = Beneath key; stuck = outermost_is w (parent x) key (sym is); read = refl }
 
 -- ---- in a call

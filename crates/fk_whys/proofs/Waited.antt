@@ -14,7 +14,7 @@ use Rattle.fk_store.specs.Paths.{path, place}
 use Rattle.fk_store.specs.World.{world, IsLive}
 use Rattle.fk_store.proofs.finding.Walks.{path-root}
 use Rattle.laws_waits.specs.Stuck.{is_held}
-use Rattle.fk_whys.specs.Causes.{or_itself, outermost}
+use Rattle.fk_whys.specs.Causes.{or_itself, outermost_held}
 
 -- ---- the outermost hold
 
@@ -23,8 +23,8 @@ second_none None b is = is
 second_none (Some a) b is = absurd (cc)
 
 -- where nobody decides nothing is held
-pub none_held : (w : World) → ((x : Path) → decider w x ≡ None) → (x : Path) → outermost w x ≡ None
-unfolding outermost decider
+pub none_held : (w : World) → ((x : Path) → decider w x ≡ None) → (x : Path) → outermost_held w x ≡ None
+unfolding outermost_held decider
 none_held w none [] = refl
 none_held w none (k ∷ x) =
     let here : holder_of (w.body (k ∷ x)) ≡ None = second_none (decider w x) (holder_of (w.body (k ∷ x))) (none (k ∷ x)) in
@@ -33,14 +33,14 @@ none_held w none (k ∷ x) =
 -- what is held further out, or else what was found so far
 pub record IsFound (m : Contents) (from at : Who) (found : Option Who) : Type 0 where
   pub live : IsLive m at
-  pub all : or_else (outermost (world m) (path m at.space)) (option_map (place (path m)) found) ≡ outermost (world m) (path m from.space)
+  pub all : or_else (outermost_held (world m) (path m at.space)) (option_map (place (path m)) found) ≡ outermost_held (world m) (path m from.space)
 
 or_none : {A : Type 0} (o : Option A) → or_else o None ≡ o
 or_none None = refl
 or_none (Some a) = refl
 
 pub found_first : (m : Contents) (who : Who) → IsLive m who → IsFound m who who None
-found_first m who live = record { live = live; all = or_none (outermost (world m) (path m who.space)) }
+found_first m who live = record { live = live; all = or_none (outermost_held (world m) (path m who.space)) }
 
 found_up : (p : ℕ → Path) (a : Option Path) (held : Bool) (space : Who) (found : Option Who) →
     or_else a (option_map (place p) (if held then Some space else found))
@@ -49,30 +49,30 @@ found_up p None true space found = refl
 found_up p None false space found = refl
 found_up p (Some x) held space found = refl
 
-outermost_up : (w : World) (k : ℕ) (x : Path) → outermost w (k ∷ x) ≡ or_else (outermost w x) (if is_held w (k ∷ x) then Some (k ∷ x) else None)
-unfolding outermost
+outermost_up : (w : World) (k : ℕ) (x : Path) → outermost_held w (k ∷ x) ≡ or_else (outermost_held w x) (if is_held w (k ∷ x) then Some (k ∷ x) else None)
+unfolding outermost_held
 outermost_up w k x = refl
 
 pub found_next : (m : Contents) (from at space : Who) (found now : Option Who) → IsFound m from at found → IsLive m space →
     place (path m) space ≡ path m at.space → now ≡ (if is_held (world m) (place (path m) space) then Some space else found) → IsFound m from space now
 found_next m from at space found now is live up step = record {
   live = live;
-  all = ap (λ (o : Option Who). or_else (outermost (world m) (path m space.space)) (option_map (place (path m)) o)) step
-      ∙ found_up (path m) (outermost (world m) (path m space.space)) (is_held (world m) (place (path m) space)) space found
+  all = ap (λ (o : Option Who). or_else (outermost_held (world m) (path m space.space)) (option_map (place (path m)) o)) step
+      ∙ found_up (path m) (outermost_held (world m) (path m space.space)) (is_held (world m) (place (path m) space)) space found
       ∙ ap (λ (o : Option Path). or_else o (option_map (place (path m)) found))
-      (sym (outermost_up (world m) space.slot (path m space.space)) ∙ ap (outermost (world m)) up)
+      (sym (outermost_up (world m) space.slot (path m space.space)) ∙ ap (outermost_held (world m)) up)
       ∙ is.all;
 }
 
-outermost_root : (w : World) → outermost w [] ≡ None
-unfolding outermost
+outermost_root : (w : World) → outermost_held w [] ≡ None
+unfolding outermost_held
 outermost_root w = refl
 
 pub found_all : (m : Contents) (from at : Who) (found : Option Who) → IsFound m from at found → at.space ≡ 0 →
-    option_map (place (path m)) found ≡ outermost (world m) (path m from.space)
+    option_map (place (path m)) found ≡ outermost_held (world m) (path m from.space)
 found_all m from at found is root =
     sym (ap (λ (o : Option Path). or_else o (option_map (place (path m)) found))
-    (ap (λ (n : ℕ). outermost (world m) (path m n)) root ∙ ap (outermost (world m)) (path-root m) ∙ outermost_root (world m)))
+    (ap (λ (n : ℕ). outermost_held (world m) (path m n)) root ∙ ap (outermost_held (world m)) (path-root m) ∙ outermost_root (world m)))
     ∙ is.all
 
 -- ---- what is read

@@ -15,9 +15,9 @@ use Rattle.fk_model.specs.World.{World}
 use Rattle.laws_waits.specs.Stuck.{is_held}
 
 -- the outermost held one among a space and those above it
-unfoldable pub outermost : World → Path → Option Path
-outermost w [] = None
-outermost w (k ∷ x) = or_else (outermost w x) (if is_held w (k ∷ x) then Some (k ∷ x) else None)
+unfoldable pub outermost_held : World → Path → Option Path
+outermost_held w [] = None
+outermost_held w (k ∷ x) = or_else (outermost_held w x) (if is_held w (k ∷ x) then Some (k ∷ x) else None)
 
 -- what stands in a slot that a user can name
 abbrev pub named : Path → ℕ → Option Path
@@ -53,12 +53,12 @@ fault_port None otherwise = otherwise
 fault_port (Some fault) otherwise = path_to fault.port
 
 -- stopped, or neither running nor in a call
-abbrev pub is_still : Thread → Bool
-is_still t = not (t.stops == 0) || not (is_user t.mode)
+abbrev pub is_at_rest : Thread → Bool
+is_at_rest t = not (t.stops == 0) || not (is_user t.mode)
 
 -- such a one waits for itself
 abbrev pub thread_cause : World → Path → Thread → Option Path
-thread_cause w x t = if is_still t then None else fault_port t.fault (and_then (stage_cause w x t) (first_stage t.mode))
+thread_cause w x t = if is_at_rest t then None else fault_port t.fault (and_then (stage_cause w x t) (first_stage t.mode))
 
 abbrev pub or_itself : Path → Option Path → Path
 or_itself x None = x
@@ -66,4 +66,4 @@ or_itself x (Some cause) = cause
 
 -- the first that holds: the space of the outermost hold above it, or what it waits for by itself
 abbrev pub cause_at : World → Path → Path
-cause_at w x = or_itself x (or_else (outermost w (parent x)) (and_then (thread_cause w x) (thread_at w x)))
+cause_at w x = or_itself x (or_else (outermost_held w (parent x)) (and_then (thread_cause w x) (thread_at w x)))

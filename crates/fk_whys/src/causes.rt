@@ -27,7 +27,7 @@ pub fn cause(store: &Store, who: Who) -> Who
     requires live { IsLive store.now who }
     ensures { place_of store.now result ≡ causes.cause_at (world store.now) (place_of store.now who) }
 {
-    match outermost(store, who) {
+    match outermost_held(store, who) {
         Some(space) => space,
         None => own_cause(store, who),
     }
@@ -58,9 +58,9 @@ fn cause_there(store: &Store, who: Who) -> Option<Who>
 }
 
 /// The space of the outermost hold above an object.
-pub fn outermost(store: &Store, who: Who) -> Option<Who>
+pub fn outermost_held(store: &Store, who: Who) -> Option<Who>
     requires live { IsLive store.now who }
-    ensures { option_map (place_of store.now) result ≡ causes.outermost (world store.now) (path store.now who.space) }
+    ensures { option_map (place_of store.now) result ≡ causes.outermost_held (world store.now) (path store.now who.space) }
 {
     if store.is_any_held() {
         outermost_above(store, who)
@@ -72,7 +72,7 @@ pub fn outermost(store: &Store, who: Who) -> Option<Who>
 /// The same, by a walk up to the root.
 fn outermost_above(store: &Store, who: Who) -> Option<Who>
     requires live { IsLive store.now who }
-    ensures { option_map (place_of store.now) result ≡ causes.outermost (world store.now) (path store.now who.space) }
+    ensures { option_map (place_of store.now) result ≡ causes.outermost_held (world store.now) (path store.now who.space) }
 {
     let mut found = None;
     let mut at = who;
@@ -116,7 +116,7 @@ fn thread_cause(store: &Store, who: Who, thread: &Thread) -> Option<Who>
     ensures { option_map (place_of store.now) result
         ≡ causes.thread_cause (world store.now) (place_of store.now who) (thread_by (path store.now) thread.now) }
 {
-    if is_still(thread) {
+    if is_at_rest(thread) {
         return None;
     }
     match thread.fault {
@@ -126,8 +126,8 @@ fn thread_cause(store: &Store, who: Who, thread: &Thread) -> Option<Who>
 }
 
 /// A thread is stopped, or neither runs nor is in a call.
-fn is_still(thread: &Thread) -> bool
-    ensures { (p : ℕ → Path) → result ≡ causes.is_still (thread_by p thread.now) }
+fn is_at_rest(thread: &Thread) -> bool
+    ensures { (p : ℕ → Path) → result ≡ causes.is_at_rest (thread_by p thread.now) }
 {
     thread.stops != 0 || !is_user(thread.mode)
 }

@@ -17,7 +17,7 @@ ghost use Rattle.laws_waits.specs.Stuck.{IsAtStage};
 ghost use Rattle.fk_whys.specs.Causes.{cause_at};
 ghost use Rattle.fk_whys.specs.Whys.{IsAt, IsKnown, IsLocked, IsThere, IsWhy};
 
-use crate::causes::{named, outermost};
+use crate::causes::{named, outermost_held};
 use crate::stages::{first_stage, is_user};
 use fk_model::limits::LAST_USER_SLOT;
 use fk_model::{Body, Kind, Stage, Thread, Who};
@@ -121,7 +121,7 @@ fn why_not(store: &Store, who: Who, thread: &Thread) -> Why
     if is_resting(thread) {
         return Why::Still;
     }
-    match outermost(store, who) {
+    match outermost_held(store, who) {
         Some(space) => Why::At { key: space },
         None => in_call(store, who, thread),
     }

@@ -35,9 +35,9 @@ abbrev pub porters_step : World → Path → ℕ → Stage → List ℕ → Step
 porters_step w space slot stage words = step w (slot ∷ space) None (asks.Call stage words)
 
 -- a call has ended OK: its thread runs, with that status in its first register
-abbrev pub has_ended : Mode → Bool
-has_ended (Running g) = slice_index g 0 == OK
-has_ended other = false
+abbrev pub is_ended_ok : Mode → Bool
+is_ended_ok (Running g) = slice_index g 0 == OK
+is_ended_ok other = false
 
 abbrev pub is_done : World → Path → Bool
-is_done w x = holds (λ (t : Thread). has_ended t.mode) (thread_at w x)
+is_done w x = holds (λ (t : Thread). is_ended_ok t.mode) (thread_at w x)

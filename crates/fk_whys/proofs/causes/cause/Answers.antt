@@ -4,7 +4,7 @@ use Rattle.fk_model.specs.Places.{Path}
 use Rattle.fk_model.specs.Searches.{thread_at}
 use Rattle.fk_store.specs.Paths.{path}
 use Rattle.fk_store.specs.World.{world, place_of}
-use Rattle.fk_whys.specs.Causes.{or_itself, outermost, thread_cause}
+use Rattle.fk_whys.specs.Causes.{or_itself, outermost_held, thread_cause}
 use Rattle.fk_whys.proofs.Waited.{or_first}
 use Rattle.fk_whys.proofs.causes.cause.Goals as goal
 
@@ -12,7 +12,7 @@ pub returns-in-Some : goal.returns-in-Some
 returns-in-Some c =
     let m = c.args.store.now in
     let x = place_of m c.args.who in
-    or_first x (outermost (world m) (path m c.args.who.space)) (and_then (thread_cause (world m) x) (thread_at (world m) x))
+    or_first x (outermost_held (world m) (path m c.args.who.space)) (and_then (thread_cause (world m) x) (thread_at (world m) x))
     (place_of m c.in-Some.space) c.in-Some.ensures
 
 pub returns-in-None : goal.returns-in-None

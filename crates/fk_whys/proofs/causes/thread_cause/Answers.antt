@@ -5,23 +5,23 @@ use Rattle.fk_model.specs.Talks.{first_stage}
 use Rattle.fk_store.specs.Bodies.{fault_by, thread_by}
 use Rattle.fk_store.specs.Paths.{path}
 use Rattle.fk_store.specs.World.{world, place_of}
-use Rattle.fk_whys.specs.Causes.{fault_port, is_still, stage_cause}
+use Rattle.fk_whys.specs.Causes.{fault_port, is_at_rest, stage_cause}
 use Rattle.fk_whys.proofs.Waited.{awake, still}
 use Rattle.fk_whys.proofs.causes.thread_cause.Goals as goal
 
-pub returns-then-is_still : goal.returns-then-is_still
-returns-then-is_still c =
+pub returns-then-is_at_rest : goal.returns-then-is_at_rest
+returns-then-is_at_rest c =
     let m = c.args.store.now in
     let t = thread_by (path m) c.args.thread.now in
-    still (is_still t) (fault_port t.fault (and_then (stage_cause (world m) (place_of m c.args.who) t) (first_stage t.mode)))
-    (sym (c.is_still.ensures (path m)) ∙ c.if-is_still.true)
+    still (is_at_rest t) (fault_port t.fault (and_then (stage_cause (world m) (place_of m c.args.who) t) (first_stage t.mode)))
+    (sym (c.is_at_rest.ensures (path m)) ∙ c.if-is_at_rest.true)
 
 pub returns-in-Some : goal.returns-in-Some
 returns-in-Some c =
     let m = c.args.store.now in
     let t = thread_by (path m) c.args.thread.now in
     let call = and_then (stage_cause (world m) (place_of m c.args.who) t) (first_stage t.mode) in
-    awake (is_still t) _ (fault_port t.fault call) (sym (c.is_still.ensures (path m)) ∙ c.if-is_still.false)
+    awake (is_at_rest t) _ (fault_port t.fault call) (sym (c.is_at_rest.ensures (path m)) ∙ c.if-is_at_rest.false)
     (ap (λ (f : Option Fault). fault_port (option_map (fault_by (path m)) f) call) (sym c.in-Some.is))
 
 pub returns-in-None : goal.returns-in-None
@@ -29,5 +29,5 @@ returns-in-None c =
     let m = c.args.store.now in
     let t = thread_by (path m) c.args.thread.now in
     let call = and_then (stage_cause (world m) (place_of m c.args.who) t) (first_stage t.mode) in
-    awake (is_still t) _ (fault_port t.fault call) (sym (c.is_still.ensures (path m)) ∙ c.if-is_still.false)
+    awake (is_at_rest t) _ (fault_port t.fault call) (sym (c.is_at_rest.ensures (path m)) ∙ c.if-is_at_rest.false)
     (c.call_cause.ensures ∙ ap (λ (f : Option Fault). fault_port (option_map (fault_by (path m)) f) call) (sym c.in-None.is))

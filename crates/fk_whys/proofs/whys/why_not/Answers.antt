@@ -5,8 +5,8 @@ use Rattle.fk_store.specs.World.{world}
 use Rattle.fk_whys.proofs.Reasons.{lies_beneath, rests, thread_live}
 use Rattle.fk_whys.proofs.whys.why_not.Goals as goal
 
-pub outermost-requires : goal.outermost-requires
-outermost-requires c =
+pub outermost_held-requires : goal.outermost_held-requires
+outermost_held-requires c =
     let m = c.args.store.now in
     record { live = thread_live (world m) (place (path m) c.args.who) (thread_by (path m) c.args.thread.now) c.requires.there }
 
