@@ -2,8 +2,8 @@
 //!
 //! It stands on the crates of rows, each of which judges stages, on `fk_user`, which judges
 //! instructions, on `fk_plans`, which says when a verdict is ready and carries it out, on `fk_acts` for
-//! native servers, on `fk_endings` for whose client is lost, and on `fk_wakes` for which objects a move
-//! touches. Here is the one match from a stage to its judge. It promises that `ready` answers exactly whether the
+//! native servers and by way of it on `fk_endings` for whose client is lost, and on `fk_wakes` for which objects
+//! a move touches. Here is the one match from a stage to its judge. It promises that `ready` answers exactly whether the
 //! abstract machine is ready to make a move, that `take` makes of the store's world what the machine
 //! makes of it, that `attempt` does both, judging once, and tells which native server lost its client,
 //! that `run` makes an instruction and tells whether the thread runs on, `stage` a stage that tells nothing,

@@ -1,8 +1,8 @@
 //! The core: a kernel with its native servers and its jobs, move by move.
 //!
-//! It stands on `fk_kernel` for the machine's steps, on `fk_served` for servers, on `fk_jobs` for jobs, on `fk_moment` for what is ready,
-//! on `fk_rounds` for who moves next, on `laws_runs` for what a run is, and on `laws_further` for what becomes of subtrees. It is generic in
-//! its servers and in the code of its jobs.
+//! It stands on `fk_rounds` for who moves next and by way of it on `fk_moment` for what is ready, on `fk_served` for servers and on `fk_kernel` for
+//! the machine's steps, on `fk_jobs` for jobs, on `laws_runs` for what a run is, and on `laws_further` for what becomes of subtrees. It is
+//! generic in its servers and in the code of its jobs.
 //!
 //! It promises that `turn` is the turn of a run: the machine's step, that each server hears what the move tells
 //! at its port, or that its talk has ended, that the job whose move it is hears the answer, and that jobs end that are due and can't begin

@@ -1,8 +1,9 @@
 //! Moves of a store whose user threads stand where they wait.
 //!
-//! It stands on `fk_calls` for moves, on `fk_turns_next` for the lists after them, and on `fk_turns_moved`, which says that what is told of a move is enough
-//! for the lists. It promises of a move what `fk_calls` does, that the lists are kept by it, that who moved stands last of the ready where a move of it is
-//! ready and else last of the queued, at its cause, but for `proceed_on`, and that a move which isn't made leaves the lists as they were.
+//! It stands on `fk_turns_next` for the lists after a move and by way of it on `fk_calls` for moves, and on `fk_turns_moved`, which says that
+//! what is told of a move is enough for the lists. It promises of a move what `fk_calls` does, that the lists are kept by it, that who moved
+//! stands last of the ready where a move of it is ready and else last of the queued, at its cause, but for `proceed_on`, and that a move which
+//! isn't made leaves the lists as they were.
 #![tactic(auto)]
 
 mod plain;
