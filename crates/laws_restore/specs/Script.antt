@@ -4,7 +4,7 @@
 -- to, D leads to what was destroyed. Inside a space all objects are made before any gets its record, since a port names its set.
 -- Outward pointers are led by rising slots of the nester, all fields of a slot at once, so that a port that is missing is the
 -- lowest one, and one that was there is kept by the pin until a field keeps it.
-use Rattle.std.specs.Prelude.{ℕ, zero, suc, ◌-◌, Bool, true, false, ◌||◌, ◌==◌, List, [], ◌∷◌, ◌++◌, length, replicate, Option, Some, None, if◌then◌else◌}
+use Rattle.std.specs.Prelude.{ℕ, zero, suc, Bool, true, false, ◌||◌, ◌==◌, List, [], ◌∷◌, ◌++◌, Option, Some, None, if◌then◌else◌}
 use Rattle.std.specs.List.{list_any, flat_map}
 use Rattle.fk_model.specs.declared.limits.TheConstants.{PAGE_WORDS}
 use Rattle.fk_model.specs.declared.names.Kind.TheVariants as kinds
@@ -13,8 +13,8 @@ use Rattle.fk_model.specs.Places.Ptr.{Null, Dead, At, Out}
 use Rattle.fk_model.specs.Objects.{Peer, Talk, Fault, Body, kind_of, flag_of}
 use Rattle.fk_model.specs.Objects.Peer.{Server}
 use Rattle.fk_model.specs.Objects.Body.{Mapping, Region, Thread_of, Reference}
-use Rattle.fk_model.specs.LinkRows.{turn_number}
 use Rattle.fk_model.specs.Records.{record_of}
+use Rattle.fk_model.specs.Records as records
 use Rattle.laws_sites.specs.Orders.{Order}
 use Rattle.laws_sites.specs.Orders.Order.{Readies, Leads, LeadsTop, Makes, Sets, Points, Gives, MakesPin, Pins, Takes, Checks, ParksTalk, ParksFault, LinksTalk}
 use Rattle.laws_sites.specs.Orders.Order.{RaisesFault, LinksFault, Holds, Drops, DropsPin, Deadens}
@@ -34,7 +34,7 @@ D = 243
 
 -- a porter gives 64 words with each call
 abbrev pub padded : List ℕ → List ℕ
-padded words = words ++ replicate (PAGE_WORDS - length words) 0
+padded words = records.padded PAGE_WORDS words
 
 -- ---- ways
 
@@ -146,7 +146,7 @@ leads_out i b = is_out_to i (pointer_of b)
 
 -- what a porter gives with a talk: whose turn it is, and how many words were moved; with a fault: its page, and 1 for a write
 abbrev pub talk_words : Talk → List ℕ
-talk_words talk = padded (turn_number talk.turn ∷ talk.moved ∷ [])
+talk_words talk = padded (records.talk_words (Some talk))
 
 abbrev pub fault_words : Fault → List ℕ
 fault_words fault = padded (fault.page ∷ flag_of fault.write ∷ [])
