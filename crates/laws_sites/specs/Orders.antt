@@ -419,7 +419,7 @@ head slot (Working (o ∷ os)) = Asks (stage_of slot o) (words_of o)
 head slot (Over end) = Stops end
 
 abbrev pub is_port_in : ℕ → List ℕ → Bool
-is_port_in i (k ∷ deeper ∷ kind ∷ []) = k == i && deeper == 0 && kind == 5
+is_port_in i (k ∷ deeper ∷ kind ∷ []) = k == i && deeper == 0 && kind == number_of_kind kinds.Port
 is_port_in i other = false
 
 abbrev pub passes : Order → ℕ → List ℕ → Bool
