@@ -17,7 +17,7 @@ use Rattle.fk_model.specs.Valid.{IsValid, kind_there}
 use Rattle.fk_model.specs.Closed.{Place, far_field, open_place}
 use Rattle.fk_model.specs.Cut.{cut}
 use Rattle.laws_savable.specs.Savable.{IsSound}
-use Rattle.laws_jobs.specs.Machines.{Head, Reply, reply_of, heard, said_of, no_words, call_of, IsReadyAt, IsAnswered, Interleaved, own_moves}
+use Rattle.laws_jobs.specs.Machines.{Head, Reply, reply_of, heard, said_of, no_words, call_of, IsReadyAt, IsAnswered, Interleaved, own_moves, LiesWithin}
 use Rattle.laws_jobs.specs.Machines.Head.{Stops, Asks}
 use Rattle.laws_jobs.specs.Machines.Interleaved.{Here, Another, Own}
 use Rattle.laws_jobs.specs.Jobs.{MayBegin}
@@ -33,7 +33,7 @@ use Rattle.laws_checkpoint.specs.Contents.{Content}
 use Rattle.laws_checkpoint.specs.Contents as reads
 use Rattle.laws_checkpoint.specs.Gather as gathers
 use Rattle.laws_checkpoint.specs.Assembly.{sought_tasks, gathered_tasks, assembled}
-use Rattle.laws_checkpoint.specs.Bounded.{count_of, LiesWithin, CheckpointIsBounded}
+use Rattle.laws_checkpoint.specs.Bounded.{count_of, CheckpointIsBounded}
 use Rattle.laws_checkpoint.specs.Checkpoint.{End, State, head, next, ends_as, gathers_on, gathering, reads_on, reading, sought, seeks_on, seeking, walks_on}
 use Rattle.laws_checkpoint.specs.Checkpoint.{walking, checkpoint}
 use Rattle.laws_checkpoint.specs.Checkpoint.End.{Gone, Foreign, Done}

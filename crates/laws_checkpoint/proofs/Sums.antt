@@ -16,11 +16,12 @@ use Rattle.fk_model.specs.Closed.{far_field}
 use Rattle.fk_model.specs.Cut.{cut}
 use Rattle.fk_model.proofs.walks.Members.{IsIn, of_filter}
 use Rattle.fk_model.proofs.walks.WalkLaws.{short}
+use Rattle.laws_jobs.specs.Machines.{LiesWithin}
 use Rattle.laws_checkpoint.specs.Foreign.{Task, task_of, fields_of, costs}
 use Rattle.laws_checkpoint.specs.Walk.{Met, met}
 use Rattle.laws_checkpoint.specs.Contents.{Item, Content, with_item, items_from, record_in, record_at, content}
 use Rattle.laws_checkpoint.specs.Assembly.{spaces_met, sought_tasks, pointers_by, item_task, holder_task, content_tasks, gathered_tasks}
-use Rattle.laws_checkpoint.specs.Bounded.{sum_of, pages_in, count_of, LiesWithin}
+use Rattle.laws_checkpoint.specs.Bounded.{sum_of, pages_in, count_of}
 use Rattle.laws_checkpoint.proofs.Scans.{rising, slots_rise}
 use Rattle.laws_checkpoint.proofs.Preorder.{is_space_in, met_are}
 use Rattle.laws_checkpoint.proofs.Tasks.{sought_are}

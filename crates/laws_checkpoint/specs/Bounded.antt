@@ -1,11 +1,11 @@
 -- How many calls a checkpoint makes: for each body and page of its subtree so many as that is deep, times a constant.
-use Rattle.std.specs.Prelude.{ℕ, ◌+◌, ◌*◌, ◌≤◌, IsSome, List, [], ◌∷◌, length}
+use Rattle.std.specs.Prelude.{ℕ, ◌+◌, ◌*◌, ◌≤◌, List, [], ◌∷◌, length}
 use Rattle.fk_model.specs.declared.limits.TheConstants.{LAST_USER_SLOT}
 use Rattle.fk_model.specs.Places.{Path}
 use Rattle.fk_model.specs.World.{World}
 use Rattle.fk_model.specs.Searches.{objects}
 use Rattle.fk_model.specs.Cut.{cut}
-use Rattle.laws_jobs.specs.Machines.{AtWork, calls_made}
+use Rattle.laws_jobs.specs.Machines.{AtWork, calls_made, LiesWithin}
 use Rattle.laws_jobs.specs.Jobs.{MayBegin}
 use Rattle.laws_checkpoint.specs.Contents.{content}
 use Rattle.laws_checkpoint.specs.Checkpoint.{State, checkpoint}
@@ -21,10 +21,6 @@ pages_in c q = length (content c q).pages
 -- bodies and pages of a subtree seen alone: its root, every object beneath, and the pages of each
 abbrev pub count_of : World → ℕ
 count_of c = sum_of (λ q. 1 + pages_in c q) ([] ∷ objects c)
-
--- nothing lies deeper
-abbrev pub LiesWithin : World → ℕ → Type 0
-LiesWithin c d = (y : Path) → IsSome (c.body y) → length y ≤ d
 
 -- in every run, whether it has ended or not, and however it ends
 abbrev pub CheckpointIsBounded : Type 0

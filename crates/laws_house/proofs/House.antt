@@ -21,7 +21,7 @@ use Rattle.fk_image.specs.declared.image.Image.{Image}
 use Rattle.fk_image.specs.Picture.{picture}
 use Rattle.fk_image.specs.Valid.{is_valid}
 use Rattle.laws_savable.specs.Savable.{IsSound}
-use Rattle.laws_jobs.specs.Machines.{no_words, call_of, IsReadyAt, AtWork}
+use Rattle.laws_jobs.specs.Machines.{no_words, call_of, IsReadyAt, AtWork, LiesWithin}
 use Rattle.laws_jobs.specs.Machines.Head.{Stops, Asks}
 use Rattle.laws_jobs.specs.Jobs.{MayBegin, IsTidyJob, Saves, Restores}
 use Rattle.laws_jobs.specs.Holds.{hold, IsSpaceAt}
@@ -32,7 +32,7 @@ use Rattle.laws_checkpoint.specs.Checkpoint as checkpoints
 use Rattle.laws_checkpoint.specs.Checkpoint.{checkpoint}
 use Rattle.laws_checkpoint.specs.Checkpoint.End.{Done, Gone, Foreign}
 use Rattle.laws_checkpoint.specs.Checkpoint.State.{Holds}
-use Rattle.laws_checkpoint.specs.Bounded.{count_of, LiesWithin}
+use Rattle.laws_checkpoint.specs.Bounded.{count_of}
 use Rattle.laws_checkpoint.specs.Laws.{MaySave, IsSameBeside, picture_of}
 use Rattle.laws_checkpoint.proofs.Bounds.{checkpoint_is_bounded}
 use Rattle.laws_checkpoint.proofs.Ended.{checkpoint_is_tidy, checkpoint_ends_as_it_was}
@@ -194,7 +194,7 @@ module _ {V : Type 0} (jobs : List Job) (servers : Servers V) (first c : Core St
 
   restore_brief : (index begun upto : ℕ) (ends : List (JobEnd End)) (its : HasWorked run index ends begun upto) (slot d k : ℕ) (pairs : List (ℕ × ℕ))
       (source : Source) (image : Image) →
-      its.job.task ≡ Restore slot pairs source → valid_one (sourced ends source) ≡ Some image → made.LiesWithin (picture image) d → begun < k → k ≤ upto →
+      its.job.task ≡ Restore slot pairs source → valid_one (sourced ends source) ≡ Some image → LiesWithin (picture image) d → begun < k → k ≤ upto →
       job_moves run k ≤ job_moves run begun + 40 * ((made.count_of (rooms_of image) + 1) * (d + 1))
   restore_brief index begun upto ends its slot d k pairs source image is from deep above low =
       by its.start (starts_restore its.job.task ends slot pairs source image its.start is from its.starts) (its.throughout k above low)

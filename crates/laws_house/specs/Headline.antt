@@ -13,10 +13,11 @@ use Rattle.fk_image.specs.declared.image.Image.{Image}
 use Rattle.fk_image.specs.Picture.{picture}
 use Rattle.fk_image.specs.Valid.{is_valid}
 use Rattle.laws_further.specs.Runs.{IsSeenRun}
+use Rattle.laws_jobs.specs.Machines.{LiesWithin}
 use Rattle.laws_jobs.specs.Jobs.{IsClean}
 use Rattle.laws_checkpoint.specs.Checkpoint as checkpoints
 use Rattle.laws_checkpoint.specs.Checkpoint.End.{Done}
-use Rattle.laws_checkpoint.specs.Bounded.{count_of, LiesWithin}
+use Rattle.laws_checkpoint.specs.Bounded.{count_of}
 use Rattle.laws_restore.specs.Restore as restores
 use Rattle.laws_restore.specs.Bounded as made
 use Rattle.laws_rooms.specs.Rooms.{rooms_of}
@@ -111,7 +112,7 @@ pub record HasRestores {V : Type 0} {jobs : List Job} {servers : Servers V} {fir
   -- ended or not, it makes few
   pub brief : (index begun upto : ℕ) (ends : List (JobEnd End)) (its : HasWorked run index ends begun upto) (slot d k : ℕ) (pairs : List (ℕ × ℕ))
       (source : Source) (image : Image) → its.job.task ≡ Restore slot pairs source → valid_one (sourced ends source) ≡ Some image →
-      made.LiesWithin (picture image) d → begun < k → k ≤ upto →
+      LiesWithin (picture image) d → begun < k → k ≤ upto →
       job_moves run k ≤ job_moves run begun + 40 * ((made.count_of (rooms_of image) + 1) * (d + 1))
 
 -- ---- the run

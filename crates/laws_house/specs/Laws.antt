@@ -16,9 +16,10 @@ use Rattle.fk_image.specs.declared.image.Image.{Image}
 use Rattle.fk_image.specs.Picture.{picture}
 use Rattle.fk_image.specs.Valid.{is_valid}
 use Rattle.laws_further.specs.ClosedLaws.{IsUncut}
+use Rattle.laws_jobs.specs.Machines.{LiesWithin}
 use Rattle.laws_checkpoint.specs.Checkpoint as checkpoints
 use Rattle.laws_checkpoint.specs.Checkpoint.End.{Done}
-use Rattle.laws_checkpoint.specs.Bounded.{count_of, LiesWithin}
+use Rattle.laws_checkpoint.specs.Bounded.{count_of}
 use Rattle.laws_checkpoint.specs.Laws.{EndsAsItWas, IsSameBeside}
 use Rattle.laws_restore.specs.Restore as restores
 use Rattle.laws_restore.specs.Restore.State.{Makes}
@@ -88,7 +89,7 @@ abbrev pub RestoresAreBrief : Type 0 → Type 0
 RestoresAreBrief V = (jobs : List Job) (servers : Servers V) (first c : Core State End V) (past : List Move) (run : IsRun (house jobs servers) first past c) →
     IsGrounded jobs servers first past → (index begun upto : ℕ) (ends : List (JobEnd End)) (its : HasWorked run index ends begun upto) (slot d k : ℕ)
     (pairs : List (ℕ × ℕ)) (source : Source) (image : Image) → its.job.task ≡ Restore slot pairs source → valid_one (sourced ends source) ≡ Some image →
-    made.LiesWithin (picture image) d → begun < k → k ≤ upto →
+    LiesWithin (picture image) d → begun < k → k ≤ upto →
     job_moves run k ≤ job_moves run begun + 40 * ((made.count_of (rooms_of image) + 1) * (d + 1))
 
 -- ---- what a job's moves leave

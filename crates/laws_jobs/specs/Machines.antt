@@ -1,6 +1,6 @@
 -- Machines over answers: a job as what it asks next, and what it becomes by what it hears. What it asks after the answers so
 -- far is a function of these and of its first state.
-use Rattle.std.specs.Prelude.{◌≡◌, ℕ, ◌≤◌, zero, suc, false, List, [], ◌∷◌, replicate, None}
+use Rattle.std.specs.Prelude.{◌≡◌, ℕ, ◌≤◌, zero, suc, false, IsSome, List, [], ◌∷◌, length, replicate, None}
 use Rattle.fk_model.specs.declared.limits.TheConstants.{PAGE_WORDS, LAST_PORTER_SLOT}
 use Rattle.fk_model.specs.declared.moves.Ask.TheVariants as asks
 use Rattle.fk_model.specs.declared.stage.Stage.{Stage}
@@ -100,6 +100,10 @@ pub record AtWork {S A : Type 0} (m : Machine S A) (nester : Path) (w : World) (
 -- its first call counts too
 abbrev pub calls_made : {S A : Type 0} {m : Machine S A} {nester : Path} {w : World} {s : S} {v : World} {t : S} → AtWork m nester w s v t → ℕ
 calls_made work = suc (own_moves work.run)
+
+-- nothing of a subtree that is seen alone lies deeper: its depth bounds the calls of a job
+abbrev pub LiesWithin : World → ℕ → Type 0
+LiesWithin c d = (y : Path) → IsSome (c.body y) → length y ≤ d
 
 -- what a call owes to the world in which it is made, so that this can be saved afterwards as before. It picks nobody
 pub record IsOwedCall (w : World) (nester : Path) (stage : Stage) (words : List ℕ) : Type 0 where

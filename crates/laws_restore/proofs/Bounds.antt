@@ -12,6 +12,7 @@ use Rattle.fk_model.specs.World.{World}
 use Rattle.fk_model.proofs.walks.PlaceLaws.{strip_some}
 use Rattle.fk_model.specs.declared.names.Kind.TheVariants as kinds
 use Rattle.fk_model.specs.Records.{record_of}
+use Rattle.laws_jobs.specs.Machines.{LiesWithin}
 use Rattle.laws_sites.specs.Orders.{Order}
 use Rattle.laws_sites.specs.Orders.Order.{Leads, LeadsTop, Makes, Sets, Gives, Points, ParksTalk, ParksFault, LinksTalk, RaisesFault, LinksFault, Holds, Pins}
 use Rattle.laws_sites.specs.Orders.Order.{Takes, Checks}
@@ -25,7 +26,7 @@ use Rattle.laws_restore.specs.Script.{holds_spaces, stands_held, closes, any_roo
 use Rattle.laws_restore.specs.Roomed.{IsAim, IsPair, IsTakenAim, IsTalkAim, IsFaultAim, AreAims, IsNewSpace, AreItems, AreSpaces, AreRooms, IsRoomed}
 use Rattle.laws_restore.specs.Roomed.{with_items, with_sheets, with_space, with_spaces}
 use Rattle.laws_restore.specs.Restore.{beneath, objects}
-use Rattle.laws_restore.specs.Bounded.{count_of, LiesWithin, ScriptIsBounded, RestoreIsBounded}
+use Rattle.laws_restore.specs.Bounded.{count_of, ScriptIsBounded, RestoreIsBounded}
 use Rattle.laws_restore.proofs.Counted.{is_counted}
 
 -- ---- sums

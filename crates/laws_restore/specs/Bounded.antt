@@ -1,9 +1,9 @@
 -- How long the script of a subtree is, and how many calls its restore makes: for each body and page so many as the subtree is deep,
 -- times a constant.
-use Rattle.std.specs.Prelude.{ℕ, zero, suc, ◌+◌, ◌*◌, ◌≤◌, IsSome, List, [], ◌∷◌, length}
+use Rattle.std.specs.Prelude.{ℕ, zero, suc, ◌+◌, ◌*◌, ◌≤◌, List, [], ◌∷◌, length}
 use Rattle.fk_model.specs.Places.{Path}
 use Rattle.fk_model.specs.World.{World}
-use Rattle.laws_jobs.specs.Machines.{AtWork, calls_made}
+use Rattle.laws_jobs.specs.Machines.{AtWork, calls_made, LiesWithin}
 use Rattle.laws_restore.specs.Rooms.{Room}
 use Rattle.laws_restore.specs.Script.{script}
 use Rattle.laws_restore.specs.Roomed.{IsRoomed}
@@ -14,10 +14,6 @@ use Rattle.laws_restore.specs.Restore.State.{Makes}
 abbrev pub count_of : List Room → ℕ
 count_of [] = zero
 count_of (r ∷ rs) = suc (length r.items + length r.sheets) + count_of rs
-
--- nothing lies deeper
-abbrev pub LiesWithin : World → ℕ → Type 0
-LiesWithin c d = (y : Path) → IsSome (c.body y) → length y ≤ d
 
 abbrev pub ScriptIsBounded : Type 0
 ScriptIsBounded = (slot : ℕ) (bind : ℕ → ℕ) (c : World) (rooms : List Room) (d : ℕ) → IsRoomed bind c rooms → LiesWithin c d

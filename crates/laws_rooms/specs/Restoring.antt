@@ -8,13 +8,13 @@ use Rattle.fk_model.specs.World.{World}
 use Rattle.fk_image.specs.declared.image.Image.{Image}
 use Rattle.fk_image.specs.Picture.{picture}
 use Rattle.fk_image.specs.Valid.{is_valid}
-use Rattle.laws_jobs.specs.Machines.{Machine, AtWork, calls_made, IsOwedCall}
+use Rattle.laws_jobs.specs.Machines.{Machine, AtWork, calls_made, LiesWithin, IsOwedCall}
 use Rattle.laws_jobs.specs.Machines.Head.{Stops, Asks}
 use Rattle.laws_jobs.specs.Jobs.{MayBegin, Restores}
 use Rattle.laws_restore.specs.Restore.{End, State, restore, is_done}
 use Rattle.laws_restore.specs.Restore.State.{Makes}
 use Rattle.laws_restore.specs.Ends.{EndsSo}
-use Rattle.laws_restore.specs.Bounded.{count_of, LiesWithin}
+use Rattle.laws_restore.specs.Bounded.{count_of}
 use Rattle.laws_rooms.specs.Rooms.{rooms_of}
 
 -- where a slot of the nester is bound by pairs: to itself, if none names it
