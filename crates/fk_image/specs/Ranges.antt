@@ -1,6 +1,7 @@
 -- Numbers in their ranges, and each in the range that its field in the bytes has.
 use Rattle.std.specs.Prelude.{ℕ, ◌+◌, ◌^◌, Bool, true, not, ◌&&◌, ◌||◌, ◌==◌, nat_le, nat_lt, List, length, Option, Some, None, slice_index}
 use Rattle.std.specs.List.{list_all}
+pub use Rattle.fk_model.specs.Whole.{is_word}
 use Rattle.fk_image.specs.declared.image.Link.{Link}
 use Rattle.fk_image.specs.declared.image.Link.TheVariants.{Null, Dead, In, Out, Root, Outside}
 use Rattle.fk_image.specs.declared.image.TalkRec.{TalkRec}
@@ -21,9 +22,6 @@ is_byte n = nat_lt n 256
 
 abbrev pub is_half : ℕ → Bool
 is_half n = nat_lt n (2 ^ 16)
-
-abbrev pub is_word : ℕ → Bool
-is_word n = nat_lt n (2 ^ 64)
 
 abbrev pub fits_link : Link → Bool
 fits_link (In slot space) = nat_lt space (2 ^ 32) && is_slot slot
