@@ -6,8 +6,8 @@
 //! tree of its spaces (`store`).
 //!
 //! It stands on `fk_causes` for the shelf, on `fk_isa` for the instruction in a word, on `fk_stages` for porters' calls, on `fk_asm` for
-//! programs, on `fk_image` for images, and on `fk_store` for what stands there. It promises no more than that each function ends, whatever
-//! bytes it is given.
+//! programs, on `toml` for what is wrong in a scenario, on `fk_image` for images, and on `fk_store` for what stands there. It promises no more
+//! than that each function ends, whatever bytes it is given.
 #![tactic(auto)]
 
 mod asked;

@@ -1,7 +1,6 @@
 //! The verb `words`.
-use crate::faults::given;
-use crate::files::SOURCE;
 use crate::instructions::push_instruction;
+use crate::problem::Problem;
 use crate::sheet::{Sheet, line_at};
 use fk_asm::{AsmError, AsmFail, assemble};
 
@@ -14,6 +13,18 @@ a label that no earlier line defines
 a label that some line defines
 no more than 16384 words";
 
+/// Adds which line of a program's text isn't assembled, by a form of its number, and what was expected there.
+pub fn push_unassembled<const N: usize>(sheet: &Sheet, form: &[u8; N], fault: AsmFail) {
+    match fault {
+        AsmFail::Text(AsmError { line, reason }) => {
+            sheet.fill(form, line as u64, 0, 0);
+            sheet.add(line_at(EXPECTED, reason as u64));
+            sheet.fails(Problem::Given);
+        }
+        AsmFail::NoMemory => sheet.lacks(),
+    }
+}
+
 /// Adds the words of a program's text, each as a line that assembles to it, with its address and its 16 digits behind.
 /// Where a line is refused, the sheet says so.
 pub fn push_words(sheet: &Sheet, text: &[u8]) {
@@ -25,11 +36,9 @@ pub fn push_words(sheet: &Sheet, text: &[u8]) {
                 sheet.put_row(line, address as u64, *word);
             }
         }
-        Err(AsmFail::Text(AsmError { line, reason })) => {
-            let expected = line_at(EXPECTED, reason as u64);
-            let form = ", line @: expected ";
-            given(sheet, SOURCE, form, line as u64, 0, expected);
+        Err(fault) => {
+            sheet.put(b"standard input");
+            push_unassembled(sheet, b", line @: expected ", fault);
         }
-        Err(AsmFail::NoMemory) => sheet.lacks(),
     }
 }
