@@ -24,7 +24,7 @@ use Rattle.fk_turns_next.specs.Rows.{first_takes_memory, takes_memory}
 use Rattle.fk_turns_moved.specs.Kept.{is_user_at}
 use Rattle.fk_turns_moved.proofs.Told.{user_there}
 use Rattle.laws_users.specs.Stood.{gives, gives_first, is_giving, is_users_at, put}
-use Rattle.laws_users.proofs.Gives.{gives_put_nothing}
+use Rattle.laws_users.proofs.Rows.{gives_put_nothing}
 use Rattle.laws_users.proofs.Named.{names_stood}
 use Rattle.laws_users.proofs.Stood.{users_stood}
 use Rattle.fk_steps.specs.Steps.{first_makes, makes_object, may_make}

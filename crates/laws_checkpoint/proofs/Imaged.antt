@@ -157,7 +157,7 @@ module _ (w : World) (nester : Path) (slot : ℕ) (sound : IsSound w) (clean : I
   rooted : IsRooted c
   rooted = record { root = kind_is [] ∙ root_kind; slots = λ k x live. sound.whole.valid.rooted.slots k (x ++ root) (sym (live_is (k ∷ x)) ∙ live) }
 
-  in_cut : (q : Path) → IsSome (c.body q) → IsIn q ([] ∷ objects c)
+  pub in_cut : (q : Path) → IsSome (c.body q) → IsIn q ([] ∷ objects c)
   in_cut [] live = inl refl
   in_cut (k ∷ q) live = inr (walked c above rooted k q live (long k q live))
 

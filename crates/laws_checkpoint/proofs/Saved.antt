@@ -44,7 +44,7 @@ module _ (slot birth : ℕ) (w : World) (nester : Path) (low : slot ≤ LAST_USE
   of_image : IsClosed w nester slot → Imaged (image_of (cut w nester slot) (spaces_of (cut w nester slot)))
   of_image closed = has_image w nester slot may.sound may.clean save.uncut save.users closed
 
-  of_verdict : (held : Held nester slot w) (sound : IsSound (held_world nester slot w)) (image : Image)
+  pub of_verdict : (held : Held nester slot w) (sound : IsSound (held_world nester slot w)) (image : Image)
       → Verdict nester slot birth low w may held sound (Done image) → Imaged image
   of_verdict held sound image verdict =
       let start = held_world nester slot w in

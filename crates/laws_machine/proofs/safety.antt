@@ -2,7 +2,6 @@ pub mod Safe
 pub mod Outcomes
 pub mod Reads
 pub mod Memory
-pub mod Rows
 pub mod Objects
 pub mod State
 pub mod Talks

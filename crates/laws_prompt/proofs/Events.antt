@@ -20,7 +20,7 @@ use Rattle.laws_prompt.proofs.Setting.{set_state_of_itself, porters_set_state_of
 use Rattle.laws_prompt.proofs.Prompt.{get_state_is_prompt, porters_get_state_is_prompt}
 use Rattle.laws_prompt.proofs.Holding.{space_hold_is_prompt, porters_space_hold_is_prompt}
 use Rattle.laws_prompt.proofs.Destroying.{users_destroy_one, porters_destroy_one}
-use Rattle.laws_prompt.proofs.brief.Moves.{moves_are_brief}
+use Rattle.laws_prompt.proofs.Brief.{moves_are_brief}
 
 pub prompt_is_ready : PromptIsReady
 prompt_is_ready w _ (Gets space slot s x address at unbarred) = get_state_is_prompt w space slot s x address at unbarred

@@ -8,4 +8,4 @@ pub mod Prompt
 pub mod Holding
 pub mod Destroying
 pub mod Events
-pub mod brief
+pub mod Brief

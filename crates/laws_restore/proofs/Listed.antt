@@ -94,7 +94,7 @@ module _ (bind : ℕ → ℕ) (c : World) where
       by (k ∷ q) new = (new.5, apart)
 
   module _ (rooms : List Room) (its : IsRoomed bind c rooms) where
-    abbrev made : List Path
+    abbrev pub made : List Path
     made = all_made rooms (with_spaces rooms [])
 
     -- with the pin and the space itself
@@ -108,7 +108,7 @@ module _ (bind : ℕ → ℕ) (c : World) where
         let sum = both_in rooms in
         omega (arith, one, two, sum)
 
-    made_there : (k : ℕ) (q : Path) → is_some (c.body (k ∷ q)) ≡ is_among (k ∷ q) made
+    pub made_there : (k : ℕ) (q : Path) → is_some (c.body (k ∷ q)) ≡ is_among (k ∷ q) made
     made_there k q = by (is_among (k ∷ q) made) refl
       where
         space : (is_among (k ∷ q) [] ≡ true) ⊎ IsSpace bind c (k ∷ q) → is_some (c.body (k ∷ q)) ≡ true
@@ -123,7 +123,7 @@ module _ (bind : ℕ → ℕ) (c : World) where
         by false h = ap is_some (its.whole k q h)
         by true h = found (rooms_are bind c rooms (with_spaces rooms []) (with_spaces rooms []) [] (k ∷ q) its.filled h)
 
-    standing_apart : AreApart all_standing
+    pub standing_apart : AreApart all_standing
     unfolding AreApart same_path
     standing_apart = (
       sym (made_there FIRST_SCRATCH_SLOT []) ∙ ap is_some (unscratched bind c rooms its 0 FIRST_SCRATCH_SLOT [] refl),

@@ -23,7 +23,7 @@ pairs_bind (pair ∷ pairs) e slot low =
     by true here there = here
     by false here there = there
 
-roomed : (slot : ℕ) (i : Image) (pairs : List (ℕ × ℕ)) → IsRestoreJob slot i pairs → IsRoomed (bound_by pairs) (picture i) (rooms_of i)
+pub roomed : (slot : ℕ) (i : Image) (pairs : List (ℕ × ℕ)) → IsRestoreJob slot i pairs → IsRoomed (bound_by pairs) (picture i) (rooms_of i)
 roomed slot i pairs job = valid_is_roomed (bound_by pairs) i (pairs_bind pairs job.users) job.valid
 
 pub image_is_restored : ImageIsRestored

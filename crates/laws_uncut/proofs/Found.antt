@@ -15,9 +15,8 @@ use Rattle.fk_model.specs.World.{World}
 use Rattle.fk_model.specs.Searches.{peer_pointer, option_list, talk_pointers, fault_pointers, pointers}
 use Rattle.fk_model.specs.Reach.{Reach, region_at, mapping_at, live_keeper, keeper, led_by, followed, mapped, at_home, reach_within, reach, reach_word}
 use Rattle.fk_model.specs.Reach.Reach.{Home, Missing, Bad}
-use Rattle.fk_model.specs.Outcomes.{Outcome, Caller}
-use Rattle.fk_model.specs.Readers.{and_read, anything, object_in, kind_at, is_kind, led_to, referred, missed, accessed, own_page_at, own_page, their_page_at}
-use Rattle.fk_model.specs.Readers.{their_page}
+use Rattle.fk_model.specs.Outcomes.{Caller}
+use Rattle.fk_model.specs.Readers.{and_read, anything, object_in, kind_at, is_kind, led_to, referred}
 use Rattle.fk_model.specs.FaultRows.{named_taker}
 use Rattle.fk_model.specs.ObjectRows.{pointer_to, pointer_in}
 use Rattle.fk_model.specs.StateRows.{Field, or_null, peer_field, thread_field, first_field, field_of, field_pointer, referable}
@@ -25,7 +24,7 @@ use Rattle.fk_model.specs.StateRows.Field.{Pointer}
 use Rattle.fk_model.proofs.walks.Lowest.{lowest-found}
 use Rattle.laws_machine.proofs.safety.Reads.{object_in-found}
 use Rattle.laws_further.specs.ClosedLaws.{is_cut_pointer, IsUncut}
-use Rattle.laws_uncut.proofs.Outcomes.{IsOurs, AreOurs, OursOutcome, refused, waits, goes}
+use Rattle.laws_uncut.proofs.Outcomes.{IsOurs, AreOurs}
 
 -- ---- pointers
 
@@ -237,7 +236,7 @@ module _ (w : World) (uncut : IsUncut w) where
       by None e h = cc
       by (Some r) e h = let found = lowest-found SLOTS _ r e in live-ours r.keeper port (one (w.body (found.0 ∷ s)) r (uncut (found.0 ∷ s)) found.1) h
 
-  abbrev IsOursReach : Reach → Type 0
+  abbrev pub IsOursReach : Reach → Type 0
   IsOursReach (Missing s page keeper) = AreOurs (option_list (λ p. p ∷ []) keeper)
   IsOursReach (Home s page) = Unit {0}
   IsOursReach Bad = Unit {0}
@@ -279,40 +278,3 @@ module _ (w : World) (uncut : IsUncut w) where
       by : (t : Bool) → IsOursReach (if t then reach w s (address / PAGE_WORDS) write else Bad)
       by true = within-ours MAPPINGS s (address / PAGE_WORDS) write
       by false = tt
-
-  missed-ours : {v : World} → (otherwise : Outcome) (me : Path) (page : ℕ) (write : Bool) (keeper : Option Ptr) → AreOurs (option_list (λ p. p ∷ []) keeper) →
-      OursOutcome v otherwise → OursOutcome v (missed otherwise me page write keeper)
-  missed-ours otherwise me page write None ours other = other
-  missed-ours otherwise me page write (Some keeper) ours other = goes (ours, tt)
-
-  accessed-at : {v : World} → (me : Path) (write : Bool) (halts : ℕ → Outcome) (go : Path → ℕ → Outcome) (r : Reach) → IsOursReach r →
-      ((code : ℕ) → OursOutcome v (halts code)) → ((s : Path) (page : ℕ) → OursOutcome v (go s page)) → OursOutcome v (accessed me write halts go r)
-  accessed-at me write halts go (Home s page) ours halting going = going s page
-  accessed-at me write halts go (Missing s page keeper) ours halting going = missed-ours _ me page write keeper ours (halting _)
-  accessed-at me write halts go Bad ours halting going = halting _
-
-  pub accessed-ours : {v : World} → (space me : Path) (address : ℕ) (write : Bool) (halts : ℕ → Outcome) (go : Path → ℕ → Outcome) →
-      ((code : ℕ) → OursOutcome v (halts code)) → ((s : Path) (page : ℕ) → OursOutcome v (go s page))
-      → OursOutcome v (accessed me write halts go (reach_word w space address write))
-  accessed-ours space me address write halts go halting going = accessed-at me write halts go (reach_word w space address write)
-      (word-ours space address write) halting going
-
-  own_page_at-ours : {v : World} → (me : Path) (write : Bool) (go : Path → ℕ → Outcome) (r : Reach) → IsOursReach r
-      → ((s : Path) (page : ℕ) → OursOutcome v (go s page)) → OursOutcome v (own_page_at me write go r)
-  own_page_at-ours me write go (Home s page) ours going = going s page
-  own_page_at-ours me write go (Missing s page keeper) ours going = missed-ours _ me page write keeper ours refused
-  own_page_at-ours me write go Bad ours going = refused
-
-  pub own_page-ours : {v : World} → (c : Caller) (address : ℕ) (write : Bool) (go : Path → ℕ → Outcome) → ((s : Path) (page : ℕ) → OursOutcome v (go s page))
-      → OursOutcome v (own_page w c address write go)
-  own_page-ours c address write go going = own_page_at-ours _ write go (reach_word w c.space address write) (word-ours c.space address write) going
-
-  their_page_at-ours : {v : World} → (go : Path → ℕ → Outcome) (r : Reach) → ((s : Path) (page : ℕ) → OursOutcome v (go s page))
-      → OursOutcome v (their_page_at go r)
-  their_page_at-ours go (Home s page) going = going s page
-  their_page_at-ours go (Missing s page keeper) going = waits
-  their_page_at-ours go Bad going = waits
-
-  pub their_page-ours : {v : World} → (space : Path) (address : ℕ) (go : Path → ℕ → Outcome) → ((s : Path) (page : ℕ) → OursOutcome v (go s page))
-      → OursOutcome v (their_page w space address go)
-  their_page-ours space address go going = their_page_at-ours go (reach_word w space address true) going

@@ -1,7 +1,5 @@
 pub mod Outcomes
 pub mod Found
-pub mod Rows
-pub mod Objects
 pub mod Moves
 pub mod Kept
 pub mod Stood

@@ -1,135 +1,171 @@
--- What a move comes to sets no pointer that stands in cuts alone.
-use Rattle.std.proofs.Common.{ℕ, Bool, true, false, if◌then◌else◌, ◌&&◌, List, ◌∷◌, take, Option, Some, None}
+-- No move lists a change that sets a pointer that stands in cuts alone: by the lists of `laws_rows`.
+use Rattle.std.proofs.Common.{◌≡◌, ℕ, Bool, true, false, nat_le, not, if◌then◌else◌, ◌==◌, List, [], ◌∷◌, map, Option, Some, None, refl, ap, ◌∙◌}
+use Rattle.fk_model.specs.declared.limits.TheConstants.{LAST_USER_SLOT}
 use Rattle.fk_model.specs.declared.moves.Ask.{Ask}
-use Rattle.fk_model.specs.declared.moves.Ask.TheVariants as asks
+use Rattle.fk_model.specs.declared.names.Kind.TheVariants as kinds
 use Rattle.fk_model.specs.declared.stage.Stage.{Stage}
-use Rattle.fk_model.specs.declared.stage.Stage.TheVariants.{Create, Destroy, Rename, Search, Point, Clear, Locate, CountIn, GetState, SetState, GetPtr, SetPtr}
-use Rattle.fk_model.specs.declared.stage.Stage.TheVariants.{SpaceHold, SpaceRelease, ThreadStop, ThreadGo, PageGive, PageTake, PageRead, PageNext, MutexLock}
-use Rattle.fk_model.specs.declared.stage.Stage.TheVariants.{MutexTrylock, MutexUnlock, CondWait, CondAsleep, CondSignal, CondBroadcast, Connect, ClientReceive}
-use Rattle.fk_model.specs.declared.stage.Stage.TheVariants.{ClientSend, ClientOver, Disconnect, Wait, ServerReceive, ServerSend, ServerOver, ServerEnd}
-use Rattle.fk_model.specs.declared.stage.Stage.TheVariants.{FaultDone, LinkSet, LinkPark, FaultSet, FaultPark, HoldSet, SpaceMakeHeld}
-use Rattle.fk_model.specs.declared.statuses.status.TheConstants.{DENIED}
-use Rattle.fk_model.specs.declared.thread.Turn.TheVariants as turns
-use Rattle.fk_model.specs.Places.{Path, parent, slot_of}
-use Rattle.fk_model.specs.Objects.{Mode, Thread}
-use Rattle.fk_model.specs.Objects.Mode.{Running, Calling}
-use Rattle.fk_model.specs.World.{World}
+use Rattle.fk_model.specs.Places.{Path, Ptr}
+use Rattle.fk_model.specs.Places.Ptr.{At}
+use Rattle.fk_model.specs.Calls.{todo_of}
+use Rattle.fk_model.specs.Objects.{Mode, Body, holds, is_served}
+use Rattle.fk_model.specs.Objects.Mode.{Running, Halted}
+use Rattle.fk_model.specs.Objects.Peer.{Parked}
+use Rattle.fk_model.specs.Objects.Body.{Mutex, Mapping, Region, Port, Thread_of}
+use Rattle.fk_model.specs.World.{World, Change, Edit}
+use Rattle.fk_model.specs.World.Change.{Alter, DropPage}
+use Rattle.fk_model.specs.World.Edit.{SetTalk}
+use Rattle.fk_model.specs.Searches.{option_list, peer_pointer}
+use Rattle.fk_model.specs.Reach.{reach_word}
+use Rattle.fk_model.specs.Reach.Reach.{Missing}
+use Rattle.fk_model.specs.Holds.{is_porter}
 use Rattle.fk_model.specs.Outcomes.{Outcome, Caller}
-use Rattle.fk_model.specs.Outcomes.Outcome.{Refused, Waits, Goes}
-use Rattle.fk_model.specs.LinkRows.{user_at}
-use Rattle.fk_model.specs.Holds.{is_free, is_unheld, is_porter}
-use Rattle.fk_model.specs.Moves.{stage_row, is_denied, allowed_row, chooses, with_pick, closed, call_row, goes_on, user_move, porter_at, porter_move, outcome}
+use Rattle.fk_model.specs.Readers.{anything}
+use Rattle.fk_model.specs.Records.{set_edits, calling_by, mode_of_record, record_registers, word}
+use Rattle.fk_model.specs.Moves.{outcome}
+use Rattle.laws_machine.proofs.safety.Reads.{object_in-found}
+use Rattle.laws_rows.specs.Stages.{Sets, Work, Step}
+use Rattle.laws_rows.specs.Stages.Sets.{Points, Clears, Gets_pointer, Sets_pointer, Holds, Releases, Restores_hold, Takes_fault, Resumes, Frees}
+use Rattle.laws_rows.specs.Stages.Sets.{Restores_talk, Parks_talk, Restores_fault, Parks_fault}
+use Rattle.laws_rows.specs.Stages.Work.{Looks, Edits, Makes, Makes_held, Kills, Renames, Sets_record, Copies, Sleeps, Wakes_all}
+use Rattle.laws_rows.specs.Stages.Work.{Takes_client, Hangs_up, Sends, Sends_service, Passes}
+use Rattle.laws_rows.specs.Stages.Step.{Is_refused, Is_waiting, Raises, Answers, Stays, Finishes, Ends}
+use Rattle.laws_rows.specs.Moves.{Goes_to, Instructs, Serves, Lists}
+use Rattle.laws_rows.specs.Moves.Goes_to.{Halts}
+use Rattle.laws_rows.specs.Moves.Instructs.{Goes_on, Stores, Faults}
+use Rattle.laws_rows.specs.Moves.Serves.{Waits_for_client, Accepts, Takes_up, Gives_nothing, Finds_no_room, Gives_words, Passes_client}
+use Rattle.laws_rows.specs.Moves.Lists.{Moves_not, Runs, Calls, Is_told_no, Asks, Is_answered_no, Acts}
+use Rattle.laws_rows.proofs.Walk.{new_all, ends-all, ends-then, sleepers-all}
+use Rattle.laws_rows.proofs.Moves.{moves-listed}
 use Rattle.laws_further.specs.ClosedLaws.{IsUncut}
-use Rattle.laws_uncut.proofs.Outcomes.{OursOutcome, refused, waits, goes, ours-when}
-use Rattle.laws_uncut.proofs.Rows.{run_row-ours, mutex_lock-ours, mutex_trylock-ours, mutex_unlock-ours, cond_wait-ours, cond_asleep-ours, cond_signal-ours}
-use Rattle.laws_uncut.proofs.Rows.{cond_broadcast-ours, send-ours, receive-ours, over-ours, thread_stop-ours, thread_go-ours, page_give-ours, page_take-ours}
-use Rattle.laws_uncut.proofs.Rows.{page_read-ours, page_next-ours}
-use Rattle.laws_uncut.proofs.Objects.{create-ours, destroy-ours, rename-ours, point-ours, clear-ours, search_row-ours, locate-ours, count_in-ours}
-use Rattle.laws_uncut.proofs.Objects.{space_hold-ours, space_release-ours, hold_set-ours, space_make_held-ours, get_state-ours, set_state-ours, get_ptr-ours}
-use Rattle.laws_uncut.proofs.Objects.{set_ptr-ours, wait-ours, connect-ours, disconnect-ours, link_set-ours, link_park-ours, fault_done-ours, fault_set-ours}
-use Rattle.laws_uncut.proofs.Objects.{fault_park-ours, accept_row-ours, give_row-ours, over_row-ours}
+use Rattle.laws_uncut.proofs.Outcomes.{AreOurs, IsOursEdit, SetOurs, IsOursRow, ours-row, OursIn, OursOutcome, row-then}
+use Rattle.laws_uncut.proofs.Found.{both-ours, pair-ours, one-ours, reference-ours, referred-ours, taker-ours, pointer-ours, field-ours, IsOursReach, word-ours}
 
--- ---- one stage
+drops-ours : (space : Path) (page : ℕ) (drops : Bool) → SetOurs (if drops then DropPage space page ∷ [] else [])
+drops-ours space page true = (tt, tt)
+drops-ours space page false = tt
 
-stage_row-ours : (w : World) (c : Caller) (pick : Option Path) (stage : Stage) → IsUncut w →
-    OursOutcome w (stage_row w c pick stage)
-stage_row-ours w c pick (Create s x kind) uncut = create-ours w c s x kind
-stage_row-ours w c pick (Destroy s x) uncut = destroy-ours w c s x
-stage_row-ours w c pick (Rename s x y) uncut = rename-ours w c s x y
-stage_row-ours w c pick (Search s from) uncut = search_row-ours w c s from
-stage_row-ours w c pick (Point s x s2 x2) uncut = point-ours w uncut c s x s2 x2
-stage_row-ours w c pick (Clear s x) uncut = clear-ours w c s x
-stage_row-ours w c pick (Locate reference s) uncut = locate-ours w c reference s
-stage_row-ours w c pick (CountIn base s x) uncut = count_in-ours w c base s x
-stage_row-ours w c pick (GetState s x address) uncut = get_state-ours w uncut c s x address
-stage_row-ours w c pick (SetState s x address) uncut = set_state-ours w uncut c s x address
-stage_row-ours w c pick (GetPtr s x field reference) uncut = get_ptr-ours w uncut c s x field reference
-stage_row-ours w c pick (SetPtr s x field reference) uncut = set_ptr-ours w uncut c s x field reference
-stage_row-ours w c pick (SpaceHold s x) uncut = space_hold-ours w c s x
-stage_row-ours w c pick (SpaceRelease s x) uncut = space_release-ours w c s x
-stage_row-ours w c pick (ThreadStop h) uncut = thread_stop-ours w c h
-stage_row-ours w c pick (ThreadGo h) uncut = thread_go-ours w c h
-stage_row-ours w c pick (PageGive s page address) uncut = page_give-ours w uncut c s page address
-stage_row-ours w c pick (PageTake s page address) uncut = page_take-ours w uncut c s page address
-stage_row-ours w c pick (PageRead s page address) uncut = page_read-ours w uncut c s page address
-stage_row-ours w c pick (PageNext s from) uncut = page_next-ours w c s from
-stage_row-ours w c pick (MutexLock m) uncut = mutex_lock-ours w c m
-stage_row-ours w c pick (MutexTrylock m) uncut = mutex_trylock-ours w c m
-stage_row-ours w c pick (MutexUnlock m) uncut = mutex_unlock-ours w c m
-stage_row-ours w c pick (CondWait cond m) uncut = cond_wait-ours w c cond m
-stage_row-ours w c pick (CondAsleep cond m) uncut = cond_asleep-ours w c cond m
-stage_row-ours w c pick (CondSignal cond) uncut = cond_signal-ours w c pick cond
-stage_row-ours w c pick (CondBroadcast cond) uncut = cond_broadcast-ours w c cond
-stage_row-ours w c pick (Connect h) uncut = connect-ours w c h
-stage_row-ours w c pick (ClientReceive into room) uncut = receive-ours w uncut c turns.Client into room
-stage_row-ours w c pick (ClientSend address count) uncut = send-ours w uncut c turns.Client address count
-stage_row-ours w c pick ClientOver uncut = over-ours w c turns.Client
-stage_row-ours w c pick Disconnect uncut = disconnect-ours w c turns.Client
-stage_row-ours w c pick (Wait set) uncut = wait-ours w c pick set
-stage_row-ours w c pick (ServerReceive into room) uncut = receive-ours w uncut c turns.Server into room
-stage_row-ours w c pick (ServerSend address count) uncut = send-ours w uncut c turns.Server address count
-stage_row-ours w c pick ServerOver uncut = over-ours w c turns.Server
-stage_row-ours w c pick ServerEnd uncut = disconnect-ours w c turns.Server
-stage_row-ours w c pick FaultDone uncut = fault_done-ours w c
-stage_row-ours w c pick (LinkSet s x port server) uncut = link_set-ours w uncut c s x port server
-stage_row-ours w c pick (LinkPark s x port) uncut = link_park-ours w c s x port
-stage_row-ours w c pick (FaultSet s x port taker) uncut = fault_set-ours w uncut c s x port taker
-stage_row-ours w c pick (FaultPark s x port taken) uncut = fault_park-ours w c s x port taken
-stage_row-ours w c pick (HoldSet s x thread) uncut = hold_set-ours w uncut c s x thread
-stage_row-ours w c pick (SpaceMakeHeld x) uncut = space_make_held-ours w c x
+-- ---- the mode that a record sets is no porter's
 
-allowed_row-ours : (w : World) (c : Caller) (pick : Option Path) (stage : Stage) → IsUncut w →
-    OursOutcome w (allowed_row w c pick stage)
-allowed_row-ours w c pick stage uncut = by (is_denied c stage)
+called-user : (g : List ℕ) (o : Option (List Stage)) → is_porter (calling_by g o) ≡ false
+called-user g (Some todo) = refl
+called-user g None = refl
+
+user-mode : (n : ℕ) (g : List ℕ) (code : ℕ) → is_porter (mode_of_record n g code) ≡ false
+user-mode n g code = by (n == 0) (n == 1)
   where
-    by : (t : Bool) → OursOutcome w (if t then Refused DENIED else stage_row w c pick stage)
-    by true = refused
-    by false = stage_row-ours w c pick stage uncut
+    by : (a b : Bool) → is_porter (if a then Running g else (if b then calling_by g (todo_of g) else Halted g code)) ≡ false
+    by true b = refl
+    by false true = called-user g (todo_of g)
+    by false false = refl
 
-with_pick-ours : {w : World} (chosen : Bool) (pick : Option Path) (o : Outcome) → OursOutcome w o → OursOutcome w (with_pick chosen pick o)
-with_pick-ours chosen pick (Refused status) full = search ours-when
-with_pick-ours chosen pick Waits full = waits
-with_pick-ours chosen pick (Goes changes said) full = search ours-when
+edits-ours : (x : Path) (b : Body) (words : List ℕ) → SetOurs (map (Alter x) (set_edits b words))
+edits-ours x (Mutex locked) words = (tt, tt)
+edits-ours x (Mapping m) words = (tt, tt)
+edits-ours x (Region r) words = (tt, tt)
+edits-ours x (Port set served) words = (tt, tt)
+edits-ours x (Thread_of t) words = (user-mode (word words 18) (record_registers words) (word words 19), (tt, tt))
+edits-ours x b words = tt
 
-closed-ours : {w : World} (c : Caller) (o : Outcome) → OursOutcome w o → OursOutcome w (closed c o)
-closed-ours {w} c (Refused status) full = by c.is_porter
-  where
-    by : (porter : Bool) → OursOutcome w (closed (record c { is_porter = porter }) (Refused status))
-    by true = goes tt
-    by false = goes (tt, tt)
-closed-ours c Waits full = waits
-closed-ours c (Goes changes said) full = full
+not-true : (b : Bool) → not b ≡ false → b ≡ true
+not-true true e = refl
+not-true false e = cc
 
-call_row-ours : (w : World) (c : Caller) (pick : Option Path) (stage : Stage) → IsUncut w →
-    OursOutcome w (call_row w c pick stage)
-unfolding call_row
-call_row-ours w c pick stage uncut =
-    closed-ours c _ (with_pick-ours (chooses stage) pick (allowed_row w c pick stage) (allowed_row-ours w c pick stage uncut))
+parks : (t : Bool) → AreOurs (option_list peer_pointer (if t then Some Parked else None))
+parks true = refl
+parks false = refl
 
--- ---- who moves
+module _ (w : World) (uncut : IsUncut w) where
+  keeps : (s : Path) (address : ℕ) (write : Bool) (t : Path) (page : ℕ) (port : Ptr) → reach_word w s address write ≡ Missing t page (Some port) →
+      AreOurs (port ∷ [])
+  keeps s address write t page port e = let ours : IsOursReach w uncut (reach_word w s address write) = word-ours w uncut s address write in rw e at ours
 
-goes_on-ours : (w : World) (x : Path) (pick : Option Path) (t : Thread) (mode : Mode) → IsUncut w → OursOutcome w (goes_on w x pick t mode)
-goes_on-ours w x pick t (Running g) uncut = with_pick-ours false pick _ (run_row-ours w uncut (parent x) (slot_of x) g t.counter)
-goes_on-ours w x pick t (Calling (stage ∷ todo) rest) uncut = call_row-ours w (user_at x) pick stage uncut
-goes_on-ours w x pick t mode uncut = waits
+  -- ---- stages
 
-user_move-ours : (w : World) (x : Path) (pick : Option Path) (o : Option Thread) → IsUncut w → OursOutcome w (user_move w x pick o)
-user_move-ours w x pick None uncut = waits
-user_move-ours w x pick (Some t) uncut = ours-when (is_free w (parent x) t) (goes_on w x pick t t.mode) (λ free. goes_on-ours w x pick t t.mode uncut)
+  module _ (c : Caller) (pick : Option Path) where
+    sets : {stage : Stage} {x : Path} {edit : Edit} {answers : List ℕ} → Sets w c pick stage x edit answers → IsOursEdit edit
+    sets (Points s x s2 x2 space space2 old to place place2 read read2 free) = pointer-ours w uncut c space2 x2 to read2
+    sets (Clears s x space old place read free) = refl
+    sets (Gets_pointer s x field k space b old found place read read2 has inner) = field-ours w uncut c space x field b found read has
+    sets (Sets_pointer s x field k space b to place read read2 free inner among) = reference-ours w uncut c c.space k to read2
+    sets (Holds s x space was place read free apart alone) = refl
+    sets (Releases s x space was place read holds) = refl
+    sets (Restores_hold s x thread space was holder place read read2 free) = one-ours holder (referred-ours w uncut c kinds.Thread thread holder read2)
+    sets (Takes_fault set slot x fault idle at) = refl
+    sets (Resumes set slot x talk idle at) = refl
+    sets (Frees x at unheld) = refl
+    sets (Restores_talk s x port server space t at thread place read read2 read3 free) =
+        pair-ours at thread (referred-ours w uncut c kinds.Port port at read2) (referred-ours w uncut c kinds.Thread server thread read3)
+    sets (Parks_talk s x port space t was place read read2 free) = refl
+    sets (Restores_fault s x port taker space t at who place read read2 named free) =
+        both-ours (at ∷ []) (option_list peer_pointer who) (one-ours at (referred-ours w uncut c kinds.Port port at read2)) (taker-ours w uncut c taker who named)
+    sets (Parks_fault s x port taken space t was place read read2 free) =
+        both-ours (At (port ∷ c.space) ∷ []) (option_list peer_pointer (if taken == 1 then Some Parked else None)) refl (parks (taken == 1))
+    sets other = tt
 
-porter_move-ours : (w : World) (x : Path) (pick : Option Path) (stage : Stage) (words : List ℕ) (o : Option Thread) → IsUncut w
-    → OursOutcome w (porter_move w x pick stage words o)
-porter_move-ours w x pick stage words None uncut = waits
-porter_move-ours w x pick stage words (Some t) uncut =
-    ours-when (is_porter t.mode && is_unheld w (parent x)) (call_row w (porter_at x words) pick stage)
-    (λ free. call_row-ours w (porter_at x words) pick stage uncut)
+    work : {stage : Stage} {cs : List Change} {answers : List ℕ} → Work w c pick stage cs answers → IsOursRow w cs
+    work (Looks stage answers reads) = tt
+    work (Edits stage x edit answers edits) = (sets edits, tt)
+    work (Makes s x j kind space made place slot free new empty) =
+        new_all (λ made. IsOursRow w (made ∷ [])) (x ∷ space) kind made new
+        ((refl, refl, refl), tt) ((refl, refl, refl), tt) ((refl, refl, refl), tt) ((refl, refl, refl), tt) ((refl, refl, refl), tt) ((refl, refl, refl), tt)
+        (refl, tt) ((refl, refl, refl), tt) ((refl, refl, refl), tt)
+    work (Makes_held x j slot empty) = (refl, tt)
+    work (Kills s x space b place read free apart leaf) = (tt, ends-all SetOurs tt (λ x cs rest. (tt, rest)) _)
+    work (Renames s x y space b place read free low apart empty residents) =
+        let found = object_in-found w c anything space x b read in
+        let same : found.body ≡ b = (let e = found.seen in cc) in (
+          not-true (nat_le y LAST_USER_SLOT) low,
+          ap (λ (o : Option Body). holds is_served o) (found.there ∙ ap (λ (b : Body). Some b) same) ∙ apart,
+          tt,
+        )
+    work (Sets_record s x address space b words place read free off good from still takes) = ours-row w _ (edits-ours (x ∷ space) b words)
+    work (Copies stage s page address space t own drops words place there home) = (tt, drops-ours space page drops)
+    work (Wakes_all cond) = ours-row w _ (sleepers-all SetOurs w c.space cond tt (λ x m cs asleep rest. (tt, rest)))
+    work (Takes_client set slot x idle at) = (refl, (tt, tt))
+    work (Hangs_up stage side l at) = ours-row w _ (ends-then SetOurs (Alter l.client (SetTalk None) ∷ []) (refl, tt) (λ x cs rest. (tt, rest)) _)
+    work (Sends stage side l address count receive thread e s own t other here at led free is home theirs) = (tt, (tt, (tt, (tt, tt))))
+    work (Sleeps cond m) = (tt, (tt, tt))
+    work (Sends_service stage side l address count here at) = (tt, (tt, tt))
+    work (Passes stage side l thread e here at led free) = (tt, (tt, tt))
+    work other = (tt, tt)
 
--- ---- a move
+    step : {stage : Stage} {o : Outcome} → Step w c pick stage o → OursIn w o
+    step (Is_refused status) = tt
+    step Is_waiting = tt
+    step (Raises s page address write port missing) = (keeps c.space address write s page port missing, tt)
+    step (Answers cs answers porter its) = work its
+    step (Stays cs said its) = work its
+    step (Finishes cs answers me said user own its) = row-then w cs _ (work its) (tt, tt)
+    step (Ends cs answers user its) = row-then w cs _ (work its) (tt, tt)
+
+  -- ---- instructions and acts
+
+  goes_to : {space : Path} {g : List ℕ} {counter : ℕ} {mode : Mode} {after : ℕ} → Goes_to w space g counter mode after → is_porter mode ≡ false
+  goes_to (Halts code) = refl
+  goes_to other = refl
+
+  instructs : {space : Path} {slot : ℕ} {g : List ℕ} {counter : ℕ} {o : Outcome} → Instructs w space slot g counter o → OursIn w o
+  instructs (Goes_on mode after to) = (goes_to to, tt)
+  instructs (Stores address value s page home) = (tt, (refl, tt))
+  instructs {space} (Faults s page address write port missing) = (keeps space address write s page port missing, tt)
+
+  serves : {port : Path} {pick : Option Path} {ask : Ask} {o : Outcome} → Serves w port pick ask o → OursIn w o
+  serves (Waits_for_client ask) = tt
+  serves (Accepts x t service there free at) = (refl, (tt, tt))
+  serves (Takes_up x t talk service there free at) = (refl, tt)
+  serves (Gives_nothing words len) = tt
+  serves (Finds_no_room words len x t receive there is full) = (tt, tt)
+  serves (Gives_words words len x t receive s page there is home) = (tt, (tt, (tt, tt)))
+  serves (Passes_client x at) = (tt, (tt, tt))
+
+  lists : {x : Path} {pick : Option Path} {ask : Ask} {o : Outcome} → Lists w x pick ask o → OursIn w o
+  lists (Moves_not ask) = tt
+  lists (Runs t g o there free at by) = instructs by
+  lists (Calls t stage todo rest cs said there free at user by) = step _ _ by
+  lists (Is_told_no t stage todo rest status there free at) = (tt, tt)
+  lists (Asks t stage words cs said there unheld porter by) = step _ _ by
+  lists (Is_answered_no t stage words status there) = tt
+  lists (Acts ask o by) = serves by
 
 pub outcome-ours : (w : World) (x : Path) (pick : Option Path) (ask : Ask) → IsUncut w → OursOutcome w (outcome w x pick ask)
-unfolding outcome
-outcome-ours w x pick asks.Run uncut = user_move-ours w x pick _ uncut
-outcome-ours w x pick (asks.Call stage words) uncut = porter_move-ours w x pick stage words _ uncut
-outcome-ours w x pick asks.Accept uncut = accept_row-ours w x pick
-outcome-ours w x pick (asks.Give words len) uncut = with_pick-ours false pick _ (give_row-ours w uncut x (take len words))
-outcome-ours w x pick asks.Over uncut = with_pick-ours false pick _ (over_row-ours w x)
+outcome-ours w x pick ask uncut = record { ours = lists w uncut (moves-listed w x pick ask) }

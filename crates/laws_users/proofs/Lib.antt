@@ -1,4 +1,3 @@
 pub mod Rows
 pub mod Stood
 pub mod Named
-pub mod Gives

@@ -2,27 +2,21 @@
 use Rattle.std.proofs.Common.{◌≡◌, ℕ, Bool, true, false, not, ◌&&◌, ◌==◌, if◌then◌else◌, List, [], ◌∷◌, Option, Some, None, option_map}
 use Rattle.std.proofs.Common.{refl, sym, ap, subst, ◌∙◌}
 use Rattle.std.proofs.lemmas.Bool.{or_parts}
-use Rattle.fk_model.specs.declared.moves.Ask.{Ask}
-use Rattle.fk_model.specs.declared.moves.Ask.TheVariants as asks
 use Rattle.fk_model.specs.Holds.{is_porter}
-use Rattle.fk_model.specs.declared.stage.Stage.{Stage}
-use Rattle.fk_model.specs.Moves.{outcome, porter_move, step, stepped}
+use Rattle.fk_model.specs.Moves.{outcome, step, stepped}
 use Rattle.fk_model.specs.Objects.{Body, Mode, Thread, and_then, holds, kind_of, number_of_kind, thread_of}
 use Rattle.fk_model.specs.Objects.Body.{Mutex, Thread_of}
 use Rattle.fk_model.specs.Outcomes.{Outcome, listed}
 use Rattle.fk_model.specs.Outcomes.Outcome.{Refused, Waits, Goes}
 use Rattle.fk_model.specs.Places.{Path, same_path, parent}
 use Rattle.fk_model.specs.StateRows.{is_native}
-use Rattle.fk_model.specs.Valid.{IsRooted}
 use Rattle.fk_model.specs.World.{World, Change, Edit, Sweep, apply, apply_all, death_sweep, edited, following, through}
 use Rattle.fk_model.specs.World.Change.{Alter, Make, MakeSpace, Kill, Move, PutPage, DropPage}
 use Rattle.fk_model.specs.World.Edit.{Proceed}
 use Rattle.fk_model.proofs.walks.PlaceLaws.{same_path_eq}
-use Rattle.laws_frozen.specs.Users.{AreUsers, IsUsers, IsUsersEdit}
 use Rattle.laws_frozen.proofs.Edited.{same-native, same_kind}
-use Rattle.laws_frozen.proofs.Users.{users_name_low}
 use Rattle.laws_users.specs.Stood.{put, puts, taken, takes, UsersStay, UsersStood}
-use Rattle.laws_users.proofs.Rows.{ArePlain, IsPlain, IsPlainEdit, PlainOutcome, porter_move-plain}
+use Rattle.laws_users.proofs.Rows.{ArePlain, IsPlain, IsPlainEdit, moves-plain}
 
 -- ---- one body
 
@@ -180,37 +174,6 @@ module _ (w : World) (q : Path) where
 
 -- ---- a move
 
-users-edit : (w : World) (x : Path) (edit : Edit) → IsUsersEdit w x edit → IsPlainEdit w x edit
-users-edit w x (Proceed mode counter) users = users
-users-edit w x edit users = tt
-
-users-plain : (w : World) (cs : List Change) → AreUsers w cs → ArePlain w cs
-users-plain w [] users = tt
-users-plain w (c ∷ cs) users = (by c users.0, users-plain w cs users.1)
-  where
-    by : (c : Change) → IsUsers w c → IsPlain w c
-    by (Alter x edit) users = users-edit w x edit users
-    by c users = tt
-
-listed-plain : (w : World) (o : Outcome) → PlainOutcome w o → ArePlain w (listed o)
-listed-plain w (Goes changes said) plain = plain.plain
-listed-plain w (Refused status) plain = tt
-listed-plain w Waits plain = tt
-
-calls-plain : (w : World) (x : Path) (pick : Option Path) (stage : Stage) (words : List ℕ) →
-    ArePlain w (listed (outcome w x pick (asks.Call stage words)))
-unfolding outcome
-calls-plain w x pick stage words =
-    listed-plain w (porter_move w x pick stage words (and_then thread_of (w.body x)))
-    (porter_move-plain w x pick stage words (and_then thread_of (w.body x)))
-
-moves-plain : (w : World) (x : Path) (pick : Option Path) (ask : Ask) → IsRooted w → ArePlain w (listed (outcome w x pick ask))
-moves-plain w x pick asks.Run rooted = users-plain w _ (users_name_low w x pick asks.Run rooted refl)
-moves-plain w x pick (asks.Call stage words) rooted = calls-plain w x pick stage words
-moves-plain w x pick asks.Accept rooted = users-plain w _ (users_name_low w x pick asks.Accept rooted refl)
-moves-plain w x pick (asks.Give words len) rooted = users-plain w _ (users_name_low w x pick (asks.Give words len) rooted refl)
-moves-plain w x pick asks.Over rooted = users-plain w _ (users_name_low w x pick asks.Over rooted refl)
-
 pub step-listed : (w : World) (o : Outcome) → (stepped w o).world ≡ apply_all (listed o) w
 unfolding apply_all
 step-listed w (Goes changes said) = refl
@@ -221,7 +184,7 @@ pub users_stood : UsersStood
 unfolding step
 users_stood w x pick ask q rooted off is =
     let cs = listed (outcome w x pick ask) in
-    (held-all w q cs w (moves-plain w x pick ask rooted) off (record { users = λ h. h; native = λ h. h })).users
+    (held-all w q cs w (moves-plain w x pick ask rooted.root) off (record { users = λ h. h; native = λ h. h })).users
     (ap (λ (v : World). users_in (v.body q)) (sym (step-listed w (outcome w x pick ask))) ∙ is)
 
 pub users_stay : UsersStay
@@ -229,4 +192,4 @@ unfolding step
 users_stay w x pick ask q rooted off gone is =
     let cs = listed (outcome w x pick ask) in
     ap (λ (v : World). users_in (v.body q)) (step-listed w (outcome w x pick ask))
-    ∙ (stays-all w q cs w (moves-plain w x pick ask rooted) off gone (record { users = λ h. h })).users is
+    ∙ (stays-all w q cs w (moves-plain w x pick ask rooted.root) off gone (record { users = λ h. h })).users is

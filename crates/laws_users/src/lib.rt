@@ -38,7 +38,7 @@ pub fn spaces_stay()
 {}
 
 /// A move that gives a page puts nothing anywhere.
-#[tactic(auto, using(crate::proofs::Gives::gives_put_nothing))]
+#[tactic(auto, using(crate::proofs::Rows::gives_put_nothing))]
 pub fn gives_put_nothing()
     ensures { GivesPutNothing }
 {}

@@ -1,7 +1,6 @@
 pub mod Lengths
 pub mod Outcomes
 pub mod Memory
-pub mod Rows
 pub mod Objects
 pub mod Moves
 pub mod Kept

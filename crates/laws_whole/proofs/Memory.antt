@@ -1,15 +1,12 @@
 -- An access of memory comes to a page that is there, and so to one of 64 words.
 use Rattle.std.proofs.Common.{◌≡◌, ℕ, zero, suc, ◌/◌, Bool, true, false, if◌then◌else◌, nat_lt, IsSome, List, length, Option, Some, None, refl}
 use Rattle.fk_model.specs.declared.limits.TheConstants.{MAPPINGS, PAGE_WORDS, SPACE_WORDS}
-use Rattle.fk_model.specs.Places.{Path, Ptr}
+use Rattle.fk_model.specs.Places.{Path}
 use Rattle.fk_model.specs.Objects.{Window}
 use Rattle.fk_model.specs.World.{World}
 use Rattle.fk_model.specs.Reach.{Reach, mapping_at, keeper, led_by, followed, mapped, at_home, reach_within, reach, reach_word, words_at}
 use Rattle.fk_model.specs.Reach.Reach.{Home, Missing, Bad}
-use Rattle.fk_model.specs.Outcomes.{Outcome, Caller}
-use Rattle.fk_model.specs.Readers.{missed, accessed, own_page_at, own_page, their_page_at, their_page}
 use Rattle.fk_model.specs.Whole.{HasFullPages}
-use Rattle.laws_whole.proofs.Outcomes.{FullOutcome, refused, waits, goes}
 
 abbrev pub IsThere : World → Reach → Type 0
 IsThere w (Home s page) = IsSome (w.page s page)
@@ -47,11 +44,6 @@ word-there w s address write = by (nat_lt address SPACE_WORDS)
     by true = within-there MAPPINGS w s (address / PAGE_WORDS) write
     by false = tt
 
-missed-full : (otherwise : Outcome) (me : Path) (page : ℕ) (write : Bool) (keeper : Option Ptr) →
-    FullOutcome otherwise → FullOutcome (missed otherwise me page write keeper)
-missed-full otherwise me page write None full = full
-missed-full otherwise me page write (Some keeper) full = goes (tt, tt)
-
 module _ (w : World) (pages : HasFullPages w) where
   -- the words of a page that is there are 64
   abbrev pub HasWords : Path → ℕ → Type 0
@@ -63,35 +55,3 @@ module _ (w : World) (pages : HasFullPages w) where
       by : (o : Option (List ℕ)) → w.page s page ≡ o → IsSome o → HasWords s page
       by None e h = cc
       by (Some words) e h = rw e (pages s page words e)
-
-  accessed-at : (me : Path) (write : Bool) (halts : ℕ → Outcome) (go : Path → ℕ → Outcome) (r : Reach) → IsThere w r →
-      ((code : ℕ) → FullOutcome (halts code)) → ((s : Path) (page : ℕ) → HasWords s page → FullOutcome (go s page)) → FullOutcome (accessed me write halts go r)
-  accessed-at me write halts go (Home s page) there halting going = going s page (words-full s page there)
-  accessed-at me write halts go (Missing s page keeper) there halting going = missed-full _ me page write keeper (halting _)
-  accessed-at me write halts go Bad there halting going = halting _
-
-  pub accessed-full : (space me : Path) (address : ℕ) (write : Bool) (halts : ℕ → Outcome) (go : Path → ℕ → Outcome) →
-      ((code : ℕ) → FullOutcome (halts code)) → ((s : Path) (page : ℕ) → HasWords s page → FullOutcome (go s page)) →
-      FullOutcome (accessed me write halts go (reach_word w space address write))
-  accessed-full space me address write halts go halting going =
-      accessed-at me write halts go (reach_word w space address write) (word-there w space address write) halting going
-
-  own_page_at-full : (me : Path) (write : Bool) (go : Path → ℕ → Outcome) (r : Reach) → IsThere w r →
-      ((s : Path) (page : ℕ) → HasWords s page → FullOutcome (go s page)) → FullOutcome (own_page_at me write go r)
-  own_page_at-full me write go (Home s page) there going = going s page (words-full s page there)
-  own_page_at-full me write go (Missing s page keeper) there going = missed-full _ me page write keeper refused
-  own_page_at-full me write go Bad there going = refused
-
-  pub own_page-full : (c : Caller) (address : ℕ) (write : Bool) (go : Path → ℕ → Outcome) →
-      ((s : Path) (page : ℕ) → HasWords s page → FullOutcome (go s page)) → FullOutcome (own_page w c address write go)
-  own_page-full c address write go going = own_page_at-full _ write go (reach_word w c.space address write) (word-there w c.space address write) going
-
-  their_page_at-full : (go : Path → ℕ → Outcome) (r : Reach) → IsThere w r →
-      ((s : Path) (page : ℕ) → HasWords s page → FullOutcome (go s page)) → FullOutcome (their_page_at go r)
-  their_page_at-full go (Home s page) there going = going s page (words-full s page there)
-  their_page_at-full go (Missing s page keeper) there going = waits
-  their_page_at-full go Bad there going = waits
-
-  pub their_page-full : (space : Path) (address : ℕ) (go : Path → ℕ → Outcome) →
-      ((s : Path) (page : ℕ) → HasWords s page → FullOutcome (go s page)) → FullOutcome (their_page w space address go)
-  their_page-full space address go going = their_page_at-full go (reach_word w space address true) (word-there w space address true) going

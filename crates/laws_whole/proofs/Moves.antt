@@ -1,153 +1,161 @@
--- What a proper move comes to leaves pages and registers full.
-use Rattle.std.proofs.Common.{◌≡◌, ℕ, Bool, true, false, if◌then◌else◌, ◌&&◌, ◌==◌, length, List, ◌∷◌, take, Option, Some, None, refl}
+-- What a proper move lists leaves pages and registers full: by the lists of `laws_rows`.
+use Rattle.std.proofs.Common.{◌≡◌, ℕ, ◌-◌, ◌%◌, ◌≤◌, Bool, true, false, if◌then◌else◌, ◌==◌, List, [], ◌∷◌, take, drop, length, Option}
+use Rattle.std.proofs.Common.{None, refl, ◌∙◌, arith}
 use Rattle.std.proofs.lemmas.Bool.{and_parts, eqb-true}
-use Rattle.fk_model.specs.declared.limits.TheConstants.{PAGE_WORDS}
+use Rattle.std.proofs.lemmas.List.{length-replicate, length-take-le, length-drop, length-set}
+use Rattle.fk_model.specs.declared.limits.TheConstants.{PAGE_WORDS, RECORD_WORDS}
 use Rattle.fk_model.specs.declared.moves.Ask.{Ask}
-use Rattle.fk_model.specs.declared.moves.Ask.TheVariants as asks
 use Rattle.fk_model.specs.declared.stage.Stage.{Stage}
-use Rattle.fk_model.specs.declared.stage.Stage.TheVariants.{Create, Destroy, Rename, Search, Point, Clear, Locate, CountIn, GetState, SetState, GetPtr, SetPtr}
-use Rattle.fk_model.specs.declared.stage.Stage.TheVariants.{SpaceHold, SpaceRelease, ThreadStop, ThreadGo, PageGive, PageTake, PageRead, PageNext, MutexLock}
-use Rattle.fk_model.specs.declared.stage.Stage.TheVariants.{MutexTrylock, MutexUnlock, CondWait, CondAsleep, CondSignal, CondBroadcast, Connect, ClientReceive}
-use Rattle.fk_model.specs.declared.stage.Stage.TheVariants.{ClientSend, ClientOver, Disconnect, Wait, ServerReceive, ServerSend, ServerOver, ServerEnd}
-use Rattle.fk_model.specs.declared.stage.Stage.TheVariants.{FaultDone, LinkSet, LinkPark, FaultSet, FaultPark, HoldSet, SpaceMakeHeld}
-use Rattle.fk_model.specs.declared.statuses.status.TheConstants.{DENIED}
-use Rattle.fk_model.specs.declared.thread.Turn.TheVariants as turns
-use Rattle.fk_model.specs.Places.{Path, parent, slot_of}
-use Rattle.fk_model.specs.Objects.{Mode, Thread, registers_of, thread_of, and_then}
-use Rattle.fk_model.specs.Objects.Mode.{Running, Calling}
-use Rattle.fk_model.specs.World.{World}
+use Rattle.fk_model.specs.declared.statuses.status.TheConstants.{BADCALL}
+use Rattle.fk_model.specs.Places.{Path}
+use Rattle.fk_model.specs.Objects.{Mode, registers_of}
+use Rattle.fk_model.specs.World.{World, Change, Edit}
+use Rattle.fk_model.specs.World.Change.{Alter, DropPage}
+use Rattle.fk_model.specs.World.Edit.{SetTalk}
+use Rattle.fk_model.specs.Reach.{reach_word, words_at}
+use Rattle.fk_model.specs.Reach.Reach.{Home}
 use Rattle.fk_model.specs.Outcomes.{Outcome, Caller}
-use Rattle.fk_model.specs.Outcomes.Outcome.{Refused, Waits, Goes}
-use Rattle.fk_model.specs.LinkRows.{user_at}
-use Rattle.fk_model.specs.Holds.{is_free, is_unheld, is_porter}
-use Rattle.fk_model.specs.Moves.{stage_row, is_denied, allowed_row, chooses, with_pick, closed, call_row, goes_on, user_move, porter_at, porter_move, outcome}
+use Rattle.fk_model.specs.Records.{record_of}
+use Rattle.fk_model.specs.StateRows.{is_bad_record_address}
+use Rattle.fk_model.specs.TransferRows.{overwritten, block, moved_words}
+use Rattle.fk_model.specs.Moves.{outcome}
 use Rattle.fk_model.specs.Whole.{are_words, HasFullPages}
+use Rattle.laws_rows.specs.Stages.{Sets, Source, RecordSource, Work, Step}
+use Rattle.laws_rows.specs.Stages.Sets.{Locks}
+use Rattle.laws_rows.specs.Stages.Source.{Own_words, Zeros, Of_page}
+use Rattle.laws_rows.specs.Stages.RecordSource.{Own_record, Of_memory}
+use Rattle.laws_rows.specs.Stages.Work.{Looks, Edits, Makes, Makes_held, Kills, Writes_record, Sets_record, Gives, Copies, Sleeps, Wakes_all}
+use Rattle.laws_rows.specs.Stages.Work.{Takes_client, Hangs_up, Sends, Sends_service, Passes}
+use Rattle.laws_rows.specs.Stages.Step.{Is_refused, Is_waiting, Raises, Answers, Stays, Finishes, Ends}
+use Rattle.laws_rows.specs.Moves.{Goes_to, Instructs, Serves, Lists}
+use Rattle.laws_rows.specs.Moves.Goes_to.{Halts, Puts, Jumps, Loads, Enters, Names_none}
+use Rattle.laws_rows.specs.Moves.Instructs.{Goes_on, Stores, Faults}
+use Rattle.laws_rows.specs.Moves.Serves.{Waits_for_client, Accepts, Takes_up, Gives_nothing, Finds_no_room, Gives_words, Passes_client}
+use Rattle.laws_rows.specs.Moves.Lists.{Moves_not, Runs, Calls, Is_told_no, Asks, Is_answered_no, Acts}
+use Rattle.laws_rows.proofs.Walk.{new_all, ends-all, ends-then, sleepers-all}
+use Rattle.laws_rows.proofs.Moves.{moves-listed}
 use Rattle.laws_whole.specs.Runnable.{HasRegisters, has_all_words}
-use Rattle.laws_whole.proofs.Outcomes.{FullOutcome, refused, waits, goes, full-when}
-use Rattle.laws_whole.proofs.Rows.{GivesAll, run_row-full, mutex_lock-full, mutex_trylock-full, mutex_unlock-full, cond_wait-full, cond_asleep-full}
-use Rattle.laws_whole.proofs.Rows.{cond_signal-full, cond_broadcast-full, send-full, receive-full, over-full, thread_stop-full, thread_go-full, page_give-full}
-use Rattle.laws_whole.proofs.Rows.{page_take-full, page_read-full, page_next-full}
-use Rattle.laws_whole.proofs.Objects.{create-full, destroy-full, rename-full, point-full, clear-full, search_row-full, locate-full, count_in-full}
-use Rattle.laws_whole.proofs.Objects.{space_hold-full, space_release-full, hold_set-full, space_make_held-full, get_state-full, set_state-full, get_ptr-full}
-use Rattle.laws_whole.proofs.Objects.{set_ptr-full, wait-full, connect-full, disconnect-full, link_set-full, link_park-full, fault_done-full, fault_set-full}
-use Rattle.laws_whole.proofs.Objects.{fault_park-full, accept_row-full, give_row-full, over_row-full}
+use Rattle.laws_whole.proofs.Lengths.{length-overwritten, length-block, length-first, moved-fit, page_place, length-entered}
+use Rattle.laws_whole.proofs.Memory.{word-there, words-full}
+use Rattle.laws_whole.proofs.Objects.{record_place, length-record, has-all, object-there, users-address, edits-full}
+use Rattle.laws_whole.proofs.Outcomes.{IsFullEdit, AreFull, IsFullRow, full-row, FullIn, FullOutcome, row-then}
 
--- ---- one stage
+drops-full : (space : Path) (page : ℕ) (drops : Bool) → AreFull (if drops then DropPage space page ∷ [] else [])
+drops-full space page true = (tt, tt)
+drops-full space page false = tt
 
-stage_row-full : (w : World) (c : Caller) (pick : Option Path) (stage : Stage) → HasFullPages w → HasRegisters w → GivesAll c →
-    FullOutcome (stage_row w c pick stage)
-stage_row-full w c pick (Create s x kind) pages registers given = create-full w c s x kind
-stage_row-full w c pick (Destroy s x) pages registers given = destroy-full w c s x
-stage_row-full w c pick (Rename s x y) pages registers given = rename-full w c s x y
-stage_row-full w c pick (Search s from) pages registers given = search_row-full w c s from
-stage_row-full w c pick (Point s x s2 x2) pages registers given = point-full w c s x s2 x2
-stage_row-full w c pick (Clear s x) pages registers given = clear-full w c s x
-stage_row-full w c pick (Locate reference s) pages registers given = locate-full w c reference s
-stage_row-full w c pick (CountIn base s x) pages registers given = count_in-full w c base s x
-stage_row-full w c pick (GetState s x address) pages registers given = get_state-full w pages registers c s x address
-stage_row-full w c pick (SetState s x address) pages registers given = set_state-full w pages c given s x address
-stage_row-full w c pick (GetPtr s x field reference) pages registers given = get_ptr-full w c s x field reference
-stage_row-full w c pick (SetPtr s x field reference) pages registers given = set_ptr-full w c s x field reference
-stage_row-full w c pick (SpaceHold s x) pages registers given = space_hold-full w c s x
-stage_row-full w c pick (SpaceRelease s x) pages registers given = space_release-full w c s x
-stage_row-full w c pick (ThreadStop h) pages registers given = thread_stop-full w c h
-stage_row-full w c pick (ThreadGo h) pages registers given = thread_go-full w c h
-stage_row-full w c pick (PageGive s page address) pages registers given = page_give-full w pages c given s page address
-stage_row-full w c pick (PageTake s page address) pages registers given = page_take-full w pages c s page address
-stage_row-full w c pick (PageRead s page address) pages registers given = page_read-full w pages c s page address
-stage_row-full w c pick (PageNext s from) pages registers given = page_next-full w c s from
-stage_row-full w c pick (MutexLock m) pages registers given = mutex_lock-full w c m
-stage_row-full w c pick (MutexTrylock m) pages registers given = mutex_trylock-full w c m
-stage_row-full w c pick (MutexUnlock m) pages registers given = mutex_unlock-full w c m
-stage_row-full w c pick (CondWait cond m) pages registers given = cond_wait-full w c cond m
-stage_row-full w c pick (CondAsleep cond m) pages registers given = cond_asleep-full w c cond m
-stage_row-full w c pick (CondSignal cond) pages registers given = cond_signal-full w c pick cond
-stage_row-full w c pick (CondBroadcast cond) pages registers given = cond_broadcast-full w c cond
-stage_row-full w c pick (Connect h) pages registers given = connect-full w c h
-stage_row-full w c pick (ClientReceive into room) pages registers given = receive-full w pages c turns.Client into room
-stage_row-full w c pick (ClientSend address count) pages registers given = send-full w pages c turns.Client address count
-stage_row-full w c pick ClientOver pages registers given = over-full w c turns.Client
-stage_row-full w c pick Disconnect pages registers given = disconnect-full w c turns.Client
-stage_row-full w c pick (Wait set) pages registers given = wait-full w c pick set
-stage_row-full w c pick (ServerReceive into room) pages registers given = receive-full w pages c turns.Server into room
-stage_row-full w c pick (ServerSend address count) pages registers given = send-full w pages c turns.Server address count
-stage_row-full w c pick ServerOver pages registers given = over-full w c turns.Server
-stage_row-full w c pick ServerEnd pages registers given = disconnect-full w c turns.Server
-stage_row-full w c pick FaultDone pages registers given = fault_done-full w c
-stage_row-full w c pick (LinkSet s x port server) pages registers given = link_set-full w c s x port server
-stage_row-full w c pick (LinkPark s x port) pages registers given = link_park-full w c s x port
-stage_row-full w c pick (FaultSet s x port taker) pages registers given = fault_set-full w c s x port taker
-stage_row-full w c pick (FaultPark s x port taken) pages registers given = fault_park-full w c s x port taken
-stage_row-full w c pick (HoldSet s x thread) pages registers given = hold_set-full w c s x thread
-stage_row-full w c pick (SpaceMakeHeld x) pages registers given = space_make_held-full w c x
+-- the words of a block fit behind the receiver's address
+received-full : (page words : List ℕ) (k into : ℕ) → length page ≡ PAGE_WORDS → length words ≤ k → k ≤ PAGE_WORDS - into % PAGE_WORDS →
+    length (overwritten page (into % PAGE_WORDS) words) ≡ PAGE_WORDS
+received-full page words k into full few fit = let place = page_place into in
+    length-overwritten page words (into % PAGE_WORDS) full (omega (arith, few, fit, place))
 
-allowed_row-full : (w : World) (c : Caller) (pick : Option Path) (stage : Stage) → HasFullPages w → HasRegisters w → GivesAll c →
-    FullOutcome (allowed_row w c pick stage)
-allowed_row-full w c pick stage pages registers given = by (is_denied c stage)
-  where
-    by : (t : Bool) → FullOutcome (if t then Refused DENIED else stage_row w c pick stage)
-    by true = refused
-    by false = stage_row-full w c pick stage pages registers given
+module _ (w : World) (pages : HasFullPages w) (registers : HasRegisters w) where
+  -- a page that is reached has 64 words
+  reached : (s : Path) (address : ℕ) (write : Bool) (t : Path) (page : ℕ) → reach_word w s address write ≡ Home t page → length (words_at w t page) ≡ PAGE_WORDS
+  reached s address write t page home = let there = word-there w s address write in words-full w pages t page (rw home at there)
 
-with_pick-full : (chosen : Bool) (pick : Option Path) (o : Outcome) → FullOutcome o → FullOutcome (with_pick chosen pick o)
-with_pick-full chosen pick (Refused status) full = search full-when
-with_pick-full chosen pick Waits full = waits
-with_pick-full chosen pick (Goes changes said) full = search full-when
+  -- ---- stages
 
-closed-full : (c : Caller) (o : Outcome) → FullOutcome o → FullOutcome (closed c o)
-closed-full c (Refused status) full = by c.is_porter
-  where
-    by : (porter : Bool) → FullOutcome (closed (record c { is_porter = porter }) (Refused status))
-    by true = goes tt
-    by false = goes (tt, tt)
-closed-full c Waits full = waits
-closed-full c (Goes changes said) full = full
+  module _ (c : Caller) (pick : Option Path) (given : c.is_porter ≡ true → length c.words ≡ PAGE_WORDS) where
+    source : {words : List ℕ} → Source w c words → length words ≡ PAGE_WORDS
+    source (Own_words porter) = given porter
+    source Zeros = length-replicate {A = ℕ} PAGE_WORDS 0
+    source (Of_page address s own home) = reached c.space address false s own home
 
-call_row-full : (w : World) (c : Caller) (pick : Option Path) (stage : Stage) → HasFullPages w → HasRegisters w → GivesAll c →
-    FullOutcome (call_row w c pick stage)
-unfolding call_row
-call_row-full w c pick stage pages registers given =
-    closed-full c _ (with_pick-full (chooses stage) pick (allowed_row w c pick stage) (allowed_row-full w c pick stage pages registers given))
+    record_source : (address : ℕ) {words : List ℕ} → is_bad_record_address c address ≡ false → RecordSource w c address words → RECORD_WORDS ≤ length words
+    record_source address good (Own_record porter) = let all = given porter in omega (arith, all)
+    record_source address good (Of_memory s own user home) =
+        let full = reached c.space address false s own home in
+        let place = record_place address (users-address c address user good) in
+        let rest = length-drop (address % PAGE_WORDS) (words_at w s own) in
+        let all = length-take-le RECORD_WORDS (drop (address % PAGE_WORDS) (words_at w s own)) (omega (arith, rest, full, place)) in
+        omega (arith, all)
 
--- ---- who moves
+    sets : {stage : Stage} {x : Path} {edit : Edit} {answers : List ℕ} → Sets w c pick stage x edit answers → IsFullEdit edit
+    sets (Locks stage m was locked read) = tt
+    sets other = tt
 
-users-give : (x : Path) → GivesAll (user_at x)
-users-give x h = cc
+    work : {stage : Stage} {cs : List Change} {answers : List ℕ} → Work w c pick stage cs answers → IsFullRow cs
+    work (Looks stage answers reads) = tt
+    work (Edits stage x edit answers edits) = (sets edits, tt)
+    work (Makes s x j kind space made place slot free new empty) =
+        new_all (λ made. IsFullRow (made ∷ [])) (x ∷ space) kind made new
+        (tt, tt) (tt, tt) (tt, tt) (tt, tt) (tt, tt) (tt, tt) tt (refl, tt) (tt, tt)
+    work (Makes_held x j slot empty) = tt
+    work (Kills s x space b place read free apart leaf) = (tt, ends-all AreFull tt (λ x cs rest. (tt, rest)) _)
+    work (Writes_record s x address space t b page place read good user home) =
+        let all = length-record b (has-all w registers (x ∷ space) b (object-there w c x space b read)) in
+        let place = record_place address (users-address c address user good) in
+        (length-overwritten (words_at w t page) (record_of b) (address % PAGE_WORDS) (reached c.space address true t page home) (omega (arith, place, all)), tt)
+    work (Sets_record s x address space b words place read free off good from still takes) =
+        full-row _ (edits-full (x ∷ space) b words (record_source address good from))
+    work (Gives s page address space words place free good empty from) = (source from, tt)
+    work (Copies stage s page address space t own drops words place there home) = (pages space page words there, drops-full space page drops)
+    work (Wakes_all cond) = full-row _ (sleepers-all AreFull w c.space cond tt (λ x m cs asleep rest. (tt, rest)))
+    work (Hangs_up stage side l at) = full-row _ (ends-then AreFull (Alter l.client (SetTalk None) ∷ []) (tt, tt) (λ x cs rest. (tt, rest)) _)
+    work (Sends stage side l address count receive thread e s own t other here at led free is home theirs) =
+        let k = moved_words address count receive.0 receive.1 in (
+          received-full (words_at w t other) (block k address (words_at w s own)) k receive.0 (reached _ receive.0 true t other theirs)
+              (length-block k address (words_at w s own)) (moved-fit address count receive.0 receive.1),
+          (tt, (tt, (tt, tt))),
+        )
+    work (Sleeps cond m) = (tt, (tt, tt))
+    work (Takes_client set slot x idle at) = (tt, (tt, tt))
+    work (Sends_service stage side l address count here at) = (tt, (tt, tt))
+    work (Passes stage side l thread e here at led free) = (tt, (tt, tt))
+    work other = (tt, tt)
 
-porter-gives : (x : Path) (words : List ℕ) → length words ≡ PAGE_WORDS → GivesAll (porter_at x words)
-porter-gives x words all h = all
+    step : {stage : Stage} {o : Outcome} → Step w c pick stage o → FullIn o
+    step (Is_refused status) = tt
+    step Is_waiting = tt
+    step (Raises s page address write port missing) = (tt, tt)
+    step (Answers cs answers porter its) = work its
+    step (Stays cs said its) = work its
+    step (Finishes cs answers me said user own its) = row-then cs _ (work its) (tt, tt)
+    step (Ends cs answers user its) = row-then cs _ (work its) (tt, tt)
 
-goes_on-full : (w : World) (x : Path) (pick : Option Path) (t : Thread) (mode : Mode) → HasFullPages w → HasRegisters w →
-    length (registers_of mode) ≡ 16 → FullOutcome (goes_on w x pick t mode)
-goes_on-full w x pick t (Running g) pages registers sixteen =
-    with_pick-full false pick _ (run_row-full w pages (parent x) (slot_of x) g t.counter sixteen)
-goes_on-full w x pick t (Calling (stage ∷ todo) rest) pages registers sixteen =
-    call_row-full w (user_at x) pick stage pages registers (users-give x)
-goes_on-full w x pick t mode pages registers sixteen = waits
+  -- ---- instructions and acts
 
-user_move-full : (w : World) (x : Path) (pick : Option Path) (o : Option Thread) → HasFullPages w → HasRegisters w →
-    and_then thread_of (w.body x) ≡ o → FullOutcome (user_move w x pick o)
-user_move-full w x pick None pages registers there = waits
-user_move-full w x pick (Some t) pages registers there =
-    full-when (is_free w (parent x) t) (goes_on w x pick t t.mode)
-    (λ free. goes_on-full w x pick t t.mode pages registers (registers x t there))
+  module _ (space : Path) (slot : ℕ) (g : List ℕ) (counter : ℕ) (sixteen : length g ≡ 16) where
+    goes_to : {mode : Mode} {after : ℕ} → Goes_to w space g counter mode after → length (registers_of mode) ≡ 16
+    goes_to (Halts code) = sixteen
+    goes_to (Puts register value) = length-set g register value ∙ sixteen
+    goes_to (Jumps to) = sixteen
+    goes_to (Loads register address s page home) = length-set g register _ ∙ sixteen
+    goes_to (Enters todo named) = length-entered todo g ∙ sixteen
+    goes_to (Names_none none) = length-set g 0 BADCALL ∙ sixteen
 
-porter_move-full : (w : World) (x : Path) (pick : Option Path) (stage : Stage) (words : List ℕ) (o : Option Thread) → HasFullPages w → HasRegisters w →
-    length words ≡ PAGE_WORDS → FullOutcome (porter_move w x pick stage words o)
-porter_move-full w x pick stage words None pages registers all = waits
-porter_move-full w x pick stage words (Some t) pages registers all =
-    full-when (is_porter t.mode && is_unheld w (parent x)) (call_row w (porter_at x words) pick stage)
-    (λ free. call_row-full w (porter_at x words) pick stage pages registers (porter-gives x words all))
+    instructs : {o : Outcome} → Instructs w space slot g counter o → FullIn o
+    instructs (Goes_on mode after to) = (goes_to to, tt)
+    instructs (Stores address value s page home) = (length-set (words_at w s page) _ value ∙ reached space address true s page home, (sixteen, tt))
+    instructs (Faults s page address write port missing) = (tt, tt)
 
--- ---- a move
+  serves : {port : Path} {pick : Option Path} {ask : Ask} {o : Outcome} → Serves w port pick ask o → FullIn o
+  serves (Waits_for_client ask) = tt
+  serves (Accepts x t service there free at) = (tt, (tt, tt))
+  serves (Takes_up x t talk service there free at) = (tt, tt)
+  serves (Gives_nothing words len) = tt
+  serves (Finds_no_room words len x t receive there is full) = (tt, tt)
+  serves (Gives_words words len x t receive s page there is home) = (
+    received-full (words_at w s page) _ _ receive.0 (reached _ receive.0 true s page home) (length-first _ (take len words))
+        (moved-fit 0 (length (take len words)) receive.0 receive.1),
+    (tt, (tt, tt)),
+  )
+  serves (Passes_client x at) = (tt, (tt, tt))
+
+  -- ---- a move
+
+  lists : {x : Path} {pick : Option Path} {ask : Ask} {o : Outcome} → has_all_words ask ≡ true → Lists w x pick ask o → FullIn o
+  lists all (Moves_not ask) = tt
+  lists {x} all (Runs t g o there free at by) = instructs _ _ g t.counter (let its = registers x t there in rw at at its) by
+  lists all (Calls t stage todo rest cs said there free at user by) = step _ _ (λ h. cc) by
+  lists all (Is_told_no t stage todo rest status there free at) = (tt, tt)
+  lists all (Asks t stage words cs said there unheld porter by) =
+      step _ _ (λ h. eqb-true (length words) PAGE_WORDS (and_parts (length words == PAGE_WORDS) (are_words words) all).0) by
+  lists all (Is_answered_no t stage words status there) = tt
+  lists all (Acts ask o by) = serves by
 
 pub outcome-full : (w : World) (x : Path) (pick : Option Path) (ask : Ask) → HasFullPages w → HasRegisters w → has_all_words ask ≡ true →
     FullOutcome (outcome w x pick ask)
-unfolding outcome
-outcome-full w x pick asks.Run pages registers all = user_move-full w x pick _ pages registers refl
-outcome-full w x pick (asks.Call stage words) pages registers all =
-    porter_move-full w x pick stage words _ pages registers
-    (eqb-true (length words) PAGE_WORDS (and_parts (length words == PAGE_WORDS) (are_words words) all).0)
-outcome-full w x pick asks.Accept pages registers all = accept_row-full w x pick
-outcome-full w x pick (asks.Give words len) pages registers all = with_pick-full false pick _ (give_row-full w pages x (take len words))
-outcome-full w x pick asks.Over pages registers all = with_pick-full false pick _ (over_row-full w x)
+outcome-full w x pick ask pages registers all = record { full = lists w pages registers all (moves-listed w x pick ask) }

@@ -10,13 +10,10 @@ use Rattle.fk_model.specs.Objects.Body.{Region}
 use Rattle.fk_model.specs.World.{World}
 use Rattle.fk_model.specs.Reach.{Reach, region_at, mapping_at, live_keeper, keeper, led_by, followed, mapped, at_home, reach_within, reach, reach_word}
 use Rattle.fk_model.specs.Reach.Reach.{Home, Missing, Bad}
-use Rattle.fk_model.specs.Outcomes.{Outcome, Caller}
-use Rattle.fk_model.specs.Readers.{missed, accessed, own_page_at, own_page, their_page_at, their_page}
 use Rattle.fk_model.specs.Records.{is_page_range}
 use Rattle.fk_model.specs.Valid.{IsConsistent, kind_there, leads_there, may_lead, all_in, is_good, HasPlace, IsPaged}
 use Rattle.fk_model.proofs.walks.Lowest.{lowest-found}
 use Rattle.laws_machine.proofs.safety.Safe.{IfAny}
-use Rattle.laws_machine.proofs.safety.Outcomes.{SafeOutcome, refused, waits, goes}
 use Rattle.laws_machine.proofs.safety.Reads.{Facts}
 
 -- what stands in a valid world is good
@@ -107,36 +104,3 @@ reach_word-good w facts s address write = by (nat_lt address SPACE_WORDS)
     by false = tt
 
 -- ---- accesses
-
-missed-safe : (w : World) (otherwise : Outcome) (me : Path) (page : ℕ) (write : Bool) (keeper : Option Ptr) →
-    IfAny (LeadsToPort w) keeper → SafeOutcome w otherwise → SafeOutcome w (missed otherwise me page write keeper)
-missed-safe w otherwise me page write None port safe = safe
-missed-safe w otherwise me page write (Some keeper) port safe = goes (record { port = port; taker = tt }, tt)
-
-pub accessed-safe : (w : World) (me : Path) (write : Bool) (halts : ℕ → Outcome) (go : Path → ℕ → Outcome) (r : Reach) →
-    GoodReach w r → ((code : ℕ) → SafeOutcome w (halts code)) →
-    ((s : Path) (page : ℕ) → HasPlace w s page → SafeOutcome w (go s page)) → SafeOutcome w (accessed me write halts go r)
-accessed-safe w me write halts go (Home s page) good halting going = going s page good
-accessed-safe w me write halts go (Missing s page keeper) good halting going = missed-safe w _ me page write keeper good (halting _)
-accessed-safe w me write halts go Bad good halting going = halting _
-
-own_page_at-safe : (w : World) (me : Path) (write : Bool) (go : Path → ℕ → Outcome) (r : Reach) →
-    GoodReach w r → ((s : Path) (page : ℕ) → HasPlace w s page → SafeOutcome w (go s page)) → SafeOutcome w (own_page_at me write go r)
-own_page_at-safe w me write go (Home s page) good going = going s page good
-own_page_at-safe w me write go (Missing s page keeper) good going = missed-safe w _ me page write keeper good refused
-own_page_at-safe w me write go Bad good going = refused
-
-pub own_page-safe : (w : World) → Facts w → (c : Caller) (address : ℕ) (write : Bool) (go : Path → ℕ → Outcome) →
-    ((s : Path) (page : ℕ) → HasPlace w s page → SafeOutcome w (go s page)) → SafeOutcome w (own_page w c address write go)
-own_page-safe w facts c address write go going =
-    own_page_at-safe w _ write go (reach_word w c.space address write) (reach_word-good w facts c.space address write) going
-
-their_page_at-safe : (w : World) (go : Path → ℕ → Outcome) (r : Reach) →
-    GoodReach w r → ((s : Path) (page : ℕ) → HasPlace w s page → SafeOutcome w (go s page)) → SafeOutcome w (their_page_at go r)
-their_page_at-safe w go (Home s page) good going = going s page good
-their_page_at-safe w go (Missing s page keeper) good going = waits
-their_page_at-safe w go Bad good going = waits
-
-pub their_page-safe : (w : World) → Facts w → (space : Path) (address : ℕ) (go : Path → ℕ → Outcome) →
-    ((s : Path) (page : ℕ) → HasPlace w s page → SafeOutcome w (go s page)) → SafeOutcome w (their_page w space address go)
-their_page-safe w facts space address go going = their_page_at-safe w go (reach_word w space address true) (reach_word-good w facts space address true) going

@@ -1,26 +1,20 @@
 -- The rows of talks and of faults are safe: who takes up a client or a fault serves nobody else.
-use Rattle.std.proofs.Common.{◌≡◌, ℕ, Bool, true, false, if◌then◌else◌, ◌&&◌, [], ◌∷◌, ◌++◌, Option, Some, None, option_map, refl, sym}
+use Rattle.std.proofs.Common.{◌≡◌, ℕ, Bool, true, false, if◌then◌else◌, ◌&&◌, [], ◌∷◌, Option, Some, None, option_map, refl, sym}
 use Rattle.std.proofs.lemmas.Bool.{and_parts}
 use Rattle.fk_model.specs.declared.names.Kind.TheVariants as kinds
-use Rattle.fk_model.specs.declared.thread.Turn.{Turn}
 use Rattle.fk_model.specs.Places.{Path, same_path, parent, slot_of, Ptr, leads_to}
 use Rattle.fk_model.specs.Places.Ptr.{At}
 use Rattle.fk_model.specs.Objects.{Talk, Fault, Thread, Body, thread_of, and_then, or_else}
-use Rattle.fk_model.specs.Objects.Peer.{Server}
 use Rattle.fk_model.specs.Objects.Body.{Port}
 use Rattle.fk_model.specs.World.{World}
-use Rattle.fk_model.specs.World.Change.{Alter}
-use Rattle.fk_model.specs.World.Edit.{SetTalk, SetPeer, SetTaker, Finish}
 use Rattle.fk_model.specs.Searches.{talk_at, fault_at, is_serving}
 use Rattle.fk_model.specs.Outcomes.{Caller, path_of}
-use Rattle.fk_model.specs.Talks.{Line, ends_beyond}
-use Rattle.fk_model.specs.LinkRows.{connect, new_talk, connecting_to, Candidate, is_member, slot_in_set, is_parked, is_open, faulting, connecting, resuming}
-use Rattle.fk_model.specs.LinkRows.{candidate_by, candidate, takes_candidate, takes_picked, wait, end_all, removes, disconnect}
+use Rattle.fk_model.specs.LinkRows.{connecting_to, Candidate, is_member, slot_in_set, is_parked, is_open, faulting, connecting, resuming}
+use Rattle.fk_model.specs.LinkRows.{candidate_by, candidate}
 use Rattle.fk_model.specs.LinkRows.Candidate.{Faulting, Connecting, Resuming}
 use Rattle.fk_model.specs.Valid.{kind_there, services, lies_with, IsRooted}
 use Rattle.fk_model.proofs.walks.PlaceLaws.{same_path_eq}
-use Rattle.laws_machine.proofs.safety.Safe.{IsSafeServer, IsSafePeer, IsSafeTalk}
-use Rattle.laws_machine.proofs.safety.Outcomes.{SafeOutcome, waits, safe-then, safe-end_all, safe-done, safe-ended, safe-telling, safe_row}
+use Rattle.laws_machine.proofs.safety.Safe.{IsSafeServer}
 use Rattle.laws_machine.proofs.safety.Reads.{Facts, IsCaller, kind-there}
 use Rattle.laws_machine.proofs.safety.Objects.{caller-leads}
 
@@ -30,7 +24,7 @@ pub idle-serves : (w : World) → Facts w → (server : Path) → is_serving w s
 idle-serves w facts server idle s q leads = let same = same_path_eq server s leads in rw (← same) (facts.walks.idle server idle q)
 
 -- the caller may serve at a port of its space
-caller-serves : (w : World) (c : Caller) →
+pub caller-serves : (w : World) (c : Caller) →
     Facts w → IsCaller w c → is_serving w (path_of c) ≡ false → (port : Ptr) → lies_with port (At (path_of c)) → IsSafeServer w port (At (path_of c))
 caller-serves w c facts caller idle port near = record { good = caller-leads w c caller; near = near; idle = idle-serves w facts (path_of c) idle }
 
@@ -60,7 +54,7 @@ slot-found w space set (At x) slot h = by (same_path (parent x) space && is_memb
 slot-found w space set port slot h = cc
 
 -- from anywhere in a space it lies with such a port
-port-lies : (w : World) (space : Path) (slot k : ℕ) (port : Ptr) → PortIn w space slot port → lies_with port (At (k ∷ space))
+pub port-lies : (w : World) (space : Path) (slot k : ℕ) (port : Ptr) → PortIn w space slot port → lies_with port (At (k ∷ space))
 port-lies w space slot k port found = let at = found.at in rw at (sym found.near)
 
 port-slot : (w : World) → IsRooted w → (space : Path) (slot : ℕ) (path : Path) →
@@ -68,7 +62,7 @@ port-slot : (w : World) → IsRooted w → (space : Path) (slot : ℕ) (path : P
 port-slot w rooted space slot [] near kind named = let root = rooted.root in cc
 port-slot w rooted space slot (k ∷ s) near kind named = rw (← near, ← named) kind
 
-abbrev GoodCandidate : World → Path → Path → Option Candidate → Type 0
+abbrev pub GoodCandidate : World → Path → Path → Option Candidate → Type 0
 GoodCandidate w space x None = Unit {0}
 GoodCandidate w space x (Some (Faulting slot fault)) = (fault_at w x ≡ Some fault) × PortIn w space slot fault.port
 GoodCandidate w space x (Some (Connecting slot)) = kind_there w (slot ∷ space) ≡ Some kinds.Port
@@ -128,7 +122,7 @@ connecting-good w rooted space set x t = by (connecting_to w x t)
     by None = tt
     by (Some port) = slot port _ refl
 
-candidate-good : (w : World) → IsRooted w → (space : Path) (set : ℕ) (x : Path) → GoodCandidate w space x (candidate w space set x)
+pub candidate-good : (w : World) → IsRooted w → (space : Path) (set : ℕ) (x : Path) → GoodCandidate w space x (candidate w space set x)
 unfolding candidate
 candidate-good w rooted space set x = if_unheld _
   where
@@ -146,45 +140,4 @@ candidate-good w rooted space set x = if_unheld _
     if_unheld true = by _ refl
     if_unheld false = tt
 
-takes-safe : (w : World) (c : Caller) → Facts w →
-    IsCaller w c → is_serving w (path_of c) ≡ false → (x : Path) (o : Option Candidate) → GoodCandidate w c.space x o → SafeOutcome w (takes_candidate c x o)
-takes-safe w c facts caller idle x None good = waits
-takes-safe w c facts caller idle x (Some (Faulting slot fault)) good = safe-ended w c (Alter x (SetTaker (Some (Server (At (path_of c))))) ∷ []) _ (taker, tt)
-  where
-    taker : (found : Fault) → fault_at w x ≡ Some found → IsSafeServer w found.port (At (path_of c))
-    taker found at = let there = good.0 in
-        let same : found ≡ fault = cc in rw same (caller-serves w c facts caller idle fault.port (port-lies w c.space slot c.slot fault.port good.1))
-takes-safe w c facts caller idle x (Some (Connecting slot)) good =
-    safe-done w c (Alter x (SetTalk (Some (new_talk (At (slot ∷ c.space)) (Server (At (path_of c)))))) ∷ Alter x (Finish []) ∷ []) _ (talk, (tt, tt))
-  where
-    talk : IsSafeTalk w x (new_talk (At (slot ∷ c.space)) (Server (At (path_of c))))
-    talk = record { port = rw good refl; peer = caller-serves w c facts caller idle (At (slot ∷ c.space)) refl }
-takes-safe w c facts caller idle x (Some (Resuming slot talk)) good = safe-ended w c (Alter x (SetPeer (Server (At (path_of c)))) ∷ []) _ (peer, tt)
-  where
-    peer : (found : Talk) → talk_at w x ≡ Some found → IsSafePeer w x found.port (Server (At (path_of c)))
-    peer found at = let there = good.0 in
-        let same : found ≡ talk = cc in rw same (caller-serves w c facts caller idle talk.port (port-lies w c.space slot c.slot talk.port good.1))
-
-takes_picked-safe : (w : World) (c : Caller) (set : ℕ) (pick : Option Path) →
-    Facts w → IsCaller w c → is_serving w (path_of c) ≡ false → SafeOutcome w (takes_picked w c set pick)
-takes_picked-safe w c set None facts caller idle = waits
-takes_picked-safe w c set (Some x) facts caller idle =
-    takes-safe w c facts caller idle x (candidate w c.space set x) (candidate-good w facts.rooted c.space set x)
-
-pub wait-safe : (w : World) (c : Caller) (pick : Option Path) (set : ℕ) → Facts w → IsCaller w c → SafeOutcome w (wait w c pick set)
-unfolding wait
-wait-safe w c pick set facts caller = search (safe_row, takes_picked-safe)
-
 -- ---- connect, disconnect and end
-
-pub connect-safe : (w : World) (c : Caller) (h : ℕ) → SafeOutcome w (connect w c h)
-unfolding connect
-connect-safe w c h = search safe_row
-
-removes-safe : (w : World) (c : Caller) (side : Turn) (l : Line) → SafeOutcome w (removes w c side l)
-removes-safe w c side l = safe-telling w _ _ (safe-done w c (end_all (ends_beyond w side l) ++ Alter l.client (SetTalk None) ∷ [])
-    [] (safe-then (end_all (ends_beyond w side l)) _ w (safe-end_all _ w) (λ v. (tt, tt))))
-
-pub disconnect-safe : (w : World) (c : Caller) (side : Turn) → SafeOutcome w (disconnect w c side)
-unfolding disconnect
-disconnect-safe w c side = search (safe_row, removes-safe)

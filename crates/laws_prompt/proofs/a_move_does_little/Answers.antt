@@ -1,4 +1,4 @@
-use Rattle.laws_prompt.proofs.brief.Moves.{moves_are_brief}
+use Rattle.laws_prompt.proofs.Brief.{moves_are_brief}
 use Rattle.laws_prompt.proofs.a_move_does_little.Goals as goal
 
 pub returns : goal.returns

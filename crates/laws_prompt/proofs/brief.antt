@@ -1,4 +1,0 @@
-pub mod Outcomes
-pub mod Rows
-pub mod Objects
-pub mod Moves
