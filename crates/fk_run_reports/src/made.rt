@@ -4,6 +4,8 @@ ghost use Rattle.fk_commands.specs.Status.{progress_of, Finished};
 ghost use Rattle.fk_core.specs.Cores.{run_core};
 ghost use Rattle.fk_job_ends.specs.Ends as definitions;
 ghost use Rattle.fk_report.specs.Jobs.{refused_from};
+ghost use Rattle.fk_report.specs.Report.{outs_text};
+ghost use Rattle.fk_report.specs.Threads.{AreThreads};
 ghost use Rattle.fk_run_reports.specs.Made.{IsEnd, IsMade, IsText, IsLine, status_of_end, status_of_refused};
 ghost use Rattle.laws_house.specs.Houses.{jobs_of};
 
@@ -14,7 +16,7 @@ use fk_job_ends::{Tells, images_of, told_in};
 use fk_jobs::Worker;
 use fk_model::{JobSpec, List as Items, NoMemory};
 use fk_natives::Service;
-use fk_report::{End, JobEnd, first_refused, outs_text, run_text, threads_of};
+use fk_report::{End, JobEnd, ThreadState, first_refused, outs_text, run_text, threads_of};
 use fk_soak::soak_line;
 use std::alloc::Global;
 
@@ -81,6 +83,19 @@ fn concluded(
     })
 }
 
+/// The user threads of a core, and the lines of its consoles and of these.
+fn outs_of<S: Service + Drop, W: Worker + Drop>(
+    alloc: Global,
+    core: &Core<S, W>,
+) -> Result<(Items<ThreadState>, String), NoMemory>
+    ensures threads { IfOk result (λ shown. AreThreads (run_core core.now).world shown.0) }
+    ensures outs { IfOk result (λ shown. string_bytes shown.1 ≡ outs_text (map (λ e. e.1) (run_core core.now).servers) shown.0) }
+{
+    let threads = threads_of(alloc, core.kernel().store())?;
+    let outs = outs_text(alloc, core.services(), threads.as_slice())?;
+    Ok((threads, outs))
+}
+
 /// The report and the text of a run of jobs that has come to a core.
 pub fn prepared<S: Service + Drop, W: Tells + Drop>(
     alloc: Global,
@@ -94,13 +109,15 @@ pub fn prepared<S: Service + Drop, W: Tells + Drop>(
     requires few { length history ≤ core.budget }
     ensures { IfOk result (λ made. IsMade (IsText specs.now) specs.now images.now (run_core core) core.budget history made) }
 {
-    let threads = threads_of(alloc, core.kernel().store())?;
     let end = end_of(&core);
-    let outs = outs_text(alloc, core.services(), threads.as_slice())?;
     let budget = core.budget();
-    let jobs = told_in(alloc, specs.len(), core.into_jobs().into_ends())?;
+    let found = outs_of(alloc, &core);
+    // The core ends here, before memory may lack, so that it is let go at one place alone.
+    let told = told_in(alloc, specs.len(), core.into_jobs().into_ends());
+    let shown = found?;
+    let jobs = told?;
     let events = history.len();
-    let output = run_text(alloc, events, end, specs, jobs.as_slice(), outs.as_str())?;
+    let output = run_text(alloc, events, end, specs, jobs.as_slice(), shown.1.as_str())?;
     Ok(concluded(alloc, specs, history, jobs, end, budget, output)?)
 }
 
@@ -118,8 +135,10 @@ pub fn soaked<S: Service + Drop, W: Tells + Drop>(
     ensures { IfOk result (λ made. IsMade (IsLine count) specs.now [] (run_core core) core.budget history made) }
 {
     let end = end_of(&core);
-    let output = soak_line(alloc, count, end, core.services())?;
     let budget = core.budget();
-    let jobs = told_in(alloc, specs.len(), core.into_jobs().into_ends())?;
+    let line = soak_line(alloc, count, end, core.services());
+    let told = told_in(alloc, specs.len(), core.into_jobs().into_ends());
+    let output = line?;
+    let jobs = told?;
     Ok(concluded(alloc, specs, history, jobs, end, budget, output)?)
 }
