@@ -255,7 +255,7 @@ unfolding apply
 uncut-apply (Alter x edit) w uncut new = λ y. either (same_path y x) _ _ (mapped (edited edit) (λ b ours. edited-ours edit b new ours) (w.body y) (uncut y))
     (uncut y)
 uncut-apply (Make x body) w uncut new = λ y. either (same_path y x) (Some body) (w.body y) new.0 (uncut y)
-uncut-apply (MakeSpace x holder) w uncut new = λ y. either (same_path y x) (Some (Space w.next holder)) (w.body y) new (uncut y)
+uncut-apply (MakeSpace x holder) w uncut new = absurd new
 uncut-apply (Kill x) w uncut new = λ y. either (same_path y x) None _ refl
     (mapped (through (death_sweep x) y) (through-ours (death_sweep x) (death-ours x) y) (w.body y) (uncut y))
 uncut-apply (Move x slot) w uncut new = absurd new
@@ -274,13 +274,17 @@ uncut-move x slot w uncut = λ y.
     either (same_path y to) _ _ (mapped (through (following x to) to) (through-ours (following x to) (following-ours x to) to) (w.body x) (uncut x))
     (either (same_path y x) None _ refl (mapped (through (following x to) y) (through-ours (following x to) (following-ours x to) y) (w.body y) (uncut y)))
 
+uncut-space : (x : Path) (holder : Option Ptr) (w : World) → IsUncut w → AreOurs (option_list (λ p. p ∷ []) holder) → IsUncut (apply (MakeSpace x holder) w)
+unfolding apply
+uncut-space x holder w uncut new = λ y. either (same_path y x) (Some (Space w.next holder)) (w.body y) new (uncut y)
+
 uncut-row : (cs : List Change) (w : World) → IsUncut w → IsOursRow w cs → IsUncut (apply_all cs w)
 unfolding apply_all
 uncut-row [] w uncut new = uncut
 uncut-row (Move x slot ∷ cs) w uncut new = uncut-all cs (apply (Move x slot) w) (uncut-move x slot w uncut) new.2
 uncut-row (Alter x edit ∷ cs) w uncut new = uncut-all (Alter x edit ∷ cs) w uncut new
 uncut-row (Make x body ∷ cs) w uncut new = uncut-all (Make x body ∷ cs) w uncut new
-uncut-row (MakeSpace x holder ∷ cs) w uncut new = uncut-all (MakeSpace x holder ∷ cs) w uncut new
+uncut-row (MakeSpace x holder ∷ cs) w uncut new = uncut-all cs (apply (MakeSpace x holder) w) (uncut-space x holder w uncut new.0) new.1
 uncut-row (Kill x ∷ cs) w uncut new = uncut-all (Kill x ∷ cs) w uncut new
 uncut-row (PutPage space page words ∷ cs) w uncut new = uncut-all (PutPage space page words ∷ cs) w uncut new
 uncut-row (DropPage space page ∷ cs) w uncut new = uncut-all (DropPage space page ∷ cs) w uncut new

@@ -4,3 +4,4 @@ pub mod Moves
 pub mod Kept
 pub mod Stood
 pub mod Staying
+pub mod Replaced

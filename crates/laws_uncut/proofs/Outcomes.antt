@@ -35,7 +35,7 @@ IsOursEdit other = Unit {0}
 abbrev pub SetsOurs : Change → Type 0
 SetsOurs (Alter x edit) = IsOursEdit edit
 SetsOurs (Make x body) = AreOurs (pointers body) × (is_native body ≡ false) × (is_served body ≡ false)
-SetsOurs (MakeSpace x holder) = AreOurs (option_list (λ p. p ∷ []) holder)
+SetsOurs (MakeSpace x holder) = ⊥
 SetsOurs (Kill x) = Unit {0}
 SetsOurs (Move x slot) = ⊥
 SetsOurs (PutPage space page words) = Unit {0}
@@ -45,17 +45,18 @@ abbrev pub SetOurs : List Change → Type 0
 SetOurs [] = Unit {0}
 SetOurs (c ∷ cs) = SetsOurs c × SetOurs cs
 
--- the first of them may rename what is no served port, to a slot of users
+-- the first of them may make a space, or rename what is no served port to a slot of users
 abbrev pub IsOursRow : World → List Change → Type 0
 IsOursRow w [] = Unit {0}
 IsOursRow w (Move x slot ∷ cs) = (nat_le slot LAST_USER_SLOT ≡ true) × (holds is_served (w.body x) ≡ false) × SetOurs cs
+IsOursRow w (MakeSpace x holder ∷ cs) = AreOurs (option_list (λ p. p ∷ []) holder) × SetOurs cs
 IsOursRow w (c ∷ cs) = SetsOurs c × SetOurs cs
 
 pub ours-row : (w : World) (cs : List Change) → SetOurs cs → IsOursRow w cs
 ours-row w [] ours = ours
 ours-row w (Alter x edit ∷ cs) ours = ours
 ours-row w (Make x body ∷ cs) ours = ours
-ours-row w (MakeSpace x holder ∷ cs) ours = ours
+ours-row w (MakeSpace x holder ∷ cs) ours = absurd ours.0
 ours-row w (Kill x ∷ cs) ours = ours
 ours-row w (Move x slot ∷ cs) ours = absurd ours.0
 ours-row w (PutPage space page words ∷ cs) ours = ours
@@ -81,5 +82,6 @@ ours-then (c ∷ cs) ds ours behind = (ours.0, ours-then cs ds ours.1 behind)
 pub row-then : (w : World) (cs ds : List Change) → IsOursRow w cs → SetOurs ds → IsOursRow w (cs ++ ds)
 row-then w [] ds ours behind = ours-row w ds behind
 row-then w (Move x slot ∷ cs) ds ours behind = (ours.0, ours.1, ours-then cs ds ours.2 behind)
+row-then w (MakeSpace x holder ∷ cs) ds ours behind = (ours.0, ours-then cs ds ours.1 behind)
 row-then w (Alter x edit ∷ cs) ds ours behind = (ours.0, ours-then cs ds ours.1 behind)
 row-then w (c ∷ cs) ds ours behind = (ours.0, ours-then cs ds ours.1 behind)

@@ -1,7 +1,7 @@
 -- A space with a porter is the one that was there.
 use Rattle.std.proofs.Common.{◌≡◌, ℕ, true, false, nat_le, IsSome, List, [], ◌∷◌, Option, Some, None, refl, ◌∙◌}
 use Rattle.fk_model.specs.declared.limits.TheConstants.{LAST_USER_SLOT, LAST_PORTER_SLOT}
-use Rattle.fk_model.specs.Places.{Path}
+use Rattle.fk_model.specs.Places.{Path, Ptr}
 use Rattle.fk_model.specs.Objects.{Body, holds, is_served}
 use Rattle.fk_model.specs.World.{World, Change, apply, apply_all}
 use Rattle.fk_model.specs.World.Change.{Alter, Make, MakeSpace, Kill, Move, PutPage, DropPage}
@@ -19,7 +19,7 @@ use Rattle.laws_machine.proofs.safety.Moves.{outcome-safe}
 use Rattle.laws_uncut.specs.Placed.{PortersSpaceStays}
 use Rattle.laws_uncut.proofs.Outcomes.{SetsOurs, SetOurs, IsOursRow, OursOutcome}
 use Rattle.laws_uncut.proofs.Moves.{outcome-ours}
-use Rattle.laws_uncut.proofs.Stood.{edited-native, through-native, native-moves, IsLast, left-apply, left-all, left-move}
+use Rattle.laws_uncut.proofs.Stood.{edited-native, through-native, native-moves, IsLast, left-apply, left-all, left-move, left-space}
 
 some_native : (o : Option Body) → holds is_native o ≡ true → IsSome o
 some_native (Some b) h = refl
@@ -52,6 +52,11 @@ module _ (x : Path) where
   was_moved y slot v low apart there =
       left-move is_native edited-native through-native no_native (λ birth holder. refl) IsLast native-moves y slot v low apart (LAST_PORTER_SLOT ∷ x) refl there
 
+  was_space : (y : Path) (holder : Option Ptr) (v : World) → Porter (apply (MakeSpace y holder) v) → Porter v
+  unfolding Porter
+  was_space y holder v there =
+      left-space is_native edited-native through-native no_native (λ birth holder. refl) y holder v (LAST_PORTER_SLOT ∷ x) there
+
   birth_all : (cs : List Change) (v : World) → IsConsistent v → AreSafe v cs → SetOurs cs → Porter (apply_all cs v) → birth_at (apply_all cs v) x ≡ birth_at v x
   unfolding apply_all
   birth_all [] v valid safe new there = refl
@@ -70,7 +75,10 @@ module _ (x : Path) where
       ∙ birth_one v valid LAST_PORTER_SLOT x (live v (was_moved y slot v new.0 new.1 then_there)) (Move y slot) safe.0
   birth_row (Alter y edit ∷ cs) v valid safe new there = birth_all (Alter y edit ∷ cs) v valid safe new there
   birth_row (Make y body ∷ cs) v valid safe new there = birth_all (Make y body ∷ cs) v valid safe new there
-  birth_row (MakeSpace y holder ∷ cs) v valid safe new there = birth_all (MakeSpace y holder ∷ cs) v valid safe new there
+  birth_row (MakeSpace y holder ∷ cs) v valid safe new there =
+      let then_there = was_all cs (apply (MakeSpace y holder) v) new.1 there in
+      birth_all cs (apply (MakeSpace y holder) v) (valid-apply (MakeSpace y holder) v valid safe.0) safe.1 new.1 there
+      ∙ birth_one v valid LAST_PORTER_SLOT x (live v (was_space y holder v then_there)) (MakeSpace y holder) safe.0
   birth_row (Kill y ∷ cs) v valid safe new there = birth_all (Kill y ∷ cs) v valid safe new there
   birth_row (PutPage space page words ∷ cs) v valid safe new there = birth_all (PutPage space page words ∷ cs) v valid safe new there
   birth_row (DropPage space page ∷ cs) v valid safe new there = birth_all (DropPage space page ∷ cs) v valid safe new there

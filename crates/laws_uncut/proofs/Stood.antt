@@ -178,9 +178,7 @@ module _ (test : Body → Bool) (edits : (edit : Edit) (b : Body) → IsOursEdit
       either (same_path y x) (option_map (edited edit) (w.body y)) (w.body y) (w.body y) (λ h. mapped (edited edit) (λ b. edits edit b new) (w.body y) h)
       (λ h. h) e
   left-apply (Make x body) w new y e = either (same_path y x) (Some body) (w.body y) (w.body y) (λ h. no_body body (w.body y) (makes x body new) h) (λ h. h) e
-  left-apply (MakeSpace x holder) w new y e =
-      either (same_path y x) (Some (Space w.next holder)) (w.body y) (w.body y) (λ h. no_body (Space w.next holder) (w.body y) (spaces w.next holder) h)
-      (λ h. h) e
+  left-apply (MakeSpace x holder) w new y e = absurd new
   left-apply (Kill x) w new y e =
       either (same_path y x) None (option_map (through (death_sweep x) y) (w.body y)) (w.body y) (λ h. none (w.body y) h)
       (λ h. mapped (through (death_sweep x) y) (sweeps (death_sweep x) y) (w.body y) h) e
@@ -192,6 +190,12 @@ module _ (test : Body → Bool) (edits : (edit : Edit) (b : Body) → IsOursEdit
   unfolding apply_all
   left-all [] w new y e = e
   left-all (c ∷ cs) w new y e = left-apply c w new.0 y (left-all cs (apply c w) new.1 y e)
+
+  pub left-space : (x : Path) (holder : Option Ptr) (w : World) (y : Path) → holds test ((apply (MakeSpace x holder) w).body y) ≡ true → holds test (w.body y) ≡ true
+  unfolding apply
+  left-space x holder w y e =
+      either (same_path y x) (Some (Space w.next holder)) (w.body y) (w.body y) (λ h. no_body (Space w.next holder) (w.body y) (spaces w.next holder) h)
+      (λ h. h) e
 
   -- ---- with a rename first, where what comes to its new place is not such
 
@@ -224,7 +228,7 @@ module _ (test : Body → Bool) (edits : (edit : Edit) (b : Body) → IsOursEdit
     left-row (Move x slot ∷ cs) w new y place e = left-move x slot w new.0 new.1 y place (left-all cs (apply (Move x slot) w) new.2 y e)
     left-row (Alter x edit ∷ cs) w new y place e = left-all (Alter x edit ∷ cs) w new y e
     left-row (Make x body ∷ cs) w new y place e = left-all (Make x body ∷ cs) w new y e
-    left-row (MakeSpace x holder ∷ cs) w new y place e = left-all (MakeSpace x holder ∷ cs) w new y e
+    left-row (MakeSpace x holder ∷ cs) w new y place e = left-space x holder w y (left-all cs (apply (MakeSpace x holder) w) new.1 y e)
     left-row (Kill x ∷ cs) w new y place e = left-all (Kill x ∷ cs) w new y e
     left-row (PutPage space page words ∷ cs) w new y place e = left-all (PutPage space page words ∷ cs) w new y e
     left-row (DropPage space page ∷ cs) w new y place e = left-all (DropPage space page ∷ cs) w new y e

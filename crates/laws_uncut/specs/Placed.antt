@@ -1,5 +1,5 @@
 -- Porters and served ports: no move makes one, and a space with a porter stays in its place.
-use Rattle.std.specs.Prelude.{◌≡◌, ◌≤◌, true, ◌∷◌}
+use Rattle.std.specs.Prelude.{◌≡◌, ℕ, ◌≤◌, true, ◌∷◌, Some}
 use Rattle.fk_model.specs.declared.limits.TheConstants.{LAST_PORTER_SLOT}
 use Rattle.fk_model.specs.Objects.{holds, is_served}
 use Rattle.fk_model.specs.Places.{Path}
@@ -23,3 +23,8 @@ ServedStood = (w : World) (e : Event) → IsUncut w → (x : Path) → holds is_
 abbrev pub PortersSpaceStays : Type 0
 PortersSpaceStays = (w : World) (e : Event) → IsUncut w → IsValid w → w.next ≤ depth → is_fit w e.mover e.ask ≡ true → (x : Path) →
     holds is_native ((after w e).body (LAST_PORTER_SLOT ∷ x)) ≡ true → birth_at (after w e) x ≡ birth_at w x
+
+-- a space that stands where one stood before a fit move is that one
+abbrev pub SpacesAreNotReplaced : Type 0
+SpacesAreNotReplaced = (w : World) (e : Event) → IsUncut w → IsValid w → w.next ≤ depth → is_fit w e.mover e.ask ≡ true → (y : Path) (birth other : ℕ) →
+    birth_at w y ≡ Some birth → birth_at (after w e) y ≡ Some other → other ≡ birth

@@ -3,7 +3,7 @@
 //! It stands on `laws_further` for the definition, and on `laws_machine` for what readers say of a world.
 #![tactic(auto)]
 
-ghost use Rattle.laws_uncut.specs.Placed.{PortersStood, ServedStood, PortersSpaceStays};
+ghost use Rattle.laws_uncut.specs.Placed.{PortersStood, ServedStood, PortersSpaceStays, SpacesAreNotReplaced};
 ghost use Rattle.laws_uncut.specs.Uncut.{MovesKeepUncut};
 
 /// Whatever move is made, a world whose pointers lead somewhere in it or nowhere is such a world after it.
@@ -20,4 +20,9 @@ pub fn no_move_makes_a_server()
 /// A space that has a porter after a fit move of a valid world is the one that was there.
 pub fn a_porters_space_stays()
     ensures { PortersSpaceStays }
+{}
+
+/// A space that stands where one stood before a fit move is that one.
+pub fn a_space_isnt_replaced()
+    ensures { SpacesAreNotReplaced }
 {}
