@@ -1,6 +1,6 @@
 -- What users and native servers list names what they can name: by the lists of `laws_rows`.
 use Rattle.std.proofs.Common.{◌≡◌, ℕ, Bool, true, false, not, cond, nat_le, if◌then◌else◌, ◌==◌, List, [], ◌∷◌, ◌++◌, map, Option, Some, None, Result, Ok, Err, refl}
-use Rattle.std.proofs.lemmas.Bool.{and_parts, not-false}
+use Rattle.std.proofs.lemmas.Bool.{and_parts, not-false, not-true}
 use Rattle.fk_model.specs.declared.limits.TheConstants.{LAST_USER_SLOT}
 use Rattle.fk_model.specs.declared.moves.Ask.{Ask}
 use Rattle.fk_model.specs.declared.names.Kind.TheVariants as kinds
@@ -12,7 +12,7 @@ use Rattle.fk_model.specs.Objects.{Mode, Thread, Body, reference_of, thread_of, 
 use Rattle.fk_model.specs.Objects.Mode.{Running, Halted}
 use Rattle.fk_model.specs.Objects.Body.{Mutex, Cond, Mapping, Region, Port, Portset, Space, Thread_of, Reference}
 use Rattle.fk_model.specs.World.{World, Change, Edit}
-use Rattle.fk_model.specs.World.Change.{Alter, DropPage}
+use Rattle.fk_model.specs.World.Change.{Alter}
 use Rattle.fk_model.specs.World.Edit.{SetTalk}
 use Rattle.fk_model.specs.Searches.{thread_at}
 use Rattle.fk_model.specs.Holds.{is_porter}
@@ -24,7 +24,7 @@ use Rattle.fk_model.specs.Records.{set_edits, calling_by, mode_of_record, record
 use Rattle.fk_model.specs.StateRows.{is_native}
 use Rattle.fk_model.specs.Moves.{is_for_porters}
 use Rattle.fk_model.specs.Valid.{kind_there}
-use Rattle.laws_machine.proofs.safety.Reads.{object_in-found}
+use Rattle.laws_machine.proofs.safety.Reads.{object-there}
 use Rattle.laws_rows.specs.Stages.{Sets, Work, Step}
 use Rattle.laws_rows.specs.Stages.Sets.{Points, Clears, Gets_pointer, Sets_pointer, Holds, Restores_hold}
 use Rattle.laws_rows.specs.Stages.Work.{Looks, Edits, Makes, Makes_held, Kills, Renames, Sets_record, Copies, Sleeps, Wakes_all}
@@ -35,7 +35,7 @@ use Rattle.laws_rows.specs.Moves.Goes_to.{Halts}
 use Rattle.laws_rows.specs.Moves.Instructs.{Goes_on, Stores, Faults}
 use Rattle.laws_rows.specs.Moves.Serves.{Waits_for_client, Accepts, Takes_up, Gives_nothing, Finds_no_room, Gives_words, Passes_client}
 use Rattle.laws_rows.specs.Moves.Lists.{Moves_not, Runs, Calls, Is_told_no, Asks, Is_answered_no, Acts}
-use Rattle.laws_rows.proofs.Walk.{new_all, ends-all, ends-then, sleepers-all}
+use Rattle.laws_rows.proofs.Walk.{new_all, drops-all, ends-all, ends-then, sleepers-all}
 use Rattle.laws_rows.proofs.Moves.{moves-listed}
 use Rattle.laws_frozen.proofs.once.Moves.{rootless}
 use Rattle.laws_frozen.specs.Users.{is_low, IsUsersEdit, AreUsers, is_users, UsersNameLow}
@@ -60,10 +60,6 @@ edits-users w x (Region r) words there off = (tt, tt)
 edits-users w x (Port set served) words there off = (tt, tt)
 edits-users w x (Thread_of t) words there off = ((rw there off, record_mode (word words 18) (record_registers words) (word words 19)), (tt, tt))
 edits-users w x b words there off = tt
-
-drops-users : (w : World) (space : Path) (page : ℕ) (drops : Bool) → AreUsers w (if drops then DropPage space page ∷ [] else [])
-drops-users w space page true = (tt, tt)
-drops-users w space page false = tt
 
 -- ---- slots that a user can name
 
@@ -96,10 +92,6 @@ module _ (c : Caller) (user : c.is_porter ≡ false) where
     sets off (Gets_pointer s x field k space b old found place read read2 has inner) = object-low w reference_of c.space k old read2
     sets off (Sets_pointer s x field k space b to place read read2 free inner among) = object-low w anything space x b read
     sets off (Holds s x space was place read free apart alone) = not-true _ (and_parts (not (is_held_by_other w (path_of c) (x ∷ space))) _ alone).1
-      where
-        not-true : (b : Bool) → not b ≡ true → b ≡ false
-        not-true true e = cc
-        not-true false e = refl
     sets off (Restores_hold s x thread space was holder place read read2 free) = cc
     sets off other = tt
 
@@ -115,12 +107,9 @@ module _ (c : Caller) (user : c.is_porter ≡ false) where
     work off (Kills s x space b place read free apart leaf) =
         (record { named = x ∷ space; low = object-low w anything space x b read; leaf = refl }, ends-all (AreUsers w) tt (λ y cs rest. (tt, rest)) _)
     work off (Renames s x y space b place read free low apart empty residents) = ((object-low w anything space x b read, not-false _ low), tt)
-    work off (Sets_record s x address space b words place read free none good from still takes) = edits-users w (x ∷ space) b words there none
-      where
-        there : w.body (x ∷ space) ≡ Some b
-        there = let found = object_in-found w c anything space x b read in
-            let same : found.body ≡ b = (let e : Some found.body ≡ Some b = found.seen in cc) in rw same at found.there
-    work off (Copies stage s page address space t own drops words place there home) = (tt, drops-users w space page drops)
+    work off (Sets_record s x address space b words place read free none good from still takes) =
+        edits-users w (x ∷ space) b words (object-there w c x space b read) none
+    work off (Copies stage s page address space t own drops words place there home) = (tt, drops-all (AreUsers w) space page tt (tt, tt) drops)
     work off (Wakes_all at) = sleepers-all (AreUsers w) w c.space at tt (λ x m cs asleep rest. (tt, rest))
     work off (Takes_client set slot x idle at) = (tt, (tt, tt))
     work off (Hangs_up stage side l at) = ends-then (AreUsers w) (Alter l.client (SetTalk None) ∷ []) (tt, tt) (λ y cs rest. (tt, rest)) _

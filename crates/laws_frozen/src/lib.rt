@@ -1,7 +1,7 @@
 //! What stays of a subtree while another decides over it, and what users can touch at all. Each law is the contract of a
 //! function that does nothing.
 //!
-//! It stands on `fk_model`, whose definitions the laws are about, and on `laws_machine`.
+//! It stands on `fk_model`, whose definitions the laws are about, on `laws_rows` for what moves list, and on `laws_machine`.
 #![tactic(auto)]
 
 ghost use Rattle.laws_frozen.specs.Frozen.{FrozenSubtreeStays, FrozenCutStays};

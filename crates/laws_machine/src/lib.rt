@@ -1,7 +1,7 @@
 //! The laws of the machine, each the contract of a function that does nothing.
 //!
-//! It stands on `fk_model` alone, whose definitions the laws are about: calls and records are read back as they were
-//! written, a move changes only what its row lists, and a fit move keeps a world valid.
+//! It stands on `fk_model`, whose definitions the laws are about, and on `laws_rows` for what moves list: calls and records
+//! are read back as they were written, a move changes only what its row lists, and a fit move keeps a world valid.
 #![tactic(auto)]
 
 ghost use Rattle.laws_machine.specs.Frame.{MoveKeepsBodies, MoveKeepsPages};

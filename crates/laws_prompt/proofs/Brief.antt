@@ -1,5 +1,5 @@
 -- Whatever a move lists is brief: by the lists of `laws_rows`.
-use Rattle.std.proofs.Common.{ℕ, ◌≤◌, Bool, true, false, if◌then◌else◌, List, [], ◌∷◌, ◌++◌, map, take, length, min, Option, None}
+use Rattle.std.proofs.Common.{ℕ, ◌≤◌, List, [], ◌∷◌, ◌++◌, map, take, length, min, Option, None}
 use Rattle.std.proofs.Math.Nat.{min-le_left}
 use Rattle.fk_model.specs.declared.limits.TheConstants.{BLOCK_WORDS}
 use Rattle.fk_model.specs.declared.moves.Ask.{Ask}
@@ -22,7 +22,7 @@ use Rattle.laws_rows.specs.Moves.{Instructs, Serves, Lists}
 use Rattle.laws_rows.specs.Moves.Instructs.{Stores}
 use Rattle.laws_rows.specs.Moves.Serves.{Waits_for_client, Accepts, Takes_up, Gives_nothing, Finds_no_room, Gives_words, Passes_client}
 use Rattle.laws_rows.specs.Moves.Lists.{Moves_not, Runs, Calls, Is_told_no, Asks, Is_answered_no, Acts}
-use Rattle.laws_rows.proofs.Walk.{new_all, ends-all, ends-then, sleepers-all}
+use Rattle.laws_rows.proofs.Walk.{new_all, drops-all, ends-all, ends-then, sleepers-all}
 use Rattle.laws_rows.proofs.Moves.{moves-listed}
 use Rattle.laws_prompt.specs.Brief.{IsSmallEdit, AreSmall, AreBrief, MovesAreBrief}
 
@@ -51,10 +51,6 @@ edits-small x (Port set served) words = (tt, tt)
 edits-small x (Thread_of t) words = (tt, (tt, tt))
 edits-small x b words = tt
 
-drops-small : (space : Path) (page : ℕ) (drops : Bool) → AreSmall (if drops then DropPage space page ∷ [] else [])
-drops-small space page true = (tt, tt)
-drops-small space page false = tt
-
 -- a block has at most 64 words
 few : (address count into room : ℕ) → moved_words address count into room ≤ BLOCK_WORDS
 few address count into room = min-le_left BLOCK_WORDS (min count (min (to_page_end address) (min room (to_page_end into))))
@@ -72,7 +68,7 @@ module _ {w : World} {c : Caller} {pick : Option Path} where
   work (Makes s x j kind space made place slot free new empty) = new_all (λ made. AreBrief (made ∷ [])) (x ∷ space) kind made new tt tt tt tt tt tt tt tt tt
   work (Kills s x space b place read free apart leaf) = ends-all AreSmall tt (λ x cs rest. (tt, rest)) _
   work (Sets_record s x address space b words place read free off good source still takes) = brief-small _ (edits-small (x ∷ space) b words)
-  work (Copies stage s page address space t own drops words place there home) = drops-small space page drops
+  work (Copies stage s page address space t own drops words place there home) = drops-all AreSmall space page tt (tt, tt) drops
   work (Wakes_all cond) = brief-small _ (sleepers-all AreSmall w c.space cond tt (λ x m cs asleep rest. (tt, rest)))
   work (Hangs_up stage side l at) = brief-small _ (ends-then AreSmall (Alter l.client (SetTalk None) ∷ []) (tt, tt) (λ x cs rest. (tt, rest)) _)
   work (Sends stage side l address count receive thread e s own t other here at led free is home theirs) =

@@ -24,7 +24,8 @@ use Rattle.fk_model.specs.StateRows.{is_bad_record_address, shows, get_state, re
 use Rattle.fk_model.specs.Moves.{Step, call_row, closed, stepped, porter_at}
 use Rattle.fk_model.proofs.walks.PlaceLaws.{same_path_refl}
 use Rattle.laws_whole.specs.Runnable.{HasRegisters, IsRunnable}
-use Rattle.laws_whole.proofs.Objects.{has-all, length-record, object-there, record_place}
+use Rattle.laws_machine.proofs.safety.Reads.{object-there}
+use Rattle.laws_whole.proofs.Objects.{has-all, length-record, record_place}
 use Rattle.laws_prompt.specs.Callers.{IsUserAt, is_done}
 use Rattle.laws_prompt.specs.Correct.{words_found, record_found, ShowsRecord, GetStateShows, AnswersRecord, GetStateAnswers}
 use Rattle.laws_prompt.proofs.Movers.{users-step, porters-step, unpicked}

@@ -19,7 +19,7 @@ use Rattle.fk_model.specs.LinkRows.{end_all, user_at}
 use Rattle.fk_model.specs.ObjectRows.{kills, destroys, destroy, ends_with, told_with}
 use Rattle.fk_model.specs.Moves.{Step, call_row, closed, stepped, porter_at}
 use Rattle.fk_model.proofs.walks.Lowest.{lowest-found}
-use Rattle.laws_whole.proofs.Objects.{object-there}
+use Rattle.laws_machine.proofs.safety.Reads.{object-there}
 use Rattle.laws_prompt.specs.Brief.{RemovesOne, Destroys, UsersDestroyOne, PortersDestroyOne}
 use Rattle.laws_prompt.proofs.Movers.{users-step, porters-step, unpicked}
 

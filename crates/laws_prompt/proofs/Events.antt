@@ -11,7 +11,7 @@ use Rattle.fk_model.specs.Moves.{Step, step, porter_at}
 use Rattle.fk_model.specs.Runs.{Event}
 use Rattle.laws_whole.specs.Runnable.{IsRunnable}
 use Rattle.laws_whole.proofs.Laws.{keeps_runnable}
-use Rattle.laws_whole.proofs.Objects.{object-there}
+use Rattle.laws_machine.proofs.safety.Reads.{object-there}
 use Rattle.laws_prompt.specs.Correct.{IsNamed, HasShapes}
 use Rattle.laws_prompt.specs.Events.{PromptIsReady, IsCorrect, StepsAreCorrect}
 use Rattle.laws_prompt.specs.Events.IsPrompt.{Gets, PorterGets, Holds, PorterHolds}

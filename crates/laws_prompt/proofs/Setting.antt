@@ -25,7 +25,7 @@ use Rattle.fk_model.specs.StateRows.{is_bad_record_address, is_native, is_still,
 use Rattle.fk_model.specs.Moves.{Step, call_row, closed, stepped, porter_at}
 use Rattle.laws_machine.proofs.Records.{record_changes_nothing_lem}
 use Rattle.laws_whole.specs.Runnable.{HasRegisters}
-use Rattle.laws_whole.proofs.Objects.{object-there}
+use Rattle.laws_machine.proofs.safety.Reads.{object-there}
 use Rattle.laws_prompt.specs.Callers.{IsUserAt, is_done}
 use Rattle.laws_prompt.specs.Correct.{words_found, MeetsItself, SetStateOfItself, GivesItself, PortersSetStateOfItself}
 use Rattle.laws_prompt.proofs.Movers.{users-step, porters-step, unpicked}

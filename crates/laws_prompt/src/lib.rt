@@ -1,7 +1,8 @@
 //! Laws of state and holds, each the contract of a function that does nothing: what a thread is shown of an object is the
 //! object's record, whatever the object does; a space is held whatever is done beneath it; and every move does little.
 //!
-//! It stands on `fk_model`, whose definitions the laws are about, on `laws_machine` and on `laws_whole`.
+//! It stands on `fk_model`, whose definitions the laws are about, on `laws_rows` for what moves list, on `laws_machine` and
+//! on `laws_whole`.
 #![tactic(auto)]
 
 ghost use Rattle.laws_prompt.specs.Brief.{MovesAreBrief, UsersDestroyOne, PortersDestroyOne};

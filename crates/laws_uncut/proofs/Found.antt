@@ -22,7 +22,7 @@ use Rattle.fk_model.specs.ObjectRows.{pointer_to, pointer_in}
 use Rattle.fk_model.specs.StateRows.{Field, or_null, peer_field, thread_field, first_field, field_of, field_pointer, referable}
 use Rattle.fk_model.specs.StateRows.Field.{Pointer}
 use Rattle.fk_model.proofs.walks.Lowest.{lowest-found}
-use Rattle.laws_machine.proofs.safety.Reads.{object_in-found}
+use Rattle.laws_machine.proofs.safety.Reads.{object_in-found, object-there}
 use Rattle.laws_further.specs.ClosedLaws.{is_cut_pointer, IsUncut}
 use Rattle.laws_uncut.proofs.Outcomes.{IsOurs, AreOurs}
 
@@ -195,9 +195,7 @@ module _ (w : World) (uncut : IsUncut w) where
   pub field-ours : (c : Caller) (space : Path) (k n : ℕ) (b : Body) (field : Field) → object_in w c anything space k ≡ Ok b → field_of n b ≡ Some field
       → IsOurs (field_pointer field)
   field-ours c space k n b field read is =
-      let found = object_in-found w c anything space k b read in
-      let same : found.body ≡ b = (let e = found.seen in cc) in
-      by (field_of n b) is (some-field n b (body-ours (k ∷ space) b (found.there ∙ ap (λ (b : Body). Some b) same)))
+      by (field_of n b) is (some-field n b (body-ours (k ∷ space) b (object-there w c k space b read)))
     where
       by : (o : Option Field) → o ≡ Some field → IsOursField o → IsOurs (field_pointer field)
       by (Some other) e ours = let same : other ≡ field = cc in ap (λ (f : Field). is_cut_pointer (field_pointer f)) (sym same) ∙ ours

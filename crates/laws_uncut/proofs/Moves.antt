@@ -1,74 +1,48 @@
 -- No move lists a change that sets a pointer that stands in cuts alone: by the lists of `laws_rows`.
-use Rattle.std.proofs.Common.{◌≡◌, ℕ, Bool, true, false, nat_le, not, if◌then◌else◌, ◌==◌, List, [], ◌∷◌, map, Option, Some, None, refl, ap, ◌∙◌}
-use Rattle.fk_model.specs.declared.limits.TheConstants.{LAST_USER_SLOT}
+use Rattle.std.proofs.Common.{◌≡◌, ℕ, Bool, true, false, if◌then◌else◌, ◌==◌, List, [], ◌∷◌, map, Option, Some, None, refl, ap, ◌∙◌}
+use Rattle.std.proofs.lemmas.Bool.{not-false}
 use Rattle.fk_model.specs.declared.moves.Ask.{Ask}
 use Rattle.fk_model.specs.declared.names.Kind.TheVariants as kinds
 use Rattle.fk_model.specs.declared.stage.Stage.{Stage}
 use Rattle.fk_model.specs.Places.{Path, Ptr}
 use Rattle.fk_model.specs.Places.Ptr.{At}
-use Rattle.fk_model.specs.Calls.{todo_of}
-use Rattle.fk_model.specs.Objects.{Mode, Body, holds, is_served}
-use Rattle.fk_model.specs.Objects.Mode.{Running, Halted}
+use Rattle.fk_model.specs.Objects.{Body, holds, is_served}
 use Rattle.fk_model.specs.Objects.Peer.{Parked}
 use Rattle.fk_model.specs.Objects.Body.{Mutex, Mapping, Region, Port, Thread_of}
 use Rattle.fk_model.specs.World.{World, Change, Edit}
-use Rattle.fk_model.specs.World.Change.{Alter, DropPage}
+use Rattle.fk_model.specs.World.Change.{Alter}
 use Rattle.fk_model.specs.World.Edit.{SetTalk}
 use Rattle.fk_model.specs.Searches.{option_list, peer_pointer}
 use Rattle.fk_model.specs.Reach.{reach_word}
 use Rattle.fk_model.specs.Reach.Reach.{Missing}
-use Rattle.fk_model.specs.Holds.{is_porter}
 use Rattle.fk_model.specs.Outcomes.{Outcome, Caller}
-use Rattle.fk_model.specs.Readers.{anything}
-use Rattle.fk_model.specs.Records.{set_edits, calling_by, mode_of_record, record_registers, word}
+use Rattle.fk_model.specs.Records.{set_edits, record_registers, word}
 use Rattle.fk_model.specs.Moves.{outcome}
-use Rattle.laws_machine.proofs.safety.Reads.{object_in-found}
+use Rattle.laws_machine.proofs.safety.Reads.{object-there}
 use Rattle.laws_rows.specs.Stages.{Sets, Work, Step}
 use Rattle.laws_rows.specs.Stages.Sets.{Points, Clears, Gets_pointer, Sets_pointer, Holds, Releases, Restores_hold, Takes_fault, Resumes, Frees}
 use Rattle.laws_rows.specs.Stages.Sets.{Restores_talk, Parks_talk, Restores_fault, Parks_fault}
 use Rattle.laws_rows.specs.Stages.Work.{Looks, Edits, Makes, Makes_held, Kills, Renames, Sets_record, Copies, Sleeps, Wakes_all}
 use Rattle.laws_rows.specs.Stages.Work.{Takes_client, Hangs_up, Sends, Sends_service, Passes}
 use Rattle.laws_rows.specs.Stages.Step.{Is_refused, Is_waiting, Raises, Answers, Stays, Finishes, Ends}
-use Rattle.laws_rows.specs.Moves.{Goes_to, Instructs, Serves, Lists}
-use Rattle.laws_rows.specs.Moves.Goes_to.{Halts}
+use Rattle.laws_rows.specs.Moves.{Instructs, Serves, Lists}
 use Rattle.laws_rows.specs.Moves.Instructs.{Goes_on, Stores, Faults}
 use Rattle.laws_rows.specs.Moves.Serves.{Waits_for_client, Accepts, Takes_up, Gives_nothing, Finds_no_room, Gives_words, Passes_client}
 use Rattle.laws_rows.specs.Moves.Lists.{Moves_not, Runs, Calls, Is_told_no, Asks, Is_answered_no, Acts}
-use Rattle.laws_rows.proofs.Walk.{new_all, ends-all, ends-then, sleepers-all}
+use Rattle.laws_rows.proofs.Walk.{new_all, drops-all, ends-all, ends-then, sleepers-all}
 use Rattle.laws_rows.proofs.Moves.{moves-listed}
+use Rattle.laws_frozen.proofs.Users.{record_mode, goes_to}
 use Rattle.laws_further.specs.ClosedLaws.{IsUncut}
 use Rattle.laws_uncut.proofs.Outcomes.{AreOurs, IsOursEdit, SetOurs, IsOursRow, ours-row, OursIn, OursOutcome, row-then}
 use Rattle.laws_uncut.proofs.Found.{both-ours, pair-ours, one-ours, reference-ours, referred-ours, taker-ours, pointer-ours, field-ours, IsOursReach, word-ours}
-
-drops-ours : (space : Path) (page : ℕ) (drops : Bool) → SetOurs (if drops then DropPage space page ∷ [] else [])
-drops-ours space page true = (tt, tt)
-drops-ours space page false = tt
-
--- ---- the mode that a record sets is no porter's
-
-called-user : (g : List ℕ) (o : Option (List Stage)) → is_porter (calling_by g o) ≡ false
-called-user g (Some todo) = refl
-called-user g None = refl
-
-user-mode : (n : ℕ) (g : List ℕ) (code : ℕ) → is_porter (mode_of_record n g code) ≡ false
-user-mode n g code = by (n == 0) (n == 1)
-  where
-    by : (a b : Bool) → is_porter (if a then Running g else (if b then calling_by g (todo_of g) else Halted g code)) ≡ false
-    by true b = refl
-    by false true = called-user g (todo_of g)
-    by false false = refl
 
 edits-ours : (x : Path) (b : Body) (words : List ℕ) → SetOurs (map (Alter x) (set_edits b words))
 edits-ours x (Mutex locked) words = (tt, tt)
 edits-ours x (Mapping m) words = (tt, tt)
 edits-ours x (Region r) words = (tt, tt)
 edits-ours x (Port set served) words = (tt, tt)
-edits-ours x (Thread_of t) words = (user-mode (word words 18) (record_registers words) (word words 19), (tt, tt))
+edits-ours x (Thread_of t) words = (record_mode (word words 18) (record_registers words) (word words 19), (tt, tt))
 edits-ours x b words = tt
-
-not-true : (b : Bool) → not b ≡ false → b ≡ true
-not-true true e = refl
-not-true false e = cc
 
 parks : (t : Bool) → AreOurs (option_list peer_pointer (if t then Some Parked else None))
 parks true = refl
@@ -112,14 +86,9 @@ module _ (w : World) (uncut : IsUncut w) where
     work (Makes_held x j slot empty) = (refl, tt)
     work (Kills s x space b place read free apart leaf) = (tt, ends-all SetOurs tt (λ x cs rest. (tt, rest)) _)
     work (Renames s x y space b place read free low apart empty residents) =
-        let found = object_in-found w c anything space x b read in
-        let same : found.body ≡ b = (let e = found.seen in cc) in (
-          not-true (nat_le y LAST_USER_SLOT) low,
-          ap (λ (o : Option Body). holds is_served o) (found.there ∙ ap (λ (b : Body). Some b) same) ∙ apart,
-          tt,
-        )
+        (not-false _ low, ap (λ (o : Option Body). holds is_served o) (object-there w c x space b read) ∙ apart, tt)
     work (Sets_record s x address space b words place read free off good from still takes) = ours-row w _ (edits-ours (x ∷ space) b words)
-    work (Copies stage s page address space t own drops words place there home) = (tt, drops-ours space page drops)
+    work (Copies stage s page address space t own drops words place there home) = (tt, drops-all SetOurs space page tt (tt, tt) drops)
     work (Wakes_all cond) = ours-row w _ (sleepers-all SetOurs w c.space cond tt (λ x m cs asleep rest. (tt, rest)))
     work (Takes_client set slot x idle at) = (refl, (tt, tt))
     work (Hangs_up stage side l at) = ours-row w _ (ends-then SetOurs (Alter l.client (SetTalk None) ∷ []) (refl, tt) (λ x cs rest. (tt, rest)) _)
@@ -139,10 +108,6 @@ module _ (w : World) (uncut : IsUncut w) where
     step (Ends cs answers user its) = row-then w cs _ (work its) (tt, tt)
 
   -- ---- instructions and acts
-
-  goes_to : {space : Path} {g : List ℕ} {counter : ℕ} {mode : Mode} {after : ℕ} → Goes_to w space g counter mode after → is_porter mode ≡ false
-  goes_to (Halts code) = refl
-  goes_to other = refl
 
   instructs : {space : Path} {slot : ℕ} {g : List ℕ} {counter : ℕ} {o : Outcome} → Instructs w space slot g counter o → OursIn w o
   instructs (Goes_on mode after to) = (goes_to to, tt)

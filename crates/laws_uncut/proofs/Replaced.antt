@@ -1,4 +1,5 @@
--- A space that stands where one stood is that one: a row makes or renames one thing at most, and first of all.
+-- A space that stands where one stood before the move is that one: a row makes a space, or renames, as its first change alone, and nothing stood in the place
+-- to which that comes.
 use Rattle.std.proofs.Common.{◌≡◌, ℕ, Bool, true, false, if◌then◌else◌, List, [], ◌∷◌, Option, Some, None, option_map, refl, sym, ap, ◌∙◌}
 use Rattle.fk_model.specs.Moves.{stepped, outcome, step}
 use Rattle.fk_model.specs.Outcomes.{Outcome}
@@ -13,25 +14,16 @@ use Rattle.fk_model.proofs.walks.PlaceLaws.{same_path_eq}
 use Rattle.laws_machine.proofs.safety.Moves.{outcome-safe}
 use Rattle.laws_machine.proofs.safety.Outcomes.{SafeOutcome}
 use Rattle.laws_machine.proofs.safety.Safe.{is_plain, IsSafe, AreSafe}
+use Rattle.laws_machine.proofs.safety.Staying.{same_birth, each}
 use Rattle.laws_machine.proofs.validity.Edits.{outline-edited}
 use Rattle.laws_machine.proofs.validity.Kills.{outline-without}
 use Rattle.laws_machine.proofs.validity.Renames.{outline-following}
-use Rattle.laws_machine.proofs.validity.Outlines.{Outline, outline_of, outline-birth}
 use Rattle.laws_machine.proofs.validity.Steps.{facts_of}
 use Rattle.laws_uncut.specs.Placed.{SpacesAreNotReplaced}
 use Rattle.laws_uncut.proofs.Outcomes.{SetsOurs, SetOurs, IsOursRow, OursOutcome}
 use Rattle.laws_uncut.proofs.Moves.{outcome-ours}
 
-abbrev numbered : Option Outline → Option ℕ
-numbered o = and_then (λ (f : Outline). f.birth) o
-
-kept_birth : (a b : Option Body) → option_map outline_of a ≡ option_map outline_of b → and_then birth_of a ≡ and_then birth_of b
-kept_birth a b e = outline-birth a ∙ ap numbered e ∙ sym (outline-birth b)
-
-each : (f : Body → Body) → ((b : Body) → outline_of (f b) ≡ outline_of b) → (o : Option Body) → option_map outline_of (option_map f o) ≡ option_map outline_of o
-each f same None = refl
-each f same (Some b) = ap (λ (x : Outline). Some x) (same b)
-
+-- what is made, and is no space, has no number
 plain_birth : (b : Body) → is_plain b ≡ true → birth_of b ≡ None
 plain_birth (Space birth holder) h = cc
 plain_birth (Mutex locked) h = refl
@@ -43,20 +35,20 @@ plain_birth Portset h = refl
 plain_birth (Thread_of t) h = refl
 plain_birth (Reference to) h = refl
 
-abbrev a_number : ℕ → Option ℕ
-a_number n = Some n
-
 no_birth : (o : Option Body) (n : ℕ) → o ≡ None → and_then birth_of o ≡ Some n → ⊥
 no_birth None n e h = cc
 no_birth (Some b) n e h = cc
 
+-- ---- from the number behind a change to the one before it
+
 module _ (y : Path) (other : ℕ) where
+  -- a change that makes no space and renames nothing gives no number
   back_one : (c : Change) (v : World) → SetsOurs c → IsSafe v c → birth_at (apply c v) y ≡ Some other → birth_at v y ≡ Some other
   unfolding apply
   back_one (Alter x edit) v ours safe h = by (same_path y x) h
     where
       by : (t : Bool) → and_then birth_of (if t then option_map (edited edit) (v.body y) else v.body y) ≡ Some other → birth_at v y ≡ Some other
-      by true h = sym (kept_birth (option_map (edited edit) (v.body y)) (v.body y) (each (edited edit) (outline-edited edit) (v.body y))) ∙ h
+      by true h = sym (same_birth (edited edit) (each (edited edit) (outline-edited edit)) (v.body y)) ∙ h
       by false h = h
   back_one (Make [] body) v ours safe h = absurd safe
   back_one (Make (k ∷ s) body) v ours safe h = by (same_path y (k ∷ s)) h
@@ -69,7 +61,7 @@ module _ (y : Path) (other : ℕ) where
     where
       by : (t : Bool) → and_then birth_of (if t then None else option_map (through (death_sweep x) y) (v.body y)) ≡ Some other → birth_at v y ≡ Some other
       by true h = cc
-      by false h = sym (kept_birth (option_map (through (death_sweep x) y) (v.body y)) (v.body y) (outline-without x y (v.body y))) ∙ h
+      by false h = sym (same_birth (through (death_sweep x) y) (outline-without x y) (v.body y)) ∙ h
   back_one (Move x slot) v ours safe h = absurd ours
   back_one (PutPage space page words) v ours safe h = h
   back_one (DropPage space page) v ours safe h = h
@@ -80,9 +72,10 @@ module _ (y : Path) (other : ℕ) where
   back_all (c ∷ cs) v ours safe h = back_one c v ours.0 safe.0 (back_all cs (apply c v) ours.1 safe.1 h)
 
   same_number : (v : World) (birth : ℕ) → birth_at v y ≡ Some birth → birth_at v y ≡ Some other → other ≡ birth
-  same_number v birth one two = let both : a_number other ≡ a_number birth = sym two ∙ one in cc
+  same_number v birth one two = let both : Some other ≡ Some birth = sym two ∙ one in cc
 
-  -- what comes first comes to a place where nothing stood
+  -- ---- the first change: it comes to a place where nothing stood
+
   apart : (x : Path) (v : World) (birth : ℕ) → v.body x ≡ None → birth_at v y ≡ Some birth → same_path y x ≡ false
   apart x v birth none named = by (same_path y x) refl
     where
@@ -109,9 +102,12 @@ module _ (y : Path) (other : ℕ) where
       by true u off h = cc
       by false true off h = cc
       by false false off h =
-          sym (kept_birth (option_map (through (following (k ∷ s) (slot ∷ s)) y) (v.body y)) (v.body y) (outline-following (k ∷ s) (slot ∷ s) y (v.body y))) ∙ h
+          sym (same_birth (through (following (k ∷ s) (slot ∷ s)) y) (outline-following (k ∷ s) (slot ∷ s) y) (v.body y)) ∙ h
 
-  row : (cs : List Change) (v : World) (birth : ℕ) → IsOursRow v cs → AreSafe v cs → birth_at v y ≡ Some birth → birth_at (apply_all cs v) y ≡ Some other → other ≡ birth
+  -- ---- a row
+
+  row : (cs : List Change) (v : World) (birth : ℕ) → IsOursRow v cs → AreSafe v cs → birth_at v y ≡ Some birth
+      → birth_at (apply_all cs v) y ≡ Some other → other ≡ birth
   unfolding apply_all
   row [] v birth ours safe named h = same_number v birth named h
   row (Move [] slot ∷ cs) v birth ours safe named h = absurd safe.0
@@ -126,8 +122,8 @@ module _ (y : Path) (other : ℕ) where
   row (PutPage space page words ∷ cs) v birth ours safe named h = same_number v birth named (back_all (PutPage space page words ∷ cs) v ours safe h)
   row (DropPage space page ∷ cs) v birth ours safe named h = same_number v birth named (back_all (DropPage space page ∷ cs) v ours safe h)
 
-  by_outcome : (w : World) (o : Outcome) (birth : ℕ) → OursOutcome w o → SafeOutcome w o → birth_at w y ≡ Some birth → birth_at (stepped w o).world y ≡ Some other
-      → other ≡ birth
+  by_outcome : (w : World) (o : Outcome) (birth : ℕ) → OursOutcome w o → SafeOutcome w o → birth_at w y ≡ Some birth
+      → birth_at (stepped w o).world y ≡ Some other → other ≡ birth
   by_outcome w (Goes cs said) birth ours safe named h = row cs w birth ours.ours safe.safe named h
   by_outcome w (Refused status) birth ours safe named h = same_number w birth named h
   by_outcome w Waits birth ours safe named h = same_number w birth named h

@@ -191,7 +191,8 @@ module _ (test : Body → Bool) (edits : (edit : Edit) (b : Body) → IsOursEdit
   left-all [] w new y e = e
   left-all (c ∷ cs) w new y e = left-apply c w new.0 y (left-all cs (apply c w) new.1 y e)
 
-  pub left-space : (x : Path) (holder : Option Ptr) (w : World) (y : Path) → holds test ((apply (MakeSpace x holder) w).body y) ≡ true → holds test (w.body y) ≡ true
+  pub left-space : (x : Path) (holder : Option Ptr) (w : World) (y : Path) → holds test ((apply (MakeSpace x holder) w).body y) ≡ true
+      → holds test (w.body y) ≡ true
   unfolding apply
   left-space x holder w y e =
       either (same_path y x) (Some (Space w.next holder)) (w.body y) (w.body y) (λ h. no_body (Space w.next holder) (w.body y) (spaces w.next holder) h)

@@ -1,4 +1,4 @@
--- Porters and served ports: no move makes one, and a space with a porter stays in its place.
+-- Porters and served ports: no move makes one, and a space with a porter stays in its place. No space comes to the place of another.
 use Rattle.std.specs.Prelude.{◌≡◌, ℕ, ◌≤◌, true, ◌∷◌, Some}
 use Rattle.fk_model.specs.declared.limits.TheConstants.{LAST_PORTER_SLOT}
 use Rattle.fk_model.specs.Objects.{holds, is_served}

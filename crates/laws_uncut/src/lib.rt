@@ -1,6 +1,7 @@
-//! What no move makes: a pointer that stands in cuts alone, a porter, a served port. Each law is the contract of a function that does nothing.
+//! What no move makes: a pointer that stands in cuts alone, a porter, a served port, a space in the place of another. Each law is the contract of a
+//! function that does nothing.
 //!
-//! It stands on `laws_further` for the definition, and on `laws_machine` for what readers say of a world.
+//! It stands on `laws_further` for the definition, on `laws_rows` for what moves list, and on `laws_machine` for what readers say of a world.
 #![tactic(auto)]
 
 ghost use Rattle.laws_uncut.specs.Placed.{PortersStood, ServedStood, PortersSpaceStays, SpacesAreNotReplaced};
@@ -22,7 +23,7 @@ pub fn a_porters_space_stays()
     ensures { PortersSpaceStays }
 {}
 
-/// A space that stands where one stood before a fit move is that one.
+/// A space that stands after a fit move of a valid world where one stood before it is that one.
 pub fn a_space_isnt_replaced()
     ensures { SpacesAreNotReplaced }
 {}

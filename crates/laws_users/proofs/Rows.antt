@@ -1,5 +1,5 @@
 -- Whatever is listed sets no porter's mode: by the lists of `laws_rows`; and a stage that gives a page puts nothing anywhere.
-use Rattle.std.proofs.Common.{◌≡◌, ℕ, Bool, true, false, if◌then◌else◌, List, [], ◌∷◌, ◌++◌, map, Option, Some, None, refl}
+use Rattle.std.proofs.Common.{◌≡◌, ℕ, true, false, List, [], ◌∷◌, ◌++◌, map, Option, Some, None, refl}
 use Rattle.std.proofs.lemmas.Bool.{or_parts}
 use Rattle.fk_model.specs.declared.moves.Ask.{Ask}
 use Rattle.fk_model.specs.declared.names.Kind.TheVariants as kinds
@@ -8,18 +8,17 @@ use Rattle.fk_model.specs.Places.{Path, parent, slot_of}
 use Rattle.fk_model.specs.Objects.{Body, holds}
 use Rattle.fk_model.specs.Objects.Body.{Mutex, Mapping, Region, Port, Thread_of}
 use Rattle.fk_model.specs.World.{World, Change, Edit}
-use Rattle.fk_model.specs.World.Change.{Alter, DropPage}
+use Rattle.fk_model.specs.World.Change.{Alter}
 use Rattle.fk_model.specs.World.Edit.{Proceed, SetTalk}
 use Rattle.fk_model.specs.Searches.{thread_at}
 use Rattle.fk_model.specs.Holds.{is_porter}
 use Rattle.fk_model.specs.Outcomes.{Outcome, Caller, listed}
-use Rattle.fk_model.specs.Readers.{anything}
 use Rattle.fk_model.specs.Talks.{ends_beyond}
 use Rattle.fk_model.specs.Records.{set_edits, record_registers, word}
 use Rattle.fk_model.specs.StateRows.{is_native}
 use Rattle.fk_model.specs.Moves.{outcome}
 use Rattle.fk_model.specs.Valid.{kind_there}
-use Rattle.laws_machine.proofs.safety.Reads.{object_in-found}
+use Rattle.laws_machine.proofs.safety.Reads.{object-there}
 use Rattle.laws_rows.specs.Stages.{Sets, Work, Step}
 use Rattle.laws_rows.specs.Stages.Sets.{Locks}
 use Rattle.laws_rows.specs.Stages.Work.{Looks, Edits, Makes, Makes_held, Kills, Renames, Sets_record, Copies, Sleeps, Wakes_all}
@@ -29,7 +28,7 @@ use Rattle.laws_rows.specs.Moves.{Instructs, Serves, Lists}
 use Rattle.laws_rows.specs.Moves.Instructs.{Goes_on, Stores, Faults}
 use Rattle.laws_rows.specs.Moves.Serves.{Waits_for_client, Accepts, Takes_up, Gives_nothing, Finds_no_room, Gives_words, Passes_client}
 use Rattle.laws_rows.specs.Moves.Lists.{Moves_not, Runs, Calls, Is_told_no, Asks, Is_answered_no, Acts}
-use Rattle.laws_rows.proofs.Walk.{new_all, ends-all, ends-then, sleepers-all}
+use Rattle.laws_rows.proofs.Walk.{new_all, drops-all, ends-all, ends-then, sleepers-all}
 use Rattle.laws_rows.proofs.Moves.{moves-listed}
 use Rattle.laws_frozen.proofs.Users.{record_mode, goes_to, native-off}
 use Rattle.laws_users.specs.Stood.{gives, is_giving, put, puts, GivesPutNothing}
@@ -51,10 +50,6 @@ plain-then : (w : World) (cs ds : List Change) → ArePlain w cs → ArePlain w 
 plain-then w [] ds plain after = after
 plain-then w (c ∷ cs) ds plain after = (plain.0, plain-then w cs ds plain.1 after)
 
-drops-plain : (w : World) (space : Path) (page : ℕ) (drops : Bool) → ArePlain w (if drops then DropPage space page ∷ [] else [])
-drops-plain w space page true = (tt, tt)
-drops-plain w space page false = tt
-
 edits-plain : (w : World) (x : Path) (b : Body) (words : List ℕ) → w.body x ≡ Some b → is_native b ≡ false → ArePlain w (map (Alter x) (set_edits b words))
 edits-plain w x (Mutex locked) words there off = (tt, tt)
 edits-plain w x (Mapping m) words there off = (tt, tt)
@@ -75,12 +70,9 @@ module _ (w : World) (c : Caller) (pick : Option Path) where
       new_all (λ made. ArePlain w (made ∷ [])) (x ∷ space) kind made new
       (tt, tt) (tt, tt) (tt, tt) (tt, tt) (tt, tt) (tt, tt) (tt, tt) (tt, tt) (tt, tt)
   work (Kills s x space b place read free apart leaf) = (tt, ends-all (ArePlain w) tt (λ y cs rest. (tt, rest)) _)
-  work (Sets_record s x address space b words place read free none good from still takes) = edits-plain w (x ∷ space) b words there none
-    where
-      there : w.body (x ∷ space) ≡ Some b
-      there = let found = object_in-found w c anything space x b read in
-          let same : found.body ≡ b = (let e : Some found.body ≡ Some b = found.seen in cc) in rw same at found.there
-  work (Copies stage s page address space t own drops words place there home) = (tt, drops-plain w space page drops)
+  work (Sets_record s x address space b words place read free none good from still takes) =
+      edits-plain w (x ∷ space) b words (object-there w c x space b read) none
+  work (Copies stage s page address space t own drops words place there home) = (tt, drops-all (ArePlain w) space page tt (tt, tt) drops)
   work (Wakes_all at) = sleepers-all (ArePlain w) w c.space at tt (λ x m cs asleep rest. (tt, rest))
   work (Takes_client set slot x idle at) = (tt, (tt, tt))
   work (Hangs_up stage side l at) = ends-then (ArePlain w) (Alter l.client (SetTalk None) ∷ []) (tt, tt) (λ y cs rest. (tt, rest)) _

@@ -1,7 +1,7 @@
 //! Who is a user's thread after a move, and where a name leads. Each law is the contract of a function that does nothing.
 //!
-//! It stands on `fk_model`, whose definitions the laws are about, on `laws_machine` for valid worlds, and on `laws_frozen` for moves of users and native
-//! servers.
+//! It stands on `fk_model`, whose definitions the laws are about, on `laws_rows` for what moves list, on `laws_machine` for valid worlds, and on
+//! `laws_frozen` for moves of users and native servers.
 #![tactic(auto)]
 
 ghost use Rattle.laws_users.specs.Named.{NamesStay, NamesStood, SpacesStay};

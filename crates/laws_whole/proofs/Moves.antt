@@ -1,5 +1,5 @@
 -- What a proper move lists leaves pages and registers full: by the lists of `laws_rows`.
-use Rattle.std.proofs.Common.{◌≡◌, ℕ, ◌-◌, ◌%◌, ◌≤◌, Bool, true, false, if◌then◌else◌, ◌==◌, List, [], ◌∷◌, take, drop, length, Option}
+use Rattle.std.proofs.Common.{◌≡◌, ℕ, ◌-◌, ◌%◌, ◌≤◌, Bool, true, false, ◌==◌, List, [], ◌∷◌, take, drop, length, Option}
 use Rattle.std.proofs.Common.{None, refl, ◌∙◌, arith}
 use Rattle.std.proofs.lemmas.Bool.{and_parts, eqb-true}
 use Rattle.std.proofs.lemmas.List.{length-replicate, length-take-le, length-drop, length-set}
@@ -10,7 +10,7 @@ use Rattle.fk_model.specs.declared.statuses.status.TheConstants.{BADCALL}
 use Rattle.fk_model.specs.Places.{Path}
 use Rattle.fk_model.specs.Objects.{Mode, registers_of}
 use Rattle.fk_model.specs.World.{World, Change, Edit}
-use Rattle.fk_model.specs.World.Change.{Alter, DropPage}
+use Rattle.fk_model.specs.World.Change.{Alter}
 use Rattle.fk_model.specs.World.Edit.{SetTalk}
 use Rattle.fk_model.specs.Reach.{reach_word, words_at}
 use Rattle.fk_model.specs.Reach.Reach.{Home}
@@ -32,17 +32,14 @@ use Rattle.laws_rows.specs.Moves.Goes_to.{Halts, Puts, Jumps, Loads, Enters, Nam
 use Rattle.laws_rows.specs.Moves.Instructs.{Goes_on, Stores, Faults}
 use Rattle.laws_rows.specs.Moves.Serves.{Waits_for_client, Accepts, Takes_up, Gives_nothing, Finds_no_room, Gives_words, Passes_client}
 use Rattle.laws_rows.specs.Moves.Lists.{Moves_not, Runs, Calls, Is_told_no, Asks, Is_answered_no, Acts}
-use Rattle.laws_rows.proofs.Walk.{new_all, ends-all, ends-then, sleepers-all}
+use Rattle.laws_rows.proofs.Walk.{new_all, drops-all, ends-all, ends-then, sleepers-all}
 use Rattle.laws_rows.proofs.Moves.{moves-listed}
 use Rattle.laws_whole.specs.Runnable.{HasRegisters, has_all_words}
 use Rattle.laws_whole.proofs.Lengths.{length-overwritten, length-block, length-first, moved-fit, page_place, length-entered}
 use Rattle.laws_whole.proofs.Memory.{word-there, words-full}
-use Rattle.laws_whole.proofs.Objects.{record_place, length-record, has-all, object-there, users-address, edits-full}
+use Rattle.laws_whole.proofs.Objects.{record_place, length-record, has-all, users-address, edits-full}
+use Rattle.laws_machine.proofs.safety.Reads.{object-there}
 use Rattle.laws_whole.proofs.Outcomes.{IsFullEdit, AreFull, IsFullRow, full-row, FullIn, FullOutcome, row-then}
-
-drops-full : (space : Path) (page : ℕ) (drops : Bool) → AreFull (if drops then DropPage space page ∷ [] else [])
-drops-full space page true = (tt, tt)
-drops-full space page false = tt
 
 -- the words of a block fit behind the receiver's address
 received-full : (page words : List ℕ) (k into : ℕ) → length page ≡ PAGE_WORDS → length words ≤ k → k ≤ PAGE_WORDS - into % PAGE_WORDS →
@@ -91,7 +88,7 @@ module _ (w : World) (pages : HasFullPages w) (registers : HasRegisters w) where
     work (Sets_record s x address space b words place read free off good from still takes) =
         full-row _ (edits-full (x ∷ space) b words (record_source address good from))
     work (Gives s page address space words place free good empty from) = (source from, tt)
-    work (Copies stage s page address space t own drops words place there home) = (pages space page words there, drops-full space page drops)
+    work (Copies stage s page address space t own drops words place there home) = (pages space page words there, drops-all AreFull space page tt (tt, tt) drops)
     work (Wakes_all cond) = full-row _ (sleepers-all AreFull w c.space cond tt (λ x m cs asleep rest. (tt, rest)))
     work (Hangs_up stage side l at) = full-row _ (ends-then AreFull (Alter l.client (SetTalk None) ∷ []) (tt, tt) (λ x cs rest. (tt, rest)) _)
     work (Sends stage side l address count receive thread e s own t other here at led free is home theirs) =

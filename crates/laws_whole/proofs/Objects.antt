@@ -1,6 +1,6 @@
 -- Records: how long they are, and where they lie.
 use Rattle.std.proofs.Common.{◌≡◌, ℕ, ◌+◌, ◌-◌, ◌%◌, ◌<◌, ◌≤◌, Bool, true, false, not, ◌&&◌, ◌==◌, length, List, ◌∷◌, map, drop}
-use Rattle.std.proofs.Common.{replicate, Option, Some, None, Ok, refl, ◌∙◌, arith}
+use Rattle.std.proofs.Common.{replicate, Option, Some, None, refl, ◌∙◌, arith}
 use Rattle.std.proofs.lemmas.Bool.{eqb-true}
 use Rattle.std.proofs.lemmas.List.{length-append, length-replicate, length-take-le, length-drop}
 use Rattle.fk_model.specs.declared.limits.TheConstants.{PAGE_WORDS, RECORD_WORDS}
@@ -10,10 +10,8 @@ use Rattle.fk_model.specs.Objects.Body.{Mutex, Mapping, Region, Port, Thread_of}
 use Rattle.fk_model.specs.World.{World}
 use Rattle.fk_model.specs.World.Change.{Alter}
 use Rattle.fk_model.specs.Outcomes.{Caller}
-use Rattle.fk_model.specs.Readers.{anything, object_in}
 use Rattle.fk_model.specs.Records.{record_of, talk_words, fault_words, state_words, set_edits, record_registers, word}
 use Rattle.fk_model.specs.StateRows.{is_bad_record_address}
-use Rattle.laws_machine.proofs.safety.Reads.{object_in-found}
 use Rattle.laws_whole.specs.Runnable.{HasRegisters}
 use Rattle.laws_whole.proofs.Lengths.{length-of_record}
 use Rattle.laws_whole.proofs.Outcomes.{HasAll, AreFull}
@@ -46,11 +44,6 @@ pub has-all : (w : World) → HasRegisters w → (x : Path) (b : Body) → w.bod
 has-all w registers x (Thread_of t) there = registers x t (rw there refl)
 has-all w registers x (Mutex locked) there = tt
 has-all w registers x b there = tt
-
-pub object-there : (w : World) (c : Caller) (k : ℕ) (s : Path) (b : Body) → object_in w c anything s k ≡ Ok b → w.body (k ∷ s) ≡ Some b
-object-there w c k s b read =
-    let found = object_in-found w c anything s k b read in
-    let same : found.body ≡ b = (let e : Some found.body ≡ Some b = found.seen in cc) in rw same at found.there
 
 pub users-address : (c : Caller) (address : ℕ) → c.is_porter ≡ false → is_bad_record_address c address ≡ false → (address % RECORD_WORDS == 0) ≡ true
 users-address c address user good = by c.is_porter (address % RECORD_WORDS == 0) user good

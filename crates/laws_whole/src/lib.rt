@@ -1,7 +1,8 @@
 //! What a world keeps while a machine runs, each law the contract of a function that does nothing.
 //!
-//! It stands on `fk_model`, whose definitions the laws are about, and on `laws_machine`. The premise of the laws of subtrees
-//! is kept by each move that a machine may make, so that a run supplies it from its first world alone.
+//! It stands on `fk_model`, whose definitions the laws are about, on `laws_rows` for what moves list, and on `laws_machine`.
+//! The premise of the laws of subtrees is kept by each move that a machine may make, so that a run supplies it from its first
+//! world alone.
 #![tactic(auto)]
 
 ghost use Rattle.laws_whole.specs.Runnable.{ProperMoveGivesOneNumber, ProperMoveKeepsRunnable, RunKeepsRunnable, SavableIsRunnable, OnlySpacesAreNumbered};

@@ -13,7 +13,7 @@ use Rattle.fk_model.specs.Objects.{Peer, Thread, Body, reference_of, holds}
 use Rattle.fk_model.specs.Objects.Peer.{Server, Parked}
 use Rattle.fk_model.specs.Objects.Body.{Mutex, Mapping, Region, Port, Thread_of, Reference}
 use Rattle.fk_model.specs.World.{World, Change, Edit}
-use Rattle.fk_model.specs.World.Change.{Alter, DropPage}
+use Rattle.fk_model.specs.World.Change.{Alter}
 use Rattle.fk_model.specs.Reach.{Reach, reach_word}
 use Rattle.fk_model.specs.Reach.Reach.{Home, Missing, Bad}
 use Rattle.fk_model.specs.Outcomes.{Said, Outcome, when, Caller, path_of}
@@ -41,7 +41,7 @@ use Rattle.laws_rows.specs.Moves.Instructs.{Goes_on, Stores, Faults}
 use Rattle.laws_rows.specs.Moves.Lists.{Moves_not, Runs, Calls, Is_told_no, Asks, Is_answered_no, Acts}
 use Rattle.laws_rows.specs.Moves.Serves.{Waits_for_client}
 use Rattle.laws_rows.specs.Moves.{Serves}
-use Rattle.laws_rows.proofs.Walk.{new_all, sleepers-all}
+use Rattle.laws_rows.proofs.Walk.{new_all, drops-all, sleepers-all}
 use Rattle.laws_rows.proofs.Moves.{moves-listed}
 use Rattle.laws_further.specs.Strangers.{HasNoWindow, is_of_thread}
 use Rattle.laws_further.proofs.strangers.Places.{IsAway, away_down, IsAwayObject, away_object, object_out, outside_up, leaf-away}
@@ -115,10 +115,6 @@ module _ (w : World) (nester : Path) (slot : ℕ) (valid : IsConsistent w) (plai
   edits-away x (Port set served) words out = ((out, tt), tt)
   edits-away x (Thread_of t) words out = ((out, tt), ((out, tt), tt))
   edits-away x b words out = tt
-
-  drops-away : (space : Path) (page : ℕ) (drops : Bool) → IsOut space → Aways (if drops then DropPage space page ∷ [] else [])
-  drops-away space page true out = (out, tt)
-  drops-away space page false out = tt
 
   -- ---- a caller in a space that is away
 
@@ -238,7 +234,7 @@ module _ (w : World) (nester : Path) (slot : ℕ) (valid : IsConsistent w) (plai
     work (Sets_record s x address space b words place read free none good from still takes) = edits-away (x ∷ space) b words (at_place s x space place)
     work (Gives s page address space words place free good empty from) = ((placed s space place).outside, tt)
     work (Copies stage s page address space t own drops words place there at) =
-        (home c.space address true t own its.away.outside at, drops-away space page drops (placed s space place).outside)
+        (home c.space address true t own its.away.outside at, drops-all Aways space page tt ((placed s space place).outside, tt) drops)
     work (Drops s page address space words place there porter) = ((placed s space place).outside, tt)
     work (Sleeps at m) = ((here m, tt), ((here c.slot, tt), tt))
     work (Wakes_all at) = sleepers-all Aways w c.space at tt (λ k m cs asleep rest. ((here k, tt), rest))

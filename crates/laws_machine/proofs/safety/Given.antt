@@ -1,4 +1,4 @@
--- What porters give again, and what native servers do, is safe.
+-- Who may serve: whom a porter names, who takes a fault, a native server whose port has no client.
 use Rattle.std.proofs.Common.{◌≡◌, ℕ, Bool, true, false, if◌then◌else◌, ◌&&◌, ◌==◌, [], ◌∷◌, Option, Some, None, is_none, Result, Ok, Err, refl}
 use Rattle.std.proofs.lemmas.Bool.{and_parts, not-true}
 use Rattle.fk_model.specs.declared.limits.TheConstants.{OWN_SPACE}
@@ -37,7 +37,7 @@ named-serves w c server at thread facts read fit =
     let both = and_parts (is_near at thread) _ fit in
     record { good = referred-leads w c kinds.Thread server thread read; near = near-lies at thread both.0; idle = idle-anywhere w facts thread both.1 }
 
--- ---- link_set and link_park
+-- ---- a port in the caller's space
 
 pub port-there : (w : World) (c : Caller) (k : ℕ) (port : Option ℕ × Bool) →
     object_in w c port_of c.space k ≡ Ok port → leads_there (kind_there w) (kinds.Port ∷ []) (At (k ∷ c.space)) ≡ true
@@ -47,7 +47,7 @@ port-there w c k port read =
     let there = kind-there w (k ∷ c.space) found.body found.there in
     rw (there, kind) refl
 
--- ---- faults
+-- ---- who takes a fault
 
 pub taker-serves : (w : World) (c : Caller) (taker : ℕ) (at : Ptr) (by : Option Peer) →
     Facts w → named_taker w c taker ≡ Ok by → is_idle_peer w at by ≡ true → IsSafeTaker w at by
@@ -65,7 +65,7 @@ pub open-taker : (w : World) (port : Ptr) (parked : Bool) → IsSafeTaker w port
 open-taker w port true = tt
 open-taker w port false = tt
 
--- ---- accept
+-- ---- native servers
 
 -- a served port that has no client
 abbrev pub FreeService : World → Path → Type 0
@@ -85,5 +85,3 @@ pub service-safe : (w : World) (port x : Path) → Facts w → FreeService w por
 service-safe w port x facts free =
     let both = and_parts (is_serving_port w port) _ free in
     record { served = (and_parts _ _ both.0).0; alone = λ q has. absurd (facts.walks.no_service port (none-there _ both.1) q has) }
-
--- ---- give and over

@@ -1,4 +1,4 @@
--- An access of memory: a fault that it raises is told to a port.
+-- An access of memory comes to a page that is there, or raises a fault that is told to a port.
 use Rattle.std.proofs.Common.{◌≡◌, ℕ, zero, suc, ◌/◌, Bool, true, false, if◌then◌else◌, nat_lt, List, [], ◌∷◌, Option, Some, None, refl}
 use Rattle.std.proofs.lemmas.Bool.{and_parts}
 use Rattle.fk_model.specs.declared.limits.TheConstants.{SLOTS, MAPPINGS, PAGE_WORDS, SPACE_WORDS}
@@ -102,5 +102,3 @@ reach_word-good w facts s address write = by (nat_lt address SPACE_WORDS)
     by : (t : Bool) → GoodReach w (if t then reach w s (address / PAGE_WORDS) write else Bad)
     by true = reach_by-good w facts.valid facts.paged MAPPINGS s (address / PAGE_WORDS) write
     by false = tt
-
--- ---- accesses

@@ -13,13 +13,13 @@ use Rattle.fk_model.specs.Objects.{Talk, Thread, Body, thread_of, reference_of, 
 use Rattle.fk_model.specs.Objects.Body.{Thread_of}
 use Rattle.fk_model.specs.Objects.Peer.{Service}
 use Rattle.fk_model.specs.World.{World, Change, Edit, apply}
-use Rattle.fk_model.specs.World.Change.{Alter, DropPage}
+use Rattle.fk_model.specs.World.Change.{Alter}
 use Rattle.fk_model.specs.World.Edit.{SetTalk}
 use Rattle.fk_model.specs.Searches.{thread_at, talk_at, fault_at, leaf}
 use Rattle.fk_model.specs.Reach.{reach_word}
 use Rattle.fk_model.specs.Reach.Reach.{Home, Missing}
 use Rattle.fk_model.specs.Outcomes.{Outcome, Caller, path_of}
-use Rattle.fk_model.specs.Readers.{object_in, anything}
+use Rattle.fk_model.specs.Readers.{object_in}
 use Rattle.fk_model.specs.Records.{takes_state}
 use Rattle.fk_model.specs.LinkRows.{user_at, is_parked, candidate}
 use Rattle.fk_model.specs.NativeRows.{is_serving_port, parked_here}
@@ -38,20 +38,16 @@ use Rattle.laws_rows.specs.Moves.{Instructs, Serves, Lists}
 use Rattle.laws_rows.specs.Moves.Instructs.{Goes_on, Stores, Faults}
 use Rattle.laws_rows.specs.Moves.Serves.{Waits_for_client, Accepts, Takes_up, Gives_nothing, Finds_no_room, Gives_words, Passes_client}
 use Rattle.laws_rows.specs.Moves.Lists.{Moves_not, Runs, Calls, Is_told_no, Asks, Is_answered_no, Acts}
-use Rattle.laws_rows.proofs.Walk.{new_all, ends-all, ends-then, sleepers-all}
+use Rattle.laws_rows.proofs.Walk.{new_all, drops-all, ends-all, ends-then, sleepers-all}
 use Rattle.laws_rows.proofs.Moves.{moves-listed}
 use Rattle.laws_machine.proofs.safety.Safe.{IsSafeEdit, IsSafePeer, AreSafe}
 use Rattle.laws_machine.proofs.safety.Outcomes.{SafeIn, SafeOutcome, safe-then}
-use Rattle.laws_machine.proofs.safety.Reads.{Facts, IsCaller, kind-there, body-thread_of, object_in-found, place-space, referred-leads}
+use Rattle.laws_machine.proofs.safety.Reads.{Facts, IsCaller, kind-there, body-thread_of, object_in-found, place-space, referred-leads, object-there}
 use Rattle.laws_machine.proofs.safety.Memory.{good-at, reach_word-good}
 use Rattle.laws_machine.proofs.safety.Objects.{nothing-there, vacant, takes-at, reference-leads, reference-there, pointer_to-leads, takes-null, caller-leads}
 use Rattle.laws_machine.proofs.safety.State.{edits-safe, AllFit, fields-fit, among-leads, takes-held}
 use Rattle.laws_machine.proofs.safety.Talks.{GoodCandidate, candidate-good, caller-serves, port-lies}
 use Rattle.laws_machine.proofs.safety.Given.{named-serves, port-there, taker-serves, open-taker, served-port, service-safe}
-
-drops-safe : (w : World) (space : Path) (page : ℕ) (drops : Bool) → AreSafe w (if drops then DropPage space page ∷ [] else [])
-drops-safe w space page true = (tt, tt)
-drops-safe w space page false = tt
 
 -- a page that isn't refused has a number below 256
 good_page : (page : ℕ) (bad : Bool) → (not (is_page page) || bad) ≡ false → page < PAGES
@@ -77,11 +73,6 @@ module _ (w : World) (facts : Facts w) where
   -- ---- stages
 
   module _ (c : Caller) (pick : Option Path) (caller : IsCaller w c) where
-    object : (s : Path) (k : ℕ) (b : Body) → object_in w c anything s k ≡ Ok b → w.body (k ∷ s) ≡ Some b
-    object s k b read =
-        let found = object_in-found w c anything s k b read in
-        let same : found.body ≡ b = (let e : Some found.body ≡ Some b = found.seen in cc) in rw same at found.there
-
     reference : (s : Path) (k : ℕ) (to : Ptr) → object_in w c reference_of s k ≡ Ok to → w.body (k ∷ s) ≡ Some (Body.Reference to)
     reference s k to read = reference-there w (k ∷ s) to (object_in-found w c reference_of s k to read)
 
@@ -96,10 +87,10 @@ module _ (w : World) (facts : Facts w) where
     sets fit (Clears s x space old place read free) = takes-null w (w.body (x ∷ space))
     sets fit (Gets_pointer s x field k space b old found place read read2 has inner) =
         let fits : AllFit (kind_there w) (field_of field b) =
-        fields-fit (kind_there w) (x ∷ space) b field (good-at w facts.valid (x ∷ space) b (object space x b read)) in
+        fields-fit (kind_there w) (x ∷ space) b field (good-at w facts.valid (x ∷ space) b (object-there w c x space b read)) in
         takes-at w (k ∷ c.space) (field_pointer found) old (reference c.space k old read2) (rw has at fits)
     sets fit (Sets_pointer s x field k space b to place read read2 free inner among) =
-        let there = object space x b read in
+        let there = object-there w c x space b read in
         let may = among-leads w (held_kinds b) to (reference-leads w _ to facts.valid (reference c.space k to read2)) (not-false _ among) in
         rw there (takes-held w to b may)
     sets fit (Holds s x space was place read free apart alone) = caller-leads w c caller
@@ -147,15 +138,16 @@ module _ (w : World) (facts : Facts w) where
     work fit (Kills s x space b place read free apart leaf) =
         (facts.walks.leaf_alone x space, ends-all AlwaysSafe (λ v. tt) (λ y cs rest v. (tt, rest (apply _ v))) _ _)
     work fit (Renames s x y space b place read free fits unserved empty residents) =
-        let there = object space x b read in
+        let there = object-there w c x space b read in
         let low = leb-true y LAST_USER_SLOT (not-false _ fits) in
         (record { live = rw there refl; alone = (facts.walks.alone x space residents).empty; slot_fits = omega arith; empty = nothing-there _ empty }, tt)
     work fit (Writes_record s x address space t b page place read good user at) = (home c.space address true t page at, tt)
     work fit (Sets_record s x address space b words place read free off good from still takes) =
-        edits-safe w x space b words (object space x b read) (and_parts _ _ (not-false _ takes)).1
+        edits-safe w x space b words (object-there w c x space b read) (and_parts _ _ (not-false _ takes)).1
     work fit (Gives s page address space words place free good empty from) =
         (record { space = place-space w c s space caller place; number = good_page page _ good }, tt)
-    work fit (Copies stage s page address space t own drops words place there at) = (home c.space address true t own at, drops-safe _ space page drops)
+    work fit (Copies stage s page address space t own drops words place there at) =
+        (home c.space address true t own at, drops-all (AreSafe _) space page tt (tt, tt) drops)
     work fit (Wakes_all cond) = sleepers-all AlwaysSafe w c.space cond (λ v. tt) (λ x m cs asleep rest v. (tt, rest (apply _ v))) w
     work fit (Takes_client set slot x idle at) =
         let good = picks set x in

@@ -1,4 +1,4 @@
--- The rows of objects and of spaces are safe: what they make, destroy and rename, where they point, and who holds.
+-- Where an object may be made, and where a reference, a field or a holder may lead.
 use Rattle.std.proofs.Common.{◌≡◌, ℕ, Bool, true, false, if◌then◌else◌, [], ◌∷◌, Option, Some, None, is_some, Ok, refl}
 use Rattle.std.specs.List.{list_any}
 use Rattle.fk_model.specs.declared.names.Kind.TheVariants as kinds
@@ -16,7 +16,7 @@ use Rattle.laws_machine.proofs.safety.Safe.{takes_pointer, IsVacant}
 use Rattle.laws_machine.proofs.safety.Reads.{IsCaller, Found, kind-there, body-reference_of, slot_for-fits}
 use Rattle.laws_machine.proofs.safety.Memory.{good-at}
 
--- ---- create
+-- ---- empty slots
 
 pub nothing-there : {A : Type 0} (o : Option A) → is_some o ≡ false → o ≡ None
 nothing-there None free = refl
@@ -26,7 +26,7 @@ pub vacant : (w : World) (c : Caller) (k j : ℕ) (s : Path) →
     kind_there w s ≡ Some kinds.Space → slot_for c k ≡ Ok j → is_some (w.body (k ∷ s)) ≡ false → IsVacant w k s
 vacant w c k j s space slot free = record { slot = slot_for-fits c k j slot; space = space; empty = nothing-there _ free }
 
--- ---- point and clear
+-- ---- references
 
 pub takes-at : (w : World) (x : Path) (to old : Ptr) →
     w.body x ≡ Some (Reference old) → may_lead (kind_there w) referable to ≡ true → all_in (takes_pointer w to) (w.body x) ≡ true
@@ -56,7 +56,7 @@ takes-null w (Some (Region r)) = refl
 takes-null w (Some (Reference to)) = refl
 takes-null w (Some b) = refl
 
--- ---- holds
+-- ---- the caller as a holder
 
 pub caller-leads : (w : World) (c : Caller) → IsCaller w c → leads_there (kind_there w) (kinds.Thread ∷ []) (At (path_of c)) ≡ true
 caller-leads w c caller = let kind = caller.thread in rw kind refl

@@ -1,4 +1,4 @@
--- Outcomes whose changes are safe: how a row's parts make one.
+-- Outcomes whose changes are safe, each in the world that the earlier ones leave.
 use Rattle.std.proofs.Common.{List, [], ◌∷◌, ◌++◌}
 use Rattle.fk_model.specs.World.{World, Change, apply}
 use Rattle.fk_model.specs.Outcomes.{Outcome}
@@ -21,7 +21,3 @@ pub record SafeOutcome (w : World) (o : Outcome) : Type 0 where
 pub safe-then : (cs ds : List Change) (w : World) → AreSafe w cs → ((v : World) → AreSafe v ds) → AreSafe w (cs ++ ds)
 safe-then [] ds w safe after = after w
 safe-then (c ∷ cs) ds w safe after = (safe.0, safe-then cs ds (apply c w) safe.1 after)
-
--- ---- checks
-
--- ---- ends of a stage

@@ -14,7 +14,7 @@ use Rattle.fk_model.specs.Objects.Body.{Port, Thread_of, Reference}
 use Rattle.fk_model.specs.World.{World}
 use Rattle.fk_model.specs.Searches.{has_residents, leaf, is_serving, client_at}
 use Rattle.fk_model.specs.Outcomes.{Caller, path_of, last_slot, or_refuse}
-use Rattle.fk_model.specs.Readers.{and_read, slot_for, seen_as, object_in, kind_at, is_kind, led_to, handled, handle, path_at, space_argument, referred}
+use Rattle.fk_model.specs.Readers.{and_read, slot_for, seen_as, anything, object_in, kind_at, is_kind, led_to, handled, handle, path_at, space_argument, referred}
 use Rattle.fk_model.specs.Valid.{IsConsistent, kind_there, is_one_of, leads_there, may_lead, HasService, services, IsRooted, IsPaged}
 use Rattle.laws_machine.proofs.safety.Safe.{IsAlone}
 
@@ -122,6 +122,12 @@ object_in-found w c view s k a read = by (leb k (last_slot c)) read
     by : (t : Bool) → and_read (if t then Ok k else Err BADHANDLE) (λ k. seen_as view (w.body (k ∷ s))) ≡ Ok a → Found w view (k ∷ s) a
     by true h = seen-found w view (k ∷ s) a _ refl h
     by false h = cc
+
+-- a reader that takes any object finds the body that stands there
+pub object-there : (w : World) (c : Caller) (k : ℕ) (s : Path) (b : Body) → object_in w c anything s k ≡ Ok b → w.body (k ∷ s) ≡ Some b
+object-there w c k s b read =
+    let found = object_in-found w c anything s k b read in
+    let same : found.body ≡ b = (let e : Some found.body ≡ Some b = found.seen in cc) in rw same at found.there
 
 -- ---- pointers
 

@@ -1,4 +1,4 @@
--- The rows of state and of pointers are safe: what a record sets is in range, and a field takes what it may hold.
+-- What a record sets is in range, and a field takes what it may hold.
 use Rattle.std.proofs.Common.{◌≡◌, ℕ, ◌-◌, Bool, true, false, if◌then◌else◌, not, ◌&&◌, ◌||◌, ◌==◌, leb, List, [], ◌∷◌, map, Option, Some, None, option_map}
 use Rattle.std.proofs.Common.{is_some, refl}
 use Rattle.std.proofs.lemmas.Bool.{and_parts, and_from}
@@ -23,9 +23,7 @@ use Rattle.fk_model.specs.Valid.{is_good_peer}
 use Rattle.laws_machine.proofs.safety.Safe.{takes_pointer, AreSafe}
 use Rattle.laws_machine.proofs.safety.Reads.{leads-among, may-among}
 
--- ---- get_state
-
--- ---- set_state
+-- ---- what a record sets
 
 portset-there : (o : Option Body) → is_some (and_then portset_of o) ≡ true → is_one_of (kinds.Portset ∷ []) (option_map kind_of o) ≡ true
 portset-there (Some Portset) h = refl
@@ -54,7 +52,7 @@ edits-safe w k s (Port set served) words there takes = (rw there (member-good w 
 edits-safe w k s (Thread_of t) words there takes = (tt, (tt, tt))
 edits-safe w k s b words there takes = tt
 
--- ---- get_ptr
+-- ---- what a field holds
 
 -- a reference may get what the field holds
 abbrev pub Fits : (Path → Option Kind) → Field → Type 0
@@ -124,7 +122,7 @@ fields-fit there x (Space birth holder) n good = first-fit there n (or_null (and
 fields-fit there x (Thread_of t) n good = let both = and_parts (all_in (is_good_talk there) t.talk) _ good in thread-fit there t n both.0 both.1
 fields-fit there x b n good = tt
 
--- ---- set_ptr
+-- ---- what a field takes
 
 -- a pointer among these kinds, where it leads to something
 pub among-leads : (w : World) (wanted : List Kind) (to : Ptr) →

@@ -1,4 +1,4 @@
--- The rows of talks and of faults are safe: who takes up a client or a fault serves nobody else.
+-- Who takes up a client or a fault serves nobody else.
 use Rattle.std.proofs.Common.{◌≡◌, ℕ, Bool, true, false, if◌then◌else◌, ◌&&◌, [], ◌∷◌, Option, Some, None, option_map, refl, sym}
 use Rattle.std.proofs.lemmas.Bool.{and_parts}
 use Rattle.fk_model.specs.declared.names.Kind.TheVariants as kinds
@@ -28,7 +28,7 @@ pub caller-serves : (w : World) (c : Caller) →
     Facts w → IsCaller w c → is_serving w (path_of c) ≡ false → (port : Ptr) → lies_with port (At (path_of c)) → IsSafeServer w port (At (path_of c))
 caller-serves w c facts caller idle port near = record { good = caller-leads w c caller; near = near; idle = idle-serves w facts (path_of c) idle }
 
--- ---- wait
+-- ---- whom a wait finds
 
 -- a pointer that leads to a port in a space
 pub record PortIn (w : World) (space : Path) (slot : ℕ) (port : Ptr) : Type 0 where
@@ -139,5 +139,3 @@ candidate-good w rooted space set x = if_unheld _
     if_unheld : (t : Bool) → GoodCandidate w space x (if t then and_then (candidate_by w space set x) (and_then thread_of (w.body x)) else None)
     if_unheld true = by _ refl
     if_unheld false = tt
-
--- ---- connect, disconnect and end
