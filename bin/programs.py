@@ -34,15 +34,10 @@ def say(text):
 
 
 def refuse(name, fault):
-    """Says why a script can't do what it is for, and gives its status."""
-    say(f"{name}: {told(fault)}")
+    """Says why a program can't be had, and gives the status of a script that can't do what it is for."""
+    why = f"{fault.filename or OUT}: {fault.strerror}" if isinstance(fault, OSError) and fault.strerror else fault
+    say(f"{name}: it can't be had: {why}")
     return REFUSED
-
-
-def told(fault):
-    if isinstance(fault, OSError) and fault.strerror:
-        return f"{fault.filename or OUT}: {fault.strerror}"
-    return str(fault)
 
 
 def kit():
@@ -134,9 +129,8 @@ def best(name):
 
 
 def keep(name, kind, sum, made):
-    """Keeps a program that was built, and removes those of this name that were kept longest ago."""
-    OUT.mkdir(exist_ok=True)
-    path, new = OUT / f"{name}.{kind}-{sum}", OUT / f"new-{name}.{kind}-{os.getpid()}"
+    """Keeps a program that was built, and removes those of this name that were kept longest ago. Who calls this holds the lock of its kind."""
+    path, new = OUT / f"{name}.{kind}-{sum}", OUT / f"new-{name}.{kind}"
     try:
         shutil.copyfile(made, new)
         os.chmod(new, 0o755)
@@ -153,31 +147,26 @@ def keep(name, kind, sum, made):
 
 @contextlib.contextmanager
 def alone(name, what):
-    """Waits until no other command of this clone is at what this one is at, and keeps others waiting while it goes on."""
+    """Waits until no other command of this clone builds the same, and keeps others waiting while this one does."""
     OUT.mkdir(exist_ok=True)
-    with open(OUT / f"{name}.lock", "a", encoding="utf-8") as lock:
+    with open(OUT / f"{what}.lock", "a", encoding="utf-8") as lock:
         try:
             fcntl.flock(lock, fcntl.LOCK_EX | fcntl.LOCK_NB)
         except BlockingIOError:
-            say(f"{name}: another command {what}; waiting for it")
+            say(f"{name}: another command builds it; waiting for that")
             fcntl.flock(lock, fcntl.LOCK_EX)
-        # What commands that were cut off have left, which nobody but the holder of this lock writes.
-        for left in OUT.glob(f"new-{name}-*"):
-            left.unlink()
         yield
 
 
 @contextlib.contextmanager
-def room(name):
-    """An empty folder to build in, which goes at the end. Where this is a clone it lies in git's own folder, since the gate refuses
-    sources and links anywhere else. What a command that was cut off has left there goes too; who calls this holds a lock."""
-    git = TOP / ".git"
-    if git.is_file():
-        # A worktree names its folder here.
-        git = TOP / git.read_text(encoding="utf-8").strip().removeprefix("gitdir: ")
-    folder = (git if git.is_dir() else OUT) / f"room-{name}"
+def room(what):
+    """An empty folder to build in, which goes at the end. It lies outside of the repository, in which the gate refuses sources and links that are no crate's:
+    in TMPDIR, or in /var/tmp, since what is built may be more than memory holds. What a command that was cut off has left there goes too; who calls this
+    holds a lock."""
+    own = hashlib.sha256(f"{os.geteuid()} {TOP}".encode(errors="surrogateescape")).hexdigest()[:12]
+    folder = pathlib.Path(os.environ.get("TMPDIR") or "/var/tmp", f"fluke-{own}-{what}").absolute()
     shutil.rmtree(folder, ignore_errors=True)
-    folder.mkdir()
+    folder.mkdir(0o700)
     try:
         yield folder
     finally:
@@ -265,15 +254,19 @@ def seconds_for(costs, crates, number):
     return now
 
 
-def minutes(seconds):
-    return f"{max(1, round(seconds / 60))} minutes" if seconds >= 90 else "a minute"
+def counted(number, noun):
+    return f"{number} {noun}{'s' * (number != 1)}"
+
+
+def minutes(seconds, least=1):
+    return counted(max(least, round(seconds / 60)), "minute")
 
 
 def time_to_prove(name):
     """How long a proof of this program takes by the processors that are here, where no proof is kept."""
     crates, number = read_crates(), lanes()
     seconds = seconds_for(costs_of([name], crates), crates, number)
-    return f"in some {minutes(seconds)} on {number} processor{'s' * (number > 1)}"
+    return f"in about {minutes(seconds)} on {counted(number, 'processor')}"
 
 
 def left_on_disk(*folders):
