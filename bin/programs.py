@@ -33,10 +33,9 @@ def say(text):
     print(text, file=sys.stderr, flush=True)
 
 
-def refuse(name, fault):
-    """Says why a program can't be had, and gives the status of a script that can't do what it is for."""
-    why = f"{fault.filename or OUT}: {fault.strerror}" if isinstance(fault, OSError) and fault.strerror else fault
-    say(f"{name}: it can't be had: {why}")
+def refuse(what, fault):
+    """Says why a script can't do what it is for, and gives its status."""
+    say(f"{what}: {fault.filename or OUT}: {fault.strerror}" if isinstance(fault, OSError) and fault.strerror else f"{what}: {fault}")
     return REFUSED
 
 
