@@ -28,7 +28,7 @@ def pages_of(program):
 class Run:
     """A scenario on its way: its world, its servers and jobs in the order of the file, how many moves were made."""
 
-    def __init__(self, scenario, images=None):
+    def __init__(self, scenario, images=None, told=None):
         self.budget, self.events = scenario.budget, 0
         self.world = World()
         self.servers = []
@@ -40,7 +40,7 @@ class Run:
             server = Server(port, entry.rule, entry.get("config", ()), entry.get("alias"))
             port.served = server
             self.servers.append(server)
-        self.jobs = jobs.of(scenario, self.named, images or {})
+        self.jobs = jobs.of(scenario, self.named, images or {}, told)
 
     def spaces(self, scenario):
         """The spaces, their pages and their porters."""
@@ -90,7 +90,7 @@ class Run:
             job = self.due()
             if job is None or job.porter is not mover or pick is not None:
                 return None
-            return job.deed(self.world)
+            return job.deed(self)
         return moves.deed(self.world, mover, pick)
 
     def turn(self, deed):
@@ -98,7 +98,7 @@ class Run:
         deed()
         self.events += 1
         job = self.due() if self.jobs else None
-        while job is not None and job.ends_alone(self):
+        while job is not None and job.ends_alone():
             job = self.due()
 
     def is_over(self):
@@ -106,10 +106,12 @@ class Run:
         if not moves.is_quiet(self.world):
             return False
         job = self.due()
-        return job is None or job.deed(self.world) is None
+        return job is None or job.deed(self) is None
 
     def end(self):
         """How it has ended, after the moves that were made."""
+        if any(job.is_half_built() for job in self.jobs):
+            raise jobs.Untold
         if not self.is_over():
             return texts.BUDGET if self.events >= self.budget else texts.LISTED
         return texts.HALTED_END if moves.has_halted(self.world) else texts.QUIET

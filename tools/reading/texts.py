@@ -12,7 +12,7 @@ def path(slots):
 def report(events, end, jobs, servers, world):
     """What `run` and `play` write."""
     lines = [f"events {events}", f"end {end}"]
-    lines += [f"job {index} {job.told()}" for index, job in enumerate(jobs)]
+    lines += [f"job {index} {job.line()}" for index, job in enumerate(jobs)]
     for server in servers:
         if server.alias is not None:
             lines.append(" ".join(["out", server.alias, *map(str, server.printed)]))
