@@ -11,12 +11,13 @@ definitions: so where the two differ, one of them has misread a rule. `bin/make-
     calls       what each stage of a call checks, when it is ready, and what it does
     servers     native servers
     moves       who can move, and what a move does
-    jobs        checkpoints and restores, call by call
+    jobs        checkpoints and restores: what they come to
     images      images: reading, with offset and reason, and writing
     runs        the first world of a scenario, traces, plays and runs
     texts       what the commands write, and lines of faults
     commands    whole commands: words, source and files in, status, line, output and files out
     cases       files of cases
-    seeds       inputs at random: texts, scenarios, images, programs that do everything
+    seeds       cases at random, of many kinds; any_text, any_toml, any_scenario, any_image and any_program make what they ask
     made        the files of cases that are made by this reading
+    against     a program that is held against it
 """

@@ -5,7 +5,7 @@ it would change, lead to or lead away from, which must not be frozen for the cal
 afterwards, the next stage or an end with OK, is said by the deed's answers.
 """
 from . import words
-from .world import (CALLING, CLIENT, COND, DEAD, HALTED, MAPPING, MOVED, MUTEX, NATIVE, PAGE, PAGES, PARKED, PORT, PORTSET, REFERENCE,
+from .world import (CALLING, CLIENT, COND, HALTED, MAPPING, MOVED, MUTEX, NATIVE, PAGE, PAGES, PARKED, PORT, PORTSET, REFERENCE,
                     REGION, RUNNING, SCRATCH, SERVER, SERVICE, SPACE, THREAD, Fault, Talk, address)
 
 (OK, BADCALL, BADHANDLE, WRONGKIND, OCCUPIED, DEAD_REFERENCE, NULLREF, NOTLOCKED, NOTSTOPPED, HELD, NOTLINKED, LINKED, BADADDRESS, DENIED,
@@ -1071,6 +1071,3 @@ def asked_by_porter(world, porter, code, arguments, given=()):
         deed.doing()
         return OK, tuple(deed.answers or ())
     return doing
-
-
-assert DEAD.gone and SERVER != CLIENT
