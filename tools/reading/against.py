@@ -24,7 +24,10 @@ def called(program, words, source, files):
         room = pathlib.Path(folder)
         for name, octets in files.items():
             (room / name).write_bytes(octets)
-        ended = subprocess.run([program, *words], input=source, capture_output=True, cwd=room, timeout=SECONDS, check=False)
+        try:
+            ended = subprocess.run([program, *words], input=source, capture_output=True, cwd=room, timeout=SECONDS, check=False)
+        except subprocess.TimeoutExpired:
+            raise Differs(f"the program takes longer than {SECONDS} seconds") from None
         return ended.returncode, ended.stderr.decode().rstrip("\n") or None, ended.stdout, {path.name: path.read_bytes() for path in room.iterdir()}
 
 
