@@ -262,13 +262,14 @@ class Parts:
         self.scenario, self.place, self.writer, self.dice, self.level = scenario, place, writer, scenario.dice, scenario.level
         self.all = [self.locks] + [self.odd] * 2
         if self.level >= OBJECTS:
-            self.all += [self.churn, self.churn, self.looks]
+            self.all += [self.churn, self.churn, self.looks, self.climbs]
         if self.level >= MEMORY:
             self.all += [self.pages, self.accesses, self.accesses]
         if self.level >= MESSAGES:
             self.all += [self.sleeps, self.signals, self.serves, self.serves, self.serves, self.sends, self.sends, self.sends, self.pieces]
+            self.all += [self.kills]
         if self.level >= STATES:
-            self.all += [self.holds, self.holds, self.states, self.stops]
+            self.all += [self.holds, self.holds, self.holds, self.states, self.stops, self.leads]
         if self.scenario.servers:
             self.all += [self.sends] * 3
 
@@ -276,6 +277,8 @@ class Parts:
         """A thread: some parts and an end."""
         for _ in range(self.dice.randint(1, 4)):
             self.dice.choice(self.all)()
+        if self.dice.random() < 0.04:
+            self.writer.put(f"jmp {self.dice.choice((16383, 16384, MISSED * 64, 4294967295, 0))}")
         if self.scenario.servers:
             self.tell()
         self.writer.end()
@@ -366,6 +369,41 @@ class Parts:
             self.writer.call(self.dice.choice((11, 12)), handle, self.one(within), self.one((0, 0, 1), 0.1), self.one((slot, *self.place.leads)))
         else:
             self.looks()
+
+    def climbs(self):
+        """Who would change what it lies in."""
+        above = [(slot, other) for slot, (kind, other) in self.place.leads.items() if kind == "space" and other.path == self.place.path[:len(other.path)]]
+        if not above or self.level >= MESSAGES and self.dice.random() < 0.5:
+            self.looks()
+            return
+        slot, other = self.dice.choice(above)
+        # The slot there in which its own space lies, or itself.
+        within = [*self.place.path[len(other.path):len(other.path) + 1], self.one(NEW)]
+        self.writer.call(self.dice.choice((2, 3, 5, 13) if self.level >= STATES else (2, 3, 5)), slot, self.dice.choice(within), self.one(NEW), 256)
+
+    def kills(self):
+        """Threads, ports and sets that are in use are destroyed or get another name."""
+        handle, place = self.space()
+        delay = self.dice.randrange(12)
+        if delay:
+            self.writer.loop(delay, lambda: self.writer.put("addi r14, r14, 1"))
+        for _ in range(self.dice.randint(1, 3)):
+            slot = self.one([*place.threads, PORT, PORT, PORT2, SET, COND, KEPT, *(each for each in place.objects if each in SERVED)])
+            if self.dice.random() < 0.5:
+                self.writer.call(2, handle, slot)
+            else:
+                self.writer.call(3, handle, slot, self.one(NEW))
+
+    def leads(self):
+        """Where mappings, regions and references lead is copied and changed."""
+        handle, place = self.space()
+        mine = self.one(list(self.place.leads))
+        for _ in range(self.dice.randint(1, 3)):
+            slot = self.one([MAPPING, REGION, KEPT, *place.leads])
+            self.writer.call(11, handle, slot, self.one((0,), 0.15), mine)
+            if self.dice.random() < 0.7:
+                other, elsewhere = self.space()
+                self.writer.call(12, other, self.one([MAPPING, KEPT, *elsewhere.leads]), self.one((0,), 0.15), mine)
 
     def looks(self):
         """Reading alone."""
@@ -510,7 +548,7 @@ class Parts:
         self.writer.call(9, handle, slot, at)
         for _ in range(self.dice.choice((0, 0, 1, 2))):
             word = self.dice.choice((0, 1, 1, 2, 3, 4, 17, 18, 19, 20))
-            value = self.dice.choice((0, 1, 2, 3, 21, 23, 25, 33, 40, 48, 50, 255, 256, 65535, 65536))
+            value = self.dice.choice((0, 1, 2, 3, 21, 23, 25, 33, 40, 48, 50, 255, 256, 65535, 65536) if word != 20 else (0, 1, 65535, 65536))
             self.writer.put(f"set r7, {at + word & 0x3FFF}", f"set r9, {value}", "store r9, r7, 0")
         if self.dice.random() < 0.8:
             self.writer.call(10, handle, slot, at)
@@ -525,7 +563,7 @@ class Parts:
         self.writer.call(15, thread)
         for _ in range(self.dice.randint(0, 2)):
             self.states()
-        if self.dice.random() < 0.9:
+        for _ in range(self.dice.choice((0, 1, 1, 1, 2))):
             self.writer.call(16, thread)
 
     def tell(self):

@@ -92,6 +92,15 @@ class Job:
             raise Untold
         return lambda: self.go_on(run)
 
+    def can_move(self, run):
+        """Whether a move of it is ready: once it has begun, always where its porter is free and nothing outside its subtree is held."""
+        if self.begun and run.world.is_free(self.porter):
+            top = self.nester.slots[self.slot]
+            if any(space.holder is not None and not run.world.is_above(top, space) for space in run.world.spaces.values()):
+                raise Untold
+            return True
+        return self.deed(run) is not None
+
     def begin(self, run, status):
         """Its first move is made."""
         if status != calls.OK:

@@ -106,7 +106,7 @@ class Run:
         if not moves.is_quiet(self.world):
             return False
         job = self.due()
-        return job is None or job.deed(self) is None
+        return job is None or not job.can_move(self)
 
     def end(self):
         """How it has ended, after the moves that were made."""
