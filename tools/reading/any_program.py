@@ -236,7 +236,7 @@ class Scenario:
             for slot, entry in zip(place.threads, entries):
                 lines += ["[[object]]", f'at = "{self.text((*place.path, slot))}"', 'kind = "thread"', f"entry = {entry}"]
                 lines += [f"regs = {[dice.randint(0, 9) for _ in range(dice.randint(11, 13))]}"] if self.maybe(0.7) else []
-                lines += ["stops = 1"] if self.level >= STATES and self.maybe(0.05) else []
+                lines += [f"stops = {dice.choice((1, 1, 65535))}"] if self.level >= STATES and self.maybe(0.08) else []
             for slot, (kind, keys) in sorted(place.objects.items()):
                 lines += ["[[object]]", f'at = "{self.text((*place.path, slot))}"', f'kind = "{kind}"']
                 lines += [f"{key} = {spelled(value)}" for key, value in keys.items()]
@@ -427,7 +427,8 @@ class Parts:
     def sleeps(self):
         """A sleeper."""
         mutex = self.one((MUTEX, LOCK))
-        self.writer.call(21, mutex)
+        if self.dice.random() < 0.9:
+            self.writer.call(21, mutex)
         self.writer.call(24, COND, self.one((mutex,)))
         self.writer.call(23, mutex)
 
