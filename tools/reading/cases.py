@@ -164,6 +164,10 @@ class File:
         else:
             self.cases[-1].sections.append(Section(line))
 
+    def spelled(self):
+        """All that its cases say, as it is spelled."""
+        return [[case.heading, *(section.text() for section in case.sections)] for case in self.cases]
+
     def text(self, answered):
         """The file with the answers that a function gives to questions."""
         lines = list(self.head)

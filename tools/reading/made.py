@@ -72,7 +72,7 @@ class Writing:
         if self.source is not None:
             answer = commands.answer(["run", "--trace", "t"], self.source, {"a.img": octets})
             words = "run --trace t" if answer.plays is not None else "run"
-        self.lines.append(f"{'case' if self.words is None else 'again'} the {self.name} {title}")
+        self.lines += ["", f"{'case' if self.words is None else 'again'} the {self.name} {title}"]
         if words != self.words:
             self.lines.append("words " + words)
         if self.words is None and self.source is not None:
@@ -86,13 +86,12 @@ class Writing:
         self.lines += ["file a.img", *spelled, *told]
 
     def apart(self):
-        """The next case asks all anew, behind an empty line."""
-        self.lines.append("")
+        """The next case asks all anew."""
         self.words = None
 
     def text(self):
-        """The file's text, beneath the lines that it begins with today."""
-        return "\n".join([*self.lines, ""])
+        """Its lines, each case behind an empty one."""
+        return "\n".join([*self.lines[1:], ""])
 
 
 def changed(octets, at, value):
@@ -215,5 +214,9 @@ def make(name):
         return {cases.FOLDER / path: octets for path, octets in pieces().items()}
     path = cases.FOLDER / (name + ".cases")
     file = cases.read(path)
-    text = "\n".join([*file.head, WHOLE[name]()]) if name in WHOLE else file.text(commands.answer)
-    return {path: text.encode()}
+    if name not in WHOLE:
+        return {path: file.text(commands.answer).encode()}
+    whole = WHOLE[name]()
+    # Empty lines say nothing: where the cases are the same, the file stays as it is.
+    same = cases.File(whole).spelled() == file.spelled()
+    return {path: path.read_bytes() if same else "\n".join([*file.head, whole]).encode()}
