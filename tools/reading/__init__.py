@@ -18,6 +18,6 @@ definitions: so where the two differ, one of them has misread a rule. `bin/make-
     commands    whole commands: words, source and files in, status, line, output and files out
     cases       files of cases
     seeds       cases at random, of many kinds; any_text, any_toml, any_scenario, any_image and any_program make what they ask
-    made        the files of cases that are made by this reading
+    made        the files of cases that are made by this reading; families makes the long scenarios that they name
     against     a program that is held against it
 """

@@ -3,7 +3,7 @@
 Of most what is asked stands in the file and in files beside it, as a program chose it once, and what is answered is made. Those that cut
 and change an image are made whole of that image, with the pieces of it that they name.
 """
-from . import cases, commands, images
+from . import cases, commands, families, images
 
 BLOCK = 32
 # What a word of a page is changed by.
@@ -205,13 +205,15 @@ ANSWERED = (
     "plays", "plays-objects", "plays-memory", "plays-messages", "plays-states", "plays-servers", "check", "texts", "images", "bytes",
     "promises", "sends", "replays", "workers-all",
 )
-NAMES = ("pieces", *ANSWERED, *WHOLE)
+NAMES = ("pieces", *ANSWERED, *WHOLE, *families.FILES)
 
 
 def make(name):
     """The files of a name, each with the bytes that it has to have."""
     if name == "pieces":
         return {cases.FOLDER / path: octets for path, octets in pieces().items()}
+    if name in families.FILES:
+        return families.make(name)
     path = cases.FOLDER / (name + ".cases")
     file = cases.read(path)
     if name not in WHOLE:
