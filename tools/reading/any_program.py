@@ -228,7 +228,8 @@ class Scenario:
         """Its text."""
         dice = self.dice
         lines = [f"budget = {budget or dice.choice((400, 2000, 5000))}", "[programs]"]
-        lines += [f'p{index} = "' + "\\n".join(program) + '\\n"' for index, (program, _) in enumerate(self.programs)]
+        for index, (program, _) in enumerate(self.programs):
+            lines += [f'p{index} = """', *program, '"""']
         for index, place in enumerate(self.places):
             lines += ["[[space]]", f'path = "{self.text(place.path)}"', f'program = "p{index}"', f"pages = {place.pages}"]
             lines += ["nester = true"] * (self.nester and not place.path)

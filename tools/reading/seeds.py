@@ -4,7 +4,7 @@ A case is what a file of cases has: words, a source and files.
 """
 import random
 
-from . import any_image, any_program, any_scenario, any_text, any_toml, cases, commands, moves, runs, scenarios
+from . import any_image, any_program, any_scenario, any_text, any_toml, cases, commands, moves, runs
 from .world import CALLING, NATIVE, PORT
 
 
@@ -99,7 +99,7 @@ def asks_play(level):
     """A play of a scenario of a level: whole, or with a last move that isn't ready."""
     def asks(dice):
         source = any_program.Scenario(dice, level).document().encode()
-        scenario = scenarios.read(source)
+        scenario = commands.scenario_of(source)
         walk = Walk(dice, runs.Run(scenario))
         walk.go(min(scenario.budget, dice.choice((50, 150, 400, 800))))
         if dice.random() < 0.4 and len(walk.lines) < scenario.budget:

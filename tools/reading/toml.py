@@ -8,8 +8,9 @@ import re
 NESTINGS = 80
 PARTS = 80
 
-# What may stand in strings as it is, besides the other quote, quotes and ends of lines where these are no end.
-PLAIN = {'"': re.compile(r'[^\x00-\x08\x0a-\x1f\x7f"\\]+'), "'": re.compile(r"[^\x00-\x08\x0a-\x1f\x7f']+")}
+# What may stand in strings as it is, by their quotes; in those of several lines ends of lines too.
+PLAIN = {quote: re.compile(rf"[^\x00-\x08{ends}\x0b-\x1f\x7f{quote[0]}{escape}]+")
+         for quote, ends, escape in (('"', r"\n", r"\\"), ("'", r"\n", ""), ('"""', "", r"\\"), ("'''", "", ""))}
 CONTROL = re.compile(r"[\x00-\x08\x0a-\x1f\x7f]")
 BARE = re.compile(r"[A-Za-z0-9_-]+")
 DECIMAL = re.compile(r"[+-]?(?:0|[1-9](?:_?[0-9])*)")
@@ -300,7 +301,7 @@ class Reader:
             self.newline()
         out = []
         while True:
-            plain = PLAIN[quote].match(self.text, self.at)
+            plain = PLAIN[quote * 3 if several else quote].match(self.text, self.at)
             if plain:
                 out.append(plain.group())
                 self.at = plain.end()
