@@ -14,8 +14,8 @@ use Rattle.fk_model.specs.Outcomes.{Said}
 use Rattle.fk_model.specs.Outcomes.Said.{Answered}
 use Rattle.fk_model.specs.Runs.{Event, after}
 use Rattle.fk_model.specs.Valid.{is_fit}
-use Rattle.laws_frozen.specs.Holding.{IsUsersMove}
-use Rattle.laws_savable.specs.Savable.{IsSound}
+use Rattle.laws_moves.specs.Frozen.Holding.{IsUsersMove}
+use Rattle.laws_moves.specs.Savable.Savable.{IsSound}
 use Rattle.laws_jobs.specs.Machines.{Head, Reply, reply_of, heard, said_of, no_words, call_of, IsReadyAt, IsAnswered, Interleaved, AtWork, IsOwedCall}
 use Rattle.laws_jobs.specs.Machines.Head.{Asks}
 use Rattle.laws_jobs.specs.Machines.Interleaved.{Here, Another, Own}

@@ -4,7 +4,7 @@ use Rattle.fk_model.specs.declared.limits.TheConstants.{OWN_SPACE}
 use Rattle.fk_model.specs.declared.stage.Stage.TheVariants.{SpaceRelease}
 use Rattle.fk_model.specs.World.{World}
 use Rattle.fk_model.specs.Runs.{Event, after}
-use Rattle.laws_savable.specs.Savable.{IsSound}
+use Rattle.laws_moves.specs.Savable.Savable.{IsSound}
 use Rattle.laws_jobs.specs.Machines.{no_words, call_of, IsReadyAt, Interleaved, own_moves, AtWork}
 use Rattle.laws_jobs.specs.Machines.Interleaved.{Here, Own}
 use Rattle.examples_moves.proofs.Tested.{legal-tested}

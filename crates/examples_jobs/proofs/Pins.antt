@@ -9,10 +9,10 @@ use Rattle.fk_model.specs.Rebind.{rebound}
 use Rattle.fk_model.specs.Readers.{space_argument}
 use Rattle.fk_model.specs.Runs.{Event, after}
 use Rattle.fk_model.specs.Searches.{depth}
-use Rattle.laws_whole.proofs.Laws.{keeps_runnable, savable_runnable}
-use Rattle.laws_whole.specs.Runnable.{IsProper}
-use Rattle.laws_savable.specs.Savable.{may_make, Owes, IsSound}
-use Rattle.laws_savable.proofs.Laws.{keeps_savable}
+use Rattle.laws_moves.proofs.InWhole.Laws.{keeps_runnable, savable_runnable}
+use Rattle.laws_moves.specs.Whole.Runnable.{IsProper}
+use Rattle.laws_moves.specs.Savable.Savable.{may_make, Owes, IsSound}
+use Rattle.laws_moves.proofs.InSavable.Laws.{keeps_savable}
 use Rattle.laws_jobs.specs.Machines.{no_words, call_of, IsReadyAt, AtWork}
 use Rattle.laws_jobs.specs.Machines.Interleaved.{Here, Own}
 use Rattle.laws_jobs.specs.Jobs.{Restores}

@@ -2,7 +2,7 @@
 use Rattle.std.proofs.Common.{refl}
 use Rattle.fk_model.specs.Places.{strip, same_path}
 use Rattle.fk_model.specs.Records.{record_of}
-use Rattle.laws_restore.specs.Script.{script, down, root_down, through_rooms, makes_spaces, leads_outs, holds_spaces}
+use Rattle.laws_restore.specs.Restore.Script.{script, down, root_down, through_rooms, makes_spaces, leads_outs, holds_spaces}
 use Rattle.examples_jobs.specs.Scripts.{LooksRise}
 
 pub looks_rise : LooksRise

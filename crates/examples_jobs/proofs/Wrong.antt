@@ -7,7 +7,7 @@ use Rattle.fk_model.specs.World.{World}
 use Rattle.fk_model.specs.Cut.{cut}
 use Rattle.fk_model.specs.Readers.{space_argument}
 use Rattle.fk_model.specs.Runs.{after}
-use Rattle.laws_savable.specs.Savable.{IsSound}
+use Rattle.laws_moves.specs.Savable.Savable.{IsSound}
 use Rattle.laws_jobs.specs.Machines.{no_words, call_of, IsReadyAt, AtWork}
 use Rattle.laws_jobs.specs.Machines.Interleaved.{Here}
 use Rattle.laws_jobs.specs.Jobs.{IsTidyJob, Saves}

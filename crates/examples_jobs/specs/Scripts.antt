@@ -3,10 +3,10 @@ use Rattle.std.specs.Prelude.{◌≡◌, ℕ, List, [], ◌∷◌, ◌+◌, None
 use Rattle.std.specs.List.{flat_map}
 use Rattle.fk_model.specs.Places.Ptr.{Out}
 use Rattle.fk_model.specs.Objects.Body.{Reference}
-use Rattle.laws_sites.specs.Orders.{Order}
-use Rattle.laws_sites.specs.Orders.Order.{Pins}
-use Rattle.laws_restore.specs.Rooms.{Room}
-use Rattle.laws_restore.specs.Script.{script}
+use Rattle.laws_restore.specs.Sites.Orders.{Order}
+use Rattle.laws_restore.specs.Sites.Orders.Order.{Pins}
+use Rattle.laws_restore.specs.Restore.Rooms.{Room}
+use Rattle.laws_restore.specs.Restore.Script.{script}
 
 -- the first object leads to the higher slot of the nester, the second to the lower one
 abbrev pub two_outs : List Room

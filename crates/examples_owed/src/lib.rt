@@ -4,9 +4,9 @@
 
 ghost use Rattle.fk_model.specs.Runs.{after};
 ghost use Rattle.fk_model.specs.Whole.{IsWhole, IsSavable};
-ghost use Rattle.laws_whole.specs.Runnable.{IsProper};
+ghost use Rattle.laws_moves.specs.Whole.Runnable.{IsProper};
 ghost use Rattle.examples_moves.specs.Worked.{IsReadyTo};
-ghost use Rattle.laws_savable.specs.Savable.{Owes};
+ghost use Rattle.laws_moves.specs.Savable.Savable.{Owes};
 ghost use Rattle.examples_owed.specs.Owed.{leads_within, leads_outside, unheld, scratched, scratched_unheld, scratched_deeper, with_register, with_counter};
 ghost use Rattle.examples_owed.specs.Owed.{with_moved, with_missing, with_word, gives_hold, makes_in, makes_within, releases, makes_held_in, destroys_in};
 ghost use Rattle.examples_owed.specs.Owed.{renames_from};

@@ -12,7 +12,7 @@ use Rattle.fk_model.specs.Freezing.{body_pointers}
 use Rattle.fk_model.specs.StateRows.{is_native}
 use Rattle.fk_model.specs.ObjectRows.{is_scratch}
 use Rattle.fk_model.proofs.walks.PlaceLaws.{same_path_eq, strip_some}
-use Rattle.laws_frozen.specs.Holding.{IsNear, IsHolding, is_reference, only_reference}
+use Rattle.laws_moves.specs.Frozen.Holding.{IsNear, IsHolding, is_reference, only_reference}
 use Rattle.examples_moves.specs.Worked.{body_in}
 use Rattle.examples_premises.proofs.Listed.{found}
 

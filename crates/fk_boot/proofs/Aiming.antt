@@ -11,19 +11,19 @@ use Rattle.fk_model.specs.Places.{Path}
 use Rattle.fk_model.specs.Objects.{Body, kind_of}
 use Rattle.fk_model.specs.Valid.{kind_there, birth_at}
 use Rattle.fk_model.specs.World.{World}
-use Rattle.fk_store.proofs.finding.LookUps.{birth_at-space_at}
-use Rattle.fk_store.specs.Contents.{Contents}
-use Rattle.fk_store.specs.Paths.{space_at}
-use Rattle.fk_store.specs.World.{world}
-use Rattle.fk_scenario_fields.specs.Paths.{enclosing}
-use Rattle.fk_scenario_entries.specs.declared.types.SpaceEntry.{SpaceEntry}
-use Rattle.fk_scenario_entries.specs.declared.types.ObjectEntry.{ObjectEntry}
-use Rattle.fk_scenario_entries.specs.declared.types.Spec.{Spec}
-use Rattle.fk_scenario_entries.specs.declared.types.Spec.TheVariants.{Thread, Mutex, Cond, Portset, Mapping, Region, Port, Reference}
-use Rattle.fk_scenario.specs.Aims.{object_with, is_region_spec, is_port_spec, can_be_referred_to, is_one, entry_space, aims_well, aims_from}
-use Rattle.fk_scenario_sections.specs.Kept.{EachAfter, KeepsObject}
-use Rattle.fk_scenario_sections.specs.Objects.{has_object}
-use Rattle.fk_scenario_sections.specs.Spaces.{has_space, has_space_or_root}
+use Rattle.fk_store.proofs.InStore.finding.LookUps.{birth_at-space_at}
+use Rattle.fk_store.specs.Store.Contents.{Contents}
+use Rattle.fk_store.specs.Store.Paths.{space_at}
+use Rattle.fk_store.specs.Store.World.{world}
+use Rattle.fk_scenario.specs.Fields.Paths.{enclosing}
+use Rattle.fk_scenario.specs.declared.entries.types.SpaceEntry.{SpaceEntry}
+use Rattle.fk_scenario.specs.declared.entries.types.ObjectEntry.{ObjectEntry}
+use Rattle.fk_scenario.specs.declared.entries.types.Spec.{Spec}
+use Rattle.fk_scenario.specs.declared.entries.types.Spec.TheVariants.{Thread, Mutex, Cond, Portset, Mapping, Region, Port, Reference}
+use Rattle.fk_scenario.specs.Scenario.Aims.{object_with, is_region_spec, is_port_spec, can_be_referred_to, is_one, entry_space, aims_well, aims_from}
+use Rattle.fk_scenario.specs.Sections.Kept.{EachAfter, KeepsObject}
+use Rattle.fk_scenario.specs.Sections.Objects.{has_object}
+use Rattle.fk_scenario.specs.Sections.Spaces.{has_space, has_space_or_root}
 use Rattle.fk_boot.specs.MadeSoFar.{StandsAt, AimStands, CanAim, HasObjects}
 use Rattle.fk_boot.proofs.Walks.{last}
 

@@ -11,9 +11,9 @@ use Rattle.fk_model.specs.Places.{Path}
 use Rattle.fk_model.specs.World.{World, Change, apply, apply_all}
 use Rattle.fk_model.specs.World.Change.{PutPage}
 use Rattle.fk_model.specs.Searches.{slots}
-use Rattle.fk_store.specs.Contents.{Contents}
-use Rattle.fk_store.specs.Paths.{path}
-use Rattle.fk_store.specs.World.{world, IsSpace}
+use Rattle.fk_store.specs.Store.Contents.{Contents}
+use Rattle.fk_store.specs.Store.Paths.{path}
+use Rattle.fk_store.specs.Store.World.{world, IsSpace}
 use Rattle.fk_boot.specs.FirstWorld.{page_words, program_page, zero_pages}
 
 pub apply_all-append : (a b : List Change) (w : World) → apply_all (a ++ b) w ≡ apply_all b (apply_all a w)

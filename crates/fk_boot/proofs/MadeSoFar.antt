@@ -15,18 +15,18 @@ use Rattle.fk_model.specs.World.{World, apply, apply_all, birth_after}
 use Rattle.fk_model.specs.World.Change.{Make, MakeSpace, PutPage}
 use Rattle.fk_model.specs.Searches.{slots}
 use Rattle.fk_model.proofs.walks.PlaceLaws.{same_path_refl, same_path_eq, same_path_ne, same_path_sym}
-use Rattle.fk_store.proofs.finding.Walks.{not_root}
-use Rattle.fk_store.specs.World.{first_world}
-use Rattle.fk_scenario_entries.specs.declared.types.Program.{Program}
-use Rattle.fk_scenario_entries.specs.declared.types.SpaceEntry.{SpaceEntry}
-use Rattle.fk_scenario_entries.specs.declared.types.ObjectEntry.{ObjectEntry}
-use Rattle.fk_scenario_entries.specs.declared.types.Spec.{Spec}
-use Rattle.fk_scenario_entries.specs.declared.types.Spec.TheVariants as specs
-use Rattle.fk_scenario_sections.specs.Kept.{EachAfter, KeepsSpace, KeepsObject}
-use Rattle.fk_scenario_fields.specs.Paths.{enclosing}
-use Rattle.fk_scenario_sections.specs.Spaces.{has_space, has_space_or_root, may_stand, count_beneath}
-use Rattle.fk_scenario_sections.specs.Objects.{has_object}
-use Rattle.fk_scenario.specs.Servers.{has_key}
+use Rattle.fk_store.proofs.InStore.finding.Walks.{not_root}
+use Rattle.fk_store.specs.Store.World.{first_world}
+use Rattle.fk_scenario.specs.declared.entries.types.Program.{Program}
+use Rattle.fk_scenario.specs.declared.entries.types.SpaceEntry.{SpaceEntry}
+use Rattle.fk_scenario.specs.declared.entries.types.ObjectEntry.{ObjectEntry}
+use Rattle.fk_scenario.specs.declared.entries.types.Spec.{Spec}
+use Rattle.fk_scenario.specs.declared.entries.types.Spec.TheVariants as specs
+use Rattle.fk_scenario.specs.Sections.Kept.{EachAfter, KeepsSpace, KeepsObject}
+use Rattle.fk_scenario.specs.Fields.Paths.{enclosing}
+use Rattle.fk_scenario.specs.Sections.Spaces.{has_space, has_space_or_root, may_stand, count_beneath}
+use Rattle.fk_scenario.specs.Sections.Objects.{has_object}
+use Rattle.fk_scenario.specs.Scenario.Servers.{has_key}
 use Rattle.fk_boot.specs.FirstWorld.{page_words, program_page, program_pages, zero_pages, space_itself, space_changes, words_of_program, first_body}
 use Rattle.fk_boot.specs.FirstWorld.{object_changes}
 use Rattle.fk_boot.specs.MadeSoFar.{HasPlace, CanStand, HasSpaces, HasObjects}

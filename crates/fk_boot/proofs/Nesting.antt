@@ -18,19 +18,19 @@ use Rattle.fk_model.specs.Objects.Body.{Space}
 use Rattle.fk_model.specs.World.{World, apply, apply_all}
 use Rattle.fk_model.specs.World.Change.{Make}
 use Rattle.fk_model.specs.Valid.{kind_there, birth_at, birth_of}
-use Rattle.fk_store.proofs.finding.Walks.{not_root}
-use Rattle.fk_store.specs.Makes.{making}
+use Rattle.fk_store.proofs.InStore.finding.Walks.{not_root}
+use Rattle.fk_store.specs.Store.Makes.{making}
 use Rattle.fk_model.proofs.walks.PlaceLaws.{same_path_eq}
-use Rattle.fk_scenario_entries.specs.declared.types.Program.{Program}
-use Rattle.fk_scenario_entries.specs.declared.types.SpaceEntry.{SpaceEntry}
-use Rattle.fk_scenario_entries.specs.declared.types.ObjectEntry.{ObjectEntry}
-use Rattle.fk_scenario_entries.specs.Kept.{AreSlots}
-use Rattle.fk_scenario_fields.specs.Paths.{enclosing}
-use Rattle.fk_scenario_sections.specs.Kept.{EachAfter, KeepsSpace, KeepsObject}
-use Rattle.fk_scenario_sections.specs.Spaces.{has_space, has_space_or_root, may_stand}
-use Rattle.fk_scenario_entries.specs.declared.types.ServerEntry.{ServerEntry}
-use Rattle.fk_scenario.specs.Aims.{object_with, is_one}
-use Rattle.fk_scenario.specs.Servers.{is_lone_port, has_key, alias_of, has_new_alias, may_serve, serving_from}
+use Rattle.fk_scenario.specs.declared.entries.types.Program.{Program}
+use Rattle.fk_scenario.specs.declared.entries.types.SpaceEntry.{SpaceEntry}
+use Rattle.fk_scenario.specs.declared.entries.types.ObjectEntry.{ObjectEntry}
+use Rattle.fk_scenario.specs.Entries.Kept.{AreSlots}
+use Rattle.fk_scenario.specs.Fields.Paths.{enclosing}
+use Rattle.fk_scenario.specs.Sections.Kept.{EachAfter, KeepsSpace, KeepsObject}
+use Rattle.fk_scenario.specs.Sections.Spaces.{has_space, has_space_or_root, may_stand}
+use Rattle.fk_scenario.specs.declared.entries.types.ServerEntry.{ServerEntry}
+use Rattle.fk_scenario.specs.Scenario.Aims.{object_with, is_one}
+use Rattle.fk_scenario.specs.Scenario.Servers.{is_lone_port, has_key, alias_of, has_new_alias, may_serve, serving_from}
 use Rattle.fk_boot.specs.FirstWorld.{porter, porter_changes}
 use Rattle.fk_boot.specs.MadeSoFar.{HasObjects, StandsAt, CanNest, AreNestable}
 use Rattle.fk_boot.proofs.Aiming.{or_right, one-stands}

@@ -10,14 +10,14 @@ use Rattle.fk_model.specs.Valid.{birth_at}
 use Rattle.fk_model.specs.World.{World, apply, apply_all}
 use Rattle.fk_model.specs.World.Change.{Make, MakeSpace}
 use Rattle.fk_model.proofs.walks.PlaceLaws.{same_path_refl}
-use Rattle.fk_store.specs.Contents.{Contents}
-use Rattle.fk_store.specs.Makes.{making}
-use Rattle.fk_scenario_entries.specs.declared.types.Spec.{Spec}
-use Rattle.fk_scenario_entries.specs.declared.types.Spec.TheVariants as specs
-use Rattle.fk_store.specs.Paths.{path, space_at}
-use Rattle.fk_store.specs.World.{world, IsSpace}
-use Rattle.fk_store.proofs.finding.LookUps.{birth_at-space_at}
-use Rattle.fk_store.proofs.finding.Walks.{path-root, not_root}
+use Rattle.fk_store.specs.Store.Contents.{Contents}
+use Rattle.fk_store.specs.Store.Makes.{making}
+use Rattle.fk_scenario.specs.declared.entries.types.Spec.{Spec}
+use Rattle.fk_scenario.specs.declared.entries.types.Spec.TheVariants as specs
+use Rattle.fk_store.specs.Store.Paths.{path, space_at}
+use Rattle.fk_store.specs.Store.World.{world, IsSpace}
+use Rattle.fk_store.proofs.InStore.finding.LookUps.{birth_at-space_at}
+use Rattle.fk_store.proofs.InStore.finding.Walks.{path-root, not_root}
 use Rattle.fk_boot.specs.FirstWorld.{first_body, space_itself}
 use Rattle.fk_boot.specs.MadeSoFar.{AreBorn}
 

@@ -5,14 +5,14 @@ use Rattle.fk_model.specs.Valid.{birth_at, kind_there}
 use Rattle.fk_model.specs.declared.limits.TheConstants.{LAST_PORTER_SLOT}
 use Rattle.fk_model.specs.declared.names.Kind.TheVariants as kinds
 use Rattle.fk_model.specs.World.{World, apply_all}
-use Rattle.fk_scenario_fields.specs.Paths.{enclosing}
+use Rattle.fk_scenario.specs.Fields.Paths.{enclosing}
 use Rattle.fk_boot.specs.FirstWorld.{porter_changes}
-use Rattle.fk_scenario_sections.specs.Spaces.{has_space_or_root, count_beneath}
-use Rattle.fk_scenario_sections.specs.Objects.{has_object}
-use Rattle.fk_scenario_entries.specs.declared.types.SpaceEntry.{SpaceEntry}
-use Rattle.fk_scenario_entries.specs.declared.types.ObjectEntry.{ObjectEntry}
-use Rattle.fk_scenario_entries.specs.declared.types.Spec.{Spec}
-use Rattle.fk_scenario_entries.specs.declared.types.Spec.TheVariants.{Thread, Mutex, Cond, Portset, Mapping, Region, Port, Reference}
+use Rattle.fk_scenario.specs.Sections.Spaces.{has_space_or_root, count_beneath}
+use Rattle.fk_scenario.specs.Sections.Objects.{has_object}
+use Rattle.fk_scenario.specs.declared.entries.types.SpaceEntry.{SpaceEntry}
+use Rattle.fk_scenario.specs.declared.entries.types.ObjectEntry.{ObjectEntry}
+use Rattle.fk_scenario.specs.declared.entries.types.Spec.{Spec}
+use Rattle.fk_scenario.specs.declared.entries.types.Spec.TheVariants.{Thread, Mutex, Cond, Portset, Mapping, Region, Port, Reference}
 
 -- ---- places, by their slots from the root down
 

@@ -8,9 +8,9 @@ use Rattle.fk_natives.specs.declared.service.Side.TheVariants.{Idle}
 use Rattle.fk_natives.specs.declared.native.Native.{Native}
 use Rattle.fk_natives.specs.Both.{meaning}
 use Rattle.fk_natives.specs.Natives.{State, OfConsole, OfServer}
-use Rattle.fk_scenario_entries.specs.declared.types.ServerEntry.{ServerEntry}
-use Rattle.fk_scenario_entries.specs.declared.types.ServiceSpec.{ServiceSpec}
-use Rattle.fk_scenario_entries.specs.declared.types.ServiceSpec.TheVariants.{Console, Listed}
+use Rattle.fk_scenario.specs.declared.entries.types.ServerEntry.{ServerEntry}
+use Rattle.fk_scenario.specs.declared.entries.types.ServiceSpec.{ServiceSpec}
+use Rattle.fk_scenario.specs.declared.entries.types.ServiceSpec.TheVariants.{Console, Listed}
 
 -- a server has no client, and has neither been sent nor replied anything
 abbrev pub first_state : ServiceSpec → State

@@ -2,11 +2,11 @@
 use Rattle.std.specs.Prelude.{◌≡◌, Bool, true}
 use Rattle.std.specs.List.{list_all}
 use Rattle.fk_model.specs.Whole.{are_words}
-use Rattle.fk_scenario_entries.specs.declared.types.ObjectEntry.{ObjectEntry}
-use Rattle.fk_scenario_entries.specs.declared.types.Program.{Program}
-use Rattle.fk_scenario_entries.specs.declared.types.Spec.{Spec}
-use Rattle.fk_scenario_entries.specs.declared.types.Spec.TheVariants.{Thread}
-use Rattle.fk_scenario.specs.declared.scenario.Scenario.{Scenario}
+use Rattle.fk_scenario.specs.declared.entries.types.ObjectEntry.{ObjectEntry}
+use Rattle.fk_scenario.specs.declared.entries.types.Program.{Program}
+use Rattle.fk_scenario.specs.declared.entries.types.Spec.{Spec}
+use Rattle.fk_scenario.specs.declared.entries.types.Spec.TheVariants.{Thread}
+use Rattle.fk_scenario.specs.declared.scenario.scenario.Scenario.{Scenario}
 
 -- a thread's first registers
 abbrev pub has_words : Spec → Bool

@@ -3,13 +3,13 @@ ghost use Rattle.std.specs.Prelude.{◌≡◌, IfSome, map, reverse};
 ghost use Rattle.fk_model.specs.Valid.{kind_there};
 ghost use Rattle.fk_model.specs.World.{apply_all};
 ghost use Rattle.fk_model.specs.World.Change.{Alter};
-ghost use Rattle.fk_store.specs.World.{world};
+ghost use Rattle.fk_store.specs.Store.World.{world};
 ghost use Rattle.fk_boot.specs.FirstWorld as definitions;
 ghost use Rattle.fk_boot.specs.MadeSoFar.{StandsAt, CanAim};
 
 use crate::names::name_of;
 use fk_model::{List, Ptr};
-use fk_scenario::{ObjectEntry, Spec};
+use fk_scenario::entries::{ObjectEntry, Spec};
 use fk_store::Store;
 
 /// Lets the pointer of an object lead to what stands at a path, where one is given.

@@ -2,8 +2,8 @@
 ghost use Rattle.std.specs.Prelude.{◌≡◌, ◌++◌, IfOk, map};
 ghost use Rattle.fk_model.specs.Valid.{IsValid};
 ghost use Rattle.fk_model.specs.Whole.{IsSavable};
-ghost use Rattle.laws_whole.specs.Runnable.{IsRunnable};
-ghost use Rattle.fk_scenario.specs.Kept.{KeepsScenario};
+ghost use Rattle.laws_moves.specs.Whole.Runnable.{IsRunnable};
+ghost use Rattle.fk_scenario.specs.Scenario.Kept.{KeepsScenario};
 ghost use Rattle.fk_kernel.specs.Kernels.{world_of as world};
 ghost use Rattle.fk_boot.specs.FirstWorld.{booted};
 ghost use Rattle.fk_boot.specs.Services.{first_services, by_paths};

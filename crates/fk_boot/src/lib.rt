@@ -1,7 +1,7 @@
 //! The first core of a scenario.
 //!
 //! It stands on `fk_scenario` for scenarios, on `fk_kernel` for the kernel of a store, on `fk_natives` for native
-//! servers, and on `laws_machine` for what keeps a world valid. It promises that `boot` gives a kernel of the world that
+//! servers, and on `laws_moves::machine` for what keeps a world valid. It promises that `boot` gives a kernel of the world that
 //! `specs/FirstWorld.antt` has: what the entries of the scenario make of a world that has the root
 //! alone, in the order of the file: the spaces with their pages, then the objects, and then where
 //! these lead, and then the porters of nesters; the ports of servers are served. That world is valid. Beside it stand the servers
@@ -21,4 +21,3 @@ mod words;
 
 pub use entries::first_store;
 pub use first::{First, boot};
-pub use fk_kernel::Kernel;

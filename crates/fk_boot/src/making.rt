@@ -3,22 +3,22 @@ ghost use Rattle.std.specs.Prelude.{◌≡◌, ℕ, ◌<◌, ◌≤◌, length, 
 ghost use Rattle.fk_model.specs.Objects.Body.{Thread_of};
 ghost use Rattle.fk_model.specs.Places.{Path};
 ghost use Rattle.fk_model.specs.World.{apply_all};
-ghost use Rattle.fk_scenario_entries.specs.Kept.{IsSpecInRange};
-ghost use Rattle.fk_scenario_entries.specs.declared.types.Spec.TheVariants as specs;
-ghost use Rattle.fk_store.specs.Contents.{Contents};
-ghost use Rattle.fk_store.specs.Bodies.{body_by, thread_by};
-ghost use Rattle.fk_store.specs.Makes.{IsNext};
-ghost use Rattle.fk_store.specs.Named.{OnNamed};
-ghost use Rattle.fk_store.specs.WellFormed.{IsSized};
-ghost use Rattle.fk_store.specs.Paths.{path};
-ghost use Rattle.fk_store.specs.World.{world, IsLive, IsSpace};
+ghost use Rattle.fk_scenario.specs.Entries.Kept.{IsSpecInRange};
+ghost use Rattle.fk_scenario.specs.declared.entries.types.Spec.TheVariants as specs;
+ghost use Rattle.fk_store.specs.Store.Contents.{Contents};
+ghost use Rattle.fk_store.specs.Store.Bodies.{body_by, thread_by};
+ghost use Rattle.fk_store.specs.Store.Makes.{IsNext};
+ghost use Rattle.fk_store.specs.Store.Named.{OnNamed};
+ghost use Rattle.fk_store.specs.Store.WellFormed.{IsSized};
+ghost use Rattle.fk_store.specs.Store.Paths.{path};
+ghost use Rattle.fk_store.specs.Store.World.{world, IsLive, IsSpace};
 ghost use Rattle.fk_boot.specs.FirstWorld as definitions;
 ghost use Rattle.fk_boot.specs.MadeSoFar.{HasPlace, CanStand, AreBorn};
 
 use crate::names::name_of;
 use fk_model::{Body, Mode, NoMemory, Ptr, Thread};
-use fk_scenario::{ObjectEntry, Spec};
-use fk_scenario_fields::{Entries, Path as Slots};
+use fk_scenario::entries::{ObjectEntry, Spec};
+use fk_scenario::fields::{Entries, Path as Slots};
 use fk_store::Store;
 
 /// Makes a space, unless it is the root, and gives its birth number.

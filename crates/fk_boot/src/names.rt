@@ -1,9 +1,9 @@
 //! Names of places, by the slots on the way down to them.
 ghost use Rattle.std.specs.Prelude.{◌≡◌, ◌<◌, ◌∷◌, IsSome, IfSome, length, reverse};
-ghost use Rattle.fk_scenario_fields.specs.Paths.{enclosing};
+ghost use Rattle.fk_scenario.specs.Fields.Paths.{enclosing};
 ghost use Rattle.fk_model.specs.Valid.{birth_at};
-ghost use Rattle.fk_store.specs.Paths.{path};
-ghost use Rattle.fk_store.specs.World.{world, place_of, IsSpace};
+ghost use Rattle.fk_store.specs.Store.Paths.{path};
+ghost use Rattle.fk_store.specs.Store.World.{world, place_of, IsSpace};
 
 use fk_model::{Body, Who};
 use fk_store::Store;

@@ -1,13 +1,13 @@
 //! The pages with which a space begins.
 ghost use Rattle.std.specs.Prelude.{◌≡◌, ◌≤◌, length, OnOk};
 ghost use Rattle.fk_model.specs.World.{apply_all};
-ghost use Rattle.fk_store.specs.Paths.{path};
-ghost use Rattle.fk_store.specs.World.{world, IsSpace};
+ghost use Rattle.fk_store.specs.Store.Paths.{path};
+ghost use Rattle.fk_store.specs.Store.World.{world, IsSpace};
 ghost use Rattle.fk_boot.specs.FirstWorld as definitions;
 
 use fk_model::NoMemory;
 use fk_model::limits::{PAGE_WORDS, PAGES};
-use fk_scenario::Program;
+use fk_scenario::entries::Program;
 use fk_store::Store;
 
 /// The words of the program with an index; none without an index.

@@ -4,16 +4,16 @@ ghost use Rattle.fk_model.specs.Objects.Body.{Thread_of};
 ghost use Rattle.fk_model.specs.Places.{Path};
 ghost use Rattle.fk_model.specs.World.{apply_all};
 ghost use Rattle.std.specs.List.{flat_map};
-ghost use Rattle.fk_store.specs.Bodies.{thread_by};
-ghost use Rattle.fk_store.specs.WellFormed.{IsSized};
-ghost use Rattle.fk_store.specs.World.{world};
+ghost use Rattle.fk_store.specs.Store.Bodies.{thread_by};
+ghost use Rattle.fk_store.specs.Store.WellFormed.{IsSized};
+ghost use Rattle.fk_store.specs.Store.World.{world};
 ghost use Rattle.fk_boot.specs.FirstWorld as definitions;
 ghost use Rattle.fk_boot.specs.MadeSoFar.{CanNest, AreNestable};
 
 use crate::names::birth_of;
 use fk_model::limits::LAST_PORTER_SLOT;
 use fk_model::{Body, Mode, NoMemory, Thread, Who};
-use fk_scenario::SpaceEntry;
+use fk_scenario::entries::SpaceEntry;
 use fk_store::Store;
 
 /// A porter, which makes the calls of jobs.

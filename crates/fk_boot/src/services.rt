@@ -3,14 +3,14 @@ ghost use Rattle.std.specs.Prelude.{◌≡◌, IfOk, reverse};
 ghost use Rattle.std.specs.List.{All};
 ghost use Rattle.fk_model.specs.Who.{named};
 ghost use Rattle.fk_natives.specs.Both.{meaning};
-ghost use Rattle.fk_store.specs.World.{world};
+ghost use Rattle.fk_store.specs.Store.World.{world};
 ghost use Rattle.fk_boot.specs.MadeSoFar.{StandsAt};
 ghost use Rattle.fk_boot.specs.Services.{first_state, first_services, by_paths};
 
 use crate::names::name_of;
 use fk_model::{NoMemory, Reply, Who};
 use fk_natives::{Console, Native, Server, Side};
-use fk_scenario::{ServerEntry, ServiceSpec};
+use fk_scenario::entries::{ServerEntry, ServiceSpec};
 use fk_store::Store;
 use std::alloc::Global;
 

@@ -5,7 +5,8 @@ ghost use Rattle.std.specs.List.{list_all};
 ghost use Rattle.fk_model.specs.Whole as whole;
 ghost use Rattle.fk_boot.specs.Words.{has_words, HasWords};
 
-use fk_scenario::{ObjectEntry, Program, Scenario, Spec};
+use fk_scenario::Scenario;
+use fk_scenario::entries::{ObjectEntry, Program, Spec};
 
 /// Each number is a word.
 fn read_numbers(numbers: &[u64])

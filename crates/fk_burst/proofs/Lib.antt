@@ -1,5 +1,2 @@
-mod Committing
-pub mod Currents
-pub mod Laying
-pub mod Leasing
-pub mod Runs
+pub mod InCopies
+pub mod InBurst

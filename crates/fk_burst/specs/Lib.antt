@@ -1,4 +1,2 @@
-pub mod Commits
-pub mod Kept
-pub mod Lease
-pub mod Leases
+pub mod Copies
+pub mod Burst

@@ -1,17 +1,14 @@
 //! Bursts: a worker takes a copy of a running thread with it, makes instructions there while others use the kernel, and then commits them
 //! as so many moves of the thread.
 //!
-//! It stands on `fk_kernel`, on `fk_copies` for the copy and its instructions, and on `laws_bursts` for what instructions beside the world
-//! have to do with moves in it. None of it takes memory.
+//! It stands on `fk_kernel` for the moves, on `fk_user` for what a word asks for, and on `laws_bursts` for what instructions beside the world
+//! have to do with moves in it. It promises that a burst is made of moves that were ready, or changes nothing. It takes no memory.
 //!
-//! It promises that `lease` gives a copy exactly of a thread that is ready in running mode, with the pages that `specs/Leases.antt` names;
-//! that `run` makes exactly the instructions that `laws_bursts` defines, at most 64, up to a call, a halt or a word of a page that the lease
-//! doesn't have; and that `commit` puts them into the kernel, as as many ready moves of the thread, exactly where `specs/Commits.antt`
-//! allows it, and else leaves all as it is.
+//! - `copies`: the copy of a thread and of some pages, and instructions in it;
+//! - `burst`: lease, run and commit.
 #![tactic(auto)]
 
-mod commits;
-mod leases;
+pub mod burst;
+pub mod copies;
 
-pub use commits::{commit, commit_held};
-pub use leases::{Leased, count, lease, run};
+pub use burst::{Leased, commit, commit_held, count, lease, run};

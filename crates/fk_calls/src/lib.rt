@@ -1,34 +1,17 @@
 //! Calls: which move of a user, a porter or a native server is ready, and making it.
 //!
-//! It stands on the crates of rows, each of which judges stages, on `fk_user`, which judges
-//! instructions, on `fk_plans`, which says when a verdict is ready and carries it out, on `fk_acts` for
-//! native servers and by way of it on `fk_endings` for whose client is lost, and on `fk_wakes` for which objects
-//! a move touches. Here is the one match from a stage to its judge. It promises that `ready` answers exactly whether the
-//! abstract machine is ready to make a move, that `take` makes of the store's world what the machine
-//! makes of it, that `attempt` does both, judging once, and tells which native server lost its client,
-//! that `run` makes an instruction and tells whether the thread runs on, `stage` a stage that tells nothing,
-//! that `say` does the same of words for a native server, which it lays into the caller's room, and `call` of a porter's answer,
-//! that each of them tells which objects the move touched,
-//! that `is_fit` tells which moves may be made at all, that `may_move` tells cheaply of whom no move is ready, and that
-//! `may_pick` tells whom a user may pick.
+//! It stands on the crates of rows, each of which judges stages, on `fk_user`, which judges instructions, and on `fk_plans`, which says when a
+//! verdict is ready and carries it out. It promises that a move is called ready exactly where the abstract machine is ready to make it, that
+//! making it makes of the store's world what the machine makes of it, and which objects it touched and which native server lost its client.
+//!
+//! - `acts`: what native servers do: accept a client or take up its talk, give it words, hand it the turn;
+//! - `calls`: the one match from a stage to its judge, and moves of users and porters.
 #![tactic(auto)]
 
-mod answering;
-mod codes;
-mod doing;
-mod fitting;
-mod judging;
-mod moves;
-mod picking;
-mod rows;
-mod sayings;
-mod silent;
-mod straight;
+pub mod acts;
+pub mod calls;
 
-pub use answering::call;
-pub use fitting::is_fit;
-pub use judging::may_move;
-pub use moves::{Ran, Told, attempt, ready, run, take};
-pub use picking::{Picks, may_pick};
-pub use sayings::{Saying, Sent, say};
-pub use silent::stage;
+pub use calls::{
+    Picks, Ran, Saying, Sent, Told, attempt, call, is_fit, may_move, may_pick, ready, run, say,
+    stage, take,
+};

@@ -1,3 +1,4 @@
-pub mod Lefts
-pub mod Calls
-pub mod Hears
+pub mod InSeeking
+pub mod InGathering
+pub mod InAssembly
+pub mod InCheckpoint

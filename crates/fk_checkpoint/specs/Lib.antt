@@ -1,4 +1,4 @@
-pub mod Ends
-pub mod Checkpoints
-pub mod Phases
-pub mod Lefts
+pub mod Seeking
+pub mod Gathering
+pub mod Assembly
+pub mod Checkpoint

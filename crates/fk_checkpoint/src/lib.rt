@@ -1,14 +1,18 @@
 //! The checkpoint: a job that holds a subtree, tells where it isn't closed or gathers its image, and releases it.
 //!
-//! It stands on `fk_seeking`, `fk_gathering` and `fk_assembly` for its parts, on `fk_finish` for how it ends, and on
-//! `laws_checkpoint`, whose machine says what is asked next after each answer and what it ends with. It sees answers and nothing of
-//! the kernel, and promises to be that machine, whatever the answers are. So what `laws_checkpoint` says over every interleaving
-//! holds of it.
+//! It stands on `laws_checkpoint`, whose machine says what is asked next after each answer and what it ends with, on `fk_image` for images and
+//! on `fk_finish` for how a job ends. It sees answers and nothing of the kernel, and promises to be that machine, whatever the answers are;
+//! so what `laws_checkpoint` says over every interleaving holds of it. Only making room takes memory.
+//!
+//! - `seeking`: the walk over a subtree, and the search for the first place where it isn't closed;
+//! - `gathering`: what stands in each space, and where pointers lead;
+//! - `assembly`: the image of what was gathered;
+//! - `checkpoint`: the job.
 #![tactic(auto)]
 
-mod checkpoint;
-mod ending;
-mod left;
-mod way;
+pub mod assembly;
+pub mod checkpoint;
+pub mod gathering;
+pub mod seeking;
 
 pub use checkpoint::Checkpoint;

@@ -1,2 +1,4 @@
-pub mod Loops
-pub mod Found
+pub mod InReading
+pub mod InWriting
+pub mod InCodec
+pub mod InShow

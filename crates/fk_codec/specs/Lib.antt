@@ -1,1 +1,4 @@
-pub mod Given
+pub mod Reading
+pub mod Writing
+pub mod Codec
+pub mod Show

@@ -1,15 +1,19 @@
-//! The image codec: the bytes of an image, and the image of bytes, exact both ways.
+//! The image codec: the bytes of an image, the image of bytes, and the text that shows one.
 //!
-//! It stands on `fk_image_format` for what bytes spell and what refuses them, on `fk_image` for the records, on
-//! `fk_image_reading` for their parts, on `fk_image_pointers` for where they lead, and on `fk_image_writing` for `write`, which
-//! gives the one spelling of a valid image. `read` gives the image that the bytes spell, or the offset and the
-//! reason of their first fault. It reads from left to right, recurses on nothing, and takes time and memory in
-//! proportion to the bytes that are there, whatever the numbers in them promise.
+//! It stands on `fk_image` for records and format, and on `byteorder` for numbers. It promises that an image is read exactly where the bytes
+//! spell one, else the offset and the reason of their first fault, and that what is written is the one spelling. It recurses on nothing, and
+//! takes time and memory in proportion to the bytes that are there, whatever the numbers in them promise.
+//!
+//! - `reading`: the parts of an image from its bytes;
+//! - `writing`: the bytes of an image;
+//! - `codec`: whole images from bytes;
+//! - `show`: the text that `show` prints.
 #![tactic(auto)]
 
-mod fail;
-mod reading;
+pub mod codec;
+pub mod reading;
+pub mod show;
+pub mod writing;
 
-pub use fail::{ImageError, ReadFail};
-pub use fk_image_writing::write;
-pub use reading::read;
+pub use codec::{ImageError, ReadFail, read};
+pub use writing::write;

@@ -1,8 +1,8 @@
 -- The command `check`: what a text comes to.
 use Rattle.std.specs.Prelude.{◌≡◌, ℕ, suc, ◌+◌, List, [], ◌∷◌, ◌++◌, length, codes, decimal, Result, Ok, Err}
-use Rattle.fk_scenario_entries.specs.declared.types.SpaceEntry.{SpaceEntry}
-use Rattle.fk_scenario_fields.specs.declared.fail.ScenarioError.{ScenarioError}
-use Rattle.fk_scenario.specs.declared.scenario.Scenario.{Scenario}
+use Rattle.fk_scenario.specs.declared.entries.types.SpaceEntry.{SpaceEntry}
+use Rattle.fk_scenario.specs.declared.fields.fail.ScenarioError.{ScenarioError}
+use Rattle.fk_scenario.specs.declared.scenario.scenario.Scenario.{Scenario}
 use Rattle.fk_commands.specs.declared.status.Status.{Status}
 use Rattle.fk_commands.specs.declared.status.Status.TheVariants.{Ok as Done, BadScenario}
 use Rattle.fk_commands.specs.declared.outcome.Outcome.{Outcome}

@@ -5,9 +5,9 @@ use Rattle.fk_asm.specs.declared.fail.AsmError.{AsmError}
 use Rattle.fk_causes.specs.Causes.{Rose, MayHold}
 use Rattle.fk_causes.specs.declared.whole.TheConstants.{LIMIT}
 use Rattle.fk_causes.specs.Shelf.{FileMap, HasAt}
-use Rattle.fk_scenario_fields.specs.declared.fail.ScenarioError.{ScenarioError}
-use Rattle.fk_image.specs.declared.image.Image.{Image}
-use Rattle.fk_scenario.specs.declared.scenario.Scenario.{Scenario}
+use Rattle.fk_scenario.specs.declared.fields.fail.ScenarioError.{ScenarioError}
+use Rattle.fk_image.specs.declared.image.image.Image.{Image}
+use Rattle.fk_scenario.specs.declared.scenario.scenario.Scenario.{Scenario}
 use Rattle.fk_commands.specs.declared.prepared.Prepared.{Prepared}
 use Rattle.fk_commands.specs.declared.status.Status.{Status}
 use Rattle.fk_commands.specs.declared.status.Status.TheVariants.{Ok as Done, Usage, TooLong, BadText, BadScenario, Absent, BadImage, BadTrace, JobRefused, Budget, ReadFault, WriteFault, ShelfFault, NoMemory}

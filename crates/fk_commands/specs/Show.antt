@@ -1,9 +1,9 @@
 -- The command `show`: what an image on the shelf comes to.
 use Rattle.std.specs.Prelude.{◌≡◌, ℕ, List, Option, Some, None, Result, Ok, Err}
 use Rattle.fk_causes.specs.Shelf.{FileMap, HasAt}
-use Rattle.fk_image.specs.declared.image.Image.{Image}
-use Rattle.fk_image_show.specs.Shown.{shown}
-use Rattle.fk_image_format.specs.Reading.{image_reading}
+use Rattle.fk_image.specs.declared.image.image.Image.{Image}
+use Rattle.fk_codec.specs.Show.Shown.{shown}
+use Rattle.fk_image.specs.Format.Reading.{image_reading}
 use Rattle.fk_commands.specs.declared.status.Status.{Status}
 use Rattle.fk_commands.specs.declared.status.Status.TheVariants.{Ok as Done, Absent, BadImage}
 use Rattle.fk_commands.specs.declared.outcome.Outcome.{Outcome}

@@ -1,6 +1,6 @@
 //! The command `check`: the counts of a scenario are told.
 ghost use Rattle.std.specs.Prelude.{◌≡◌, ◌+◌, IfOk, IfErr, map, string_bytes};
-ghost use Rattle.fk_scenario.specs.Reading.{scenario_reading};
+ghost use Rattle.fk_scenario.specs.Scenario.Reading.{scenario_reading};
 ghost use Rattle.fk_commands.specs.Check as words;
 ghost use Rattle.fk_commands.specs.Check.{IsCheck};
 ghost use Rattle.fk_commands.specs.Prepared.{ComesTo, IsRefusal};
@@ -10,7 +10,7 @@ use crate::scenario::scenario_in;
 use crate::status::Status;
 use fk_model::NoMemory;
 use fk_responders::Table;
-use fk_scenario::SpaceEntry;
+use fk_scenario::entries::SpaceEntry;
 use std::alloc::{AllocError, Global};
 
 /// How many spaces the entries declare. More than a number can count don't fit in memory.

@@ -1,8 +1,8 @@
 //! The image that a file spells, which several commands need.
 ghost use Rattle.std.specs.Prelude.{◌≡◌, Ok, true, IfOk, IfErr};
 ghost use Rattle.fk_commands.specs.Prepared.{IsImageFail};
-ghost use Rattle.fk_image.specs.Valid.{is_valid};
-ghost use Rattle.fk_image_format.specs.Reading.{image_reading};
+ghost use Rattle.fk_image.specs.Image.Valid.{is_valid};
+ghost use Rattle.fk_image.specs.Format.Reading.{image_reading};
 
 use crate::status::Status;
 use fk_codec::{ReadFail, read};

@@ -1,13 +1,13 @@
 //! A scenario and an image, lent to who looks at them.
 ghost use Rattle.std.specs.Prelude.{◌≡◌, ◌≤◌, true, length, map, string_bytes};
 ghost use Rattle.fk_model.specs.Answers.{answer, reply_words};
-ghost use Rattle.fk_image.specs.Valid.{is_valid};
-ghost use Rattle.fk_image.specs.declared.image.Image.{Image};
-ghost use Rattle.fk_image_format.specs.Reading.{image_reading};
-ghost use Rattle.fk_scenario.specs.Kept.{KeepsScenario, HasRules};
-ghost use Rattle.fk_scenario.specs.Reading.{scenario_reading};
-ghost use Rattle.fk_scenario.specs.Rules.{server_rules};
-ghost use Rattle.fk_scenario.specs.declared.scenario.Scenario.{Scenario};
+ghost use Rattle.fk_image.specs.Image.Valid.{is_valid};
+ghost use Rattle.fk_image.specs.declared.image.image.Image.{Image};
+ghost use Rattle.fk_image.specs.Format.Reading.{image_reading};
+ghost use Rattle.fk_scenario.specs.Scenario.Kept.{KeepsScenario, HasRules};
+ghost use Rattle.fk_scenario.specs.Scenario.Reading.{scenario_reading};
+ghost use Rattle.fk_scenario.specs.Scenario.Rules.{server_rules};
+ghost use Rattle.fk_scenario.specs.declared.scenario.scenario.Scenario.{Scenario};
 ghost use Rattle.fk_commands.specs.Lent.{IsLent};
 ghost use Rattle.fk_commands.specs.Prepared.{IsScenarioFail, IsImageFail};
 ghost use Rattle.fk_commands.specs.declared.status.Status.{Status};

@@ -6,7 +6,7 @@
 //! is lent it (`lend`), and owns neither.
 //!
 //! It stands on `fk_asm` for programs, on `fk_lone` for the machine of `exec`, on `fk_scenario`, on
-//! `fk_codec` and `fk_image_show` for images, on `fk_report` for how a run ends, on `fk_history` for its moves, and on `fk_causes` for
+//! `fk_codec` and `fk_codec::show` for images, on `fk_report` for how a run ends, on `fk_history` for its moves, and on `fk_causes` for
 //! the shelf.
 //!
 //! It promises of each command the outcome and the output that its definition calls for (`specs/Exec.antt`,
@@ -27,7 +27,6 @@ mod shelf_file;
 pub mod show;
 mod status;
 
-pub use fk_history::Moves;
 pub use image::image_of;
 pub use lend::{ImageReader, ScenarioReader, lend_image, lend_scenario};
 pub use outcome::{Outcome, Report};

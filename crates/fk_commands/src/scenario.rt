@@ -1,7 +1,7 @@
 //! The scenario that a text is, which several commands begin with.
 ghost use Rattle.std.specs.Prelude.{◌≡◌, Ok, IfOk, IfErr, map, string_bytes};
-ghost use Rattle.fk_scenario.specs.Kept.{KeepsScenario, HasRules};
-ghost use Rattle.fk_scenario.specs.Reading.{scenario_reading};
+ghost use Rattle.fk_scenario.specs.Scenario.Kept.{KeepsScenario, HasRules};
+ghost use Rattle.fk_scenario.specs.Scenario.Reading.{scenario_reading};
 ghost use Rattle.fk_commands.specs.Prepared.{IsScenarioFail};
 
 use crate::status::Status;

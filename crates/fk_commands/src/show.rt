@@ -1,7 +1,7 @@
 //! The command `show`: the counts of an image are shown.
 ghost use Rattle.std.specs.Prelude.{◌≡◌, IfErr};
 ghost use Rattle.fk_causes.specs.Causes.{Rose};
-ghost use Rattle.fk_image_format.specs.Reading.{image_reading};
+ghost use Rattle.fk_image.specs.Format.Reading.{image_reading};
 ghost use Rattle.fk_commands.specs.Show.{IsShow, IsShown};
 ghost use Rattle.fk_commands.specs.Prepared.{ComesTo, IsRefusal};
 
@@ -10,7 +10,7 @@ use crate::prepared::Prepared;
 use crate::shelf_file::file_of;
 use crate::status::Status;
 use fk_causes::Shelf;
-use fk_image_show::show_text;
+use fk_codec::show::show_text;
 use std::alloc::Global;
 
 fn show_image(alloc: Global, name: &str, bytes: &[u8]) -> Result<Prepared, Status>

@@ -1,11 +1,3 @@
-pub use Rattle.fk_rounds.specs.Served
-pub use Rattle.fk_rounds.specs.Events
-pub use Rattle.fk_rounds.specs.Kernels
+pub mod Moment
+pub mod Rounds
 pub mod Cores
-pub mod Goings
-pub mod Ends
-pub mod Cuts
-pub mod Leaves
-pub mod Rooms
-pub mod Given
-pub mod Bursts

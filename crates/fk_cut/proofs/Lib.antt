@@ -1,2 +1,3 @@
-pub mod Shows
-pub mod Pages
+pub mod InClosing
+pub mod InCuts
+pub mod InShown

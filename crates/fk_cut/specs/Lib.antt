@@ -1,1 +1,3 @@
+pub mod Closing
+pub mod Cuts
 pub mod Shown

@@ -1,12 +1,16 @@
-//! A subtree of a store seen alone: its cut, and whether it is closed.
+//! A subtree of a store seen alone: its cut, whether it is closed, and what the lists of a cut determine.
 //!
-//! It stands on `fk_closed`, which walks a subtree and says whether it is closed, on `fk_records` for state records, and on
-//! `fk_store` and `fk_model`. It promises the objects and pages of the subtree, exactly as the abstract machine cuts it.
+//! It stands on `fk_store`, on `fk_changes` for state records, on `fk_stack` for its walk and on `fk_model`, which defines the cut. It walks a
+//! subtree in preorder without recursion and changes nothing. `fluke` itself doesn't need it: it is for who uses the kernel as a library.
+//!
+//! - `closing`: whether a subtree is closed, or the first place where it isn't;
+//! - `cuts`: its objects and pages as they are seen there;
+//! - `shown`: the law that equal lists are equal cuts.
 #![tactic(auto)]
 
-mod cutting;
-mod shown;
+pub mod closing;
+pub mod cuts;
+pub mod shown;
 
-pub use cutting::{CutObject, CutPage, CutWorld, cut};
-pub use fk_closed::{Place, closed};
-pub use shown::CutPtr;
+pub use closing::{Place, closed};
+pub use cuts::{CutObject, CutPage, CutPtr, CutWorld, cut};

@@ -2,16 +2,17 @@
 ghost use Rattle.std.specs.Prelude.{◌≡◌, ℕ, List, IfOk};
 ghost use Rattle.fk_model.specs.FaultRows as rows;
 ghost use Rattle.fk_model.specs.Valid.{IsValid};
-ghost use Rattle.fk_store.specs.Paths.{path, place};
-ghost use Rattle.fk_store.specs.World.{world};
-ghost use Rattle.fk_plans.specs.Plans.{caller_by};
-ghost use Rattle.fk_plans.specs.Verdicts.{outcome_by, IsSureVerdict, IsVerdict, Judges};
+ghost use Rattle.fk_store.specs.Store.Paths.{path, place};
+ghost use Rattle.fk_store.specs.Store.World.{world};
+ghost use Rattle.fk_plans.specs.Plans.Plans.{caller_by};
+ghost use Rattle.fk_plans.specs.Plans.Verdicts.{outcome_by, IsSureVerdict, IsVerdict, Judges};
 
+use fk_changes::readers::Caller;
+use fk_changes::threads::Answers;
 use fk_model::Who;
 use fk_model::status::NOTLINKED;
-use fk_plans::{Caller, Deed, Plan, Verdict};
+use fk_plans::{Deed, Plan, Verdict};
 use fk_store::Store;
-use fk_threads::Answers;
 
 /// The fault of a thread ends. It waits while that thread is held.
 fn frees(store: &Store, caller: Caller, thread: Who) -> Verdict

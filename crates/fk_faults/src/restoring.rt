@@ -8,18 +8,19 @@ ghost use Rattle.fk_model.specs.Places.Ptr.{At};
 ghost use Rattle.fk_model.specs.Valid.{are_fault_words};
 ghost use Rattle.fk_model.specs.World.Change.{Alter};
 ghost use Rattle.fk_model.specs.World.Edit.{SetFault};
-ghost use Rattle.fk_store.specs.Bodies.{fault_by, peer_by};
-ghost use Rattle.fk_store.specs.Named.{Each, OnPeer};
-ghost use Rattle.fk_store.specs.Paths.{path, place as placed};
-ghost use Rattle.fk_store.specs.World.{world, IsLive, IsSpace};
-ghost use Rattle.fk_plans.specs.Plans.{caller_by};
-ghost use Rattle.fk_plans.specs.Verdicts.{mapped, outcome_by, IsSureVerdict, IsVerdict, JudgesGiven};
+ghost use Rattle.fk_store.specs.Store.Bodies.{fault_by, peer_by};
+ghost use Rattle.fk_store.specs.Store.Named.{Each, OnPeer};
+ghost use Rattle.fk_store.specs.Store.Paths.{path, place as placed};
+ghost use Rattle.fk_store.specs.Store.World.{world, IsLive, IsSpace};
+ghost use Rattle.fk_plans.specs.Plans.Plans.{caller_by};
+ghost use Rattle.fk_plans.specs.Plans.Verdicts.{mapped, outcome_by, IsSureVerdict, IsVerdict, JudgesGiven};
 
+use fk_changes::readers::{Caller, place, port_in, referred, thread_in};
+use fk_changes::threads::Answers;
 use fk_model::limits::OWN_SPACE;
 use fk_model::{Fault, Kind, Peer, Who};
-use fk_plans::{Caller, Deed, Plan, Verdict, place, port_in, referred, thread_in, unfrozen};
+use fk_plans::{Deed, Plan, Verdict, unfrozen};
 use fk_store::Store;
-use fk_threads::Answers;
 
 /// The fault that a porter's words say: its page, and 1 for a write.
 fn given_fault(given: &[u64], port: Who, taker: Option<Peer>) -> Fault

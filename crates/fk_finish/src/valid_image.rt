@@ -1,6 +1,6 @@
 //! Valid images.
 ghost use Rattle.std.specs.Prelude.{◌≡◌, true, IfOk};
-ghost use Rattle.fk_image.specs.Valid.{is_valid};
+ghost use Rattle.fk_image.specs.Image.Valid.{is_valid};
 
 use fk_image::Image;
 use fk_model::NoMemory;
@@ -17,8 +17,8 @@ pub struct ValidImage {
 impl Model for ValidImage {
     ghost use Rattle.std.specs.Prelude.{◌≡◌, true};
     ghost use Rattle.std.specs.Arc.{arc_value};
-    ghost use Rattle.fk_image.specs.declared.image.Image as images;
-    ghost use Rattle.fk_image.specs.Valid.{is_valid};
+    ghost use Rattle.fk_image.specs.declared.image.image.Image as images;
+    ghost use Rattle.fk_image.specs.Image.Valid.{is_valid};
 
     ghost Value = { images.Image };
 

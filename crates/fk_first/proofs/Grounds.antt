@@ -2,13 +2,13 @@
 use Rattle.std.proofs.Common.{◌≡◌, ℕ, ◌≤◌, List, [], Option, refl, sym, ap, subst, arith}
 use Rattle.fk_model.specs.World.{World}
 use Rattle.fk_boot.specs.FirstWorld.{booted}
-use Rattle.fk_core.specs.Cores.{RunCore}
-use Rattle.fk_core.specs.Goings.{HasCome}
-use Rattle.fk_core.proofs.Histories.{begun}
+use Rattle.fk_core.specs.Cores.Cores.{RunCore}
+use Rattle.fk_core.specs.Cores.Goings.{HasCome}
+use Rattle.fk_core.proofs.InCores.Histories.{begun}
 use Rattle.fk_first.specs.First.{IsFirst}
-use Rattle.fk_image.specs.declared.image.Image.{Image}
-use Rattle.fk_scenario.specs.declared.scenario.Scenario.{Scenario}
-use Rattle.fk_scenario.specs.Kept.{KeepsScenario}
+use Rattle.fk_image.specs.declared.image.image.Image.{Image}
+use Rattle.fk_scenario.specs.declared.scenario.scenario.Scenario.{Scenario}
+use Rattle.fk_scenario.specs.Scenario.Kept.{KeepsScenario}
 use Rattle.fk_boot.proofs.validity.Savable.{booted-few}
 use Rattle.laws_first.proofs.First.{first_world_is_ground}
 use Rattle.laws_first.proofs.Users.{scenario_jobs_name_users_slots}

@@ -2,7 +2,7 @@
 use Rattle.std.proofs.Common.{◌≡◌, ℕ, zero, suc, ◌+◌, ◌<◌, ◌≤◌, List, [], ◌∷◌, ◌++◌, map, length, length-append, take, drop, Option, Some, None, refl, sym, ap, subst, ◌∙◌, append-nil, arith}
 use Rattle.std.specs.List.{slice_get}
 use Rattle.std.proofs.lemmas.List.{append_assoc, map-append}
-use Rattle.fk_image.specs.declared.image.Image.{Image}
+use Rattle.fk_image.specs.declared.image.image.Image.{Image}
 use Rattle.fk_jobs.specs.declared.plan.Plan.{Plan}
 use Rattle.fk_jobs.specs.Jobs.{job_of}
 use Rattle.fk_model.specs.declared.job.JobSpec.{JobSpec}

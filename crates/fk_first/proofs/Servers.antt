@@ -3,7 +3,7 @@ use Rattle.std.proofs.Common.{◌≡◌, List, [], ◌∷◌, map, reverse, refl
 use Rattle.std.proofs.lemmas.List.Elements.{All-head, All-tail}
 use Rattle.std.specs.List.{All}
 use Rattle.fk_boot.specs.Services.{first_state, first_services, by_paths}
-use Rattle.fk_core.specs.Served.{AllFit, shown}
+use Rattle.fk_core.specs.Cores.Served.{AllFit, shown}
 use Rattle.fk_model.specs.declared.moves.Rule.{Rule}
 use Rattle.fk_model.specs.declared.names.Who.{Who}
 use Rattle.fk_model.specs.Who.{named}
@@ -12,10 +12,10 @@ use Rattle.fk_model.specs.World.{World}
 use Rattle.fk_natives.specs.Both.{meaning}
 use Rattle.fk_natives.specs.declared.native.Native.{Native}
 use Rattle.fk_natives.specs.Natives.{State, DoesFit}
-use Rattle.fk_scenario.specs.Kept.{HasRule}
-use Rattle.fk_scenario_entries.specs.declared.types.ServerEntry.{ServerEntry}
-use Rattle.fk_scenario_entries.specs.declared.types.ServiceSpec.{ServiceSpec}
-use Rattle.fk_scenario_entries.specs.declared.types.ServiceSpec.TheVariants.{Console, Listed}
+use Rattle.fk_scenario.specs.Scenario.Kept.{HasRule}
+use Rattle.fk_scenario.specs.declared.entries.types.ServerEntry.{ServerEntry}
+use Rattle.fk_scenario.specs.declared.entries.types.ServiceSpec.{ServiceSpec}
+use Rattle.fk_scenario.specs.declared.entries.types.ServiceSpec.TheVariants.{Console, Listed}
 
 -- what a server rests on is what its entry has
 fits-first : (rules : List Rule) (spec : ServiceSpec) → HasRule rules spec → DoesFit rules (first_state spec)

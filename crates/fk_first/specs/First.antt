@@ -3,9 +3,9 @@ use Rattle.std.specs.Prelude.{◌≡◌, [], map, None}
 use Rattle.fk_model.specs.Who.{named}
 use Rattle.fk_boot.specs.FirstWorld.{booted}
 use Rattle.fk_boot.specs.Services.{first_services}
-use Rattle.fk_core.specs.Cores.{RunCore}
-use Rattle.fk_scenario.specs.declared.scenario.Scenario.{Scenario}
-use Rattle.laws_savable.specs.Savable.{IsSound}
+use Rattle.fk_core.specs.Cores.Cores.{RunCore}
+use Rattle.fk_scenario.specs.declared.scenario.scenario.Scenario.{Scenario}
+use Rattle.laws_moves.specs.Savable.Savable.{IsSound}
 
 -- its first world, which is sound, and its servers as they are at first, each at its port; no job has begun
 pub record IsFirst (s : Scenario) (c : RunCore) : Type 0 where

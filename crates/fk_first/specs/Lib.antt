@@ -1,5 +1,5 @@
-pub use Rattle.fk_core.specs.Served
-pub use Rattle.fk_core.specs.Goings
-pub use Rattle.fk_core.specs.Cores
+pub use Rattle.fk_core.specs.Cores.Served
+pub use Rattle.fk_core.specs.Cores.Goings
+pub use Rattle.fk_core.specs.Cores.Cores
 pub use Rattle.laws_first.specs.Entries
 pub mod First

@@ -1,11 +1,11 @@
 //! The core with which a scenario begins.
 ghost use Rattle.std.specs.Prelude.{◌≡◌, List, IfOk};
 ghost use Rattle.fk_model.specs.declared.moves.Rule.{Rule};
-ghost use Rattle.fk_core.specs.Cores.{run_core};
-ghost use Rattle.fk_core.specs.Goings.{IsGoing};
+ghost use Rattle.fk_core.specs.Cores.Cores.{run_core};
+ghost use Rattle.fk_core.specs.Cores.Goings.{IsGoing};
 ghost use Rattle.fk_first.specs.First.{IsFirst};
-ghost use Rattle.fk_scenario.specs.Kept.{KeepsScenario, HasRules};
-ghost use Rattle.fk_core.specs.Served.{AllFit};
+ghost use Rattle.fk_scenario.specs.Scenario.Kept.{KeepsScenario, HasRules};
+ghost use Rattle.fk_core.specs.Cores.Served.{AllFit};
 ghost use Rattle.laws_house.specs.Houses.{jobs_of};
 
 use crate::plans::plans_of;

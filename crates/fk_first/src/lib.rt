@@ -15,8 +15,6 @@ mod seen;
 mod watching;
 
 pub use first::first_core;
-pub use fk_boot::Kernel;
-pub use fk_core::Core;
 pub use plans::maker_of;
 pub use seen::{Images, Job, Ready, Seen, Stop, Trace, Watcher};
 pub use watching::watch;

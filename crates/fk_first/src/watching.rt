@@ -1,8 +1,8 @@
 //! A run by a trace, watched.
 ghost use Rattle.std.specs.Prelude.{map};
-ghost use Rattle.fk_core.specs.Goings.{IsGoing};
-ghost use Rattle.fk_scenario.specs.Kept.{KeepsScenario, HasRules};
-ghost use Rattle.fk_core.specs.Served.{AllFit};
+ghost use Rattle.fk_core.specs.Cores.Goings.{IsGoing};
+ghost use Rattle.fk_scenario.specs.Scenario.Kept.{KeepsScenario, HasRules};
+ghost use Rattle.fk_core.specs.Cores.Served.{AllFit};
 
 use crate::first::first_core;
 use crate::plans::maker_of;

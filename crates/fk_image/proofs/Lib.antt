@@ -1,3 +1,4 @@
-pub mod Rising
-pub mod KindLaws
-pub mod Marking
+pub mod InImage
+pub mod InFormat
+pub mod InPointers
+pub mod InValid

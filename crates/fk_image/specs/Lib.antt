@@ -1,9 +1,3 @@
-pub mod Ranges
-pub mod Objects
-pub mod Kinds
-pub mod Preorder
-pub mod Links
-pub mod Valid
-pub mod Outs
-pub mod Picture
-pub mod Paths
+pub mod Image
+pub mod Format
+pub mod Pointers

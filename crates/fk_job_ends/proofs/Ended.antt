@@ -1,12 +1,12 @@
 -- What a report tells of a job's end is how it has ended in the run's last core.
 use Rattle.std.proofs.Common.{◌≡◌, ℕ, zero, suc, ◌-◌, List, [], ◌∷◌, ◌++◌, map, length, replicate, Option, Some, None, refl, sym, ap, ◌∙◌}
 use Rattle.std.specs.List.{slice_get}
-use Rattle.fk_image.specs.declared.image.Image.{Image}
+use Rattle.fk_image.specs.declared.image.image.Image.{Image}
 use Rattle.fk_report.specs.declared.job_end.JobEnd.{JobEnd}
 use Rattle.fk_report.specs.declared.job_end.JobEnd.TheVariants as told
 use Rattle.fk_job_ends.specs.Ends.{told_of, told_in}
 use Rattle.laws_checkpoint.specs.Checkpoint as checkpoints
-use Rattle.laws_restore.specs.Restore as restores
+use Rattle.laws_restore.specs.Restore.Restore as restores
 use Rattle.laws_house.specs.Houses.{End}
 use Rattle.laws_house.specs.Houses.End.{Checked, Restored}
 use Rattle.laws_runs.specs.Cores as runs

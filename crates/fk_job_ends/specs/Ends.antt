@@ -5,7 +5,7 @@ use Rattle.fk_model.specs.declared.job.JobSpec.TheVariants as jobs
 use Rattle.fk_report.specs.declared.job_end.JobEnd.{JobEnd}
 use Rattle.fk_report.specs.declared.job_end.JobEnd.TheVariants as told
 use Rattle.laws_checkpoint.specs.Checkpoint as checkpoints
-use Rattle.laws_restore.specs.Restore as restores
+use Rattle.laws_restore.specs.Restore.Restore as restores
 use Rattle.laws_house.specs.Houses.{End}
 use Rattle.laws_house.specs.Houses.End.{Checked, Restored}
 use Rattle.laws_runs.specs.Cores as runs

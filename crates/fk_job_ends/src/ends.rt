@@ -1,11 +1,11 @@
 //! How the jobs of a run have ended.
 ghost use Rattle.std.specs.Prelude.{◌≡◌, ◌++◌, ◌-◌, Some, None, IfOk, OnOk, map, length, replicate};
-ghost use Rattle.fk_checkpoint.specs.Checkpoints as checkpoints;
-ghost use Rattle.fk_checkpoint.specs.Ends as checkpoint_ends;
+ghost use Rattle.fk_checkpoint.specs.Checkpoint.Checkpoints as checkpoints;
+ghost use Rattle.fk_checkpoint.specs.Checkpoint.Ends as checkpoint_ends;
 ghost use Rattle.fk_jobs.specs.Jobs.{end_at, shown_end, shown_ends};
 ghost use Rattle.fk_porters.specs.Porters.{state_of};
 ghost use Rattle.fk_porters.specs.declared.porter.Porter.TheVariants as porters;
-ghost use Rattle.fk_restore.specs.Restores as restores;
+ghost use Rattle.fk_restore.specs.Restore.Restores as restores;
 ghost use Rattle.fk_job_ends.specs.Ends as definitions;
 ghost use Rattle.laws_house.specs.Houses.{machine};
 

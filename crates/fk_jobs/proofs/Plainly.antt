@@ -16,8 +16,8 @@ use Rattle.laws_checkpoint.specs.Walk as walks
 use Rattle.laws_checkpoint.specs.Foreign as seeks
 use Rattle.laws_checkpoint.specs.Contents as reads
 use Rattle.laws_checkpoint.specs.Gather as gathers
-use Rattle.laws_restore.specs.Restore as restores
-use Rattle.laws_sites.specs.Orders.{Order, Order as orders, stage_of}
+use Rattle.laws_restore.specs.Restore.Restore as restores
+use Rattle.laws_restore.specs.Sites.Orders.{Order, Order as orders, stage_of}
 use Rattle.laws_house.specs.Houses.{State, End, machine, ends_as}
 use Rattle.laws_house.specs.Houses.State.{Checking, Restoring}
 use Rattle.laws_house.specs.Houses.End.{Checked, Restored}

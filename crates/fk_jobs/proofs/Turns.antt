@@ -7,7 +7,7 @@ use Rattle.fk_model.specs.declared.stage.Stage.{Stage}
 use Rattle.fk_model.specs.Runs.{Event, after}
 use Rattle.fk_model.specs.Who.{event_of}
 use Rattle.fk_model.specs.World.{World}
-use Rattle.laws_whole.specs.Runnable.{has_all_words}
+use Rattle.laws_moves.specs.Whole.Runnable.{has_all_words}
 use Rattle.laws_jobs.specs.Machines.{Head, reply_of, said_of}
 use Rattle.laws_jobs.specs.Machines.Head.{Stops, Asks}
 use Rattle.laws_house.specs.Houses.{State, End, Job, house, machine, begins}

@@ -15,17 +15,17 @@ use Rattle.fk_model.specs.Searches.{client_at, depth}
 use Rattle.fk_model.specs.Valid.{IsValid}
 use Rattle.fk_model.specs.Who.{event_of, named, space_born}
 use Rattle.fk_model.proofs.walks.PlaceLaws.{same_path_eq}
-use Rattle.fk_store.specs.Contents.{Contents}
-use Rattle.fk_store.specs.Moves.{picked_by, said_by}
-use Rattle.fk_store.specs.Paths.{path, place}
-use Rattle.fk_store.specs.World.{world}
-use Rattle.fk_plans.specs.Hearers.{says_to, says_to_who}
-use Rattle.fk_endings.specs.Clients.{HasClient, LosesClient}
-use Rattle.fk_endings.proofs.Changes.{client-found, found-client}
-use Rattle.fk_steps.specs.Tellings.{Told}
-use Rattle.fk_steps.specs.Tellings.{Sent}
-use Rattle.fk_steps.specs.Judgements.{IsEnded, IsHeardBy, IsReadyMove, IsStepTo}
-use Rattle.fk_steps.specs.Sayings.{told_by}
+use Rattle.fk_store.specs.Store.Contents.{Contents}
+use Rattle.fk_store.specs.Store.Moves.{picked_by, said_by}
+use Rattle.fk_store.specs.Store.Paths.{path, place}
+use Rattle.fk_store.specs.Store.World.{world}
+use Rattle.fk_plans.specs.Plans.Hearers.{says_to, says_to_who}
+use Rattle.fk_plans.specs.Endings.Clients.{HasClient, LosesClient}
+use Rattle.fk_plans.proofs.InEndings.Changes.{client-found, found-client}
+use Rattle.fk_turns.specs.Steps.Tellings.{Told}
+use Rattle.fk_turns.specs.Steps.Tellings.{Sent}
+use Rattle.fk_turns.specs.Steps.Judgements.{IsEnded, IsHeardBy, IsReadyMove, IsStepTo}
+use Rattle.fk_turns.specs.Steps.Sayings.{told_by}
 use Rattle.fk_kernel.specs.Events.{is_who, step_of, IsReadyEvent}
 
 module _ (m n : Contents) (valid : IsValid (world m)) (few : (world m).next ≤ depth) (kept : IsValid (world n)) (low : (world n).next ≤ depth) where

@@ -4,13 +4,13 @@ use Rattle.std.specs.Bool.{OnFalse}
 use Rattle.fk_model.specs.declared.moves.Ask.{Ask}
 use Rattle.fk_model.specs.declared.moves.Move.{Move}
 use Rattle.fk_model.specs.Who.{event_of, space_born}
-use Rattle.fk_store.specs.Contents.{Contents}
-use Rattle.fk_store.specs.Paths.{path}
-use Rattle.fk_store.specs.World.{world}
-use Rattle.fk_steps.specs.Tellings.{Told}
-use Rattle.fk_steps.specs.Tried.{IsUnready}
-use Rattle.fk_steps.specs.Steps.{was_made}
-use Rattle.fk_steps.specs.Waiting.{Standing}
+use Rattle.fk_store.specs.Store.Contents.{Contents}
+use Rattle.fk_store.specs.Store.Paths.{path}
+use Rattle.fk_store.specs.Store.World.{world}
+use Rattle.fk_turns.specs.Steps.Tellings.{Told}
+use Rattle.fk_turns.specs.Steps.Tried.{IsUnready}
+use Rattle.fk_turns.specs.Steps.Steps.{was_made}
+use Rattle.fk_turns.specs.Steps.Waiting.{Standing}
 use Rattle.fk_kernel.specs.Events.{IsReadyEvent}
 use Rattle.fk_kernel.specs.Kernels.{Kept}
 

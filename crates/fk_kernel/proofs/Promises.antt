@@ -9,16 +9,16 @@ use Rattle.fk_model.specs.Moves.{IsReady}
 use Rattle.fk_model.specs.Valid.{IsValid}
 use Rattle.fk_model.specs.Whole.{HasFullPages}
 use Rattle.fk_model.specs.Who.{space_born, event_of}
-use Rattle.fk_store.specs.Contents.{Contents}
-use Rattle.fk_store.specs.Moves.{said_by}
-use Rattle.fk_store.specs.Paths.{path}
-use Rattle.fk_store.specs.World.{world}
-use Rattle.fk_steps.specs.Tellings.{Told}
-use Rattle.fk_steps.specs.Judgements.{is_fit_move, IsReadyMove, IsStepTo}
-use Rattle.laws_whole.specs.Runnable.{HasRegisters, IsRunnable}
-use Rattle.laws_prompt.specs.Correct.{HasShapes}
-use Rattle.laws_prompt.specs.Events.{IsPrompt, IsCorrect}
-use Rattle.laws_prompt.proofs.Events.{prompt_is_ready, correct_step}
+use Rattle.fk_store.specs.Store.Contents.{Contents}
+use Rattle.fk_store.specs.Store.Moves.{said_by}
+use Rattle.fk_store.specs.Store.Paths.{path}
+use Rattle.fk_store.specs.Store.World.{world}
+use Rattle.fk_turns.specs.Steps.Tellings.{Told}
+use Rattle.fk_turns.specs.Steps.Judgements.{is_fit_move, IsReadyMove, IsStepTo}
+use Rattle.laws_moves.specs.Whole.Runnable.{HasRegisters, IsRunnable}
+use Rattle.laws_moves.specs.Prompt.Correct.{HasShapes}
+use Rattle.laws_moves.specs.Prompt.Events.{IsPrompt, IsCorrect}
+use Rattle.laws_moves.proofs.InPrompt.Events.{prompt_is_ready, correct_step}
 use Rattle.fk_kernel.specs.Events.{is_fit_event}
 
 -- a store's world is runnable, by what a store tells of it

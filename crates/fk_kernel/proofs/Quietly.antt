@@ -13,10 +13,10 @@ use Rattle.fk_model.specs.World.{World, Change, apply}
 use Rattle.fk_model.specs.World.Change.{Alter, PutPage}
 use Rattle.fk_model.specs.World.Edit.{Proceed}
 use Rattle.fk_model.proofs.walks.PlaceLaws.{same_path_eq}
-use Rattle.fk_plans.specs.Effects.{is_running, is_running_mode}
-use Rattle.fk_store.specs.Contents.{Contents}
-use Rattle.fk_store.specs.Paths.{path}
-use Rattle.fk_store.specs.World.{world, place_of}
+use Rattle.fk_plans.specs.Plans.Effects.{is_running, is_running_mode}
+use Rattle.fk_store.specs.Store.Contents.{Contents}
+use Rattle.fk_store.specs.Store.Paths.{path}
+use Rattle.fk_store.specs.Store.World.{world, place_of}
 use Rattle.laws_waits.specs.Calm.{IsApart, IsCalm}
 use Rattle.laws_waits.specs.Complete.{is_barred}
 use Rattle.laws_waits.specs.Stuck.{HasRoom, IsStuck, Reason}

@@ -11,11 +11,11 @@ use Rattle.fk_model.specs.Who.{space_born}
 use Rattle.fk_model.specs.World.{World, apply}
 use Rattle.fk_model.specs.World.Change.{Alter, PutPage}
 use Rattle.fk_model.specs.World.Edit.{Proceed}
-use Rattle.laws_machine.proofs.validity.Changes.{valid-apply, rooted-apply, paged-apply}
+use Rattle.laws_moves.proofs.InMachine.validity.Changes.{valid-apply, rooted-apply, paged-apply}
 use Rattle.fk_kernel.specs.declared.replace.BurstPage.{BurstPage}
-use Rattle.fk_store.specs.Contents.{Contents}
-use Rattle.fk_store.specs.Paths.{path, place}
-use Rattle.fk_store.specs.World.{world}
+use Rattle.fk_store.specs.Store.Contents.{Contents}
+use Rattle.fk_store.specs.Store.Paths.{path, place}
+use Rattle.fk_store.specs.Store.World.{world}
 use Rattle.fk_kernel.specs.Replaced.{IsPageThere, rewritten, replaced}
 
 -- a page that is there is still there when one has got other words

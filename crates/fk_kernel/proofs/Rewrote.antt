@@ -10,31 +10,31 @@ use Rattle.fk_model.specs.Places.{Path, same_path}
 use Rattle.fk_model.specs.Searches.{thread_at}
 use Rattle.fk_model.specs.Who.{named, space_born}
 use Rattle.fk_model.specs.World.{World, apply, edited}
-use Rattle.fk_plans.specs.Effects.{is_running, is_running_mode}
+use Rattle.fk_plans.specs.Plans.Effects.{is_running, is_running_mode}
 use Rattle.fk_model.specs.World.Change.{Alter, PutPage}
 use Rattle.fk_model.specs.World.Edit.{Proceed}
 use Rattle.fk_model.proofs.walks.PlaceLaws.{same_path_eq, same_path_refl}
-use Rattle.fk_store.specs.Contents.{Contents}
-use Rattle.fk_store.specs.Paths.{path}
-use Rattle.fk_store.specs.World.{world, place_of}
-use Rattle.fk_steps.specs.Kept.{is_user_at, AreKept}
-use Rattle.fk_steps.specs.Moved.{is_named, is_told, HasRoom, IsAside, IsMoved}
-use Rattle.fk_steps.specs.Told.{IsQuietTo, IsStored}
-use Rattle.fk_steps.proofs.Known.{same_name, user_there}
-use Rattle.fk_waits.specs.Lists.{Lists}
-use Rattle.fk_waits_causes.proofs.Numbers.{clash}
-use Rattle.fk_waits_causes.specs.Names.{is_same}
-use Rattle.fk_waits_causes.proofs.Order.{same_who}
-use Rattle.fk_wakes.specs.declared.touching.Touched.{Touched}
-use Rattle.fk_wakes.specs.declared.touching.Touched.TheVariants.{Few}
-use Rattle.fk_whys.specs.declared.whys.Why.{Why}
-use Rattle.fk_whys.specs.declared.whys.Why.TheVariants as whys
-use Rattle.fk_whys.specs.Whys.{IsAt, IsOwn, IsReadAt, IsStill, IsWhy}
+use Rattle.fk_store.specs.Store.Contents.{Contents}
+use Rattle.fk_store.specs.Store.Paths.{path}
+use Rattle.fk_store.specs.Store.World.{world, place_of}
+use Rattle.fk_turns.specs.Steps.Kept.{is_user_at, AreKept}
+use Rattle.fk_turns.specs.Steps.Moved.{is_named, is_told, HasRoom, IsAside, IsMoved}
+use Rattle.fk_turns.specs.Steps.Told.{IsQuietTo, IsStored}
+use Rattle.fk_turns.proofs.InSteps.Known.{same_name, user_there}
+use Rattle.fk_waits.specs.Waits.Lists.{Lists}
+use Rattle.fk_waits.proofs.InCauses.Numbers.{clash}
+use Rattle.fk_waits.specs.Causes.Names.{is_same}
+use Rattle.fk_waits.proofs.InCauses.Order.{same_who}
+use Rattle.fk_plans.specs.declared.wakes.touching.Touched.{Touched}
+use Rattle.fk_plans.specs.declared.wakes.touching.Touched.TheVariants.{Few}
+use Rattle.fk_turns.specs.declared.whys.whys.Why.{Why}
+use Rattle.fk_turns.specs.declared.whys.whys.Why.TheVariants as whys
+use Rattle.fk_turns.specs.Whys.Whys.{IsAt, IsOwn, IsReadAt, IsStill, IsWhy}
 use Rattle.laws_waits.specs.Complete.{is_barred, HasReason}
 use Rattle.laws_waits.specs.Stuck.{IsStuck, Reason}
 use Rattle.laws_waits.specs.Stuck.Reason.{Barred, Beneath, Connecting, Locking, Resting, Sleeping}
-use Rattle.fk_whys.proofs.Apart.{at_after, still_after}
-use Rattle.laws_users.specs.Stood.{is_users_at}
+use Rattle.fk_turns.proofs.InWhys.Apart.{at_after, still_after}
+use Rattle.laws_moves.specs.Users.Stood.{is_users_at}
 use Rattle.fk_kernel.specs.declared.replace.BurstPage.{BurstPage}
 use Rattle.fk_kernel.specs.Replaced.{rewritten}
 

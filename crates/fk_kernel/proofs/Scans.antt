@@ -10,16 +10,16 @@ use Rattle.fk_model.specs.World.{World}
 use Rattle.fk_model.specs.Outcomes.Outcome.{Waits}
 use Rattle.fk_model.specs.Moves.{user_move, outcome, IsReady}
 use Rattle.fk_model.specs.Searches.{thread_at}
-use Rattle.fk_store.specs.Contents.{Contents}
-use Rattle.fk_store.specs.Paths.{path}
-use Rattle.fk_store.specs.World.{world, place_of, IsLive}
-use Rattle.fk_steps.proofs.Ahead.{IsAhead, rootless, thread_there}
+use Rattle.fk_store.specs.Store.Contents.{Contents}
+use Rattle.fk_store.specs.Store.Paths.{path}
+use Rattle.fk_store.specs.Store.World.{world, place_of, IsLive}
+use Rattle.fk_turns.proofs.InSteps.Ahead.{IsAhead, rootless, thread_there}
 use Rattle.std.specs.Ordering.{is_le, is_lt, ordering_reverse}
-use Rattle.fk_store_leads.proofs.NameLaws.{who_total}
+use Rattle.fk_store_graph.proofs.InLeads.NameLaws.{who_total}
 use Rattle.std.specs.declared.cmp.Ordering.{Ordering}
 use Rattle.std.specs.declared.cmp.Ordering.TheVariants.{Less, Equal, Greater}
-use Rattle.fk_store.specs.Names.{who_cmp}
-use Rattle.fk_store.specs.Orders.{comes_after, IsFirstAfter}
+use Rattle.fk_store.specs.Store.Names.{who_cmp}
+use Rattle.fk_store.specs.Store.Orders.{comes_after, IsFirstAfter}
 use Rattle.fk_kernel.specs.Events.{is_past, is_who, AreNamed, IsAnyReady, IsIdleBetween, IsIdleUpTo, IsMoveReady, IsReadyBesides}
 
 -- a user is ready

@@ -10,11 +10,11 @@ use Rattle.fk_model.specs.Runs.{Event}
 use Rattle.fk_model.specs.Valid.{is_fit, kind_there}
 use Rattle.fk_model.specs.Who.{event_of}
 use Rattle.fk_model.specs.World.{World}
-use Rattle.fk_steps.specs.Rows.{may_want_memory}
-use Rattle.fk_store.specs.Contents.{Contents}
-use Rattle.fk_store.specs.Names.{same_who, who_cmp}
-use Rattle.fk_store.specs.Orders.{comes_after}
-use Rattle.fk_store.specs.World.{world, place_of, IsLive}
+use Rattle.fk_turns.specs.Steps.Rows.{may_want_memory}
+use Rattle.fk_store.specs.Store.Contents.{Contents}
+use Rattle.fk_store.specs.Store.Names.{same_who, who_cmp}
+use Rattle.fk_store.specs.Store.Orders.{comes_after}
+use Rattle.fk_store.specs.Store.World.{world, place_of, IsLive}
 
 -- an event is ready in the machine
 abbrev pub IsReadyEvent : World → Event → Type 0

@@ -6,13 +6,13 @@ use Rattle.fk_model.specs.declared.names.Who.{Who}
 use Rattle.fk_model.specs.Places.{Path}
 use Rattle.fk_model.specs.World.{World}
 use Rattle.fk_model.specs.Valid.{IsValid}
-use Rattle.fk_store.specs.Contents.{Contents, coded_contents}
-use Rattle.fk_store.specs.Names.{coded_who}
-use Rattle.fk_store.specs.Paths as paths
-use Rattle.fk_store.specs.World as worlds
-use Rattle.fk_steps.specs.Kept.{AreKept}
-use Rattle.fk_steps.specs.Waiting.{Standing}
-use Rattle.fk_waits.specs.Lists.{Lists}
+use Rattle.fk_store.specs.Store.Contents.{Contents, coded_contents}
+use Rattle.fk_store.specs.Store.Names.{coded_who}
+use Rattle.fk_store.specs.Store.Paths as paths
+use Rattle.fk_store.specs.Store.World as worlds
+use Rattle.fk_turns.specs.Steps.Kept.{AreKept}
+use Rattle.fk_turns.specs.Steps.Waiting.{Standing}
+use Rattle.fk_waits.specs.Waits.Lists.{Lists}
 
 -- what a kernel keeps: its store, and where its user threads stand
 pub record Kept : Type 0 where

@@ -1,6 +1,6 @@
 pub mod Events
 pub mod Kernels
-pub use Rattle.fk_answers.specs.Rooms
-pub use Rattle.fk_steps.specs.Tried
+pub use Rattle.fk_plans.specs.Answers.Rooms
+pub use Rattle.fk_turns.specs.Steps.Tried
 pub mod Tolds
 pub mod Replaced

@@ -1,2 +1,2 @@
 -- What a move tells, as the calls have it.
-pub use Rattle.fk_steps.specs.Tellings.{Told}
+pub use Rattle.fk_turns.specs.Steps.Tellings.{Told}

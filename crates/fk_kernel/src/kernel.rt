@@ -7,31 +7,32 @@ ghost use Rattle.fk_model.specs.Outcomes.Said.{Nothing};
 ghost use Rattle.fk_model.specs.Valid.{IsValid};
 ghost use Rattle.fk_model.specs.Searches.{depth};
 ghost use Rattle.fk_model.specs.Who.{event_of, named, space_born};
-ghost use Rattle.fk_store.specs.Moves.{said_by};
-ghost use Rattle.fk_store.specs.Paths.{place};
-ghost use Rattle.fk_store.specs.World.{world};
-ghost use Rattle.fk_plans.specs.Hearers.{says_to, says_to_who, IsPadded};
-ghost use Rattle.fk_answers.specs.Rooms.{IsRoom};
-ghost use Rattle.fk_steps.specs.Judgements.{IsReadyMove};
-ghost use Rattle.fk_steps.specs.Sayings.{told_by};
-ghost use Rattle.fk_steps.specs.Tried.{tried_of};
-ghost use Rattle.laws_prompt.specs.Correct.{HasShapes};
-ghost use Rattle.laws_prompt.specs.Events.{IsPrompt, IsCorrect};
-ghost use Rattle.laws_whole.specs.Runnable.{IsRunnable};
+ghost use Rattle.fk_store.specs.Store.Moves.{said_by};
+ghost use Rattle.fk_store.specs.Store.Paths.{place};
+ghost use Rattle.fk_store.specs.Store.World.{world};
+ghost use Rattle.fk_plans.specs.Plans.Hearers.{says_to, says_to_who, IsPadded};
+ghost use Rattle.fk_plans.specs.Answers.Rooms.{IsRoom};
+ghost use Rattle.fk_turns.specs.Steps.Judgements.{IsReadyMove};
+ghost use Rattle.fk_turns.specs.Steps.Sayings.{told_by};
+ghost use Rattle.fk_turns.specs.Steps.Tried.{tried_of};
+ghost use Rattle.laws_moves.specs.Prompt.Correct.{HasShapes};
+ghost use Rattle.laws_moves.specs.Prompt.Events.{IsPrompt, IsCorrect};
+ghost use Rattle.laws_moves.specs.Whole.Runnable.{IsRunnable};
 ghost use Rattle.fk_model.specs.Endings.{has_ended};
-ghost use Rattle.fk_steps.specs.Steps.{was_made, IsPut};
-ghost use Rattle.fk_steps.specs.Waiting.{standing, ArePassed, AreWaiting};
-ghost use Rattle.fk_waits.specs.Lists.{first_ready};
+ghost use Rattle.fk_turns.specs.Steps.Steps.{was_made, IsPut};
+ghost use Rattle.fk_turns.specs.Steps.Waiting.{standing, ArePassed, AreWaiting};
+ghost use Rattle.fk_waits.specs.Waits.Lists.{first_ready};
 ghost use Rattle.fk_kernel.specs.Kernels.{path_of, standing_of, store_of, world_of};
 ghost use Rattle.fk_kernel.specs.Events as events;
 ghost use Rattle.fk_kernel.specs.Events.{is_fit_event, is_who, AreNamed, IsAcceptReady, IsAnyReady, IsIdleBetween, IsIdleUpTo, IsMoveReady};
 ghost use Rattle.fk_kernel.specs.Events.{IsReadyBesides, IsReadyEvent, may_lack, step_of};
 
 use fk_model::{Ask, Move, NoMemory, Said, Stage, Who};
-use fk_steps::{Sent, Told, ready_move};
 use fk_store::Store;
-use fk_turns::Turns;
+use fk_turns::next::ready_move;
+use fk_turns::steps::{Sent, Told};
 use fk_waits::Waits;
+use fk_waits::turns::Turns;
 use std::alloc::Global;
 use std::marker::Model;
 
@@ -43,7 +44,7 @@ pub struct Kernel {
 }
 
 impl Model for Kernel {
-    ghost use Rattle.fk_steps.specs.Waiting.{standing};
+    ghost use Rattle.fk_turns.specs.Steps.Waiting.{standing};
     ghost use Rattle.fk_kernel.specs.Kernels.{coded_kept, IsHeld, Kept};
 
     ghost Value = { Kept };
@@ -61,7 +62,7 @@ impl Kernel {
         requires valid { IsValid (world store) }
         ensures { IfOk result (λ kernel. store_of kernel ≡ store) }
     {
-        let mut turns = fk_steps::of(alloc, &store)?;
+        let mut turns = fk_turns::moved::of(alloc, &store)?;
         // With room beforehand a move needn't look whether it wants some.
         turns.reserve()?;
         Ok(Kernel { store, turns })
@@ -72,7 +73,7 @@ impl Kernel {
         ensures standing { standing result.now ≡ standing_of self.now }
         ensures waiting { AreWaiting (store_of self.now) result.now }
     {
-        fk_steps::waiting(&self.turns, &self.store);
+        fk_turns::next::waiting(&self.turns, &self.store);
         self.turns.waits()
     }
 
@@ -111,7 +112,7 @@ impl Kernel {
         ensures prompt { IsPrompt (world_of self.now) (event_of (world_of self.now) ask.now m.now) → IsTrue result }
     {
         self.store.names();
-        fk_steps::ready(&self.store, m, ask)
+        fk_turns::steps::ready(&self.store, m, ask)
     }
 
     /// Whether a move is fit. All are but those of porters that make a talk or a fault again with words
@@ -120,7 +121,7 @@ impl Kernel {
         ensures { result ≡ is_fit_event (world_of self.now) (event_of (world_of self.now) ask.now m.now) }
     {
         self.store.names();
-        fk_steps::is_fit(&self.store, m, ask)
+        fk_turns::steps::is_fit(&self.store, m, ask)
     }
 
     /// Makes a move, which is ready and fit, and gives what the move tells. Only a stage that makes an
@@ -139,7 +140,7 @@ impl Kernel {
     {
         self.store.names();
         self.store.sizes();
-        fk_steps::take(&mut self.store, &mut self.turns, m, ask)
+        fk_turns::steps::take(&mut self.store, &mut self.turns, m, ask)
     }
 
     /// Makes a move where it is ready, and gives what the move tells, and the port whose native server lost
@@ -170,7 +171,7 @@ impl Kernel {
     {
         self.store.names();
         self.store.sizes();
-        let tried = fk_steps::attempt(&mut self.store, &mut self.turns, m, ask);
+        let tried = fk_turns::steps::attempt(&mut self.store, &mut self.turns, m, ask);
         // And so they do in the world that the move leaves.
         self.store.names();
         tried
@@ -207,7 +208,7 @@ impl Kernel {
             → IsOk (tried_of result told.new) }
     {
         self.store.names();
-        let made = fk_steps::call(&mut self.store, &mut self.turns, m, stage, words, told);
+        let made = fk_turns::steps::call(&mut self.store, &mut self.turns, m, stage, words, told);
         // And so they do in the world that the move leaves.
         self.store.names();
         made
@@ -225,7 +226,7 @@ impl Kernel {
         ensures same { OnFalse result (self.new ≡ self.old) }
     {
         self.store.names();
-        let made = fk_steps::proceed(&mut self.store, &mut self.turns, who);
+        let made = fk_turns::steps::proceed(&mut self.store, &mut self.turns, who);
         self.store.names();
         made
     }
@@ -240,7 +241,7 @@ impl Kernel {
         ensures same { OnFalse result (self.new ≡ self.old) }
     {
         self.store.names();
-        let made = fk_steps::proceed_on(&mut self.store, &mut self.turns, who);
+        let made = fk_turns::steps::proceed_on(&mut self.store, &mut self.turns, who);
         self.store.names();
         made
     }
@@ -262,7 +263,7 @@ impl Kernel {
         ensures same { IfNone result (self.new ≡ self.old) }
     {
         self.store.names();
-        let sent = fk_steps::say(&mut self.store, &mut self.turns, who, room);
+        let sent = fk_turns::steps::say(&mut self.store, &mut self.turns, who, room);
         // And so they do in the world that the stage leaves.
         self.store.names();
         sent
@@ -278,7 +279,7 @@ impl Kernel {
         ensures store { store_of self.new ≡ store_of self.old }
     {
         self.store.names();
-        fk_steps::next(&mut self.turns, &self.store)
+        fk_turns::next::next(&mut self.turns, &self.store)
     }
 
     /// The same. It looks first at the users after this object in the order of spaces and slots, and then
@@ -413,7 +414,7 @@ impl Kernel {
         ensures none { IfNone result (IsAcceptReady (world_of self.now) (named (world_of self.now) port) → ⊥) }
     {
         self.store.names();
-        fk_steps::ready_accept(&self.store, port)
+        fk_turns::picks::ready_accept(&self.store, port)
     }
 }
 

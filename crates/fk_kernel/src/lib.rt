@@ -1,6 +1,6 @@
 //! The kernel: a store whose threads move.
 //!
-//! It stands on `fk_store`, on `fk_steps` for what a move comes to, whom it picks and where its user threads stand then, and on `laws_machine`
+//! It stands on `fk_store`, on `fk_turns::steps` for what a move comes to, whom it picks and where its user threads stand then, and on `laws_moves::machine`
 //! for the world that stays valid. Its contracts see a kernel by the world of its store and by its lists: a move names threads by birth numbers and
 //! slots, and `event_of` finds their paths in that world.
 //!
@@ -18,6 +18,6 @@
 mod kernel;
 mod replace;
 
-pub use fk_steps::{Sent, Told};
+pub use fk_turns::steps::{Sent, Told};
 pub use kernel::Kernel;
 pub use replace::BurstPage;

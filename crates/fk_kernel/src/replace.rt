@@ -6,17 +6,17 @@ ghost use Rattle.fk_model.specs.Searches.{thread_at};
 ghost use Rattle.fk_model.specs.Who.{named, space_born};
 ghost use Rattle.fk_model.specs.World.{apply};
 ghost use Rattle.fk_model.specs.World.Change.{PutPage};
-ghost use Rattle.fk_store.specs.Paths.{path};
-ghost use Rattle.fk_store.specs.World.{world};
-ghost use Rattle.fk_plans.specs.Effects.{is_running};
+ghost use Rattle.fk_store.specs.Store.Paths.{path};
+ghost use Rattle.fk_store.specs.Store.World.{world};
+ghost use Rattle.fk_plans.specs.Plans.Effects.{is_running};
 ghost use Rattle.fk_kernel.specs.Kernels.{path_of, world_of};
 ghost use Rattle.fk_kernel.specs.Replaced.{IsPageThere, replaced, rewritten};
 
 use crate::Kernel;
 use fk_model::{Mode, Who};
-use fk_steps::after_still;
+use fk_plans::wakes::Touched;
 use fk_store::Store;
-use fk_wakes::Touched;
+use fk_turns::steps::after_still;
 
 /// A page of the space with this birth number, and words for it.
 #[derive(Clone, Copy)]

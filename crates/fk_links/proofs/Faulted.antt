@@ -6,8 +6,8 @@ use Rattle.fk_model.specs.LinkRows.{Faulting, faulting, is_open, slot_in_set}
 use Rattle.fk_model.specs.Places.{Path}
 use Rattle.fk_model.specs.Places.Ptr.{At}
 use Rattle.fk_model.specs.World.{World}
-use Rattle.fk_store.specs.Bodies.{fault_by, peer_by, thread_by}
-use Rattle.fk_store.specs.Paths.{place}
+use Rattle.fk_store.specs.Store.Bodies.{fault_by, peer_by, thread_by}
+use Rattle.fk_store.specs.Store.Paths.{place}
 
 -- with one that somebody has taken
 pub faulting_closed : (p : ℕ → Path) (w : World) (s : Path) (set : ℕ) (t : threads_of.Thread) (f : faults_of.Fault) →

@@ -16,8 +16,8 @@ use Rattle.fk_model.specs.Talks.{first_stage}
 use Rattle.fk_model.specs.World.{World}
 use Rattle.fk_model.proofs.calls.CallLaws.{registers}
 use Rattle.fk_stages.proofs.Codes.{is_among, OfEach, OfOthers, of_registers}
-use Rattle.fk_store.specs.Bodies.{mode_by}
-use Rattle.fk_store.specs.Threads.{todo_of_mode}
+use Rattle.fk_store.specs.Store.Bodies.{mode_by}
+use Rattle.fk_store.specs.Store.Threads.{todo_of_mode}
 use Rattle.fk_links.specs.Connects.{connect_first}
 
 -- ---- by the code of the call

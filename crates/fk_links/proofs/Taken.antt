@@ -7,11 +7,11 @@ use Rattle.fk_model.specs.Places.{Path, same_path}
 use Rattle.fk_model.specs.World.{World, Edit, apply, edited}
 use Rattle.fk_model.specs.World.Change.{Alter}
 use Rattle.fk_model.specs.World.Edit.{Finish, SetTalk}
-use Rattle.fk_store.specs.Threads.{todo_at, todo_of_thread}
-use Rattle.fk_store.proofs.finding.Walks.{same_path_true}
-use Rattle.fk_threads.specs.declared.answers.Answers.TheVariants.{Two}
-use Rattle.fk_threads.specs.Answers.{LeaveArguments}
-use Rattle.fk_threads.specs.Firsts.{IsFirst}
+use Rattle.fk_store.specs.Store.Threads.{todo_at, todo_of_thread}
+use Rattle.fk_store.proofs.InStore.finding.Walks.{same_path_true}
+use Rattle.fk_changes.specs.declared.threads.answers.Answers.TheVariants.{Two}
+use Rattle.fk_changes.specs.Threads.Answers.{LeaveArguments}
+use Rattle.fk_changes.specs.Threads.Firsts.{IsFirst}
 use Rattle.fk_links.specs.Connects.{is_connecting}
 
 elsewhere : (w : World) (x y : Path) (e : Edit) → same_path x y ≡ false → todo_at (apply (Alter y e) w) x ≡ todo_at w x

@@ -5,11 +5,11 @@ use Rattle.fk_model.specs.LinkRows as rows
 use Rattle.fk_model.specs.Objects.{Body}
 use Rattle.fk_model.specs.Objects.Body.{Portset}
 use Rattle.fk_model.specs.Places.{Path}
-use Rattle.fk_store.specs.Bodies.{fault_by, talk_by}
-use Rattle.fk_store.specs.Contents.{Contents}
-use Rattle.fk_store.specs.Paths.{path, place}
-use Rattle.fk_store.specs.Threads.{todo_at}
-use Rattle.fk_store.specs.World.{world, IsLive}
+use Rattle.fk_store.specs.Store.Bodies.{fault_by, talk_by}
+use Rattle.fk_store.specs.Store.Contents.{Contents}
+use Rattle.fk_store.specs.Store.Paths.{path, place}
+use Rattle.fk_store.specs.Store.Threads.{todo_at}
+use Rattle.fk_store.specs.Store.World.{world, IsLive}
 use Rattle.fk_links.specs.Connects.{is_connecting}
 use Rattle.fk_links.specs.declared.candidates.Candidate.{Candidate}
 use Rattle.fk_links.specs.declared.candidates.Candidate.TheVariants.{Faulting, Connecting, Resuming}

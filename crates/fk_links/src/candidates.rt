@@ -4,16 +4,16 @@ ghost use Rattle.fk_model.specs.LinkRows as rows;
 ghost use Rattle.fk_model.specs.Places.{Path};
 ghost use Rattle.fk_model.specs.Places.Ptr.{At};
 ghost use Rattle.fk_model.specs.Searches.{thread_at};
-ghost use Rattle.fk_store.specs.Bodies.{mode_by, peer_by, thread_by};
-ghost use Rattle.fk_store.specs.Paths.{path, place};
-ghost use Rattle.fk_store.specs.Threads.{todo_at, todo_of_mode};
-ghost use Rattle.fk_store.specs.World.{world, IsLive};
+ghost use Rattle.fk_store.specs.Store.Bodies.{mode_by, peer_by, thread_by};
+ghost use Rattle.fk_store.specs.Store.Paths.{path, place};
+ghost use Rattle.fk_store.specs.Store.Threads.{todo_at, todo_of_mode};
+ghost use Rattle.fk_store.specs.Store.World.{world, IsLive};
 ghost use Rattle.fk_links.specs.Candidates.{candidate_by, IsCandidate};
 ghost use Rattle.fk_links.specs.Connects.{connect_first, is_connecting};
 
+use fk_changes::readers::{Caller, handle, is_in};
 use fk_model::call::{CONNECT, CONNECT_SEND_OVER_RECEIVE};
 use fk_model::{Body, Fault, Kind, Mode, Peer, Talk, Thread, Who};
-use fk_plans::{Caller, handle, is_in};
 use fk_store::Store;
 
 /// Whom a wait may take, at the port in a slot.
@@ -116,7 +116,7 @@ fn connect_of(thread: &Thread) -> Option<u64>
 
 /// The handle of the port to which the thread in a slot connects; none where no thread there is at
 /// its connect.
-#[tactic(auto, unfolding(fk_store::specs::Threads::todo_at))]
+#[tactic(auto, unfolding(fk_store::specs::Store::Threads::todo_at))]
 pub fn connects_by(store: &Store, who: Who) -> Option<u64>
     ensures { result ≡ connect_first (todo_at (world store.now) (place (path store.now) who)) }
 {
@@ -145,7 +145,7 @@ pub fn connecting_to(store: &Store, who: Who, thread: &Thread) -> Option<Who>
 }
 
 /// A thread at its connect to a port of the set.
-#[tactic(auto, unfolding(fk_store::specs::Threads::todo_at))]
+#[tactic(auto, unfolding(fk_store::specs::Store::Threads::todo_at))]
 fn connecting(store: &Store, space: u32, set: u64, who: Who, thread: &Thread) -> Option<Candidate>
     requires there { Some (thread_by (path store.now) thread.now) ≡ thread_at (world store.now) (place (path store.now) who) }
     ensures candidate { option_map (candidate_by (path store.now)) result ≡ rows.connecting
@@ -173,7 +173,7 @@ fn resuming(store: &Store, space: u32, set: u64, thread: &Thread) -> Option<Cand
 
 /// Which candidate a thread is, where it isn't held: with a fault; else, where it is free, by its
 /// connect or its parked talk.
-#[tactic(auto, unfolding(fk_store::specs::Threads::is_free_at))]
+#[tactic(auto, unfolding(fk_store::specs::Store::Threads::is_free_at))]
 fn candidate_in(store: &Store, space: u32, set: u64, who: Who, thread: &Thread) -> Option<Candidate>
     requires there { Some (thread_by (path store.now) thread.now) ≡ thread_at (world store.now) (place (path store.now) who) }
     ensures candidate { option_map (candidate_by (path store.now)) result ≡ rows.candidate_by

@@ -2,13 +2,14 @@
 ghost use Rattle.std.specs.Prelude.{◌≡◌, is_some, IfOk};
 ghost use Rattle.fk_model.specs.LinkRows as rows;
 ghost use Rattle.fk_model.specs.Searches.{talk_at};
-ghost use Rattle.fk_store.specs.Paths.{path, place};
-ghost use Rattle.fk_store.specs.World.{world};
-ghost use Rattle.fk_plans.specs.Verdicts.{IsSureVerdict, Judges};
+ghost use Rattle.fk_store.specs.Store.Paths.{path, place};
+ghost use Rattle.fk_store.specs.Store.World.{world};
+ghost use Rattle.fk_plans.specs.Plans.Verdicts.{IsSureVerdict, Judges};
 
+use fk_changes::readers::{Caller, handle};
 use fk_model::status::LINKED;
 use fk_model::{Kind, Who};
-use fk_plans::{Caller, Verdict, handle};
+use fk_plans::Verdict;
 use fk_store::Store;
 
 /// A thread is in a talk as a client.

@@ -9,19 +9,20 @@ ghost use Rattle.fk_model.specs.Valid.{IsValid};
 ghost use Rattle.fk_model.specs.World.Change.{Alter};
 ghost use Rattle.fk_model.specs.World.Edit.{SetTalk};
 ghost use Rattle.fk_model.specs.declared.thread.Turn.TheVariants as turns;
-ghost use Rattle.fk_store.specs.Bodies.{talk_by};
-ghost use Rattle.fk_store.specs.Named.{Each, OnTalk};
-ghost use Rattle.fk_store.specs.Paths.{path, place};
-ghost use Rattle.fk_store.specs.World.{world, IsLive};
-ghost use Rattle.fk_plans.specs.Plans.{caller_by, changes_by, IsSure};
-ghost use Rattle.fk_plans.specs.Verdicts.{outcome_by, IsPlanOf, IsSureVerdict, IsVerdict, Judges};
+ghost use Rattle.fk_store.specs.Store.Bodies.{talk_by};
+ghost use Rattle.fk_store.specs.Store.Named.{Each, OnTalk};
+ghost use Rattle.fk_store.specs.Store.Paths.{path, place};
+ghost use Rattle.fk_store.specs.Store.World.{world, IsLive};
+ghost use Rattle.fk_plans.specs.Plans.Plans.{caller_by, changes_by, IsSure};
+ghost use Rattle.fk_plans.specs.Plans.Verdicts.{outcome_by, IsPlanOf, IsSureVerdict, IsVerdict, Judges};
 
-use fk_deaths::is_at_talk;
+use fk_changes::deaths::is_at_talk;
+use fk_changes::readers::Caller;
+use fk_changes::threads::Answers;
 use fk_model::status::{ENDED, NOTLINKED};
 use fk_model::{Peer, Talk, Turn, Who};
-use fk_plans::{Caller, Deed, News, Plan, Verdict};
+use fk_plans::{Deed, News, Plan, Verdict};
 use fk_store::Store;
-use fk_threads::Answers;
 
 /// The talk of a thread as a client.
 fn talk_of(store: &Store, who: Who) -> Option<Talk>

@@ -8,17 +8,18 @@ ghost use Rattle.fk_model.specs.Places.Ptr.{At};
 ghost use Rattle.fk_model.specs.Valid.{are_talk_words};
 ghost use Rattle.fk_model.specs.World.Change.{Alter};
 ghost use Rattle.fk_model.specs.World.Edit.{SetTalk};
-ghost use Rattle.fk_store.specs.Bodies.{peer_by, talk_by};
-ghost use Rattle.fk_store.specs.Named.{OnPeer};
-ghost use Rattle.fk_store.specs.Paths.{path, place as placed};
-ghost use Rattle.fk_store.specs.World.{world, IsLive, IsSpace};
-ghost use Rattle.fk_plans.specs.Plans.{caller_by};
-ghost use Rattle.fk_plans.specs.Verdicts.{outcome_by, IsSureVerdict, IsVerdict, JudgesGiven};
+ghost use Rattle.fk_store.specs.Store.Bodies.{peer_by, talk_by};
+ghost use Rattle.fk_store.specs.Store.Named.{OnPeer};
+ghost use Rattle.fk_store.specs.Store.Paths.{path, place as placed};
+ghost use Rattle.fk_store.specs.Store.World.{world, IsLive, IsSpace};
+ghost use Rattle.fk_plans.specs.Plans.Plans.{caller_by};
+ghost use Rattle.fk_plans.specs.Plans.Verdicts.{outcome_by, IsSureVerdict, IsVerdict, JudgesGiven};
 
+use fk_changes::readers::{Caller, place, port_in, referred, thread_in};
+use fk_changes::threads::Answers;
 use fk_model::{Kind, Peer, Talk, Turn, Who};
-use fk_plans::{Caller, Deed, Plan, Verdict, place, port_in, referred, thread_in, unfrozen};
+use fk_plans::{Deed, Plan, Verdict, unfrozen};
 use fk_store::Store;
-use fk_threads::Answers;
 
 /// The side with this number.
 fn turn_by(number: u64) -> Turn

@@ -5,25 +5,26 @@ ghost use Rattle.fk_model.specs.LinkRows.{portset_of};
 ghost use Rattle.fk_model.specs.Places.{Path};
 ghost use Rattle.fk_model.specs.Readers.{object_in};
 ghost use Rattle.fk_model.specs.World.{World};
-ghost use Rattle.fk_store.specs.Bodies.{fault_by, peer_by, talk_by};
-ghost use Rattle.fk_store.specs.Contents.{Contents};
-ghost use Rattle.fk_store.specs.Moves.{picked_by};
-ghost use Rattle.fk_store.specs.Paths.{path, place};
-ghost use Rattle.fk_store.specs.Threads.{todo_at};
-ghost use Rattle.fk_store.specs.World.{world, IsLive};
-ghost use Rattle.fk_threads.specs.Firsts.{IsFirst};
-ghost use Rattle.fk_plans.specs.Plans.{caller_by};
-ghost use Rattle.fk_plans.specs.Verdicts.{mapped, outcome_by, IsSureVerdict, IsVerdict, Judges};
+ghost use Rattle.fk_store.specs.Store.Bodies.{fault_by, peer_by, talk_by};
+ghost use Rattle.fk_store.specs.Store.Contents.{Contents};
+ghost use Rattle.fk_store.specs.Store.Moves.{picked_by};
+ghost use Rattle.fk_store.specs.Store.Paths.{path, place};
+ghost use Rattle.fk_store.specs.Store.Threads.{todo_at};
+ghost use Rattle.fk_store.specs.Store.World.{world, IsLive};
+ghost use Rattle.fk_changes.specs.Threads.Firsts.{IsFirst};
+ghost use Rattle.fk_plans.specs.Plans.Plans.{caller_by};
+ghost use Rattle.fk_plans.specs.Plans.Verdicts.{mapped, outcome_by, IsSureVerdict, IsVerdict, Judges};
 ghost use Rattle.fk_links.specs.Candidates.{portset, IsCandidate};
 ghost use Rattle.fk_links.specs.Connects.{is_connecting};
 
 use crate::candidates::{Candidate, candidate_of};
+use fk_changes::readers::{Caller, slot_for};
+use fk_changes::records::{flag, turn_number};
+use fk_changes::threads::{Answers, Four};
 use fk_model::status::{BADHANDLE, LINKED, WRONGKIND};
 use fk_model::{Body, Fault, Peer, Stage, Talk, Turn, Who};
-use fk_plans::{Caller, Deed, Plan, Verdict, slot_for};
-use fk_records::{flag, turn_number};
+use fk_plans::{Deed, Plan, Verdict};
 use fk_store::Store;
-use fk_threads::{Answers, Four};
 
 /// A port set is in a slot of the caller's space.
 #[tactic(auto, unfolding(fk_model::specs::Readers::object_in))]

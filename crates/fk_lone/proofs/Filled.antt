@@ -8,12 +8,12 @@ use Rattle.fk_model.specs.Objects.Body.{Thread_of}
 use Rattle.fk_model.specs.Reach.{words_at}
 use Rattle.fk_model.specs.World.{World, apply}
 use Rattle.fk_model.specs.World.Change.{Make, PutPage}
-use Rattle.fk_store.specs.Contents.{Contents}
-use Rattle.fk_store_leads.specs.Names.{at}
-use Rattle.fk_store.specs.Bodies.{mode_by, thread_by}
-use Rattle.fk_store.specs.Paths.{path, place}
-use Rattle.fk_store.specs.World.{world, first_world, IsSpace}
-use Rattle.fk_store.proofs.finding.Walks.{path-root}
+use Rattle.fk_store.specs.Store.Contents.{Contents}
+use Rattle.fk_store_graph.specs.Leads.Names.{at}
+use Rattle.fk_store.specs.Store.Bodies.{mode_by, thread_by}
+use Rattle.fk_store.specs.Store.Paths.{path, place}
+use Rattle.fk_store.specs.Store.World.{world, first_world, IsSpace}
+use Rattle.fk_store.proofs.InStore.finding.Walks.{path-root}
 use Rattle.fk_lone.specs.LoneThread.{is_in_no_call, IsAlone, joined, state_by, state_of, filled, page_of}
 use Rattle.fk_lone.proofs.Joined.{joined-same, joined-all, page_of-length}
 

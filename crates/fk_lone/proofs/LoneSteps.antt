@@ -21,13 +21,13 @@ use Rattle.fk_model.specs.Readers.{accessed}
 use Rattle.fk_model.specs.Outcomes.{Outcome}
 use Rattle.fk_model.specs.Moves.{stepped}
 use Rattle.fk_model.specs.UserRows.{proceeds, halts_with, word_at, loads, stores, performs, executes, run_row_by}
-use Rattle.fk_store_leads.specs.Names.{at}
-use Rattle.fk_store.specs.Contents.{Contents}
-use Rattle.fk_store.specs.Bodies.{mode_by, thread_by}
-use Rattle.fk_store.specs.Paths.{path, place}
-use Rattle.fk_store.specs.World.{world}
-use Rattle.fk_store.proofs.finding.Walks.{path-root}
-use Rattle.fk_store.proofs.changing.WordLaws.{reach_word_there}
+use Rattle.fk_store_graph.specs.Leads.Names.{at}
+use Rattle.fk_store.specs.Store.Contents.{Contents}
+use Rattle.fk_store.specs.Store.Bodies.{mode_by, thread_by}
+use Rattle.fk_store.specs.Store.Paths.{path, place}
+use Rattle.fk_store.specs.Store.World.{world}
+use Rattle.fk_store.proofs.InStore.finding.Walks.{path-root}
+use Rattle.fk_store.proofs.InStore.changing.WordLaws.{reach_word_there}
 use Rattle.fk_user.specs.Running.{run_in_mode, run_of_thread, run_at}
 use Rattle.fk_lone.specs.LoneLaws.{no_call}
 use Rattle.fk_lone.specs.LoneThread.{alone, is_in_no_call, IsAlone, registers_of, code_of, joined, memory_of, state_by, state_of}

@@ -10,12 +10,12 @@ use Rattle.fk_model.specs.World.Change.{Alter, PutPage}
 use Rattle.fk_model.specs.World.Edit.{Proceed}
 use Rattle.fk_model.specs.Reach.{words_at}
 use Rattle.fk_model.specs.Searches.{thread_at}
-use Rattle.fk_store_leads.specs.Names.{at}
-use Rattle.fk_store.specs.Contents.{Contents}
-use Rattle.fk_store.specs.Bodies.{mode_by, thread_by}
-use Rattle.fk_store.specs.Paths.{path, place}
-use Rattle.fk_store.specs.World.{world, IsSpace}
-use Rattle.fk_store.proofs.finding.Walks.{path-root}
+use Rattle.fk_store_graph.specs.Leads.Names.{at}
+use Rattle.fk_store.specs.Store.Contents.{Contents}
+use Rattle.fk_store.specs.Store.Bodies.{mode_by, thread_by}
+use Rattle.fk_store.specs.Store.Paths.{path, place}
+use Rattle.fk_store.specs.Store.World.{world, IsSpace}
+use Rattle.fk_store.proofs.InStore.finding.Walks.{path-root}
 use Rattle.fk_lone.specs.LoneThread.{alone, is_in_no_call, IsAlone, code_of, memory_of, lone_mode, state_by, state_of}
 use Rattle.fk_lone.specs.Machine.{State}
 use Rattle.fk_lone.proofs.Joined.{joined-same, page_low, word_of, word_set}

@@ -7,7 +7,7 @@ use Rattle.fk_model.specs.Objects.{Mode, Thread, holds}
 use Rattle.fk_model.specs.Objects.Mode.{Running, Calling, Halted, Native}
 use Rattle.fk_model.specs.World.{World}
 use Rattle.fk_model.specs.Reach.{words_at}
-use Rattle.fk_store.specs.World.{first_world}
+use Rattle.fk_store.specs.Store.World.{first_world}
 use Rattle.fk_lone.specs.Machine.{State}
 use Rattle.fk_model.specs.Searches.{thread_at}
 

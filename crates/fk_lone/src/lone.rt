@@ -2,13 +2,13 @@
 ghost use Rattle.std.specs.Prelude.{◌≡◌, ◌<◌, ℕ, List, true, false, IfSome, IfNone, nat_lt, slice_index, slice_set};
 ghost use Rattle.fk_model.specs.Instructions as instructions;
 ghost use Rattle.fk_model.specs.Instructions.{IsAct};
-ghost use Rattle.fk_store.specs.WellFormed.{HasCall};
-ghost use Rattle.fk_store.specs.World.{world};
+ghost use Rattle.fk_store.specs.Store.WellFormed.{HasCall};
+ghost use Rattle.fk_store.specs.Store.World.{world};
 ghost use Rattle.fk_lone.specs.Lones.{lone_state};
 ghost use Rattle.fk_lone.specs.LoneThread as alone;
 ghost use Rattle.fk_lone.specs.LoneThread.{IsAlone, memory_of, state_of};
 ghost use Rattle.fk_lone.specs.Machine as machines;
-ghost use Rattle.fk_store.specs.Bodies.{mode_by};
+ghost use Rattle.fk_store.specs.Store.Bodies.{mode_by};
 
 use fk_model::halt::BAD_ADDRESS;
 use fk_model::limits::{PAGE_WORDS, SPACE_WORDS};

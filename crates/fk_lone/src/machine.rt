@@ -1,6 +1,6 @@
 //! A thread alone with its memory, over the store.
 ghost use Rattle.std.specs.Prelude.{◌≡◌, ◌≤◌, IfOk, length, vec_len};
-ghost use Rattle.fk_store.specs.World.{world};
+ghost use Rattle.fk_store.specs.Store.World.{world};
 ghost use Rattle.fk_lone.specs.LoneThread as alone;
 ghost use Rattle.fk_lone.specs.LoneThread.{filled};
 ghost use Rattle.fk_lone.specs.Machine as machines;
@@ -32,7 +32,7 @@ pub struct Machine {
 }
 
 impl Model for Machine {
-    ghost use Rattle.fk_store.specs.World.{world};
+    ghost use Rattle.fk_store.specs.Store.World.{world};
     ghost use Rattle.fk_lone.specs.LoneThread.{IsAlone, state_of};
     ghost use Rattle.fk_lone.specs.Machine.{State};
 

@@ -4,9 +4,9 @@ use Rattle.fk_model.specs.Objects.{Body, and_then}
 use Rattle.fk_model.specs.Places.{Path, is_within, same_path, strip}
 use Rattle.fk_model.specs.Valid.{birth_at, birth_of}
 use Rattle.fk_model.specs.World.{World}
-use Rattle.fk_store.specs.Contents.{Contents}
-use Rattle.fk_store.specs.Paths.{path}
-use Rattle.fk_store.proofs.finding.Walks.{path-root}
+use Rattle.fk_store.specs.Store.Contents.{Contents}
+use Rattle.fk_store.specs.Store.Paths.{path}
+use Rattle.fk_store.proofs.InStore.finding.Walks.{path-root}
 
 pub within_root : (k : ℕ) (s : Path) → is_within (k ∷ s) [] ≡ false
 unfolding strip same_path

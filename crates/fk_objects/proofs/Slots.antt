@@ -7,7 +7,7 @@ use Rattle.fk_model.specs.Objects.{kind_of, number_of_kind}
 use Rattle.fk_model.specs.Places.{Path}
 use Rattle.fk_model.specs.World.{World}
 use Rattle.fk_model.specs.Searches.{lowest}
-use Rattle.fk_store.proofs.finding.ReachLaws.{lowest-first, lowest-none, lowest-zero}
+use Rattle.fk_store.proofs.InStore.finding.ReachLaws.{lowest-first, lowest-none, lowest-zero}
 
 pub none_there : {A : Type 0} (o : Option A) → is_some o ≡ false → o ≡ None
 none_there None h = refl

@@ -10,10 +10,10 @@ use Rattle.fk_model.specs.Places.{Path, same_path, strip}
 use Rattle.fk_model.specs.Places.Ptr.{At}
 use Rattle.fk_model.specs.Valid.{birth_at}
 use Rattle.fk_model.specs.World.{World}
-use Rattle.fk_store.specs.Contents.{Contents}
-use Rattle.fk_store.specs.Paths.{path, place}
-use Rattle.fk_store.specs.World.{world, IsLive, IsSpace}
-use Rattle.fk_store.proofs.finding.Walks.{same_path_refl, same_path_true, path-root}
+use Rattle.fk_store.specs.Store.Contents.{Contents}
+use Rattle.fk_store.specs.Store.Paths.{path, place}
+use Rattle.fk_store.specs.Store.World.{world, IsLive, IsSpace}
+use Rattle.fk_store.proofs.InStore.finding.Walks.{same_path_refl, same_path_true, path-root}
 
 -- ---- spaces by birth numbers and by paths
 

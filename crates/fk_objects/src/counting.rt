@@ -1,17 +1,18 @@
 //! The stage that counts the pointers that lead to an object.
 ghost use Rattle.std.specs.Prelude.{◌≡◌, ℕ, List, IfOk};
 ghost use Rattle.fk_model.specs.ObjectRows as rows;
-ghost use Rattle.fk_store.specs.Paths.{path};
-ghost use Rattle.fk_store.specs.World.{world, IsSpace};
-ghost use Rattle.fk_plans.specs.Plans.{caller_by};
-ghost use Rattle.fk_plans.specs.Verdicts.{Judges, IsSureVerdict, mapped};
+ghost use Rattle.fk_store.specs.Store.Paths.{path};
+ghost use Rattle.fk_store.specs.Store.World.{world, IsSpace};
+ghost use Rattle.fk_plans.specs.Plans.Plans.{caller_by};
+ghost use Rattle.fk_plans.specs.Plans.Verdicts.{Judges, IsSureVerdict, mapped};
 ghost use Rattle.fk_objects.specs.Targets.{target_by};
 
+use fk_changes::readers::{Caller, object_in, place};
+use fk_changes::threads::Answers;
 use fk_model::Who;
 use fk_model::limits::OWN_SPACE;
-use fk_plans::{Caller, Plan, Verdict, object_in, place};
+use fk_plans::{Plan, Verdict};
 use fk_store::Store;
-use fk_threads::Answers;
 
 /// The object in a slot of a space; none for 256, which is the space itself.
 fn object_or_space(store: &Store, caller: Caller, space: u32, x: u64) -> Result<Option<Who>, u8>

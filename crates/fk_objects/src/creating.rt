@@ -1,13 +1,14 @@
 //! The stage that makes an object.
 ghost use Rattle.fk_model.specs.ObjectRows as rows;
-ghost use Rattle.fk_store.specs.World.{IsSpace};
-ghost use Rattle.fk_plans.specs.Verdicts.{Judges};
+ghost use Rattle.fk_store.specs.Store.World.{IsSpace};
+ghost use Rattle.fk_plans.specs.Plans.Verdicts.{Judges};
 
+use fk_changes::readers::{Caller, place, slot_for};
+use fk_changes::threads::Answers;
 use fk_model::Who;
 use fk_model::status::{HELD, OCCUPIED, WRONGKIND};
-use fk_plans::{Caller, Plan, Verdict, place, slot_for};
+use fk_plans::{Plan, Verdict};
 use fk_store::Store;
-use fk_threads::Answers;
 
 /// A new object of a kind's number in an empty slot: 1 to 9 are a mutex, a condition, a mapping, a
 /// region, a port, a set of ports, a space, a thread and a reference.

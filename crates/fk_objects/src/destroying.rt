@@ -4,13 +4,14 @@ ghost use Rattle.fk_model.specs.ObjectRows as rows;
 ghost use Rattle.fk_model.specs.Places as places;
 ghost use Rattle.fk_model.specs.Places.{same_path};
 ghost use Rattle.fk_model.specs.Valid.{IsValid};
-ghost use Rattle.fk_store.specs.Paths.{path, place as placed, HasOwnPath};
-ghost use Rattle.fk_store.specs.World.{world, IsLive, IsSpace};
-ghost use Rattle.fk_plans.specs.Verdicts.{IsSureVerdict, Judges};
+ghost use Rattle.fk_store.specs.Store.Paths.{path, place as placed, HasOwnPath};
+ghost use Rattle.fk_store.specs.Store.World.{world, IsLive, IsSpace};
+ghost use Rattle.fk_plans.specs.Plans.Verdicts.{IsSureVerdict, Judges};
 
+use fk_changes::readers::{Caller, object_in, place};
 use fk_model::Who;
 use fk_model::status::{DENIED, HELD};
-use fk_plans::{Caller, Verdict, object_in, place, unfrozen};
+use fk_plans::{Verdict, unfrozen};
 use fk_store::Store;
 
 /// The object that a live space is; none for the root.

@@ -4,20 +4,21 @@ ghost use Rattle.fk_model.specs.ObjectRows as rows;
 ghost use Rattle.fk_model.specs.Places.{Path, same_path};
 ghost use Rattle.fk_model.specs.Places.Ptr.{At};
 ghost use Rattle.fk_model.specs.Readers as readers;
-ghost use Rattle.fk_store.specs.Bodies.{pointer_by};
-ghost use Rattle.fk_store.specs.Named.{OnPointer};
-ghost use Rattle.fk_store.specs.Paths.{path, place};
-ghost use Rattle.fk_store.specs.Threads.{todo_at};
-ghost use Rattle.fk_store.specs.World.{world, IsLive, IsSpace};
-ghost use Rattle.fk_threads.specs.Answers.{LeaveArguments};
-ghost use Rattle.fk_plans.specs.Verdicts.{Judges, IsSureVerdict, mapped};
+ghost use Rattle.fk_store.specs.Store.Bodies.{pointer_by};
+ghost use Rattle.fk_store.specs.Store.Named.{OnPointer};
+ghost use Rattle.fk_store.specs.Store.Paths.{path, place};
+ghost use Rattle.fk_store.specs.Store.Threads.{todo_at};
+ghost use Rattle.fk_store.specs.Store.World.{world, IsLive, IsSpace};
+ghost use Rattle.fk_changes.specs.Threads.Answers.{LeaveArguments};
+ghost use Rattle.fk_plans.specs.Plans.Verdicts.{Judges, IsSureVerdict, mapped};
 
+use fk_changes::readers::{Caller, above, kind_number, place, reference_in};
+use fk_changes::threads::Answers;
 use fk_model::limits::OWN_SPACE;
 use fk_model::status::{DEAD, NONE, NULLREF};
 use fk_model::{Ptr, Who};
-use fk_plans::{Caller, Plan, Verdict, above, kind_number, place, reference_in};
+use fk_plans::{Plan, Verdict};
 use fk_store::Store;
-use fk_threads::Answers;
 
 /// The object to which a pointer leads.
 fn target_of(store: &Store, to: Ptr) -> Result<Who, u8>

@@ -1,13 +1,14 @@
 //! The stages that set the pointer of a reference.
 ghost use Rattle.std.specs.Prelude.{IfOk};
 ghost use Rattle.fk_model.specs.ObjectRows as rows;
-ghost use Rattle.fk_store.specs.World.{IsSpace};
-ghost use Rattle.fk_plans.specs.Verdicts.{Judges, IsSureVerdict};
+ghost use Rattle.fk_store.specs.Store.World.{IsSpace};
+ghost use Rattle.fk_plans.specs.Plans.Verdicts.{Judges, IsSureVerdict};
 
+use fk_changes::readers::{Caller, place, pointer_in, reference_in};
+use fk_changes::threads::Answers;
 use fk_model::Ptr;
-use fk_plans::{Caller, Deed, Plan, Verdict, place, pointer_in, reference_in, unfrozen};
+use fk_plans::{Deed, Plan, Verdict, unfrozen};
 use fk_store::Store;
-use fk_threads::Answers;
 
 /// A reference leads to the object in another slot, or where the reference there leads.
 #[tactic(auto, unfolding(fk_model::specs::ObjectRows::point))]

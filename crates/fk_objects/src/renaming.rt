@@ -3,14 +3,15 @@ ghost use Rattle.std.specs.Prelude.{◌≡◌, ℕ, IfOk};
 ghost use Rattle.fk_model.specs.Objects as objects;
 ghost use Rattle.fk_model.specs.ObjectRows as rows;
 ghost use Rattle.fk_model.specs.Places.{Path};
-ghost use Rattle.fk_store.specs.Bodies.{body_by};
-ghost use Rattle.fk_store.specs.World.{IsSpace};
-ghost use Rattle.fk_plans.specs.Verdicts.{Judges, IsSureVerdict};
+ghost use Rattle.fk_store.specs.Store.Bodies.{body_by};
+ghost use Rattle.fk_store.specs.Store.World.{IsSpace};
+ghost use Rattle.fk_plans.specs.Plans.Verdicts.{Judges, IsSureVerdict};
 
+use fk_changes::readers::{Caller, object_in, place};
 use fk_model::limits::LAST_USER_SLOT;
 use fk_model::status::{BADHANDLE, DENIED, NOTEMPTY, OCCUPIED};
 use fk_model::{Body, Who};
-use fk_plans::{Caller, Verdict, object_in, place, unfrozen};
+use fk_plans::{Verdict, unfrozen};
 use fk_store::Store;
 
 /// A port with a native server.

@@ -3,17 +3,18 @@ ghost use Rattle.std.specs.Prelude.{◌≡◌, ◌≤◌, IfOk};
 ghost use Rattle.fk_model.specs.ObjectRows as rows;
 ghost use Rattle.fk_model.specs.Searches.{lowest};
 ghost use Rattle.fk_model.specs.declared.limits.TheConstants.{SLOTS};
-ghost use Rattle.fk_store.specs.Paths.{path, place};
-ghost use Rattle.fk_store.specs.Threads.{todo_at};
-ghost use Rattle.fk_store.specs.World.{world, IsSpace};
-ghost use Rattle.fk_threads.specs.Answers.{LeaveArguments};
-ghost use Rattle.fk_plans.specs.Verdicts.{Judges, IsSureVerdict};
+ghost use Rattle.fk_store.specs.Store.Paths.{path, place};
+ghost use Rattle.fk_store.specs.Store.Threads.{todo_at};
+ghost use Rattle.fk_store.specs.Store.World.{world, IsSpace};
+ghost use Rattle.fk_changes.specs.Threads.Answers.{LeaveArguments};
+ghost use Rattle.fk_plans.specs.Plans.Verdicts.{Judges, IsSureVerdict};
 
+use fk_changes::readers::{Caller, kind_number, last_slot, place};
+use fk_changes::threads::Answers;
 use fk_model::Who;
 use fk_model::status::NONE;
-use fk_plans::{Caller, Plan, Verdict, kind_number, last_slot, place};
+use fk_plans::{Plan, Verdict};
 use fk_store::Store;
-use fk_threads::Answers;
 
 /// A slot and the number of the kind there, where it is taken and is one of those from a number on,
 /// up to a last one.

@@ -1,12 +1,4 @@
-pub mod Recordings
 pub mod Plans
-pub mod Renames
-pub mod Destroys
-pub mod Effects
-pub mod Verdicts
-pub mod Allowed
-pub mod Blocks
-pub mod Sources
-pub mod Own
-pub mod Movings
-pub mod Hearers
+pub mod Wakes
+pub mod Answers
+pub mod Endings

@@ -1,41 +1,22 @@
-//! Verdicts: what a stage of a call comes to, when that is ready, and making it.
+//! What a stage of a call comes to, and how that is carried out.
 //!
-//! It stands on `fk_store`, `fk_threads`, `fk_deaths` and `fk_readers`. A crate of rows judges a stage and nothing else: its
-//! verdict stands for the outcome of the stage's row. Here it is proved once for all rows when a
-//! verdict is ready, by the picks and the freezing rule, and that carrying it out makes of the
-//! store's world what the abstract machine makes of it, or leaves all as it was for want of memory.
+//! It stands on `fk_changes` and `fk_store`. A judge says of a stage what it comes to: a verdict, which stands for the outcome of the
+//! machine's row. Here it is proved once for all rows when a verdict is ready, and that carrying it out makes of the store's world what the
+//! machine makes of it, or leaves all as it was for want of memory.
+//!
+//! - `plans`: verdicts, when they are ready, and making them;
+//! - `wakes`: which objects a verdict changes, so that who waits for others needn't be looked at;
+//! - `answers`: a porter's answer, laid into the caller's room;
+//! - `endings`: which native server loses its client.
 #![tactic(auto)]
 
-mod blocks;
-mod carrying;
-mod destroying;
-mod instructions;
-mod making;
-mod moving;
-mod opening;
-mod own;
-mod plan;
-mod readiness;
-mod recording;
-mod renaming;
-mod sources;
-mod telling;
-mod ties;
-mod waking;
+pub mod answers;
+pub mod endings;
+pub mod plans;
+pub mod wakes;
 
-pub use blocks::Block;
-pub use carrying::{carry_all, carry_out};
-pub use fk_readers::{
-    Caller, above, cond_in, handle, is_beneath, is_in, is_referable, is_within, kind_number,
-    last_slot, led_to, mutex_in, object_in, place, pointer_in, port_in, reference_in, referred,
-    slot_for, thread_by_handle, thread_in,
+pub use plans::{
+    Block, Deed, Effect, Moving, News, Plan, Record, Source, Verdict, Words, carry_all, carry_out,
+    is_effect_ready, is_moving_ready, is_ready, make_effect, move_words, own_page, record_at, run,
+    set_record, sleeps, unfrozen,
 };
-pub use instructions::{make_effect, run};
-pub use moving::move_words;
-pub use opening::unfrozen;
-pub use own::own_page;
-pub use plan::{Deed, Effect, Moving, News, Plan, Verdict, Words};
-pub use readiness::{is_effect_ready, is_moving_ready, is_ready};
-pub use recording::{Record, record_at, set_record};
-pub use sources::Source;
-pub use waking::sleeps;

@@ -10,7 +10,7 @@ use Rattle.fk_commands.specs.declared.status.Status.{Status}
 use Rattle.fk_commands.specs.declared.status.Status.TheVariants.{Ok as Done, Usage, TooLong, BadText, BadScenario, Absent, BadImage, BadTrace, JobRefused, Budget, ReadFault, WriteFault, ShelfFault, NoMemory}
 use Rattle.fk_commands.specs.Prepared.{IsRefusal}
 use Rattle.fk_commands.specs.Status.{was_cut_short}
-use Rattle.fk_image.specs.declared.image.Image.{Image}
+use Rattle.fk_image.specs.declared.image.image.Image.{Image}
 use Rattle.fk_model.specs.declared.job.JobSpec.{JobSpec}
 use Rattle.fk_commands.proofs.Rises.{rises}
 use Rattle.fk_plays.specs.Images.{needed, Finds, FindsImages, NeedImage, UnlessFailed}

@@ -1,3 +1,3 @@
-pub use Rattle.fk_runs.proofs.Replayed
-pub use Rattle.fk_runs.proofs.Headlines
+pub use Rattle.fk_runs.proofs.InRuns.Replayed
+pub use Rattle.fk_runs.proofs.InRuns.Headlines
 pub mod Found

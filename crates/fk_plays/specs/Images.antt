@@ -6,8 +6,8 @@ use Rattle.fk_commands.specs.declared.status.Status.{Status}
 use Rattle.fk_commands.specs.declared.status.Status.TheVariants.{Absent, BadImage}
 use Rattle.fk_commands.specs.Files.{image_name}
 use Rattle.fk_commands.specs.Status.{was_cut_short}
-use Rattle.fk_image.specs.declared.image.Image.{Image}
-use Rattle.fk_image_format.specs.Reading.{image_reading}
+use Rattle.fk_image.specs.declared.image.image.Image.{Image}
+use Rattle.fk_image.specs.Format.Reading.{image_reading}
 use Rattle.fk_model.specs.declared.job.JobSpec.{JobSpec}
 use Rattle.fk_model.specs.declared.job.JobSpec.TheVariants.{Checkpoint, Restore}
 use Rattle.laws_house.specs.Houses.{maker_from}

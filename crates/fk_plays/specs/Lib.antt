@@ -1,9 +1,9 @@
-pub use Rattle.fk_runs.specs.Runs
-pub use Rattle.fk_runs.specs.Headline
-pub use Rattle.fk_runs.specs.Made
-pub use Rattle.fk_runs.specs.First
-pub use Rattle.fk_runs.specs.Plays
-pub use Rattle.fk_runs.specs.Shown
-pub use Rattle.fk_runs.specs.Cores
+pub use Rattle.fk_runs.specs.Runs.Runs
+pub use Rattle.fk_runs.specs.Runs.Headline
+pub use Rattle.fk_runs.specs.Runs.Made
+pub use Rattle.fk_runs.specs.Runs.First
+pub use Rattle.fk_runs.specs.Runs.Plays
+pub use Rattle.fk_runs.specs.Runs.Shown
+pub use Rattle.fk_runs.specs.Runs.Cores
 pub mod Images
 pub mod Play

@@ -7,10 +7,10 @@ use Rattle.fk_commands.specs.declared.status.Status.TheVariants.{BadScenario, Ab
 use Rattle.fk_commands.specs.Files.{trace_name}
 use Rattle.fk_commands.specs.Outcomes.{IsRefused}
 use Rattle.fk_plays.specs.Images.{FindsImages, NeedImage}
-use Rattle.fk_runs.specs.Made.{Images}
-use Rattle.fk_runs.specs.Runs.{IsPlayedFrom, IsRunFrom, IsSoakFrom}
-use Rattle.fk_scenario_fields.specs.declared.fail.ScenarioError.{ScenarioError}
-use Rattle.fk_scenario.specs.declared.scenario.Scenario.{Scenario}
+use Rattle.fk_runs.specs.Runs.Made.{Images}
+use Rattle.fk_runs.specs.Runs.Runs.{IsPlayedFrom, IsRunFrom, IsSoakFrom}
+use Rattle.fk_scenario.specs.declared.fields.fail.ScenarioError.{ScenarioError}
+use Rattle.fk_scenario.specs.declared.scenario.scenario.Scenario.{Scenario}
 
 -- with images for its jobs, or the refusal of the first that the shelf has not
 abbrev pub IsWith : (Images → Outcome → List ℕ → Type 0) → Result Images Status → Outcome → List ℕ → Type 0

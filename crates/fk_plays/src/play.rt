@@ -5,8 +5,8 @@ ghost use Rattle.fk_causes.specs.Shelf.{HasAt};
 ghost use Rattle.fk_commands.specs.Files.{trace_name};
 ghost use Rattle.fk_commands.specs.Prepared.{ComesTo, IsRefusal, IsFileFail};
 ghost use Rattle.fk_plays.specs.Play.{IsPlay, IsPlayedBy, IsScenario};
-ghost use Rattle.fk_scenario.specs.Kept.{KeepsScenario, HasRules};
-ghost use Rattle.fk_scenario.specs.Reading.{scenario_reading};
+ghost use Rattle.fk_scenario.specs.Scenario.Kept.{KeepsScenario, HasRules};
+ghost use Rattle.fk_scenario.specs.Scenario.Reading.{scenario_reading};
 
 use crate::images::images_for;
 use fk_causes::Shelf;

@@ -3,7 +3,7 @@ ghost use Rattle.std.specs.Prelude.{◌≡◌, IfErr, map, string_bytes};
 ghost use Rattle.fk_causes.specs.Causes.{Rose};
 ghost use Rattle.fk_commands.specs.Prepared.{ComesTo, IsRefusal};
 ghost use Rattle.fk_plays.specs.Play.{IsScenarioWithImages, IsWholeRun};
-ghost use Rattle.fk_scenario.specs.Reading.{scenario_reading};
+ghost use Rattle.fk_scenario.specs.Scenario.Reading.{scenario_reading};
 
 use crate::images::images_for;
 use fk_causes::{Gate, Shelf};

@@ -3,7 +3,7 @@ ghost use Rattle.std.specs.Prelude.{◌≤◌, IfErr, map, string_bytes};
 ghost use Rattle.fk_commands.specs.Prepared.{ComesTo, IsRefusal};
 ghost use Rattle.fk_gen.specs.Soak.{scenario};
 ghost use Rattle.fk_plays.specs.Play.{IsSoak};
-ghost use Rattle.fk_scenario.specs.Reading.{scenario_reading};
+ghost use Rattle.fk_scenario.specs.Scenario.Reading.{scenario_reading};
 
 use fk_causes::Gate;
 use fk_commands::{Prepared, Status, scenario_in};

@@ -1,12 +1,12 @@
 -- What a porter has come to.
 use Rattle.std.specs.Prelude.{Option, Some, None}
-use Rattle.fk_image.specs.declared.image.Image.{Image}
-use Rattle.fk_checkpoint.specs.Phases as checkpoints
-use Rattle.fk_checkpoint.specs.Checkpoints as ends
-use Rattle.fk_checkpoint.specs.Ends as ways
+use Rattle.fk_image.specs.declared.image.image.Image.{Image}
+use Rattle.fk_checkpoint.specs.Checkpoint.Phases as checkpoints
+use Rattle.fk_checkpoint.specs.Checkpoint.Checkpoints as ends
+use Rattle.fk_checkpoint.specs.Checkpoint.Ends as ways
 use Rattle.fk_finish.specs.declared.finish.Finish.{Finish}
-use Rattle.fk_restore.specs.declared.restore.Restore as code
-use Rattle.fk_restore.specs.Restores as restores
+use Rattle.fk_restore.specs.declared.restore.restore.Restore as code
+use Rattle.fk_restore.specs.Restore.Restores as restores
 use Rattle.laws_house.specs.Houses.{State, End, image_of_end}
 use Rattle.laws_house.specs.Houses.State.{Checking, Restoring}
 use Rattle.laws_house.specs.Houses.End.{Checked, Restored}

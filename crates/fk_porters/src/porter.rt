@@ -5,8 +5,8 @@ ghost use Rattle.laws_house.specs.Houses.{State, machine, image_of_end};
 ghost use Rattle.laws_house.specs.Houses.State.{Checking, Restoring};
 ghost use Rattle.laws_jobs.specs.Machines.{no_words, IsAtCall};
 ghost use Rattle.laws_jobs.specs.Machines.Head.{Stops};
-ghost use Rattle.laws_restore.specs.Restore.State.{Makes};
-ghost use Rattle.laws_rooms.specs.Restoring.{IsRestoreJob};
+ghost use Rattle.laws_restore.specs.Restore.Restore.State.{Makes};
+ghost use Rattle.laws_restore.specs.Rooms.Restoring.{IsRestoreJob};
 ghost use Rattle.fk_jobs.specs.Jobs.{call_at, call_with, end_at};
 ghost use Rattle.fk_porters.specs.Porters.{state_of, has_room, end_of, IsEnd, image_in};
 

@@ -4,11 +4,11 @@ ghost use Rattle.laws_house.specs.Houses.{machine};
 ghost use Rattle.laws_house.specs.Houses.State.{Restoring};
 ghost use Rattle.laws_jobs.specs.Machines.{no_words, IsAtCall};
 ghost use Rattle.laws_jobs.specs.Machines.Head.{Stops};
-ghost use Rattle.laws_restore.specs.Restore.State.{Makes};
-ghost use Rattle.laws_rooms.specs.Restoring.{IsRestoreJob};
+ghost use Rattle.laws_restore.specs.Restore.Restore.State.{Makes};
+ghost use Rattle.laws_restore.specs.Rooms.Restoring.{IsRestoreJob};
 ghost use Rattle.fk_jobs.specs.Jobs.{call_at, call_with};
 ghost use Rattle.fk_porters.specs.Porters.{restoring, restored};
-ghost use Rattle.fk_restore.specs.Restores.{IsEnd};
+ghost use Rattle.fk_restore.specs.Restore.Restores.{IsEnd};
 
 use fk_finish::{Finish, ValidImage};
 use fk_model::{Answer, List, Stage};
@@ -22,8 +22,8 @@ pub struct Sound {
 }
 
 impl Model for Sound {
-    ghost use Rattle.fk_restore.specs.declared.restore.Restore as restores;
-    ghost use Rattle.fk_restore.specs.Restores.{IsSound};
+    ghost use Rattle.fk_restore.specs.declared.restore.restore.Restore as restores;
+    ghost use Rattle.fk_restore.specs.Restore.Restores.{IsSound};
 
     ghost Value = { restores.Restore };
 

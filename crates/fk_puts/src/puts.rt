@@ -12,9 +12,9 @@ ghost use Rattle.fk_puts.specs.Puts.{PutImages, PutSomeImages, PutsEnd, PutsImag
 ghost use Rattle.fk_trace_text.specs.Trace as traces;
 
 use fk_causes::{Shelf, ShelfFail};
+use fk_codec::write;
 use fk_commands::Report;
 use fk_finish::ValidImage;
-use fk_image_writing::write;
 use fk_model::{Move, Text};
 use fk_report::{JobEnd, end_at};
 use fk_trace_text::trace_text;

@@ -5,9 +5,9 @@ use Rattle.fk_model.specs.Places.{Path}
 use Rattle.fk_model.specs.Objects.{Body, Thread, thread_of, kind_of, and_then}
 use Rattle.fk_model.specs.World.{World}
 use Rattle.fk_model.specs.Valid.{kind_there, birth_at, birth_of}
-use Rattle.fk_store.specs.Contents.{Contents}
-use Rattle.fk_store.specs.Paths.{path, path_by}
-use Rattle.fk_store.specs.World.{world, place_of, IsLive, IsSpace}
+use Rattle.fk_store.specs.Store.Contents.{Contents}
+use Rattle.fk_store.specs.Store.Paths.{path, path_by}
+use Rattle.fk_store.specs.Store.World.{world, place_of, IsLive, IsSpace}
 use Rattle.fk_model.specs.Searches.{thread_at}
 
 born-there : (w : World) (x : Path) (n : ℕ) → birth_at w x ≡ Some n → IsSome (kind_there w x)

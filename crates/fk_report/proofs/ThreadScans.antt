@@ -14,11 +14,11 @@ use Rattle.fk_model.specs.Objects.{Mode, Thread, Body, kind_of, thread_of, and_t
 use Rattle.fk_model.specs.Objects.Mode.{Running, Calling, Halted, Native}
 use Rattle.fk_model.specs.World.{World}
 use Rattle.fk_model.specs.Valid.{kind_there}
-use Rattle.fk_store.specs.Bodies.{mode_by, thread_by}
-use Rattle.fk_store.specs.Contents.{Contents}
-use Rattle.fk_store_leads.specs.Names.{who_cmp}
-use Rattle.fk_store_bodies.specs.Orders.{IsFirstAfter}
-use Rattle.fk_store.specs.World.{world, place_of, IsLive}
+use Rattle.fk_store.specs.Store.Bodies.{mode_by, thread_by}
+use Rattle.fk_store.specs.Store.Contents.{Contents}
+use Rattle.fk_store_graph.specs.Leads.Names.{who_cmp}
+use Rattle.fk_store_graph.specs.Bodies.Orders.{IsFirstAfter}
+use Rattle.fk_store.specs.Store.World.{world, place_of, IsLive}
 use Rattle.fk_report.specs.declared.threads.ThreadState.{ThreadState}
 use Rattle.fk_report.specs.Threads.{state_in, state_at, is_halted, is_over, HasHalted, HaveHalted}
 

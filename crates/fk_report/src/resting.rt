@@ -1,6 +1,6 @@
 //! Whether the user threads of a store have halted.
 ghost use Rattle.std.specs.Prelude.{◌≡◌, ◌↔◌, IsTrue};
-ghost use Rattle.fk_store.specs.World.{world, place_of};
+ghost use Rattle.fk_store.specs.Store.World.{world, place_of};
 ghost use Rattle.fk_report.specs.Threads.{is_over, HasHalted, HaveHalted};
 
 use fk_model::{Mode, Who};

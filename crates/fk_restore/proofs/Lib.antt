@@ -1,6 +1,3 @@
-pub mod Bound
-pub mod Counted
-pub mod Heard
-pub mod Cleared
-pub mod Missed
-pub mod Worked
+pub mod InPositions
+pub mod InOrders
+pub mod InRestore

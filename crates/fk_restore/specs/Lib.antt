@@ -1,2 +1,3 @@
-pub mod Bounds
-pub mod Restores
+pub mod Positions
+pub mod Orders
+pub mod Restore

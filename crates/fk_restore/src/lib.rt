@@ -1,13 +1,16 @@
-//! The restore of an image in a slot of its nester, by answers alone.
+//! The restore of an image in a slot of its nester: a job that makes the subtree call by call.
 //!
-//! It makes the calls of the machine of `laws_rooms`, one after the other, and hears their answers. What is left of its
-//! script is a position, so it takes no memory.
+//! It stands on `laws_restore`, which has the script of an image and the machine that gives its orders, on `fk_image` for images and on
+//! `fk_finish` for how a job ends. It sees answers and nothing of the kernel, and promises to be that machine, whatever the answers are.
+//! What is left of its script is some numbers, so it takes no memory.
 //!
-//! It stands on `fk_positions` and `fk_orders` for the script's places, and on `laws_rooms` for the machine. It promises that what it asks
-//! and what it comes to is what the machine says.
+//! - `positions`: places in the script, as numbers;
+//! - `orders`: the words of the order at a place, how its answer is heard, and where the next one stands;
+//! - `restore`: the job.
 #![tactic(auto)]
 
-mod counting;
-mod restore;
+pub mod orders;
+pub mod positions;
+pub mod restore;
 
 pub use restore::{Phase, Restore};

@@ -9,7 +9,7 @@ use Rattle.fk_commands.specs.declared.outcome.Report.{Report}
 use Rattle.fk_commands.specs.declared.status.Status.{Status}
 use Rattle.fk_commands.specs.declared.status.Status.TheVariants.{TooLong}
 use Rattle.fk_commands.specs.Outcomes.{IsRefused}
-use Rattle.fk_image.specs.declared.image.Image.{Image}
+use Rattle.fk_image.specs.declared.image.image.Image.{Image}
 use Rattle.fk_model.specs.declared.job.JobSpec.{JobSpec}
 use Rattle.fk_plays.specs.Images.{needed, Finds, FindsImages}
 use Rattle.fk_plays.specs.Images.FindsImages.{NoJob, Found, Refused, Later}
@@ -22,9 +22,9 @@ use Rattle.fk_run.specs.Top.{Rules}
 use Rattle.fk_plays.proofs.Replayed.{plays-again}
 use Rattle.fk_plays.specs.Made.{Images}
 use Rattle.fk_plays.specs.Runs.{IsRunFrom}
-use Rattle.fk_scenario.specs.declared.scenario.Scenario.{Scenario}
-use Rattle.fk_scenario.specs.Reading.{scenario_reading}
-use Rattle.fk_scenario_fields.specs.declared.fail.ScenarioError.{ScenarioError}
+use Rattle.fk_scenario.specs.declared.scenario.scenario.Scenario.{Scenario}
+use Rattle.fk_scenario.specs.Scenario.Reading.{scenario_reading}
+use Rattle.fk_scenario.specs.declared.fields.fail.ScenarioError.{ScenarioError}
 use Rattle.fk_trace_text.specs.Trace.{IsMove, trace_text}
 
 -- the shelf has the trace of a run

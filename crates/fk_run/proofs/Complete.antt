@@ -23,8 +23,8 @@ use Rattle.fk_commands.specs.Show.{IsFileShown, IsShown}
 use Rattle.fk_commands.specs.Status.{progress_of, Finished, was_cut_short}
 use Rattle.fk_plays.specs.Cores.{RunCore}
 use Rattle.fk_gen.specs.Soak.{scenario}
-use Rattle.fk_image.specs.declared.image.Image.{Image}
-use Rattle.fk_image_format.specs.Reading.{image_reading}
+use Rattle.fk_image.specs.declared.image.image.Image.{Image}
+use Rattle.fk_image.specs.Format.Reading.{image_reading}
 use Rattle.fk_model.specs.declared.job.JobSpec.{JobSpec}
 use Rattle.fk_model.specs.declared.moves.Move.{Move}
 use Rattle.fk_plays.specs.Images.{needed, read_bytes, read_file, Finds, FindsImages}
@@ -40,9 +40,9 @@ use Rattle.fk_run.specs.Complete.{AreRight, HasImage, HasImages, HasTrace, IsCom
 use Rattle.fk_run.specs.Top.{Rules, IsUnlessTooLong, IsCalledFor, IsDue, IsDone, has_put_all, has_put_none}
 use Rattle.fk_plays.specs.Made.{Images, status_of_refused, status_of_end}
 use Rattle.fk_plays.specs.Runs.{begun, IsAlone, IsPlayed, IsRunFrom}
-use Rattle.fk_scenario.specs.declared.scenario.Scenario.{Scenario}
-use Rattle.fk_scenario.specs.Reading.{scenario_reading}
-use Rattle.fk_scenario_fields.specs.declared.fail.ScenarioError.{ScenarioError}
+use Rattle.fk_scenario.specs.declared.scenario.scenario.Scenario.{Scenario}
+use Rattle.fk_scenario.specs.Scenario.Reading.{scenario_reading}
+use Rattle.fk_scenario.specs.declared.fields.fail.ScenarioError.{ScenarioError}
 use Rattle.fk_trace_text.proofs.Traces.{Spells-not_bad}
 use Rattle.fk_trace_text.specs.Trace.{Spells}
 use Rattle.fk_words.specs.Commands.{Command, Exec, Check, Run, Play, Show, Soak}

@@ -17,7 +17,7 @@ use Rattle.fk_commands.proofs.Comes.{comes-also}
 use Rattle.fk_commands.specs.Show.{IsShow}
 use Rattle.fk_gen.specs.Soak.{scenario}
 use Rattle.fk_plays.specs.Play.{IsSoak}
-use Rattle.fk_scenario.specs.Reading.{scenario_reading}
+use Rattle.fk_scenario.specs.Scenario.Reading.{scenario_reading}
 use Rattle.fk_puts.specs.Puts.{HasPutSome}
 use Rattle.fk_run.specs.Top.{Rules, IsDue, IsDone, IsCutOff, IsUnput, HasFailed, GetsToShelf}
 

@@ -4,10 +4,10 @@ use Rattle.fk_commands.specs.declared.outcome.Report.{Report}
 use Rattle.fk_run.specs.Jobs.{HasHeadline, HoldsOf}
 use Rattle.fk_run.specs.Top.{Rules}
 use Rattle.fk_plays.proofs.Headlines.{reports_have_the_headline}
-use Rattle.fk_scenario.proofs.Kept.{scenario_kept}
-use Rattle.fk_scenario.specs.declared.scenario.Scenario.{Scenario}
-use Rattle.fk_scenario.specs.Kept.{KeepsScenario}
-use Rattle.fk_scenario.specs.Reading.{scenario_in, scenario_reading, tree_of}
+use Rattle.fk_scenario.proofs.InScenario.Kept.{scenario_kept}
+use Rattle.fk_scenario.specs.declared.scenario.scenario.Scenario.{Scenario}
+use Rattle.fk_scenario.specs.Scenario.Kept.{KeepsScenario}
+use Rattle.fk_scenario.specs.Scenario.Reading.{scenario_in, scenario_reading, tree_of}
 
 read-keeps : (rules : Rules) (bytes : List ℕ) (s : Scenario) → scenario_reading rules bytes ≡ Ok s → KeepsScenario s
 unfolding scenario_reading

@@ -13,8 +13,8 @@ use Rattle.fk_commands.specs.Status.{progress_of, Finished}
 use Rattle.fk_plays.specs.Cores.{RunCore}
 use Rattle.fk_plays.specs.First.{IsFirst}
 use Rattle.fk_gen.specs.Soak.{scenario}
-use Rattle.fk_image.specs.declared.image.Image.{Image}
-use Rattle.fk_image_format.specs.Reading.{image_reading}
+use Rattle.fk_image.specs.declared.image.image.Image.{Image}
+use Rattle.fk_image.specs.Format.Reading.{image_reading}
 use Rattle.fk_model.specs.declared.job.JobSpec.{JobSpec}
 use Rattle.fk_model.specs.declared.moves.Move.{Move}
 use Rattle.fk_plays.specs.Images.{needed, FindsImages}
@@ -23,9 +23,9 @@ use Rattle.fk_puts.specs.Puts.{HasPut}
 use Rattle.fk_run.specs.Top.{Rules, IsDone}
 use Rattle.fk_plays.specs.Made.{Images}
 use Rattle.fk_plays.specs.Runs.{begun}
-use Rattle.fk_scenario.specs.declared.scenario.Scenario.{Scenario}
-use Rattle.fk_scenario.specs.Reading.{scenario_reading}
-use Rattle.fk_scenario_fields.specs.declared.fail.ScenarioError.{ScenarioError}
+use Rattle.fk_scenario.specs.declared.scenario.scenario.Scenario.{Scenario}
+use Rattle.fk_scenario.specs.Scenario.Reading.{scenario_reading}
+use Rattle.fk_scenario.specs.declared.fields.fail.ScenarioError.{ScenarioError}
 use Rattle.fk_trace_text.specs.Trace.{Spells}
 use Rattle.fk_words.specs.Commands.{Command, Exec, Check, Run, Play, Show, Soak}
 

@@ -7,8 +7,8 @@ use Rattle.fk_run.specs.Top.{Rules}
 use Rattle.fk_plays.specs.Headline.{HasReportHeadline}
 use Rattle.fk_plays.specs.Made.{Images}
 use Rattle.fk_plays.specs.Runs.{IsReported}
-use Rattle.fk_scenario.specs.declared.scenario.Scenario.{Scenario}
-use Rattle.fk_scenario.specs.Reading.{scenario_reading}
+use Rattle.fk_scenario.specs.declared.scenario.scenario.Scenario.{Scenario}
+use Rattle.fk_scenario.specs.Scenario.Reading.{scenario_reading}
 
 -- whatever scenario some bytes have from whose first core its history is a run, and whatever images were given for the jobs
 abbrev pub HasHeadline : Rules → Report → Type 0

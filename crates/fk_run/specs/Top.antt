@@ -6,7 +6,7 @@ use Rattle.fk_asm.specs.Assembler.{assembled}
 use Rattle.fk_causes.specs.Causes.{MayHold, AppendsPrefix, Rose}
 use Rattle.fk_causes.specs.declared.whole.TheConstants.{LIMIT}
 use Rattle.fk_causes.specs.Shelf.{FileMap}
-use Rattle.fk_scenario.specs.Reading.{scenario_reading}
+use Rattle.fk_scenario.specs.Scenario.Reading.{scenario_reading}
 use Rattle.fk_model.specs.declared.moves.Rule.{Rule}
 use Rattle.fk_commands.specs.declared.status.Status.{Status}
 use Rattle.fk_commands.specs.declared.status.Status.TheVariants.{Ok as Done, Usage, TooLong, BadText, BadScenario, Absent, BadImage, BadTrace, JobRefused, Budget, ReadFault, WriteFault, ShelfFault, NoMemory}

@@ -1,6 +1,2 @@
-pub mod Starting
-pub mod Books
-pub mod Made
-pub mod Replayed
-pub mod From
-pub mod Headlines
+pub mod InRunReports
+pub mod InRuns

@@ -1,20 +1,16 @@
-//! What a run comes to, by a trace or by itself, from the core with which it begins.
+//! What a run comes to, by a trace or by itself, from the core with which it begins to its report.
 //!
-//! `whole` has the report made, and what is written of it, from the book of the moves; and `begun` does so from a scenario on, so that no
-//! crate above holds a core.
+//! It stands on `fk_first` for that core, on `fk_workers` for the book of the run, on `fk_job_ends`, `fk_report` and `fk_soak` for texts, and on
+//! `fk_commands` for what a command prepares. It promises that the moves in a report are a legal history from the first core, those that the
+//! trace spells or those that were chosen while one was left, whatever turns the workers took, and that what is written is the report's text.
 //!
-//! It stands on `fk_first` for the core with which a scenario begins, on `fk_workers` for the book of a trace and of a run by workers, on
-//! `fk_run_reports` for the report and what is written of it, and on `fk_commands` for what a command prepares. It promises the outcomes
-//! and texts of `specs/Runs.antt`: the moves in a report are a legal history from the first core, those that the trace spells or those that
-//! were chosen while one was left, whatever turns the workers took; or the index of the first line that is bad.
+//! - `run_reports`: the report of a run that has come to a core, and what is written of it;
+//! - `runs`: runs by a trace or by workers, from a scenario on.
 #![tactic(auto)]
 
-mod again;
-mod begun;
-mod headline;
-mod whole;
+pub mod run_reports;
+pub mod runs;
 
-pub use again::a_run_plays_again;
-pub use begun::{play_first, run_first, soak_first};
-pub use fk_first::maker_of;
-pub use headline::reports_have_the_headline;
+pub use runs::{
+    a_run_plays_again, maker_of, play_first, reports_have_the_headline, run_first, soak_first,
+};

@@ -1,3 +1,4 @@
-pub mod Trees
-pub mod Kept
-pub mod Tables
+pub mod InFields
+pub mod InEntries
+pub mod InSections
+pub mod InScenario

@@ -1,6 +1,4 @@
-pub mod Aims
-pub mod Servers
-pub mod Jobs
-pub mod Reading
-pub mod Kept
-pub mod Rules
+pub mod Fields
+pub mod Entries
+pub mod Sections
+pub mod Scenario

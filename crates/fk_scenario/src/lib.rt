@@ -1,21 +1,18 @@
 //! The reader of scenarios: from the bytes of a TOML document to what a machine begins with.
 //!
-//! It stands on `fk_scenario_sections` for a first round, section by section, in which each entry meets those before
-//! it. Here each meets all others in a second round. `specs/Reading.antt` has
-//! what a document says: a scenario, or the first refusal by rule, section and index. `read_scenario` gives
-//! exactly that, and every scenario that it gives keeps what a machine rests on that begins with it
-//! (`specs/Kept.antt`). Its time is linear in the bytes but for sorts and look-ups in ordered maps.
+//! It stands on `toml` for documents, on `fk_asm` for programs and on `fk_model`. It promises the scenario that a document says, or its first
+//! refusal by rule, section and index, in rounds: each entry by itself, each among those before it, each among all others.
+//!
+//! - `fields`: the fields of tables, names and paths, and lists by keys;
+//! - `entries`: programs, objects, servers and jobs, each by itself;
+//! - `sections`: each section's entries, after those before them;
+//! - `scenario`: the whole document.
 #![tactic(auto)]
 
-mod aims;
-mod jobs;
-mod reading;
-mod rules;
-mod scenario;
-mod servers;
+pub mod entries;
+pub mod fields;
+pub mod scenario;
+pub mod sections;
 
-pub use fk_scenario_entries::{ObjectEntry, Program, ServerEntry, ServiceSpec, SpaceEntry, Spec};
-pub use fk_scenario_fields::{ScenarioError, ScenarioFail};
-pub use reading::read_scenario;
-pub use rules::server_rules;
-pub use scenario::Scenario;
+pub use fields::{ScenarioError, ScenarioFail};
+pub use scenario::{Scenario, read_scenario, server_rules};

@@ -1,17 +1,18 @@
-//! What a scenario is.
-use fk_model::{JobSpec, List};
-use fk_scenario_entries::{ObjectEntry, Program, ServerEntry, SpaceEntry};
+//! The reader of scenarios: from the bytes of a TOML document to what a machine begins with.
+//!
+//! It stands on `sections` for a first round, section by section, in which each entry meets those before
+//! it. Here each meets all others in a second round. `specs/Scenario/Reading.antt` has
+//! what a document says: a scenario, or the first refusal by rule, section and index. `read_scenario` gives
+//! exactly that, and every scenario that it gives keeps what a machine rests on that begins with it
+//! (`specs/Scenario/Kept.antt`). Its time is linear in the bytes but for sorts and look-ups in ordered maps.
 
-/// A scenario: its entries in the order of the file, the programs in the order of their names.
-#[derive(Drop)]
-pub struct Scenario {
-    /// How many moves may be made, 1 to 1,000,000.
-    pub budget: u64,
-    /// On how many workers, 1 to 8.
-    pub workers: u32,
-    pub programs: List<Program>,
-    pub spaces: List<SpaceEntry>,
-    pub objects: List<ObjectEntry>,
-    pub servers: List<ServerEntry>,
-    pub jobs: List<JobSpec>,
-}
+mod aims;
+mod jobs;
+mod reading;
+mod rules;
+mod scenario;
+mod servers;
+
+pub use reading::read_scenario;
+pub use rules::server_rules;
+pub use scenario::Scenario;

@@ -15,10 +15,10 @@ use Rattle.fk_model.specs.Who.{named}
 use Rattle.fk_model.specs.World.{World}
 use Rattle.fk_natives.specs.declared.service.Side.TheVariants as sides
 use Rattle.fk_natives.specs.Natives.{State, OfConsole, OfServer, asks_for, gives_left}
-use Rattle.fk_store.specs.Names.{same_who}
-use Rattle.fk_store_leads.proofs.NameLaws.{same_who_eq}
-use Rattle.laws_frozen.specs.Users.{is_users}
-use Rattle.laws_whole.specs.Runnable.{has_all_words}
+use Rattle.fk_store.specs.Store.Names.{same_who}
+use Rattle.fk_store_graph.proofs.InLeads.NameLaws.{same_who_eq}
+use Rattle.laws_moves.specs.Frozen.Users.{is_users}
+use Rattle.laws_moves.specs.Whole.Runnable.{has_all_words}
 use Rattle.fk_served.specs.Served.{Services, serving, asked, asked_of, asked_at, gives_words, ServersAskAsUsers}
 
 -- ---- what servers ask for is fit

@@ -14,11 +14,11 @@ use Rattle.fk_natives.specs.declared.service.Side.TheVariants as sides
 use Rattle.fk_natives.specs.Natives as natives
 use Rattle.fk_natives.specs.Natives.{State, OfConsole, OfServer, News, hears, DoesFit}
 use Rattle.fk_kernel.specs.Kernels.{Kept}
-use Rattle.fk_store.specs.Moves.{said_by}
+use Rattle.fk_store.specs.Store.Moves.{said_by}
 use Rattle.fk_kernel.specs.Kernels.{path_of as path}
 use Rattle.fk_kernel.specs.Kernels.{world_of as world}
 use Rattle.fk_kernel.specs.Events.{step_of, is_who}
-use Rattle.fk_plans.specs.Hearers.{says_to, says_to_who}
+use Rattle.fk_plans.specs.Plans.Hearers.{says_to, says_to_who}
 use Rattle.fk_served.specs.Served.{Services, said_at, news_at, after_news, hears_of, said_to, news_to, told, AllFit, HearByNames, FitsOnceTold}
 
 -- ---- what is told

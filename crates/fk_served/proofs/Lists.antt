@@ -9,7 +9,7 @@ use Rattle.fk_model.specs.declared.moves.Said as says_of
 use Rattle.fk_model.specs.declared.names.Who.{Who}
 use Rattle.fk_model.specs.declared.moves.Ask.TheVariants as asks
 use Rattle.fk_natives.specs.Natives.{State, asks_for}
-use Rattle.fk_store.specs.Names.{same_who}
+use Rattle.fk_store.specs.Store.Names.{same_who}
 use Rattle.std.proofs.Math.ListN.{drop_of_length-le}
 use Rattle.fk_served.specs.Served.{Services, shown, told, AllFit, HaveRoom, after_news, news_to, serving, asked_of}
 

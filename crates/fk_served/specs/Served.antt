@@ -19,14 +19,14 @@ use Rattle.fk_model.specs.Who.{named}
 use Rattle.fk_model.specs.World.{World}
 use Rattle.fk_natives.specs.Natives as natives
 use Rattle.fk_natives.specs.Natives.{State, News, hears, asks_for, DoesFit}
-use Rattle.fk_store.specs.Names.{same_who}
+use Rattle.fk_store.specs.Store.Names.{same_who}
 use Rattle.fk_kernel.specs.Kernels.{Kept}
-use Rattle.fk_store.specs.Moves.{said_by}
+use Rattle.fk_store.specs.Store.Moves.{said_by}
 use Rattle.fk_kernel.specs.Kernels.{path_of as path}
 use Rattle.fk_kernel.specs.Kernels.{world_of as world}
-use Rattle.fk_plans.specs.Hearers.{says_to, says_to_who}
+use Rattle.fk_plans.specs.Plans.Hearers.{says_to, says_to_who}
 use Rattle.fk_kernel.specs.Events.{is_who, step_of}
-use Rattle.laws_frozen.specs.Users.{is_users}
+use Rattle.laws_moves.specs.Frozen.Users.{is_users}
 use Rattle.laws_jobs.specs.Machines.{said_of}
 use Rattle.laws_runs.specs.Cores.{Servers}
 

@@ -2,7 +2,7 @@
 ghost use Rattle.std.specs.Prelude.{◌≡◌, ◌<◌, ◌≤◌, true, Some, None, length, map, option_map, OnOk, IfSome};
 ghost use Rattle.std.specs.List.{slice_get};
 ghost use Rattle.fk_model.specs.Whole.{are_words};
-ghost use Rattle.laws_whole.specs.Runnable.{has_all_words};
+ghost use Rattle.laws_moves.specs.Whole.Runnable.{has_all_words};
 ghost use Rattle.fk_served.specs.Served.{asked_of, serving, told, news_to, after_news, gives_words, words_at_port, sent_at_port, AllFit, shown, HaveRoom};
 ghost use Rattle.fk_natives.specs.Natives.{DoesFit};
 ghost use Rattle.fk_model.specs.declared.moves.Said.TheVariants as says;

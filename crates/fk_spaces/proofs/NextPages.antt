@@ -6,7 +6,7 @@ use Rattle.fk_model.specs.Places.{Path}
 use Rattle.fk_model.specs.World.{World}
 use Rattle.fk_model.specs.Searches.{lowest}
 use Rattle.fk_model.specs.SpaceRows.{next_page}
-use Rattle.fk_store.proofs.finding.ReachLaws.{lowest-first, lowest-none, lowest-zero}
+use Rattle.fk_store.proofs.InStore.finding.ReachLaws.{lowest-first, lowest-none, lowest-zero}
 
 abbrev pub from_on : World → Path → ℕ → ℕ → Option ℕ
 from_on w s from page = cond (nat_le from page) (option_map (λ words. page) (w.page s page)) None

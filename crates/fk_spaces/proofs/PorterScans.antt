@@ -12,10 +12,10 @@ use Rattle.fk_model.specs.Holds.{holder_of}
 use Rattle.fk_model.specs.Objects.{holds}
 use Rattle.fk_model.proofs.walks.Members.{IsIn, any_in, of_any}
 use Rattle.fk_model.proofs.walks.PlaceLaws.{same_path_refl}
-use Rattle.fk_store.specs.Contents.{Contents}
-use Rattle.fk_store.specs.Paths.{path}
-use Rattle.fk_store.specs.World.{world, place_of, IsSpace}
-use Rattle.fk_readers.proofs.Beneath.{met_any}
+use Rattle.fk_store.specs.Store.Contents.{Contents}
+use Rattle.fk_store.specs.Store.Paths.{path}
+use Rattle.fk_store.specs.Store.World.{world, place_of, IsSpace}
+use Rattle.fk_changes.proofs.InReaders.Beneath.{met_any}
 use Rattle.fk_spaces.specs.Sought.{is_sought, is_sought_at}
 
 pub is_there : (m : Contents) (s : Path) (who : Who) → is_sought m s who ≡ true → true ≡ list_any (has_porter (world m)) (beneath (world m) s)

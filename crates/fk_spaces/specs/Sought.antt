@@ -6,8 +6,8 @@ use Rattle.fk_model.specs.Places.{Path, same_path}
 use Rattle.fk_model.specs.Searches.{beneath}
 use Rattle.fk_model.specs.SpaceRows.{has_porter, is_held_by_other}
 use Rattle.fk_model.specs.World.{World}
-use Rattle.fk_store.specs.Contents.{Contents}
-use Rattle.fk_store.specs.World.{world, place_of}
+use Rattle.fk_store.specs.Store.Contents.{Contents}
+use Rattle.fk_store.specs.Store.World.{world, place_of}
 
 -- what stands at x is one, beneath the space at s
 abbrev pub is_sought_at : Contents → Path → Path → Bool

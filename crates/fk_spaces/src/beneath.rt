@@ -9,12 +9,12 @@ ghost use Rattle.fk_model.specs.Places.Ptr.{At};
 ghost use Rattle.fk_model.specs.Searches.{beneath};
 ghost use Rattle.fk_model.specs.SpaceRows as rows;
 ghost use Rattle.fk_model.specs.Talks.{thread_led_to};
-ghost use Rattle.fk_store.specs.Paths.{path, place};
-ghost use Rattle.fk_store.specs.World.{world, IsLive, IsSpace};
+ghost use Rattle.fk_store.specs.Store.Paths.{path, place};
+ghost use Rattle.fk_store.specs.Store.World.{world, IsLive, IsSpace};
 ghost use Rattle.fk_spaces.specs.Sought.{is_sought, is_sought_at};
 
+use fk_changes::readers::is_beneath;
 use fk_model::{Body, Mode, Who};
-use fk_plans::is_beneath;
 use fk_store::Store;
 
 /// A thread that is there is a porter.

@@ -1,14 +1,15 @@
 //! The stage that looks for a page.
 ghost use Rattle.std.specs.Prelude.{◌≡◌, ◌≤◌, nat_le, None, IfOk, option_map, if◌then◌else◌};
 ghost use Rattle.fk_model.specs.SpaceRows as rows;
-ghost use Rattle.fk_store.specs.Paths.{path};
-ghost use Rattle.fk_store.specs.World.{world, IsSpace};
-ghost use Rattle.fk_plans.specs.Verdicts.{Judges, IsSureVerdict};
+ghost use Rattle.fk_store.specs.Store.Paths.{path};
+ghost use Rattle.fk_store.specs.Store.World.{world, IsSpace};
+ghost use Rattle.fk_plans.specs.Plans.Verdicts.{Judges, IsSureVerdict};
 
+use fk_changes::readers::{Caller, place};
+use fk_changes::threads::Answers;
 use fk_model::status::NONE;
-use fk_plans::{Caller, Plan, Verdict, place};
+use fk_plans::{Plan, Verdict};
 use fk_store::Store;
-use fk_threads::Answers;
 
 /// The number of a page, where it is there and not below another number.
 fn page_from(store: &Store, space: u32, from: u64, page: u8) -> Option<u64>

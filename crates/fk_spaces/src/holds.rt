@@ -10,19 +10,20 @@ ghost use Rattle.fk_model.specs.Readers as readers;
 ghost use Rattle.fk_model.specs.SpaceRows as rows;
 ghost use Rattle.fk_model.specs.World.Change.{Alter};
 ghost use Rattle.fk_model.specs.World.Edit.{SetHolder};
-ghost use Rattle.fk_store.specs.Named.{Each};
-ghost use Rattle.fk_store.specs.Paths.{path, place};
-ghost use Rattle.fk_store.specs.World.{world, IsLive, IsSpace};
-ghost use Rattle.fk_plans.specs.Plans.{caller_by, holder_by};
-ghost use Rattle.fk_plans.specs.Verdicts.{Judges, IsSureVerdict, IsVerdict, mapped, outcome_by};
+ghost use Rattle.fk_store.specs.Store.Named.{Each};
+ghost use Rattle.fk_store.specs.Store.Paths.{path, place};
+ghost use Rattle.fk_store.specs.Store.World.{world, IsLive, IsSpace};
+ghost use Rattle.fk_plans.specs.Plans.Plans.{caller_by, holder_by};
+ghost use Rattle.fk_plans.specs.Plans.Verdicts.{Judges, IsSureVerdict, IsVerdict, mapped, outcome_by};
 ghost use Rattle.fk_spaces.specs.Sought.{may_hold};
 
 use crate::beneath::has_porter_beneath;
+use fk_changes::readers::{Caller, is_within, place, referred, slot_for};
+use fk_changes::threads::Answers;
 use fk_model::status::{BADHANDLE, DENIED, HELD, OCCUPIED, WRONGKIND};
 use fk_model::{Body, Kind, Who};
-use fk_plans::{Caller, Deed, Plan, Verdict, is_within, place, referred, slot_for};
+use fk_plans::{Deed, Plan, Verdict};
 use fk_store::Store;
-use fk_threads::Answers;
 
 /// A space that stands in another one.
 #[derive(Clone, Copy)]
@@ -34,7 +35,7 @@ struct Inner {
 }
 
 /// The space in a slot of another one.
-#[tactic(auto, using(fk_readers::proofs::Spaces::space_there), unfolding(fk_model::specs::Readers::object_in))]
+#[tactic(auto, using(fk_changes::proofs::InReaders::Spaces::space_there), unfolding(fk_model::specs::Readers::object_in))]
 fn space_in(store: &Store, caller: Caller, space: u32, k: u64) -> Result<Inner, u8>
     ensures holder { (words : List ℕ) → mapped (λ inner. holder_by (path store.now) inner.holder) result
         ≡ readers.object_in (world store.now) (caller_by (path store.now) caller words) space_of (path store.now space) k }

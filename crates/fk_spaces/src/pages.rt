@@ -2,18 +2,19 @@
 ghost use Rattle.std.specs.Prelude.{◌≡◌, ◌%◌, ℕ, List, true, false, IsSome, IfOk};
 ghost use Rattle.fk_model.specs.Reach.{words_at};
 ghost use Rattle.fk_model.specs.SpaceRows as rows;
-ghost use Rattle.fk_store.specs.Paths.{path};
-ghost use Rattle.fk_store.specs.World.{world, IsSpace};
-ghost use Rattle.fk_plans.specs.Plans.{caller_by};
-ghost use Rattle.fk_plans.specs.Sources.{source_words, IsSource};
-ghost use Rattle.fk_plans.specs.Verdicts.{Judges, IsVerdict, IsSureVerdict, outcome_of};
+ghost use Rattle.fk_store.specs.Store.Paths.{path};
+ghost use Rattle.fk_store.specs.Store.World.{world, IsSpace};
+ghost use Rattle.fk_plans.specs.Plans.Plans.{caller_by};
+ghost use Rattle.fk_plans.specs.Plans.Sources.{source_words, IsSource};
+ghost use Rattle.fk_plans.specs.Plans.Verdicts.{Judges, IsVerdict, IsSureVerdict, outcome_of};
 ghost use Rattle.fk_spaces.specs.Targets as targets;
 
+use fk_changes::readers::{Caller, place};
+use fk_changes::threads::Answers;
 use fk_model::limits::{PAGE_WORDS, PAGES, ZEROS};
 use fk_model::status::{BADADDRESS, HELD, NONE, OCCUPIED};
-use fk_plans::{Caller, Deed, Plan, Source, Verdict, own_page, place};
+use fk_plans::{Deed, Plan, Source, Verdict, own_page};
 use fk_store::Store;
-use fk_threads::Answers;
 
 /// An address is the first of a page.
 fn is_page_address(address: u64) -> bool

@@ -1,12 +1,13 @@
 //! Stages of stop counts.
 ghost use Rattle.std.specs.Prelude.{◌≡◌, IfOk};
 ghost use Rattle.fk_model.specs.SpaceRows as rows;
-ghost use Rattle.fk_plans.specs.Verdicts.{Judges, IsSureVerdict};
+ghost use Rattle.fk_plans.specs.Plans.Verdicts.{Judges, IsSureVerdict};
 
+use fk_changes::readers::{Caller, thread_by_handle};
+use fk_changes::threads::Answers;
 use fk_model::status::{FULL, HELD, NOTSTOPPED};
-use fk_plans::{Caller, Deed, Plan, Verdict, thread_by_handle};
+use fk_plans::{Deed, Plan, Verdict};
 use fk_store::Store;
-use fk_threads::Answers;
 
 /// A thread is stopped once more, at most 65,535 times.
 #[tactic(auto, unfolding(fk_model::specs::SpaceRows::thread_stop))]

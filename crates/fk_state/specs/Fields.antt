@@ -3,8 +3,8 @@ use Rattle.std.specs.Prelude.{ℕ, ⊤}
 use Rattle.fk_model.specs.declared.names.Who.{Who}
 use Rattle.fk_model.specs.Places.{Path}
 use Rattle.fk_model.specs.StateRows as rows
-use Rattle.fk_store.specs.Bodies.{pointer_by}
-use Rattle.fk_store.specs.Named.{OnPointer}
+use Rattle.fk_store.specs.Store.Bodies.{pointer_by}
+use Rattle.fk_store.specs.Store.Named.{OnPointer}
 use Rattle.fk_state.specs.declared.fields.Field.{Field}
 use Rattle.fk_state.specs.declared.fields.Field.TheVariants.{Pointer, NoThread}
 

@@ -5,10 +5,10 @@ ghost use Rattle.fk_model.specs.Objects as model;
 ghost use Rattle.fk_model.specs.Objects.{and_then};
 ghost use Rattle.fk_model.specs.Places.{Path};
 ghost use Rattle.fk_model.specs.StateRows as rows;
-ghost use Rattle.fk_store.specs.Bodies.{body_by, fault_by, peer_by, pointer_by, talk_by, thread_by};
-ghost use Rattle.fk_store.specs.Contents.{Contents};
-ghost use Rattle.fk_store.specs.Named.{Each, OnFault, OnNamed, OnPeer, OnPointer, OnTalk};
-ghost use Rattle.fk_store.specs.World.{IsLive};
+ghost use Rattle.fk_store.specs.Store.Bodies.{body_by, fault_by, peer_by, pointer_by, talk_by, thread_by};
+ghost use Rattle.fk_store.specs.Store.Contents.{Contents};
+ghost use Rattle.fk_store.specs.Store.Named.{Each, OnFault, OnNamed, OnPeer, OnPointer, OnTalk};
+ghost use Rattle.fk_store.specs.Store.World.{IsLive};
 ghost use Rattle.fk_state.specs.Fields.{field_by, OnField};
 
 use fk_model::{Body, Fault, Peer, Ptr, Talk, Thread};

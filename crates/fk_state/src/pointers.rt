@@ -5,23 +5,22 @@ ghost use Rattle.fk_model.specs.Objects.{kind_of, same_kind};
 ghost use Rattle.fk_model.specs.Places.{Path};
 ghost use Rattle.fk_model.specs.Readers as readers;
 ghost use Rattle.fk_model.specs.StateRows as rows;
-ghost use Rattle.fk_store.specs.Bodies.{body_by, pointer_by};
-ghost use Rattle.fk_store.specs.Paths.{path};
-ghost use Rattle.fk_store.specs.Named.{OnNamed, OnPointer};
-ghost use Rattle.fk_store.specs.World.{world, IsLive, IsSpace};
+ghost use Rattle.fk_store.specs.Store.Bodies.{body_by, pointer_by};
+ghost use Rattle.fk_store.specs.Store.Paths.{path};
+ghost use Rattle.fk_store.specs.Store.Named.{OnNamed, OnPointer};
+ghost use Rattle.fk_store.specs.Store.World.{world, IsLive, IsSpace};
 ghost use Rattle.fk_state.specs.Fields.{field_by, OnField};
 ghost use Rattle.fk_model.specs.Outcomes.{or_refuse};
 ghost use Rattle.fk_model.specs.declared.statuses.status.TheConstants.{BADSTATE};
-ghost use Rattle.fk_plans.specs.Verdicts.{Judges, IsSureVerdict, mapped};
+ghost use Rattle.fk_plans.specs.Plans.Verdicts.{Judges, IsSureVerdict, mapped};
 
 use crate::fields::{Field, field_of, is_inner, number_of, pointer_of};
+use fk_changes::readers::{Caller, is_referable, object_in, place, reference_in};
+use fk_changes::threads::Answers;
 use fk_model::status::{BADSTATE, DENIED, WRONGKIND};
 use fk_model::{Body, Ptr, Who};
-use fk_plans::{
-    Caller, Deed, Plan, Verdict, is_referable, object_in, place, reference_in, unfrozen,
-};
+use fk_plans::{Deed, Plan, Verdict, unfrozen};
 use fk_store::Store;
-use fk_threads::Answers;
 
 /// A field of an object, by its number.
 fn field_in(store: &Store, body: &Body, number: u64) -> Result<Field, u8>

@@ -5,20 +5,21 @@ ghost use Rattle.fk_model.specs.Objects as objects;
 ghost use Rattle.fk_model.specs.Places.{Path};
 ghost use Rattle.fk_model.specs.Reach.{words_at};
 ghost use Rattle.fk_model.specs.StateRows as rows;
-ghost use Rattle.fk_store.specs.Bodies.{body_by};
-ghost use Rattle.fk_store.specs.Paths.{path, place};
-ghost use Rattle.fk_store.specs.World.{world, IsSpace};
-ghost use Rattle.fk_plans.specs.Plans.{caller_by};
-ghost use Rattle.fk_plans.specs.Recordings.{record_words, IsRecord};
-ghost use Rattle.fk_plans.specs.Verdicts.{Judges, JudgesGiven, IsVerdict, IsSureVerdict, outcome_of};
+ghost use Rattle.fk_store.specs.Store.Bodies.{body_by};
+ghost use Rattle.fk_store.specs.Store.Paths.{path, place};
+ghost use Rattle.fk_store.specs.Store.World.{world, IsSpace};
+ghost use Rattle.fk_plans.specs.Plans.Plans.{caller_by};
+ghost use Rattle.fk_plans.specs.Plans.Recordings.{record_words, IsRecord};
+ghost use Rattle.fk_plans.specs.Plans.Verdicts.{Judges, JudgesGiven, IsVerdict, IsSureVerdict, outcome_of};
 
+use fk_changes::readers::{Caller, object_in, place};
+use fk_changes::records::takes_state;
+use fk_changes::threads::Answers;
 use fk_model::limits::{PAGE_WORDS, RECORD_WORDS};
 use fk_model::status::{BADADDRESS, BADSTATE, DENIED, NOTSTOPPED};
 use fk_model::{Body, Mode, Who};
-use fk_plans::{Caller, Deed, Plan, Record, Verdict, object_in, own_page, place, unfrozen};
-use fk_records::takes_state;
+use fk_plans::{Deed, Plan, Record, Verdict, own_page, unfrozen};
 use fk_store::Store;
-use fk_threads::Answers;
 
 /// A record of a user's can stand at an address.
 fn is_record_address(address: u64) -> bool

@@ -1,2 +1,3 @@
-pub mod finding
-pub mod changing
+pub mod InHolds
+pub mod InFreezing
+pub mod InStore

@@ -1,23 +1,15 @@
-//! The store: every object and every page, by the birth numbers of spaces.
+//! The store: every object and every page, by the birth numbers of spaces, standing for a world of the abstract machine.
 //!
-//! It stands on `fk_store_freezing`, which keeps objects and pages by name, and on `fk_model`. Contracts see
-//! a store by two words: `world`, the abstract machine's world that the store stands for, and
-//! `path`, the path of the space with a birth number. Each call that changes the store is one change
-//! of the abstract machine, says by these words which, and takes memory only where its result has
-//! NoMemory; so nobody above translates between names and paths.
+//! It stands on `fk_store_graph` for objects and pages by name, and on `fk_model` for the world. Each call that changes the store makes one
+//! change of that world and says which; it takes memory only where its result has NoMemory. So nobody above translates between names and paths.
+//!
+//! - `holds`: which spaces may be held, and which may lie beneath one that is;
+//! - `freezing`: the objects with marks on these spaces, so that a look at what decides over a space is short;
+//! - `store`: the store itself, by the world and the path of each space.
 #![tactic(auto)]
 
-mod edits;
-mod faults;
-mod memory;
-mod mutexes;
-mod pointers;
-mod ports;
-mod reach;
-mod store;
-mod talks;
-mod threads;
+pub mod freezing;
+pub mod holds;
+pub mod store;
 
-pub use fk_store_freezing::Leaders;
-pub use reach::Reach;
-pub use store::Store;
+pub use store::{Reach, Store};

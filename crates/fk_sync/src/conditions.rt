@@ -2,19 +2,20 @@
 ghost use Rattle.std.specs.Prelude.{◌≡◌, ℕ, List, false, IfOk, Some, None};
 ghost use Rattle.fk_model.specs.declared.stage.Stage.TheVariants.{CondWait};
 ghost use Rattle.fk_model.specs.SyncRows as rows;
-ghost use Rattle.fk_store.specs.Moves.{picked_by};
-ghost use Rattle.fk_store.specs.Paths.{path, place};
-ghost use Rattle.fk_store.specs.Threads.{todo_at};
-ghost use Rattle.fk_store.specs.World.{world};
-ghost use Rattle.fk_threads.specs.Firsts.{IsFirst};
-ghost use Rattle.fk_plans.specs.Plans.{caller_by};
-ghost use Rattle.fk_plans.specs.Verdicts.{Judges, IsSureVerdict, IsVerdict, outcome_by};
+ghost use Rattle.fk_store.specs.Store.Moves.{picked_by};
+ghost use Rattle.fk_store.specs.Store.Paths.{path, place};
+ghost use Rattle.fk_store.specs.Store.Threads.{todo_at};
+ghost use Rattle.fk_store.specs.Store.World.{world};
+ghost use Rattle.fk_changes.specs.Threads.Firsts.{IsFirst};
+ghost use Rattle.fk_plans.specs.Plans.Plans.{caller_by};
+ghost use Rattle.fk_plans.specs.Plans.Verdicts.{Judges, IsSureVerdict, IsVerdict, outcome_by};
 
+use fk_changes::readers::{Caller, cond_in, is_in, mutex_in};
+use fk_changes::threads::{Answers, asleep_on, is_slept_on};
 use fk_model::Who;
 use fk_model::status::NOTLOCKED;
-use fk_plans::{Caller, Deed, Plan, Verdict, cond_in, is_in, mutex_in, sleeps};
+use fk_plans::{Deed, Plan, Verdict, sleeps};
 use fk_store::Store;
-use fk_threads::{Answers, asleep_on, is_slept_on};
 
 /// It unlocks the mutex, and the caller goes on asleep.
 #[tactic(auto, unfolding(fk_model::specs::SyncRows::cond_wait))]

@@ -1,6 +1,6 @@
 //! Mutexes and conditions: what their stages come to.
 //!
-//! It stands on `fk_plans` and `fk_threads`, and promises of each stage that its verdict stands for
+//! It stands on `fk_plans` and `fk_changes::threads`, and promises of each stage that its verdict stands for
 //! the outcome of the stage's row in the abstract machine, and can be carried out without memory.
 #![tactic(auto)]
 

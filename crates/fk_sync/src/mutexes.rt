@@ -1,13 +1,14 @@
 //! Stages of mutexes.
 ghost use Rattle.std.specs.Prelude.{◌≡◌, ◌≤◌, IfOk};
 ghost use Rattle.fk_model.specs.SyncRows as rows;
-ghost use Rattle.fk_plans.specs.Verdicts.{Judges, IsSureVerdict};
+ghost use Rattle.fk_plans.specs.Plans.Verdicts.{Judges, IsSureVerdict};
 
+use fk_changes::readers::{Caller, mutex_in};
+use fk_changes::threads::Answers;
 use fk_model::Who;
 use fk_model::status::{NONE, NOTLOCKED};
-use fk_plans::{Caller, Deed, Plan, Verdict, mutex_in};
+use fk_plans::{Deed, Plan, Verdict};
 use fk_store::Store;
-use fk_threads::Answers;
 
 /// The stage locks a mutex of the caller's space, or unlocks it, and is done.
 fn sets(caller: Caller, m: u64, locked: bool) -> Verdict

@@ -11,7 +11,7 @@ use Rattle.fk_model.specs.TransferRows.{passes, passes_to_thread}
 use Rattle.fk_model.specs.World.{World}
 use Rattle.fk_model.specs.World.Change.{Alter}
 use Rattle.fk_model.specs.World.Edit.{Finish}
-use Rattle.fk_store.specs.Threads.{is_free_at}
+use Rattle.fk_store.specs.Store.Threads.{is_free_at}
 
 -- where it is free, by its being at its Receive
 pub passed_free : (w : World) (c : Caller) (side : Turn) (client y : Path) (t : Thread) (b : Bool) →

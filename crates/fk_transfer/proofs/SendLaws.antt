@@ -21,10 +21,10 @@ use Rattle.fk_model.specs.TransferRows.{in_turn, send, sends_into, sends_to_thre
 use Rattle.fk_model.specs.World.{World, Edit, apply, edited}
 use Rattle.fk_model.specs.World.Change.{Alter, PutPage}
 use Rattle.fk_model.specs.World.Edit.{CountMoved, Shift}
-use Rattle.fk_store.specs.Threads.{todo_of_mode, todo_of_thread, todo_at, is_free_at}
-use Rattle.fk_store.proofs.finding.Walks.{same_path_true}
-use Rattle.fk_plans.specs.declared.plan.Moving.{Moving}
-use Rattle.fk_threads.specs.Shifted.{address_of, IsLow}
+use Rattle.fk_store.specs.Store.Threads.{todo_of_mode, todo_of_thread, todo_at, is_free_at}
+use Rattle.fk_store.proofs.InStore.finding.Walks.{same_path_true}
+use Rattle.fk_plans.specs.declared.plans.plan.Moving.{Moving}
+use Rattle.fk_changes.specs.Threads.Shifted.{address_of, IsLow}
 use Rattle.fk_transfer.specs.Lines.{sending, AreEnds, IsFirst, IsSender}
 
 -- ---- who is at a Send or a Receive has no higher address

@@ -7,10 +7,10 @@ use Rattle.fk_model.specs.declared.thread.Turn.TheVariants as turns
 use Rattle.fk_model.specs.Places.{Path, same_path}
 use Rattle.fk_model.specs.Talks as talks
 use Rattle.fk_model.specs.World.{World}
-use Rattle.fk_store.specs.Bodies.{talk_by, peer_by}
-use Rattle.fk_store.specs.Paths.{place}
-use Rattle.fk_store.specs.Threads.{todo_at}
-use Rattle.fk_threads.specs.Shifted.{address_of}
+use Rattle.fk_store.specs.Store.Bodies.{talk_by, peer_by}
+use Rattle.fk_store.specs.Store.Paths.{place}
+use Rattle.fk_store.specs.Store.Threads.{todo_at}
+use Rattle.fk_changes.specs.Threads.Shifted.{address_of}
 use Rattle.fk_transfer.specs.declared.lines.Line.{Line}
 
 abbrev pub line_by : (ℕ → Path) → Line → talks.Line

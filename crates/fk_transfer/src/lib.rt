@@ -1,6 +1,6 @@
 //! Messages: what the stages of a talk come to that move words or hand over the turn.
 //!
-//! It stands on `fk_plans` and `fk_threads`, and promises of each stage, on either side of a talk,
+//! It stands on `fk_plans` and `fk_changes::threads`, and promises of each stage, on either side of a talk,
 //! that its verdict stands for the outcome of the stage's row in the abstract machine, and can be
 //! carried out without memory.
 #![tactic(auto)]

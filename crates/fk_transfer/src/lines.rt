@@ -7,9 +7,9 @@ ghost use Rattle.fk_model.specs.Talks as talks;
 ghost use Rattle.fk_model.specs.TransferRows as rows;
 ghost use Rattle.fk_model.specs.Valid.{IsValid};
 ghost use Rattle.fk_model.specs.declared.thread.Turn.TheVariants as turns;
-ghost use Rattle.fk_store.specs.Paths.{path, place};
-ghost use Rattle.fk_store.specs.World.{world, IsLive};
-ghost use Rattle.fk_plans.specs.Verdicts.{mapped};
+ghost use Rattle.fk_store.specs.Store.Paths.{path, place};
+ghost use Rattle.fk_store.specs.Store.World.{world, IsLive};
+ghost use Rattle.fk_plans.specs.Plans.Verdicts.{mapped};
 ghost use Rattle.fk_transfer.specs.Lines.{line_by};
 
 use fk_model::status::{NOTLINKED, WRONGTURN};

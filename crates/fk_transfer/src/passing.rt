@@ -4,21 +4,22 @@ ghost use Rattle.fk_model.specs.Places.Ptr.{At};
 ghost use Rattle.fk_model.specs.Talks as talks;
 ghost use Rattle.fk_model.specs.TransferRows as rows;
 ghost use Rattle.fk_model.specs.Valid.{IsValid};
-ghost use Rattle.fk_store.specs.Bodies.{peer_by};
-ghost use Rattle.fk_store.specs.Paths.{path, place};
-ghost use Rattle.fk_store.specs.World.{world, IsLive};
-ghost use Rattle.fk_plans.specs.Plans.{caller_by};
-ghost use Rattle.fk_plans.specs.Verdicts.{outcome_by, IsSureVerdict, IsVerdict, Judges};
+ghost use Rattle.fk_store.specs.Store.Bodies.{peer_by};
+ghost use Rattle.fk_store.specs.Store.Paths.{path, place};
+ghost use Rattle.fk_store.specs.Store.World.{world, IsLive};
+ghost use Rattle.fk_plans.specs.Plans.Plans.{caller_by};
+ghost use Rattle.fk_plans.specs.Plans.Verdicts.{outcome_by, IsSureVerdict, IsVerdict, Judges};
 ghost use Rattle.fk_transfer.specs.Lines.{line_by};
 
 use crate::lines::{Line, in_turn, other_side};
+use fk_changes::readers::Caller;
+use fk_changes::threads::{Answers, receive_of};
 use fk_model::{Peer, Turn, Who};
-use fk_plans::{Caller, Deed, News, Plan, Verdict};
+use fk_plans::{Deed, News, Plan, Verdict};
 use fk_store::Store;
-use fk_threads::{Answers, receive_of};
 
 /// It waits until the other end is free and at its Receive, which is done then and has the turn.
-#[tactic(auto, unfolding(fk_store::specs::Threads::is_free_at))]
+#[tactic(auto, unfolding(fk_store::specs::Store::Threads::is_free_at))]
 fn passes_to_thread(store: &Store, caller: Caller, side: Turn, client: Who, peer: Who) -> Verdict
     ensures outcome { (words : List ℕ) → outcome_by (world store.now) (path store.now) (caller_by (path store.now) caller words) result
         ≡ rows.passes_to_thread (world store.now) (caller_by (path store.now) caller words) side (place (path store.now) client)

@@ -2,12 +2,13 @@
 ghost use Rattle.std.specs.Prelude.{◌≡◌, false, IfOk};
 ghost use Rattle.fk_model.specs.TransferRows as rows;
 ghost use Rattle.fk_model.specs.Valid.{IsValid};
-ghost use Rattle.fk_store.specs.World.{world};
-ghost use Rattle.fk_plans.specs.Verdicts.{IsSureVerdict, Judges};
+ghost use Rattle.fk_store.specs.Store.World.{world};
+ghost use Rattle.fk_plans.specs.Plans.Verdicts.{IsSureVerdict, Judges};
 
 use crate::lines::{in_turn, other_side};
+use fk_changes::readers::Caller;
 use fk_model::Turn;
-use fk_plans::{Caller, Verdict, own_page};
+use fk_plans::{Verdict, own_page};
 use fk_store::Store;
 
 /// It waits for the other side's Send and Over, at that side's turn. By itself it is only refused:

@@ -5,21 +5,22 @@ ghost use Rattle.fk_model.specs.Reach.{words_at};
 ghost use Rattle.fk_model.specs.Talks as talks;
 ghost use Rattle.fk_model.specs.TransferRows as rows;
 ghost use Rattle.fk_model.specs.Valid.{IsValid};
-ghost use Rattle.fk_store.specs.Bodies.{peer_by};
-ghost use Rattle.fk_store.specs.Paths.{path, place};
-ghost use Rattle.fk_store.specs.World.{world, IsLive};
-ghost use Rattle.fk_plans.specs.Movings.{verdict_of};
-ghost use Rattle.fk_plans.specs.Own.{IsPage};
-ghost use Rattle.fk_plans.specs.Plans.{caller_by};
-ghost use Rattle.fk_plans.specs.Verdicts.{outcome_by, IsSureVerdict, IsVerdict, Judges};
+ghost use Rattle.fk_store.specs.Store.Bodies.{peer_by};
+ghost use Rattle.fk_store.specs.Store.Paths.{path, place};
+ghost use Rattle.fk_store.specs.Store.World.{world, IsLive};
+ghost use Rattle.fk_plans.specs.Plans.Movings.{verdict_of};
+ghost use Rattle.fk_plans.specs.Plans.Own.{IsPage};
+ghost use Rattle.fk_plans.specs.Plans.Plans.{caller_by};
+ghost use Rattle.fk_plans.specs.Plans.Verdicts.{outcome_by, IsSureVerdict, IsVerdict, Judges};
 ghost use Rattle.fk_transfer.specs.Lines.{line_by, AreEnds, IsSender};
 
 use crate::lines::{Line, in_turn, other_side};
+use fk_changes::readers::Caller;
+use fk_changes::threads::{Answers, receive_of};
 use fk_model::status::FULL;
 use fk_model::{Peer, Turn, Who};
-use fk_plans::{Block, Caller, Deed, Moving, News, Plan, Verdict, Words, own_page};
+use fk_plans::{Block, Deed, Moving, News, Plan, Verdict, Words, own_page};
 use fk_store::{Reach, Store};
-use fk_threads::{Answers, receive_of};
 
 /// Words that are sent: so many from an address on, in a page of the sender's memory.
 #[derive(Clone, Copy)]
@@ -103,7 +104,7 @@ fn sent(
 
 /// It waits until the other end receives, and until that end's page is there. One that has no room
 /// has its call ended.
-#[tactic(auto, using(fk_plans::proofs::Low::home_low))]
+#[tactic(auto, using(fk_plans::proofs::InPlans::Low::home_low))]
 fn sends_into(
     store: &Store,
     caller: Caller,
@@ -143,7 +144,7 @@ fn sends_into(
 }
 
 /// It waits until the other end is free.
-#[tactic(auto, unfolding(fk_store::specs::Threads::is_free_at))]
+#[tactic(auto, unfolding(fk_store::specs::Store::Threads::is_free_at))]
 fn sends_to_thread(
     store: &Store,
     caller: Caller,
@@ -277,7 +278,7 @@ pub fn send(
 }
 
 /// The words that move where the other end receives on a page that is there, and has room.
-#[tactic(auto, using(fk_plans::proofs::Low::home_low))]
+#[tactic(auto, using(fk_plans::proofs::InPlans::Low::home_low))]
 fn moves_into(
     store: &Store,
     caller: Caller,
@@ -316,7 +317,7 @@ fn moves_into(
 }
 
 /// The same where the other end is free.
-#[tactic(auto, unfolding(fk_store::specs::Threads::is_free_at))]
+#[tactic(auto, unfolding(fk_store::specs::Store::Threads::is_free_at))]
 fn moves_to_thread(
     store: &Store,
     caller: Caller,
@@ -346,7 +347,7 @@ fn moves_to_thread(
 
 /// What a Send comes to where its words go to a thread that receives them. It is most Sends, and needs
 /// no verdict, which is large.
-#[tactic(auto, using(fk_plans::proofs::Low::home_low))]
+#[tactic(auto, using(fk_plans::proofs::InPlans::Low::home_low))]
 pub fn moving(store: &Store, caller: Caller, side: Turn, address: u64, count: u64) -> Option<Moving>
     requires user { caller.is_porter ≡ false }
     requires valid { IsValid (world store.now) }

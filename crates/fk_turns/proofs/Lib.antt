@@ -1,3 +1,5 @@
-pub mod Woken
-pub mod Roused
-pub mod Firsts
+pub mod InWhys
+pub mod InMoved
+pub mod InPicks
+pub mod InNext
+pub mod InSteps

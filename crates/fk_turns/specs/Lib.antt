@@ -1,1 +1,5 @@
-pub mod Turns
+pub mod Whys
+pub mod Moved
+pub mod Picks
+pub mod Next
+pub mod Steps

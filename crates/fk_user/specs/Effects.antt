@@ -7,12 +7,12 @@ use Rattle.fk_model.specs.Outcomes.Outcome.{Goes, Waits}
 use Rattle.fk_model.specs.Outcomes.Said.{Nothing}
 use Rattle.fk_model.specs.Places.Ptr.{At}
 use Rattle.fk_model.specs.Readers.{fault_on}
-use Rattle.fk_store.specs.Contents.{Contents}
-use Rattle.fk_store.specs.Paths.{path, place}
-use Rattle.fk_store.specs.World.{world, IsLive}
-use Rattle.fk_plans.specs.declared.plan.Verdict.{Verdict}
-use Rattle.fk_plans.specs.declared.plan.Verdict.TheVariants as verdicts
-use Rattle.fk_plans.specs.Effects.{effect_by, IsEffect}
+use Rattle.fk_store.specs.Store.Contents.{Contents}
+use Rattle.fk_store.specs.Store.Paths.{path, place}
+use Rattle.fk_store.specs.Store.World.{world, IsLive}
+use Rattle.fk_plans.specs.declared.plans.plan.Verdict.{Verdict}
+use Rattle.fk_plans.specs.declared.plans.plan.Verdict.TheVariants as verdicts
+use Rattle.fk_plans.specs.Plans.Effects.{effect_by, IsEffect}
 use Rattle.fk_user.specs.declared.effect.Instruction.{Instruction}
 use Rattle.fk_user.specs.declared.effect.Instruction.TheVariants as instructions
 

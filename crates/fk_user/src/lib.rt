@@ -7,12 +7,12 @@
 
 ghost use Rattle.std.specs.Prelude.{◌≡◌, ℕ, List, Some, true, false};
 ghost use Rattle.fk_model.specs.Calls.{todo_of};
-ghost use Rattle.fk_store.specs.Bodies.{thread_by};
-ghost use Rattle.fk_store.specs.Paths.{path, place};
-ghost use Rattle.fk_store.specs.World.{world};
-ghost use Rattle.fk_plans.specs.Effects.{is_running};
-ghost use Rattle.fk_plans.specs.Plans.{caller_by};
-ghost use Rattle.fk_plans.specs.Verdicts.{outcome_by, IsVerdict, IsSureVerdict};
+ghost use Rattle.fk_store.specs.Store.Bodies.{thread_by};
+ghost use Rattle.fk_store.specs.Store.Paths.{path, place};
+ghost use Rattle.fk_store.specs.Store.World.{world};
+ghost use Rattle.fk_plans.specs.Plans.Effects.{is_running};
+ghost use Rattle.fk_plans.specs.Plans.Plans.{caller_by};
+ghost use Rattle.fk_plans.specs.Plans.Verdicts.{outcome_by, IsVerdict, IsSureVerdict};
 ghost use Rattle.fk_user.specs.Effects.{IsInstruction, verdict_of};
 ghost use Rattle.fk_user.specs.Running.{run_at};
 ghost use Rattle.fk_model.specs.Searches.{thread_at};
@@ -21,8 +21,9 @@ mod effect;
 
 use effect::effect_of;
 pub use effect::{Instruction, asked};
+use fk_changes::readers::Caller;
 use fk_model::{Mode, Thread};
-use fk_plans::{Caller, Verdict};
+use fk_plans::Verdict;
 use fk_store::Store;
 
 /// What the instruction of a running thread comes to. It is the thread of the caller's name.

@@ -1,6 +1,4 @@
-pub mod There
-pub mod Renamed
-pub mod Settled
-pub mod Listed
-pub mod Last
-pub mod AllWoken
+pub mod InQueues
+pub mod InCauses
+pub mod InWaits
+pub mod InTurns

@@ -1,2 +1,4 @@
-pub mod Lists
-pub mod Threads
+pub mod Queues
+pub mod Causes
+pub mod Waits
+pub mod Turns

@@ -1,1 +1,2 @@
-mod Desks
+pub mod InBooks
+pub mod InWorkers

@@ -1,4 +1,2 @@
-pub use Rattle.fk_books.specs.Shown
-pub use Rattle.fk_books.specs.Plays
-pub use Rattle.fk_books.specs.Served
-pub mod Places
+pub mod Books
+pub mod Workers

@@ -1,17 +1,15 @@
-//! The workers that write a book.
+//! Workers: up to eight share one book of a run under a lock, and write it turn by turn.
 //!
-//! Any number of them up to eight share one under a lock: each takes a turn, makes some moves that are ready, and lets the next one in. Between
-//! two turns it makes the instructions of a thread of which it has taken a lease; by its next turn these are moves, where nobody was in the way.
+//! It stands on `fk_core` and `laws_runs` for what a run is, on `fk_burst` for what is made outside the lock, on `fk_rlock` for the lock, on
+//! `fk_history` for the moves and on `fk_causes` for the gate that workers pass. It promises that whatever turns they take, the book is one
+//! legal history from what it was begun from, and has ended where all of them are done.
 //!
-//! It stands on `fk_books` for the book and by way of it on `fk_burst` for leases, on `fk_rlock` for the lock and on `fk_causes` for the gate that they pass.
-//! It promises that whatever turns they take, the book is one legal history from what it was begun from, which has ended where a worker or
-//! all of them are done.
+//! - `books`: a core with the moves that were made in it, and the book of a trace;
+//! - `workers`: the workers, and their turns at the lock.
 #![tactic(auto)]
 
-mod crew;
-mod plan;
-mod worker;
+pub mod books;
+pub mod workers;
 
-pub use crew::run_all;
-pub use fk_books::{Book, NoMemory, PlayFail, Playable, play_all};
-pub use worker::work;
+pub use books::{Book, PlayFail, Playable, play_all};
+pub use workers::{run_all, work};

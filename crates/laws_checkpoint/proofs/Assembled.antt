@@ -12,9 +12,9 @@ use Rattle.fk_model.specs.Shapes.{IsShapedMode}
 use Rattle.fk_model.specs.Valid.{kind_there}
 use Rattle.fk_model.specs.Cut.{ports_of, cut_ptr, cutting, seen_by, unheld, cut}
 use Rattle.fk_model.proofs.walks.Members.{IsIn}
-use Rattle.fk_image.specs.declared.image.Rec.{Rec}
-use Rattle.fk_image.specs.declared.image.PageRec.{PageRec}
-use Rattle.fk_image.specs.declared.image.SpaceRec.{SpaceRec}
+use Rattle.fk_image.specs.declared.image.image.Rec.{Rec}
+use Rattle.fk_image.specs.declared.image.image.PageRec.{PageRec}
+use Rattle.fk_image.specs.declared.image.image.SpaceRec.{SpaceRec}
 use Rattle.laws_pictures.specs.Imaged.{link_of, rec_of, with_object, objects_from, with_page, pages_from, rec_at, holder_link, parent_number, space_rec}
 use Rattle.laws_pictures.specs.Imaged.{image_of}
 use Rattle.laws_checkpoint.specs.Foreign.{Task}

@@ -22,8 +22,8 @@ use Rattle.fk_model.specs.Cut.{unheld}
 use Rattle.fk_model.specs.Runs.{after}
 use Rattle.fk_model.specs.Valid.{IsValid}
 use Rattle.fk_model.proofs.walks.PlaceLaws.{same_path_refl, same_path_ne}
-use Rattle.laws_frozen.specs.Holding.{IsHolding}
-use Rattle.laws_savable.specs.Savable.{IsSound}
+use Rattle.laws_moves.specs.Frozen.Holding.{IsHolding}
+use Rattle.laws_moves.specs.Savable.Savable.{IsSound}
 use Rattle.laws_jobs.specs.Machines.{heard, porter, no_words, call_of, said_of, IsReadyAt}
 use Rattle.laws_jobs.specs.Machines.Head.{Stops, Asks}
 use Rattle.laws_jobs.specs.Jobs.{MayBegin}

@@ -27,8 +27,8 @@ use Rattle.fk_model.specs.Closed.{far_field}
 use Rattle.fk_model.specs.Cut.{cut, cutting, ports_of, seen_by, unheld}
 use Rattle.fk_model.proofs.walks.PlaceLaws.{same_path_eq}
 use Rattle.fk_model.proofs.walks.Members.{IsIn}
-use Rattle.laws_frozen.specs.Holding.{IsUsersMove, IsNear}
-use Rattle.laws_frozen.proofs.Holding.{others_keep_hold}
+use Rattle.laws_moves.specs.Frozen.Holding.{IsUsersMove, IsNear}
+use Rattle.laws_moves.proofs.InFrozen.Holding.{others_keep_hold}
 use Rattle.laws_jobs.specs.Machines.{Head, Reply, reply_of, heard, said_of, porter, no_words, call_of, IsAnswered, Interleaved}
 use Rattle.laws_jobs.specs.Machines.Head.{Stops, Asks}
 use Rattle.laws_jobs.specs.Machines.Interleaved.{Here, Another, Own}

@@ -30,9 +30,9 @@ use Rattle.fk_model.specs.Closed.{far_field}
 use Rattle.fk_model.specs.Cut.{cut, cut_ptr, ports_of}
 use Rattle.fk_model.proofs.walks.PlaceLaws.{strip-append, strip_some, same_path_refl, same_path_eq}
 use Rattle.fk_model.proofs.walks.Members.{IsIn}
-use Rattle.laws_frozen.specs.Frozen.{IsSameInside}
-use Rattle.laws_frozen.specs.Holding.{IsUsersMove, IsNear}
-use Rattle.laws_frozen.proofs.Holding.{others_keep_hold}
+use Rattle.laws_moves.specs.Frozen.Frozen.{IsSameInside}
+use Rattle.laws_moves.specs.Frozen.Holding.{IsUsersMove, IsNear}
+use Rattle.laws_moves.proofs.InFrozen.Holding.{others_keep_hold}
 use Rattle.laws_jobs.specs.Machines.Head.{Stops, Asks}
 use Rattle.laws_jobs.specs.Machines.Interleaved.{Here, Another, Own}
 use Rattle.laws_checkpoint.specs.Gather.State.{Down, Fields, Looks, Leads, Beside, Over}
@@ -40,7 +40,7 @@ use Rattle.laws_jobs.proofs.Own.{other_body, own_body, pointed_inside}
 use Rattle.laws_jobs.specs.Machines.{Head, Reply, reply_of, heard, said_of, porter, no_words, call_of, IsAnswered, Interleaved}
 use Rattle.laws_jobs.proofs.Rows.{own-place, object-there, point-row, get_ptr-row, located_as, space_pointer, ref_named}
 use Rattle.laws_jobs.proofs.Weaving.{first_sound}
-use Rattle.laws_frozen.proofs.FrozenCut.{ptr_alike}
+use Rattle.laws_moves.proofs.InFrozen.FrozenCut.{ptr_alike}
 use Rattle.laws_checkpoint.specs.Foreign.{PLACES, TARGETS, STEPS, Task, way_from, reading, told_pointer, located_at}
 use Rattle.laws_checkpoint.specs.Gather.{place_at, pointer_fields, pointer_task, field_as, body_as, shown_at, State, begin_at, begin, go_on, arrive, head}
 use Rattle.laws_checkpoint.specs.Gather.{takes, read, looked, next, gatherer, pointers_of, all_pointers}

@@ -19,11 +19,11 @@ use Rattle.fk_model.specs.Cut.{is_far, is_out, ports_of, cutting, seen_by, unhel
 use Rattle.fk_model.specs.Closed.{when_bad, far_field, is_led_to, open_field, led_to_from_outside, first_place, open_place, IsClosed}
 use Rattle.fk_model.proofs.walks.Members.{IsIn}
 use Rattle.fk_model.proofs.walks.WalkLaws.{live_above, short, walked}
-use Rattle.fk_image.specs.Picture.{picture}
-use Rattle.fk_image.specs.Valid.{is_valid}
-use Rattle.laws_savable.specs.Savable.{IsSound}
-use Rattle.laws_further.specs.ClosedLaws.{IsUncut, IsUsersAlone}
-use Rattle.laws_further.proofs.ClosedLaws.{closed_is_plain}
+use Rattle.fk_image.specs.Image.Picture.{picture}
+use Rattle.fk_image.specs.Image.Valid.{is_valid}
+use Rattle.laws_moves.specs.Savable.Savable.{IsSound}
+use Rattle.laws_subtrees.specs.Further.ClosedLaws.{IsUncut, IsUsersAlone}
+use Rattle.laws_subtrees.proofs.InFurther.ClosedLaws.{closed_is_plain}
 use Rattle.laws_pictures.specs.Imaged.{image_of}
 use Rattle.laws_pictures.specs.Saved.{IsSavedSubtree}
 use Rattle.laws_pictures.proofs.Once.{subtree_has_image}

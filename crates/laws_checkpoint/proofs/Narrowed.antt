@@ -6,24 +6,24 @@ use Rattle.std.proofs.lemmas.Bool.{and_parts, lt-ltb, leb-true}
 use Rattle.std.proofs.lemmas.List.{append-nil}
 use Rattle.std.specs.List.{list_all}
 use Rattle.fk_model.specs.Records.{padded}
-use Rattle.fk_image.specs.declared.image.Link.{Link}
-use Rattle.fk_image.specs.declared.image.Link.TheVariants.{Null, Dead, In, Out, Root, Outside}
-use Rattle.fk_image.specs.declared.image.TalkRec.{TalkRec}
-use Rattle.fk_image.specs.declared.image.FaultRec.{FaultRec}
-use Rattle.fk_image.specs.declared.image.ThreadRec.{ThreadRec}
-use Rattle.fk_image.specs.declared.image.Rec.{Rec}
-use Rattle.fk_image.specs.declared.image.Rec.TheVariants.{Mutex, Cond, Portset, Mapping, Region, Port, Thread, Reference}
-use Rattle.fk_image.specs.declared.image.ObjectRec.{ObjectRec}
-use Rattle.fk_image.specs.declared.image.PageRec.{PageRec}
-use Rattle.fk_image.specs.declared.image.SpaceRec.{SpaceRec}
-use Rattle.fk_image.specs.declared.image.Image.{Image}
-use Rattle.fk_image.specs.declared.open.Open.{Open}
-use Rattle.fk_image.specs.Ranges.{is_slot, is_bit, is_byte, is_half, is_word, is_turn, is_mode_byte, is_call_code, is_code, is_extent, are_words}
-use Rattle.fk_image.specs.Ranges.{fits_link, fits_talk, fits_taker, fits_fault, fits_thread, fits_body}
-use Rattle.fk_image.specs.Preorder.{root_path, after_space, room_under, has_room}
-use Rattle.fk_image.specs.Links.{kind_in_space, all_lead}
-use Rattle.fk_image.specs.Valid.{all_from, fits_object, after_object, fits_page, after_page, fits_objects, fits_pages, fits_space, stands_in_order}
-use Rattle.fk_image.specs.Valid.{is_null, fits_spaces, is_valid}
+use Rattle.fk_image.specs.declared.image.image.Link.{Link}
+use Rattle.fk_image.specs.declared.image.image.Link.TheVariants.{Null, Dead, In, Out, Root, Outside}
+use Rattle.fk_image.specs.declared.image.image.TalkRec.{TalkRec}
+use Rattle.fk_image.specs.declared.image.image.FaultRec.{FaultRec}
+use Rattle.fk_image.specs.declared.image.image.ThreadRec.{ThreadRec}
+use Rattle.fk_image.specs.declared.image.image.Rec.{Rec}
+use Rattle.fk_image.specs.declared.image.image.Rec.TheVariants.{Mutex, Cond, Portset, Mapping, Region, Port, Thread, Reference}
+use Rattle.fk_image.specs.declared.image.image.ObjectRec.{ObjectRec}
+use Rattle.fk_image.specs.declared.image.image.PageRec.{PageRec}
+use Rattle.fk_image.specs.declared.image.image.SpaceRec.{SpaceRec}
+use Rattle.fk_image.specs.declared.image.image.Image.{Image}
+use Rattle.fk_image.specs.declared.image.open.Open.{Open}
+use Rattle.fk_image.specs.Image.Ranges.{is_slot, is_bit, is_byte, is_half, is_word, is_turn, is_mode_byte, is_call_code, is_code, is_extent, are_words}
+use Rattle.fk_image.specs.Image.Ranges.{fits_link, fits_talk, fits_taker, fits_fault, fits_thread, fits_body}
+use Rattle.fk_image.specs.Image.Preorder.{root_path, after_space, room_under, has_room}
+use Rattle.fk_image.specs.Image.Links.{kind_in_space, all_lead}
+use Rattle.fk_image.specs.Image.Valid.{all_from, fits_object, after_object, fits_page, after_page, fits_objects, fits_pages, fits_space, stands_in_order}
+use Rattle.fk_image.specs.Image.Valid.{is_null, fits_spaces, is_valid}
 use Rattle.laws_checkpoint.specs.Narrow.{within, number, narrow_link, narrow_talk, narrow_fault, narrow_thread, narrow_rec, rising}
 use Rattle.laws_checkpoint.specs.Narrow.{narrow_page, narrow_space, narrowed}
 

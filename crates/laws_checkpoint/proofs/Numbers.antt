@@ -11,7 +11,7 @@ use Rattle.fk_model.specs.Searches.{talk_at, fault_at}
 use Rattle.fk_model.specs.Shapes.{IsCodeInRange}
 use Rattle.fk_model.specs.Whole.{IsWhole, IsSavable}
 use Rattle.fk_model.specs.Cut.{ports_of, cutting, seen_by, unheld, cut}
-use Rattle.fk_image.specs.Ranges.{is_word, are_words}
+use Rattle.fk_image.specs.Image.Ranges.{is_word, are_words}
 use Rattle.laws_pictures.specs.Imaged.{HasNumbers}
 
 module _ (w : World) (nester : Path) (slot : ℕ) (whole : IsWhole w) (savable : IsSavable w) where

@@ -29,10 +29,10 @@ use Rattle.fk_model.specs.Closed.{is_led_to, far_field}
 use Rattle.fk_model.specs.Cut.{cut}
 use Rattle.fk_model.proofs.walks.PlaceLaws.{same_path_refl, same_path_eq, same_path_ne, strip_some}
 use Rattle.fk_model.proofs.walks.Members.{IsIn}
-use Rattle.laws_frozen.specs.Frozen.{IsSameInside}
-use Rattle.laws_frozen.specs.Holding.{IsHolding, IsUsersMove, IsNear, only_reference}
-use Rattle.laws_frozen.proofs.Holding.{others_keep_hold}
-use Rattle.laws_frozen.proofs.FrozenCut.{same-cut}
+use Rattle.laws_moves.specs.Frozen.Frozen.{IsSameInside}
+use Rattle.laws_moves.specs.Frozen.Holding.{IsHolding, IsUsersMove, IsNear, only_reference}
+use Rattle.laws_moves.proofs.InFrozen.Holding.{others_keep_hold}
+use Rattle.laws_moves.proofs.InFrozen.FrozenCut.{same-cut}
 use Rattle.laws_jobs.specs.Machines.{porter, no_words}
 use Rattle.laws_jobs.specs.Jobs.{IsClean}
 use Rattle.laws_jobs.proofs.Filling.{users_fill_low, scratch_high}

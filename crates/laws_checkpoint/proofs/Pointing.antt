@@ -13,10 +13,10 @@ use Rattle.fk_model.specs.StateRows.Field.{Pointer}
 use Rattle.fk_model.specs.Valid.{IsValid, kind_there}
 use Rattle.fk_model.proofs.walks.PlaceLaws.{same_path_refl}
 use Rattle.fk_model.proofs.walks.Members.{IsIn}
-use Rattle.laws_frozen.specs.Holding.{IsHolding}
+use Rattle.laws_moves.specs.Frozen.Holding.{IsHolding}
 use Rattle.std.proofs.lemmas.Bool.Decides.{nat_tests}
 use Rattle.fk_model.proofs.walks.WalkLaws.{live-kind}
-use Rattle.laws_frozen.proofs.Frozen.{there_live}
+use Rattle.laws_moves.proofs.InFrozen.Frozen.{there_live}
 use Rattle.laws_checkpoint.specs.Foreign.{TARGETS}
 use Rattle.laws_checkpoint.specs.Gather.{pointer_fields}
 use Rattle.fk_model.specs.Objects.{Window, Extent, Talk, Fault, Thread, Peer}

@@ -15,10 +15,10 @@ use Rattle.fk_model.specs.Records.{mode_number, halt_code, talk_words, fault_wor
 use Rattle.fk_model.specs.Shapes.{IsShapedMode}
 use Rattle.fk_model.specs.Cut.{is_out, ports_of, cut_ptr, cut_peer, cutting, seen_by}
 use Rattle.fk_model.proofs.calls.CallLaws.{sixteen, words_keep_length_lem}
-use Rattle.fk_image.specs.declared.image.Link.{Link as links}
-use Rattle.fk_image.specs.declared.image.TalkRec.{TalkRec}
-use Rattle.fk_image.specs.declared.image.FaultRec.{FaultRec}
-use Rattle.fk_image.specs.declared.image.Rec.{Rec, Rec as recs}
+use Rattle.fk_image.specs.declared.image.image.Link.{Link as links}
+use Rattle.fk_image.specs.declared.image.image.TalkRec.{TalkRec}
+use Rattle.fk_image.specs.declared.image.image.FaultRec.{FaultRec}
+use Rattle.fk_image.specs.declared.image.image.Rec.{Rec, Rec as recs}
 use Rattle.laws_pictures.specs.Imaged.{link_of, peer_link, talk_rec, fault_rec, thread_rec, rec_of}
 use Rattle.laws_checkpoint.specs.Gather.{pointer_fields, body_as, field_as}
 use Rattle.laws_checkpoint.specs.Assembly.{pointer_at, peer_from, thread_from, rec_by, rec_from}

@@ -4,7 +4,7 @@ use Rattle.std.specs.List.{list_any}
 use Rattle.fk_model.specs.Places.{Path, leads_to}
 use Rattle.fk_model.specs.World.{World}
 use Rattle.fk_model.specs.Freezing.{body_pointers}
-use Rattle.laws_frozen.specs.Frozen.{IsSameInside}
+use Rattle.laws_moves.specs.Frozen.Frozen.{IsSameInside}
 
 pub inside-itself : (root : Path) (w : World) → IsSameInside root w w
 inside-itself root w = record { bodies = λ q. refl; pages = λ q page. refl; kinds = λ x q led. refl }

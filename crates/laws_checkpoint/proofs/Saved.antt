@@ -6,10 +6,10 @@ use Rattle.fk_model.specs.World.{World}
 use Rattle.fk_model.specs.Searches.{objects}
 use Rattle.fk_model.specs.Cut.{cut}
 use Rattle.fk_model.specs.Closed.{IsClosed}
-use Rattle.fk_image.specs.declared.image.Image.{Image}
-use Rattle.fk_image.specs.Picture.{picture}
-use Rattle.fk_image.specs.Valid.{is_valid}
-use Rattle.laws_savable.specs.Savable.{IsSound}
+use Rattle.fk_image.specs.declared.image.image.Image.{Image}
+use Rattle.fk_image.specs.Image.Picture.{picture}
+use Rattle.fk_image.specs.Image.Valid.{is_valid}
+use Rattle.laws_moves.specs.Savable.Savable.{IsSound}
 use Rattle.laws_pictures.specs.Imaged.{image_of}
 use Rattle.laws_jobs.specs.Machines.{AtWork}
 use Rattle.laws_jobs.specs.Machines.Head.{Stops}

@@ -33,11 +33,11 @@ use Rattle.fk_model.specs.Closed.{Place, led_to_from_outside, when_bad, far_fiel
 use Rattle.fk_model.specs.Cut.{cut, cut_ptr, cutting, ports_of, seen_by}
 use Rattle.fk_model.proofs.walks.PlaceLaws.{same_path_refl, same_path_eq}
 use Rattle.fk_model.proofs.walks.WalkLaws.{live-kind}
-use Rattle.laws_machine.proofs.validity.Steps.{step_keeps_valid_lem}
-use Rattle.laws_frozen.specs.Frozen.{IsSameInside}
-use Rattle.laws_frozen.specs.Holding.{IsHolding, IsUsersMove, IsNear}
-use Rattle.laws_frozen.proofs.Holding.{others_keep_hold}
-use Rattle.laws_frozen.proofs.FrozenLaws.{frozen_cut_stays}
+use Rattle.laws_moves.proofs.InMachine.validity.Steps.{step_keeps_valid_lem}
+use Rattle.laws_moves.specs.Frozen.Frozen.{IsSameInside}
+use Rattle.laws_moves.specs.Frozen.Holding.{IsHolding, IsUsersMove, IsNear}
+use Rattle.laws_moves.proofs.InFrozen.Holding.{others_keep_hold}
+use Rattle.laws_moves.proofs.InFrozen.FrozenLaws.{frozen_cut_stays}
 use Rattle.laws_jobs.specs.Machines.{Head, Reply, reply_of, heard, said_of, porter, no_words, call_of, IsAnswered, Interleaved}
 use Rattle.laws_jobs.specs.Machines.Head.{Stops, Asks}
 use Rattle.laws_jobs.specs.Machines.Interleaved.{Here, Another, Own}

@@ -14,8 +14,8 @@ use Rattle.fk_model.specs.Valid.{IsValid, kind_there}
 use Rattle.fk_model.specs.Closed.{Place, far_field, first_place, open_field, open_place}
 use Rattle.fk_model.specs.Cut.{cut, cutting, ports_of, seen_by, unheld}
 use Rattle.fk_model.proofs.walks.Members.{IsIn, of_filter, of_flat_map}
-use Rattle.laws_frozen.specs.Holding.{IsHolding}
-use Rattle.laws_savable.specs.Savable.{IsSound}
+use Rattle.laws_moves.specs.Frozen.Holding.{IsHolding}
+use Rattle.laws_moves.specs.Savable.Savable.{IsSound}
 use Rattle.laws_jobs.specs.Machines.{no_words, call_of, IsReadyAt, Interleaved}
 use Rattle.laws_checkpoint.specs.Foreign.{Task, task_of, State, begin}
 use Rattle.laws_checkpoint.specs.Foreign.{seeker, IsScratched, ForeignIsExact, SeekerIsReady, SeekingKeepsOpenPlace}

@@ -20,7 +20,7 @@ use Rattle.fk_model.specs.ObjectRows.{way_down, way_to, kind_number}
 use Rattle.fk_model.specs.Valid.{IsValid, kind_there}
 use Rattle.fk_model.specs.Closed.{far_field, when_bad}
 use Rattle.fk_model.specs.Cut.{is_port, ports_of, cut_out, cut_ptr, cutting, seen_by, is_far, is_out}
-use Rattle.laws_frozen.specs.Holding.{IsHolding}
+use Rattle.laws_moves.specs.Frozen.Holding.{IsHolding}
 use Rattle.fk_model.proofs.walks.PlaceLaws.{same_path_refl, same_path_ne, strip_some, strip-append}
 use Rattle.laws_checkpoint.specs.Foreign.{fields_of, is_strict, tells_port, told_pointer, located_at, PointerIsTold}
 

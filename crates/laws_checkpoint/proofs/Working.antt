@@ -24,11 +24,11 @@ use Rattle.fk_model.specs.Closed.{Place, open_place, far_field}
 use Rattle.fk_model.specs.Cut.{cut}
 use Rattle.fk_model.proofs.walks.PlaceLaws.{same_path_ne}
 use Rattle.fk_model.proofs.walks.Members.{IsIn}
-use Rattle.laws_frozen.specs.Holding.{IsHolding, IsUsersMove}
-use Rattle.laws_frozen.proofs.Holding.{others_keep_hold}
-use Rattle.laws_frozen.proofs.FrozenCut.{same-cut}
-use Rattle.laws_savable.specs.Savable.{IsSound}
-use Rattle.laws_machine.proofs.validity.Steps.{step_keeps_valid_lem}
+use Rattle.laws_moves.specs.Frozen.Holding.{IsHolding, IsUsersMove}
+use Rattle.laws_moves.proofs.InFrozen.Holding.{others_keep_hold}
+use Rattle.laws_moves.proofs.InFrozen.FrozenCut.{same-cut}
+use Rattle.laws_moves.specs.Savable.Savable.{IsSound}
+use Rattle.laws_moves.proofs.InMachine.validity.Steps.{step_keeps_valid_lem}
 use Rattle.laws_jobs.specs.Machines.{Head, Reply, reply_of, heard, said_of, porter, no_words, call_of, IsAtCall, IsAnswered, Interleaved}
 use Rattle.laws_jobs.specs.Machines.Head.{Stops, Asks}
 use Rattle.laws_jobs.specs.Machines.Interleaved.{Here, Another, Own}

@@ -7,15 +7,15 @@ use Rattle.fk_model.specs.Places.Ptr.{Null}
 use Rattle.fk_model.specs.Cut.{is_out}
 use Rattle.fk_model.specs.Objects.{number_of_kind}
 use Rattle.fk_model.specs.Records.{word, record_registers}
-use Rattle.fk_image.specs.declared.image.Link.{Link, Link as links}
-use Rattle.fk_image.specs.declared.image.TalkRec.{TalkRec}
-use Rattle.fk_image.specs.declared.image.FaultRec.{FaultRec}
-use Rattle.fk_image.specs.declared.image.ThreadRec.{ThreadRec}
-use Rattle.fk_image.specs.declared.image.Rec.{Rec, Rec as recs}
-use Rattle.fk_image.specs.declared.image.ObjectRec.{ObjectRec}
-use Rattle.fk_image.specs.declared.image.PageRec.{PageRec}
-use Rattle.fk_image.specs.declared.image.SpaceRec.{SpaceRec}
-use Rattle.fk_image.specs.declared.image.Image.{Image}
+use Rattle.fk_image.specs.declared.image.image.Link.{Link, Link as links}
+use Rattle.fk_image.specs.declared.image.image.TalkRec.{TalkRec}
+use Rattle.fk_image.specs.declared.image.image.FaultRec.{FaultRec}
+use Rattle.fk_image.specs.declared.image.image.ThreadRec.{ThreadRec}
+use Rattle.fk_image.specs.declared.image.image.Rec.{Rec, Rec as recs}
+use Rattle.fk_image.specs.declared.image.image.ObjectRec.{ObjectRec}
+use Rattle.fk_image.specs.declared.image.image.PageRec.{PageRec}
+use Rattle.fk_image.specs.declared.image.image.SpaceRec.{SpaceRec}
+use Rattle.fk_image.specs.declared.image.image.Image.{Image}
 use Rattle.laws_pictures.specs.Imaged.{link_of, parent_number}
 use Rattle.laws_checkpoint.specs.Foreign.{Task}
 pub use Rattle.laws_checkpoint.specs.Foreign.{is_space_number, fields_by, is_strict_number}

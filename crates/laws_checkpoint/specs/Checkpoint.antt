@@ -8,7 +8,7 @@ use Rattle.fk_model.specs.declared.statuses.status.TheConstants.{OK}
 use Rattle.fk_model.specs.Places.{Ptr}
 use Rattle.fk_model.specs.Objects.{number_of_kind}
 use Rattle.fk_model.specs.Closed.{Place}
-use Rattle.fk_image.specs.declared.image.Image.{Image}
+use Rattle.fk_image.specs.declared.image.image.Image.{Image}
 use Rattle.laws_jobs.specs.Machines.{no_words, Head, Machine}
 use Rattle.laws_jobs.specs.Machines.Head.{Stops, Asks}
 use Rattle.laws_checkpoint.specs.Foreign.{PLACES, TARGETS, STEPS}

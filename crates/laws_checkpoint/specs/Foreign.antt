@@ -18,8 +18,8 @@ use Rattle.fk_model.specs.Runs.{Event}
 use Rattle.fk_model.specs.Valid.{IsValid}
 use Rattle.fk_model.specs.Closed.{Place, led_to_from_outside, open_place}
 use Rattle.fk_model.specs.Cut.{cut, cut_ptr, ports_of}
-use Rattle.laws_frozen.specs.Holding.{IsHolding}
-use Rattle.laws_savable.specs.Savable.{IsSound}
+use Rattle.laws_moves.specs.Frozen.Holding.{IsHolding}
+use Rattle.laws_moves.specs.Savable.Savable.{IsSound}
 use Rattle.laws_jobs.specs.Calls.{IsCalm}
 use Rattle.laws_jobs.specs.Machines.{no_words, Head, Machine, Interleaved, own_moves, call_of, IsReadyAt}
 use Rattle.laws_jobs.specs.Machines.Head.{Stops, Asks}

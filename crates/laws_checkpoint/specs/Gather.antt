@@ -15,8 +15,8 @@ use Rattle.fk_model.specs.StateRows.Field.{Pointer, NoThread}
 use Rattle.fk_model.specs.Runs.{Event}
 use Rattle.fk_model.specs.Cut.{cut, cut_ptr, ports_of}
 use Rattle.fk_model.proofs.walks.Members.{IsIn}
-use Rattle.laws_frozen.specs.Holding.{IsHolding}
-use Rattle.laws_savable.specs.Savable.{IsSound}
+use Rattle.laws_moves.specs.Frozen.Holding.{IsHolding}
+use Rattle.laws_moves.specs.Savable.Savable.{IsSound}
 use Rattle.laws_jobs.specs.Machines.{no_words, Head, Machine, Interleaved}
 use Rattle.laws_jobs.specs.Machines.Head.{Stops, Asks}
 use Rattle.laws_checkpoint.specs.Foreign.{PLACES, TARGETS, STEPS, Task, reading, way_from, told_pointer, IsScratched}

@@ -9,16 +9,16 @@ use Rattle.fk_model.specs.Runs.{after}
 use Rattle.fk_model.specs.World.{World}
 use Rattle.fk_model.specs.Closed.{IsClosed, open_place}
 use Rattle.fk_model.specs.Cut.{cut, unheld}
-use Rattle.fk_image.specs.declared.image.Image.{Image}
-use Rattle.fk_image.specs.Picture.{picture}
-use Rattle.fk_image.specs.Valid.{is_valid}
-use Rattle.laws_further.specs.ClosedLaws.{IsUncut, IsUsersAlone}
+use Rattle.fk_image.specs.declared.image.image.Image.{Image}
+use Rattle.fk_image.specs.Image.Picture.{picture}
+use Rattle.fk_image.specs.Image.Valid.{is_valid}
+use Rattle.laws_subtrees.specs.Further.ClosedLaws.{IsUncut, IsUsersAlone}
 use Rattle.laws_jobs.specs.Machines.{call_of, IsReadyAt, AtWork}
 use Rattle.laws_jobs.specs.Machines.Head.{Stops, Asks}
 use Rattle.laws_jobs.specs.Jobs.{MayBegin, IsTidyJob, Saves}
 use Rattle.laws_jobs.specs.Holds.{hold, IsSpaceAt}
 use Rattle.laws_jobs.specs.Calls.{IsCalm}
-use Rattle.laws_savable.specs.Savable.{IsSound}
+use Rattle.laws_moves.specs.Savable.Savable.{IsSound}
 use Rattle.laws_checkpoint.specs.Checkpoint.{End, State, checkpoint}
 use Rattle.laws_checkpoint.specs.Checkpoint.End.{Gone, Foreign, Done}
 use Rattle.laws_checkpoint.specs.Checkpoint.State.{Holds}

@@ -2,17 +2,17 @@
 -- as their fields. Each valid image is kept as it is.
 use Rattle.std.specs.Prelude.{ℕ, ◌+◌, ◌^◌, nat_lt, List, [], ◌∷◌, map, option_map, if◌then◌else◌}
 use Rattle.fk_model.specs.Records.{padded}
-use Rattle.fk_image.specs.declared.image.Link.{Link}
-use Rattle.fk_image.specs.declared.image.Link.TheVariants.{Null, Dead, In, Out, Root, Outside}
-use Rattle.fk_image.specs.declared.image.TalkRec.{TalkRec}
-use Rattle.fk_image.specs.declared.image.FaultRec.{FaultRec}
-use Rattle.fk_image.specs.declared.image.ThreadRec.{ThreadRec}
-use Rattle.fk_image.specs.declared.image.Rec.{Rec}
-use Rattle.fk_image.specs.declared.image.Rec.TheVariants.{Mutex, Cond, Portset, Mapping, Region, Port, Thread, Reference}
-use Rattle.fk_image.specs.declared.image.ObjectRec.{ObjectRec}
-use Rattle.fk_image.specs.declared.image.PageRec.{PageRec}
-use Rattle.fk_image.specs.declared.image.SpaceRec.{SpaceRec}
-use Rattle.fk_image.specs.declared.image.Image.{Image}
+use Rattle.fk_image.specs.declared.image.image.Link.{Link}
+use Rattle.fk_image.specs.declared.image.image.Link.TheVariants.{Null, Dead, In, Out, Root, Outside}
+use Rattle.fk_image.specs.declared.image.image.TalkRec.{TalkRec}
+use Rattle.fk_image.specs.declared.image.image.FaultRec.{FaultRec}
+use Rattle.fk_image.specs.declared.image.image.ThreadRec.{ThreadRec}
+use Rattle.fk_image.specs.declared.image.image.Rec.{Rec}
+use Rattle.fk_image.specs.declared.image.image.Rec.TheVariants.{Mutex, Cond, Portset, Mapping, Region, Port, Thread, Reference}
+use Rattle.fk_image.specs.declared.image.image.ObjectRec.{ObjectRec}
+use Rattle.fk_image.specs.declared.image.image.PageRec.{PageRec}
+use Rattle.fk_image.specs.declared.image.image.SpaceRec.{SpaceRec}
+use Rattle.fk_image.specs.declared.image.image.Image.{Image}
 
 abbrev pub within : ℕ → ℕ → ℕ
 within bound n = if nat_lt n bound then n else 0

@@ -10,8 +10,8 @@ use Rattle.fk_model.specs.World.{World}
 use Rattle.fk_model.specs.Searches.{objects}
 use Rattle.fk_model.specs.Runs.{Event}
 use Rattle.fk_model.specs.Cut.{cut}
-use Rattle.laws_frozen.specs.Holding.{IsHolding}
-use Rattle.laws_savable.specs.Savable.{IsSound}
+use Rattle.laws_moves.specs.Frozen.Holding.{IsHolding}
+use Rattle.laws_moves.specs.Savable.Savable.{IsSound}
 use Rattle.laws_jobs.specs.Machines.{no_words, Head, Machine, Interleaved}
 use Rattle.laws_jobs.specs.Machines.Head.{Stops, Asks}
 use Rattle.laws_checkpoint.specs.Foreign.{PLACES, number_there, way_from, IsScratched}

@@ -20,25 +20,25 @@ use Rattle.fk_model.specs.World.Change.{Alter, Make, MakeSpace, PutPage}
 use Rattle.fk_model.specs.StateRows.{is_native}
 use Rattle.fk_model.specs.Valid.{birth_of, birth_at}
 use Rattle.fk_model.proofs.walks.PlaceLaws.{same_path_eq}
-use Rattle.fk_scenario_fields.specs.Gives.{or_rule, unless, placed}
-use Rattle.fk_scenario_fields.specs.Paths.{enclosing}
-use Rattle.fk_scenario_fields.proofs.Steps.{after, unless-Ok, or_rule-Ok, placed-Ok}
-use Rattle.fk_scenario_entries.specs.declared.types.Program.{Program}
-use Rattle.fk_scenario_entries.specs.declared.types.SpaceEntry.{SpaceEntry}
-use Rattle.fk_scenario_entries.specs.declared.types.ServerEntry.{ServerEntry}
-use Rattle.fk_scenario_entries.specs.declared.jobs.JobEntry.{JobEntry}
-use Rattle.fk_scenario_entries.specs.declared.jobs.JobKind.{JobKind}
-use Rattle.fk_scenario_entries.specs.declared.jobs.JobKind.TheVariants as kinds
-use Rattle.fk_scenario_sections.specs.Kept.{EachAfter, KeepsSpace}
-use Rattle.fk_scenario_sections.specs.Spaces.{has_space, has_space_or_root, may_stand, count_beneath}
-use Rattle.fk_scenario.specs.declared.scenario.Scenario.{Scenario}
-use Rattle.fk_scenario.specs.Jobs.{first_number, nester_from, is_beneath, has_nester, has_server, is_made, subtree_of, may_be_done, job_spec, job_after}
-use Rattle.fk_scenario.specs.Jobs.{jobs_from}
-use Rattle.fk_scenario.specs.Kept.{KeepsScenario}
-use Rattle.fk_store.specs.World.{first_world}
-use Rattle.laws_machine.proofs.validity.Edits.{outline-edited}
-use Rattle.laws_machine.proofs.safety.Safe.{IsSafe, AreSafe}
-use Rattle.laws_machine.proofs.safety.Staying.{same_birth, each}
+use Rattle.fk_scenario.specs.Fields.Gives.{or_rule, unless, placed}
+use Rattle.fk_scenario.specs.Fields.Paths.{enclosing}
+use Rattle.fk_scenario.proofs.InFields.Steps.{after, unless-Ok, or_rule-Ok, placed-Ok}
+use Rattle.fk_scenario.specs.declared.entries.types.Program.{Program}
+use Rattle.fk_scenario.specs.declared.entries.types.SpaceEntry.{SpaceEntry}
+use Rattle.fk_scenario.specs.declared.entries.types.ServerEntry.{ServerEntry}
+use Rattle.fk_scenario.specs.declared.entries.jobs.JobEntry.{JobEntry}
+use Rattle.fk_scenario.specs.declared.entries.jobs.JobKind.{JobKind}
+use Rattle.fk_scenario.specs.declared.entries.jobs.JobKind.TheVariants as kinds
+use Rattle.fk_scenario.specs.Sections.Kept.{EachAfter, KeepsSpace}
+use Rattle.fk_scenario.specs.Sections.Spaces.{has_space, has_space_or_root, may_stand, count_beneath}
+use Rattle.fk_scenario.specs.declared.scenario.scenario.Scenario.{Scenario}
+use Rattle.fk_scenario.specs.Scenario.Jobs.{first_number, nester_from, is_beneath, has_nester, has_server, is_made, subtree_of, may_be_done, job_spec, job_after}
+use Rattle.fk_scenario.specs.Scenario.Jobs.{jobs_from}
+use Rattle.fk_scenario.specs.Scenario.Kept.{KeepsScenario}
+use Rattle.fk_store.specs.Store.World.{first_world}
+use Rattle.laws_moves.proofs.InMachine.validity.Edits.{outline-edited}
+use Rattle.laws_moves.proofs.InMachine.safety.Safe.{IsSafe, AreSafe}
+use Rattle.laws_moves.proofs.InMachine.safety.Staying.{same_birth, each}
 use Rattle.fk_boot.specs.FirstWorld.{zero_pages, program_pages, words_of_program, space_itself, space_changes, served_ports, object_changes, aim_changes}
 use Rattle.fk_boot.specs.FirstWorld.{porter_changes, booted}
 use Rattle.fk_boot.specs.MadeSoFar.{HasSpaces}

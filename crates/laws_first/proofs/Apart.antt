@@ -7,7 +7,7 @@ use Rattle.fk_model.specs.declared.job.JobSpec.TheVariants as specs_of
 use Rattle.fk_model.specs.Places.{Path}
 use Rattle.fk_model.specs.World.{World}
 use Rattle.fk_model.specs.Valid.{birth_at}
-use Rattle.fk_image.specs.declared.image.Image.{Image}
+use Rattle.fk_image.specs.declared.image.image.Image.{Image}
 use Rattle.fk_boot.specs.FirstWorld.{booted}
 use Rattle.laws_house.specs.Houses.{Job, job_of, given_first, jobs_from}
 use Rattle.laws_house.specs.Houses.Task.{Checkpoint}

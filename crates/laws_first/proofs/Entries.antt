@@ -4,12 +4,12 @@ use Rattle.std.proofs.Common.{option_map, refl, ap, subst, ◌∙◌, arith}
 use Rattle.std.specs.List.{slice_get}
 use Rattle.fk_model.specs.declared.job.JobSpec.{JobSpec}
 use Rattle.fk_model.specs.declared.job.JobSpec.TheVariants as specs_of
-use Rattle.fk_image.specs.declared.image.Image.{Image}
-use Rattle.fk_image.specs.Valid.{is_valid}
+use Rattle.fk_image.specs.declared.image.image.Image.{Image}
+use Rattle.fk_image.specs.Image.Valid.{is_valid}
 use Rattle.laws_checkpoint.specs.Checkpoint as checkpoints
 use Rattle.laws_checkpoint.specs.Checkpoint.End.{Done}
-use Rattle.laws_restore.specs.Restore as restores
-use Rattle.laws_restore.specs.Restore.State.{Makes}
+use Rattle.laws_restore.specs.Restore.Restore as restores
+use Rattle.laws_restore.specs.Restore.Restore.State.{Makes}
 use Rattle.laws_runs.specs.Cores.{JobEnd}
 use Rattle.laws_runs.specs.Cores.JobEnd.{Worked, Idle}
 use Rattle.laws_house.specs.Houses.{Job, State, End, image_made, sourced, valid_one, house, maker_from, source_of, job_of, given_first, jobs_from, jobs_of}

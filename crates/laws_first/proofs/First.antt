@@ -17,21 +17,21 @@ use Rattle.fk_model.specs.World.Edit.{SetPointer, SetMember}
 use Rattle.fk_model.specs.ObjectRows.{is_scratch}
 use Rattle.fk_model.specs.Searches.{slots, pointers}
 use Rattle.fk_model.specs.Freezing.{body_pointers}
-use Rattle.laws_further.specs.ClosedLaws.{is_cut_pointer}
+use Rattle.laws_subtrees.specs.Further.ClosedLaws.{is_cut_pointer}
 use Rattle.fk_model.specs.StateRows.{is_native}
 use Rattle.fk_model.specs.Whole.{is_scratch_slot}
 use Rattle.fk_model.proofs.walks.PlaceLaws.{same_path_eq, same_path_refl}
-use Rattle.fk_scenario_entries.specs.declared.types.Program.{Program}
-use Rattle.fk_scenario_entries.specs.declared.types.SpaceEntry.{SpaceEntry}
-use Rattle.fk_scenario_entries.specs.declared.types.ObjectEntry.{ObjectEntry}
-use Rattle.fk_scenario_entries.specs.declared.types.Spec.{Spec}
-use Rattle.fk_scenario_entries.specs.declared.types.Spec.TheVariants as specs
-use Rattle.fk_scenario_entries.specs.Kept.{AreSlots}
-use Rattle.fk_scenario_sections.specs.Kept.{EachAfter, KeepsSpace, KeepsObject}
-use Rattle.fk_scenario.specs.declared.scenario.Scenario.{Scenario}
-use Rattle.fk_scenario.specs.Kept.{KeepsScenario}
-use Rattle.fk_scenario.specs.Servers.{has_key}
-use Rattle.fk_store.specs.World.{first_world}
+use Rattle.fk_scenario.specs.declared.entries.types.Program.{Program}
+use Rattle.fk_scenario.specs.declared.entries.types.SpaceEntry.{SpaceEntry}
+use Rattle.fk_scenario.specs.declared.entries.types.ObjectEntry.{ObjectEntry}
+use Rattle.fk_scenario.specs.declared.entries.types.Spec.{Spec}
+use Rattle.fk_scenario.specs.declared.entries.types.Spec.TheVariants as specs
+use Rattle.fk_scenario.specs.Entries.Kept.{AreSlots}
+use Rattle.fk_scenario.specs.Sections.Kept.{EachAfter, KeepsSpace, KeepsObject}
+use Rattle.fk_scenario.specs.declared.scenario.scenario.Scenario.{Scenario}
+use Rattle.fk_scenario.specs.Scenario.Kept.{KeepsScenario}
+use Rattle.fk_scenario.specs.Scenario.Servers.{has_key}
+use Rattle.fk_store.specs.Store.World.{first_world}
 use Rattle.fk_boot.specs.FirstWorld.{page_words, zero_pages, program_page, words_of_program, space_itself, space_changes, first_body, object_changes, aims}
 use Rattle.fk_boot.specs.FirstWorld.{points_to, belongs_to, aim_changes, porter, porter_changes, served_ports, boot_changes, booted}
 use Rattle.fk_boot.proofs.Changes.{apply_all-append}

@@ -12,9 +12,9 @@ use Rattle.fk_model.specs.StateRows.{is_native}
 use Rattle.fk_model.specs.Valid.{kind_there}
 use Rattle.fk_model.specs.Whole.{stands_in}
 use Rattle.fk_model.specs.Cut.{IsPlain}
-use Rattle.laws_savable.specs.Savable.{IsSound}
-use Rattle.laws_further.specs.ClosedLaws.{IsUsersAlone}
-use Rattle.laws_further.proofs.ClosedLaws.{closed_is_plain}
+use Rattle.laws_moves.specs.Savable.Savable.{IsSound}
+use Rattle.laws_subtrees.specs.Further.ClosedLaws.{IsUsersAlone}
+use Rattle.laws_subtrees.proofs.InFurther.ClosedLaws.{closed_is_plain}
 use Rattle.laws_jobs.proofs.Goings.{called}
 use Rattle.laws_checkpoint.specs.Checkpoint.End.{Done}
 use Rattle.laws_checkpoint.proofs.Ended.{checkpoint_ends_as_it_was}

@@ -1,7 +1,7 @@
 -- The runs of the program have the headline.
 use Rattle.std.proofs.Common.{subst}
 use Rattle.fk_served.specs.Served.{servers}
-use Rattle.laws_savable.specs.Savable.{IsSound}
+use Rattle.laws_moves.specs.Savable.Savable.{IsSound}
 use Rattle.laws_house.specs.Houses.{jobs_of}
 use Rattle.laws_house.proofs.Headline.{headline_holds}
 use Rattle.laws_first.specs.Programs.{ProgramsAreGrounded, ProgramsHaveTheHeadline}

@@ -1,10 +1,10 @@
 -- A run from the first world of a scenario: what the laws of checkpoints and restores suppose of it, and so what they say of it.
 use Rattle.std.specs.Prelude.{◌≡◌, ◌≤◌, List, [], length, None}
 use Rattle.fk_model.specs.declared.moves.Move.{Move}
-use Rattle.fk_scenario.specs.declared.scenario.Scenario.{Scenario}
-use Rattle.fk_scenario.specs.Kept.{KeepsScenario}
+use Rattle.fk_scenario.specs.declared.scenario.scenario.Scenario.{Scenario}
+use Rattle.fk_scenario.specs.Scenario.Kept.{KeepsScenario}
 use Rattle.fk_boot.specs.FirstWorld.{booted}
-use Rattle.laws_savable.specs.Savable.{IsSound}
+use Rattle.laws_moves.specs.Savable.Savable.{IsSound}
 use Rattle.laws_runs.specs.Cores.{Servers, Core, IsRun}
 use Rattle.laws_runs.specs.Composed.{AskAsUsers}
 use Rattle.laws_house.specs.Houses.{Job, State, End, house}

@@ -1,12 +1,12 @@
 -- The runs of the program: from the first world of a scenario that was read, with its servers and its jobs.
 use Rattle.std.specs.Prelude.{◌≡◌, ◌≤◌, List, [], length, Option, None}
 use Rattle.fk_model.specs.declared.moves.Move.{Move}
-use Rattle.fk_image.specs.declared.image.Image.{Image}
-use Rattle.fk_scenario.specs.declared.scenario.Scenario.{Scenario}
-use Rattle.fk_scenario.specs.Kept.{KeepsScenario}
+use Rattle.fk_image.specs.declared.image.image.Image.{Image}
+use Rattle.fk_scenario.specs.declared.scenario.scenario.Scenario.{Scenario}
+use Rattle.fk_scenario.specs.Scenario.Kept.{KeepsScenario}
 use Rattle.fk_boot.specs.FirstWorld.{booted}
 use Rattle.fk_served.specs.Served.{Services, servers}
-use Rattle.laws_savable.specs.Savable.{IsSound}
+use Rattle.laws_moves.specs.Savable.Savable.{IsSound}
 use Rattle.laws_runs.specs.Cores.{Core, IsRun}
 use Rattle.laws_house.specs.Houses.{State, End, house, jobs_of}
 use Rattle.laws_house.specs.Laws.{IsGrounded}

@@ -1,8 +1,8 @@
 -- The program's own servers and jobs are such as its runs suppose.
 use Rattle.std.specs.Prelude.{List, Option}
-use Rattle.fk_image.specs.declared.image.Image.{Image}
-use Rattle.fk_scenario.specs.declared.scenario.Scenario.{Scenario}
-use Rattle.fk_scenario.specs.Kept.{KeepsScenario}
+use Rattle.fk_image.specs.declared.image.image.Image.{Image}
+use Rattle.fk_scenario.specs.declared.scenario.scenario.Scenario.{Scenario}
+use Rattle.fk_scenario.specs.Scenario.Kept.{KeepsScenario}
 use Rattle.fk_boot.specs.FirstWorld.{booted}
 use Rattle.fk_served.specs.Served.{servers}
 use Rattle.laws_runs.specs.Composed.{AskAsUsers}

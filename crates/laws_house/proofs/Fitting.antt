@@ -11,12 +11,12 @@ use Rattle.fk_model.specs.Moves.{chooses}
 use Rattle.fk_model.specs.Searches.{depth}
 use Rattle.fk_model.specs.Valid.{is_fit}
 use Rattle.fk_model.specs.Who.{space_born, named}
-use Rattle.laws_savable.specs.Savable.{IsSound}
+use Rattle.laws_moves.specs.Savable.Savable.{IsSound}
 use Rattle.laws_jobs.specs.Machines.Head.{Asks}
 use Rattle.laws_checkpoint.specs.Checkpoint as checkpoints
 use Rattle.laws_checkpoint.specs.Checkpoint.{checkpoint}
-use Rattle.laws_restore.specs.Restore.State.{Makes}
-use Rattle.laws_rooms.specs.Restoring.{restore_of}
+use Rattle.laws_restore.specs.Restore.Restore.State.{Makes}
+use Rattle.laws_restore.specs.Rooms.Restoring.{restore_of}
 use Rattle.laws_runs.specs.Cores.{Servers, House, Work, Core, work_of, asker, IsRun, world_at}
 use Rattle.laws_runs.specs.Cores.Asker.{Job as Asked_by_job}
 use Rattle.laws_runs.specs.Composed.{AskAsUsers, IsStart}

@@ -4,7 +4,7 @@ use Rattle.std.specs.List.{slice_get, All}
 use Rattle.std.proofs.lemmas.List.Elements.{All-head, All-tail}
 use Rattle.fk_model.specs.declared.job.JobSpec.{JobSpec}
 use Rattle.fk_model.specs.declared.job.JobSpec.TheVariants as specs_of
-use Rattle.fk_image.specs.declared.image.Image.{Image}
+use Rattle.fk_image.specs.declared.image.image.Image.{Image}
 use Rattle.laws_runs.proofs.Composing.{composed}
 use Rattle.laws_runs.proofs.Ended.{ends_are_so}
 use Rattle.laws_runs.proofs.Events.{its_events}

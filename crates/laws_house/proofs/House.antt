@@ -17,17 +17,17 @@ use Rattle.fk_model.specs.World.{World}
 use Rattle.fk_model.specs.Cut.{cut}
 use Rattle.fk_model.specs.Runs.{after}
 use Rattle.fk_model.specs.Valid.{kind_there, birth_at}
-use Rattle.fk_image.specs.declared.image.Image.{Image}
-use Rattle.fk_image.specs.Picture.{picture}
-use Rattle.fk_image.specs.Valid.{is_valid}
-use Rattle.laws_savable.specs.Savable.{IsSound}
+use Rattle.fk_image.specs.declared.image.image.Image.{Image}
+use Rattle.fk_image.specs.Image.Picture.{picture}
+use Rattle.fk_image.specs.Image.Valid.{is_valid}
+use Rattle.laws_moves.specs.Savable.Savable.{IsSound}
 use Rattle.laws_jobs.specs.Machines.{no_words, call_of, IsReadyAt, AtWork, LiesWithin}
 use Rattle.laws_jobs.specs.Machines.Head.{Stops, Asks}
 use Rattle.laws_jobs.specs.Jobs.{MayBegin, IsTidyJob, Saves, Restores}
 use Rattle.laws_jobs.specs.Holds.{hold, IsSpaceAt}
 use Rattle.laws_jobs.proofs.Goings.{called}
 use Rattle.laws_jobs.proofs.Weaving.{first_sound}
-use Rattle.laws_further.specs.ClosedLaws.{IsUsersAlone}
+use Rattle.laws_subtrees.specs.Further.ClosedLaws.{IsUsersAlone}
 use Rattle.laws_checkpoint.specs.Checkpoint as checkpoints
 use Rattle.laws_checkpoint.specs.Checkpoint.{checkpoint}
 use Rattle.laws_checkpoint.specs.Checkpoint.End.{Done, Gone, Foreign}
@@ -38,14 +38,14 @@ use Rattle.laws_checkpoint.proofs.Bounds.{checkpoint_is_bounded}
 use Rattle.laws_checkpoint.proofs.Ended.{checkpoint_is_tidy, checkpoint_ends_as_it_was}
 use Rattle.laws_checkpoint.proofs.Saved.{checkpoint_saves, checkpoint_images_subtree}
 use Rattle.laws_checkpoint.proofs.Calling.{checkpoint_leaves_rest}
-use Rattle.laws_restore.specs.Restore as restores
-use Rattle.laws_restore.specs.Restore.State.{Makes}
-use Rattle.laws_restore.specs.Bounded as made
-use Rattle.laws_rooms.specs.Rooms.{rooms_of}
-use Rattle.laws_rooms.specs.Restoring.{bound_by, restore_of}
-use Rattle.laws_restore.proofs.Owing.{is_tidy as restore_is_tidy}
-use Rattle.laws_rooms.proofs.Roomed.{valid_is_roomed}
-use Rattle.laws_rooms.proofs.Restored.{pairs_bind, image_is_restored, image_restore_is_bounded}
+use Rattle.laws_restore.specs.Restore.Restore as restores
+use Rattle.laws_restore.specs.Restore.Restore.State.{Makes}
+use Rattle.laws_restore.specs.Restore.Bounded as made
+use Rattle.laws_restore.specs.Rooms.Rooms.{rooms_of}
+use Rattle.laws_restore.specs.Rooms.Restoring.{bound_by, restore_of}
+use Rattle.laws_restore.proofs.InRestore.Owing.{is_tidy as restore_is_tidy}
+use Rattle.laws_restore.proofs.InRooms.Roomed.{valid_is_roomed}
+use Rattle.laws_restore.proofs.InRooms.Restored.{pairs_bind, image_is_restored, image_restore_is_bounded}
 use Rattle.laws_runs.specs.Cores.{Core, IsRun, JobEnd, Servers, world_at}
 use Rattle.laws_runs.specs.Cores.JobEnd.{Worked}
 use Rattle.laws_runs.specs.Cores.Asker.{Job as Asked_by_job}

@@ -11,11 +11,11 @@ use Rattle.fk_model.specs.StateRows.{is_native}
 use Rattle.fk_model.specs.Runs.{Event, after}
 use Rattle.fk_model.specs.Valid.{is_fit, birth_at}
 use Rattle.fk_model.specs.Who.{event_of}
-use Rattle.laws_further.specs.ClosedLaws.{IsUncut}
-use Rattle.laws_savable.specs.Savable.{IsSound}
-use Rattle.laws_uncut.proofs.Kept.{keeps_uncut}
-use Rattle.laws_uncut.proofs.Stood.{porters_stood, served_stood}
-use Rattle.laws_uncut.proofs.Staying.{porters_space_stays}
+use Rattle.laws_subtrees.specs.Further.ClosedLaws.{IsUncut}
+use Rattle.laws_moves.specs.Savable.Savable.{IsSound}
+use Rattle.laws_subtrees.proofs.InUncut.Kept.{keeps_uncut}
+use Rattle.laws_subtrees.proofs.InUncut.Stood.{porters_stood, served_stood}
+use Rattle.laws_subtrees.proofs.InUncut.Staying.{porters_space_stays}
 use Rattle.laws_jobs.specs.Machines.{Head, heard, said_of}
 use Rattle.laws_jobs.specs.Machines.Head.{Stops, Asks}
 use Rattle.laws_runs.specs.Cores.{House, Core, Asker, asker, job_moved, moved_by, moved, with_end, Settles, IsRun, world_at}

@@ -13,9 +13,9 @@ use Rattle.fk_model.specs.World.{World}
 use Rattle.fk_model.specs.Valid.{birth_at}
 use Rattle.fk_model.specs.Closed.{Place}
 use Rattle.fk_model.specs.Runs.{after}
-use Rattle.fk_image.specs.declared.image.Image.{Image}
-use Rattle.fk_image.specs.Picture.{picture}
-use Rattle.fk_image.specs.Valid.{is_valid}
+use Rattle.fk_image.specs.declared.image.image.Image.{Image}
+use Rattle.fk_image.specs.Image.Picture.{picture}
+use Rattle.fk_image.specs.Image.Valid.{is_valid}
 use Rattle.laws_jobs.specs.Machines.{Head, no_words, call_of, IsReadyAt, AtWork}
 use Rattle.laws_jobs.specs.Machines.Head.{Stops, Asks}
 use Rattle.laws_jobs.specs.Jobs.{MayBegin}
@@ -31,18 +31,18 @@ use Rattle.laws_checkpoint.specs.Checkpoint.{checkpoint}
 use Rattle.laws_checkpoint.proofs.Ended.{Came, came, ended_in}
 use Rattle.laws_checkpoint.proofs.Ended.Came.{NeverHeld, InPhase}
 use Rattle.laws_checkpoint.proofs.Calling.{checkpoint_is_ready}
-use Rattle.laws_restore.specs.Restore as restores
-use Rattle.laws_restore.specs.Restore.State.{Makes}
-use Rattle.laws_restore.specs.Roomed.{IsRoomed}
-use Rattle.laws_restore.specs.Rest.{IsSameFar}
-use Rattle.laws_restore.proofs.Readied.{is_ready as restore_is_ready}
-use Rattle.laws_restore.proofs.Resting.{leaves_far}
-use Rattle.laws_restore.proofs.Lasting.{occupied_is_exact}
-use Rattle.laws_restore.proofs.Looked.{no_port_is_exact}
-use Rattle.laws_rooms.specs.Rooms.{rooms_of}
-use Rattle.laws_rooms.specs.Restoring.{bound_by, restore_of}
-use Rattle.laws_rooms.proofs.Roomed.{valid_is_roomed}
-use Rattle.laws_rooms.proofs.Restored.{pairs_bind, image_restore_ends_so}
+use Rattle.laws_restore.specs.Restore.Restore as restores
+use Rattle.laws_restore.specs.Restore.Restore.State.{Makes}
+use Rattle.laws_restore.specs.Restore.Roomed.{IsRoomed}
+use Rattle.laws_restore.specs.Restore.Rest.{IsSameFar}
+use Rattle.laws_restore.proofs.InRestore.Readied.{is_ready as restore_is_ready}
+use Rattle.laws_restore.proofs.InRestore.Resting.{leaves_far}
+use Rattle.laws_restore.proofs.InRestore.Lasting.{occupied_is_exact}
+use Rattle.laws_restore.proofs.InRestore.Looked.{no_port_is_exact}
+use Rattle.laws_restore.specs.Rooms.Rooms.{rooms_of}
+use Rattle.laws_restore.specs.Rooms.Restoring.{bound_by, restore_of}
+use Rattle.laws_restore.proofs.InRooms.Roomed.{valid_is_roomed}
+use Rattle.laws_restore.proofs.InRooms.Restored.{pairs_bind, image_restore_ends_so}
 use Rattle.laws_runs.specs.Cores.{JobEnd, Servers, Work, Core, IsRun, world_at}
 use Rattle.laws_runs.specs.Cores.JobEnd.{Worked}
 use Rattle.laws_runs.specs.Cores.IsRun.{Begins, Goes}

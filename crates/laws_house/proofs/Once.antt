@@ -5,13 +5,13 @@ use Rattle.fk_model.specs.declared.moves.Move.{Move}
 use Rattle.fk_model.specs.declared.stage.Stage.{Stage}
 use Rattle.fk_model.specs.Places.{Path}
 use Rattle.fk_model.specs.World.{World}
-use Rattle.laws_savable.specs.Savable.{IsSound}
+use Rattle.laws_moves.specs.Savable.Savable.{IsSound}
 use Rattle.laws_jobs.specs.Machines.{AtWork}
 use Rattle.laws_jobs.specs.Jobs.{MayBegin}
 use Rattle.laws_jobs.specs.Leads.{held_world}
 use Rattle.laws_jobs.specs.Holds.{Held}
-use Rattle.fk_image.specs.declared.image.Image.{Image}
-use Rattle.fk_image.specs.Picture.{picture}
+use Rattle.fk_image.specs.declared.image.image.Image.{Image}
+use Rattle.fk_image.specs.Image.Picture.{picture}
 use Rattle.laws_checkpoint.specs.Checkpoint as checkpoints
 use Rattle.laws_checkpoint.specs.Checkpoint.{checkpoint}
 use Rattle.laws_checkpoint.specs.Checkpoint.End.{Gone, Foreign, Done}
@@ -20,13 +20,13 @@ use Rattle.laws_checkpoint.proofs.Ended.Came.{NeverHeld, InPhase}
 use Rattle.laws_checkpoint.proofs.Working.{Phase}
 use Rattle.laws_checkpoint.proofs.Working.Phase.{AtFirst, AtSecond, AtThird, AtWalks, AtSeeks, AtReads, AtGathers, AtDrops, AtTwoLeft, AtOneLeft, AtReleases}
 use Rattle.laws_checkpoint.proofs.Working.Phase.{AtOver}
-use Rattle.laws_restore.specs.Restore as restores
-use Rattle.laws_restore.specs.Roomed.{IsRoomed}
-use Rattle.laws_restore.specs.Rooms.{Room}
-use Rattle.laws_restore.proofs.Coming.{Came as Has_come, came as has_come}
-use Rattle.laws_restore.proofs.Coming.Came.{Working, Dropping, Clearing, Finished, Missing, Taken}
-use Rattle.laws_rooms.specs.Rooms.{rooms_of}
-use Rattle.laws_rooms.specs.Restoring.{bound_by, restore_of}
+use Rattle.laws_restore.specs.Restore.Restore as restores
+use Rattle.laws_restore.specs.Restore.Roomed.{IsRoomed}
+use Rattle.laws_restore.specs.Restore.Rooms.{Room}
+use Rattle.laws_restore.proofs.InRestore.Coming.{Came as Has_come, came as has_come}
+use Rattle.laws_restore.proofs.InRestore.Coming.Came.{Working, Dropping, Clearing, Finished, Missing, Taken}
+use Rattle.laws_restore.specs.Rooms.Rooms.{rooms_of}
+use Rattle.laws_restore.specs.Rooms.Restoring.{bound_by, restore_of}
 use Rattle.laws_runs.specs.Cores.{Servers, Core, IsRun, world_at}
 use Rattle.laws_runs.specs.Cores.Asker.{Job as Asked_by_job}
 use Rattle.laws_runs.specs.Turning.{asker_at, MovesAt}

@@ -9,8 +9,8 @@ use Rattle.fk_model.specs.declared.statuses.status.TheConstants.{OK}
 use Rattle.fk_model.specs.Places.{Ptr}
 use Rattle.fk_model.specs.Closed.{Place}
 use Rattle.fk_model.specs.Runs.{after}
-use Rattle.fk_image.specs.declared.image.Image.{Image}
-use Rattle.laws_savable.specs.Savable.{IsSound}
+use Rattle.fk_image.specs.declared.image.image.Image.{Image}
+use Rattle.laws_moves.specs.Savable.Savable.{IsSound}
 use Rattle.fk_model.specs.declared.moves.Ask.TheVariants as asks
 use Rattle.fk_model.specs.Who.{event_of}
 use Rattle.laws_jobs.specs.Machines.{Head, no_words, reply_of, heard, call_of, said_of}
@@ -27,13 +27,13 @@ use Rattle.laws_checkpoint.specs.Assembly.{spaces_met, sought_tasks, gathered_ta
 use Rattle.laws_checkpoint.specs.Checkpoint as checkpoints
 use Rattle.laws_checkpoint.specs.Checkpoint.{checkpoint}
 use Rattle.laws_checkpoint.proofs.Calling.{checkpoint_leaves_rest}
-use Rattle.laws_restore.specs.Restore as restores
-use Rattle.laws_restore.specs.Script.{script}
-use Rattle.laws_restore.proofs.Lasting.{last_call_is_known as restores_last_call}
-use Rattle.laws_sites.specs.Orders.{Order, passes}
-use Rattle.laws_restore.specs.Rooms.{Room}
-use Rattle.laws_rooms.specs.Rooms.{rooms_of}
-use Rattle.laws_rooms.specs.Restoring.{bound_by, restore_of}
+use Rattle.laws_restore.specs.Restore.Restore as restores
+use Rattle.laws_restore.specs.Restore.Script.{script}
+use Rattle.laws_restore.proofs.InRestore.Lasting.{last_call_is_known as restores_last_call}
+use Rattle.laws_restore.specs.Sites.Orders.{Order, passes}
+use Rattle.laws_restore.specs.Restore.Rooms.{Room}
+use Rattle.laws_restore.specs.Rooms.Rooms.{rooms_of}
+use Rattle.laws_restore.specs.Rooms.Restoring.{bound_by, restore_of}
 use Rattle.laws_runs.specs.Cores.{JobEnd, Servers, Core, IsRun, world_at}
 use Rattle.laws_runs.specs.Cores.Unmoved.{NoImage, Dead}
 use Rattle.laws_runs.specs.Cores.JobEnd.{Worked, Idle}

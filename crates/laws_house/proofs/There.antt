@@ -7,15 +7,15 @@ use Rattle.fk_model.specs.Places.{Path}
 use Rattle.fk_model.specs.World.{World}
 use Rattle.fk_model.specs.Cut.{is_port}
 use Rattle.fk_model.specs.Runs.{Event, after}
-use Rattle.fk_image.specs.declared.image.Image.{Image}
+use Rattle.fk_image.specs.declared.image.image.Image.{Image}
 use Rattle.laws_jobs.specs.Machines.{Machine, heard, call_of, said_of, Interleaved, AtWork}
 use Rattle.laws_jobs.specs.Machines.Interleaved.{Here, Another, Own}
-use Rattle.laws_sites.specs.Orders.{stage_of}
-use Rattle.laws_sites.specs.Orders.Order.{Pins}
-use Rattle.laws_restore.specs.Restore as restores
-use Rattle.laws_restore.specs.Exact.{MissesFirst}
-use Rattle.laws_rooms.specs.Rooms.{rooms_of}
-use Rattle.laws_rooms.specs.Restoring.{bound_by, restore_of}
+use Rattle.laws_restore.specs.Sites.Orders.{stage_of}
+use Rattle.laws_restore.specs.Sites.Orders.Order.{Pins}
+use Rattle.laws_restore.specs.Restore.Restore as restores
+use Rattle.laws_restore.specs.Restore.Exact.{MissesFirst}
+use Rattle.laws_restore.specs.Rooms.Rooms.{rooms_of}
+use Rattle.laws_restore.specs.Rooms.Restoring.{bound_by, restore_of}
 use Rattle.laws_runs.specs.Cores.{House, Core, Asker, Servers, IsRun}
 use Rattle.laws_runs.specs.Cores.Asker.{Nobody, Others, Job as Asked_by_job}
 use Rattle.laws_runs.specs.Turning.{asker_at}

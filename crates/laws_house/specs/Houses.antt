@@ -4,17 +4,17 @@ use Rattle.std.specs.List.{slice_get}
 use Rattle.std.specs.Str.{bytes_eq}
 use Rattle.fk_model.specs.declared.job.JobSpec.{JobSpec}
 use Rattle.fk_model.specs.declared.job.JobSpec.TheVariants as specs_of
-use Rattle.fk_image.specs.declared.image.Image.{Image}
-use Rattle.fk_image.specs.Valid.{is_valid}
+use Rattle.fk_image.specs.declared.image.image.Image.{Image}
+use Rattle.fk_image.specs.Image.Valid.{is_valid}
 use Rattle.laws_jobs.specs.Machines.{Head, Machine}
 use Rattle.laws_jobs.specs.Machines.Head.{Stops, Asks}
 use Rattle.laws_checkpoint.specs.Checkpoint as checkpoints
 use Rattle.laws_checkpoint.specs.Checkpoint.{checkpoint}
 use Rattle.laws_checkpoint.specs.Checkpoint.End.{Done}
 use Rattle.laws_checkpoint.specs.Checkpoint.State.{Holds}
-use Rattle.laws_restore.specs.Restore as restores
-use Rattle.laws_restore.specs.Restore.State.{Makes}
-use Rattle.laws_rooms.specs.Restoring.{restore_of}
+use Rattle.laws_restore.specs.Restore.Restore as restores
+use Rattle.laws_restore.specs.Restore.Restore.State.{Makes}
+use Rattle.laws_restore.specs.Rooms.Restoring.{restore_of}
 use Rattle.laws_runs.specs.Cores.{JobEnd, Servers, House}
 use Rattle.laws_runs.specs.Cores.JobEnd.{Worked}
 

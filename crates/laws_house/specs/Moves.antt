@@ -14,21 +14,21 @@ use Rattle.fk_model.specs.Searches.{depth}
 use Rattle.fk_model.specs.Valid.{birth_at, is_fit}
 use Rattle.fk_model.specs.Who.{named}
 use Rattle.fk_model.specs.Cut.{is_port}
-use Rattle.fk_image.specs.declared.image.Image.{Image}
-use Rattle.fk_image.specs.Picture.{picture}
+use Rattle.fk_image.specs.declared.image.image.Image.{Image}
+use Rattle.fk_image.specs.Image.Picture.{picture}
 use Rattle.laws_jobs.specs.Machines.{call_of, IsReadyAt, AtWork}
 use Rattle.laws_jobs.specs.Machines.Head.{Stops, Asks}
 use Rattle.laws_jobs.specs.Jobs.{MayBegin}
 use Rattle.laws_jobs.specs.Calls.{IsCalm}
 use Rattle.laws_checkpoint.specs.Checkpoint as checkpoints
-use Rattle.laws_restore.specs.Restore as restores
-use Rattle.laws_sites.specs.Orders.{stage_of}
-use Rattle.laws_sites.specs.Orders.Order.{Pins}
-use Rattle.laws_restore.specs.Ends.{EndsSo}
-use Rattle.laws_restore.specs.Rest.{IsSameFar}
-use Rattle.laws_restore.specs.Exact.{EndsByMiss}
-use Rattle.laws_rooms.specs.Rooms.{rooms_of}
-use Rattle.laws_rooms.specs.Restoring.{bound_by, restore_of}
+use Rattle.laws_restore.specs.Restore.Restore as restores
+use Rattle.laws_restore.specs.Sites.Orders.{stage_of}
+use Rattle.laws_restore.specs.Sites.Orders.Order.{Pins}
+use Rattle.laws_restore.specs.Restore.Ends.{EndsSo}
+use Rattle.laws_restore.specs.Restore.Rest.{IsSameFar}
+use Rattle.laws_restore.specs.Restore.Exact.{EndsByMiss}
+use Rattle.laws_restore.specs.Rooms.Rooms.{rooms_of}
+use Rattle.laws_restore.specs.Rooms.Restoring.{bound_by, restore_of}
 use Rattle.laws_runs.specs.Cores.{Servers, Work, Core, asker, IsRun, world_at}
 use Rattle.laws_runs.specs.Cores.JobEnd.{Worked}
 use Rattle.laws_runs.specs.Cores.Asker.{Job as Asked_by_job}

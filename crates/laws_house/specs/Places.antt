@@ -9,13 +9,13 @@ use Rattle.fk_model.specs.Places.{Path}
 use Rattle.fk_model.specs.World.{World}
 use Rattle.fk_model.specs.Holds.{holder_of}
 use Rattle.fk_model.specs.Valid.{birth_at}
-use Rattle.fk_image.specs.declared.image.Image.{Image}
+use Rattle.fk_image.specs.declared.image.image.Image.{Image}
 use Rattle.laws_jobs.specs.Machines.{no_words}
 use Rattle.laws_jobs.specs.Jobs.{IsClean}
 use Rattle.laws_jobs.specs.Holds.{IsSpaceAt}
 use Rattle.laws_checkpoint.specs.Checkpoint as checkpoints
-use Rattle.laws_restore.specs.Restore as restores
-use Rattle.laws_restore.specs.Rest as restored
+use Rattle.laws_restore.specs.Restore.Restore as restores
+use Rattle.laws_restore.specs.Restore.Rest as restored
 use Rattle.laws_runs.specs.Cores.{JobEnd, Servers, Core, IsRun, world_at}
 use Rattle.laws_runs.specs.Cores.Unmoved.{NoImage}
 use Rattle.laws_runs.specs.Cores.JobEnd.{Worked, Idle}

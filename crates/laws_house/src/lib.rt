@@ -1,7 +1,7 @@
 //! The house of checkpoints and restores: a scenario's jobs, their one machine, and what a run in which they work is. Each law is
 //! the contract of a function that does nothing.
 //!
-//! It stands on `laws_runs`, `laws_checkpoint` and `laws_rooms`.
+//! It stands on `laws_runs`, `laws_checkpoint` and `laws_restore::rooms`.
 #![tactic(auto)]
 
 ghost use Rattle.laws_house.specs.Laws.{HouseIsTidy, RunStaysUncut, CheckpointsAreBrief, RestoresAreBrief, CheckpointsLeaveTheRest, CheckpointsEndAsItWas};

@@ -3,9 +3,9 @@ use Rattle.std.proofs.Common.{◌≡◌, inl, inr, ℕ, Bool, true, false, List,
 use Rattle.std.proofs.Common.{subst, ◌∙◌, arith}
 use Rattle.std.proofs.lemmas.Bool.{lt-ltb, le-ltb, ltb-true, ltb-false}
 use Rattle.std.proofs.lemmas.List.{take-append-drop, take-append-le, drop-append-le, drop_all, take_all, length-append, length-take-le, append_assoc}
-use Rattle.fk_image_format.specs.declared.reasons.reason.TheConstants as reasons
-use Rattle.fk_image_format.specs.declared.stop.Stop.{Stop}
-use Rattle.fk_image_format.specs.Fields.{◌>>=◌, refuse_field}
+use Rattle.fk_image.specs.declared.format.reasons.reason.TheConstants as reasons
+use Rattle.fk_image.specs.declared.format.stop.Stop.{Stop}
+use Rattle.fk_image.specs.Format.Fields.{◌>>=◌, refuse_field}
 use Rattle.laws_image_faults.specs.Forms.{Shape, Form, IsField, Holds, Lacks, Breaks}
 use Rattle.laws_image_faults.specs.Forms.Form.{Whole, Field, Pair}
 use Rattle.laws_image_faults.specs.Forms.Holds.{Nothing, One, Two, Half}

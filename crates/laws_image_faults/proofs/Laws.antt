@@ -2,12 +2,12 @@
 use Rattle.std.proofs.Common.{◌≡◌, ℕ, ◌-◌, ◌==◌, false, List, [], ◌∷◌, ◌++◌, length, Option, Some, None, Result, Ok, Err, refl, sym, ap, subst, ◌∙◌, arith}
 use Rattle.std.proofs.lemmas.Bool.{ne_eqb}
 use Rattle.std.proofs.lemmas.List.{length-append, append-nil}
-use Rattle.fk_image.specs.declared.image.Image.{Image}
-use Rattle.fk_image_format.specs.declared.reasons.reason.TheConstants as reasons
-use Rattle.fk_image_format.specs.declared.stop.Stop.{Stop}
-use Rattle.fk_image_format.specs.Fields.{◌>>=◌}
-use Rattle.fk_image_format.specs.Offsets.{wrong_link}
-use Rattle.fk_image_format.specs.Reading.{linked, finished, image_reading}
+use Rattle.fk_image.specs.declared.image.image.Image.{Image}
+use Rattle.fk_image.specs.declared.format.reasons.reason.TheConstants as reasons
+use Rattle.fk_image.specs.declared.format.stop.Stop.{Stop}
+use Rattle.fk_image.specs.Format.Fields.{◌>>=◌}
+use Rattle.fk_image.specs.Format.Offsets.{wrong_link}
+use Rattle.fk_image.specs.Format.Reading.{linked, finished, image_reading}
 use Rattle.laws_image_faults.specs.Forms.{Holds, Breaks}
 use Rattle.laws_image_faults.specs.Forms.Form.{Whole}
 use Rattle.laws_image_faults.specs.Images.{image}

@@ -2,20 +2,20 @@
 use Rattle.std.proofs.Common.{◌≡◌, ℕ, Bool, true, false, not, ◌&&◌, ◌||◌, ◌==◌, nat_lt, List, [], ◌∷◌, Some, None, Result, Ok, if◌then◌else◌, refl}
 use Rattle.std.proofs.Common.{◌∙◌}
 use Rattle.std.specs.Int.{w16, w32, w64}
-use Rattle.fk_image.specs.declared.image.Link.{Link}
-use Rattle.fk_image.specs.declared.image.Link.TheVariants.{Null, Dead, In, Out, Root, Outside}
-use Rattle.fk_image.specs.declared.image.ObjectRec.{ObjectRec}
-use Rattle.fk_image.specs.declared.image.PageRec.{PageRec}
-use Rattle.fk_image.specs.declared.image.Rec.{Rec}
-use Rattle.fk_image.specs.declared.image.Rec.TheVariants.{Mutex, Cond, Portset, Port, Reference}
-use Rattle.fk_image.specs.Ranges.{is_extent, is_set_word, is_mode_byte, is_code}
-use Rattle.fk_image.specs.Valid.{after_object, after_page}
-use Rattle.fk_image_format.specs.declared.reasons.reason.TheConstants as reasons
-use Rattle.fk_image_format.specs.declared.stop.Stop.{Stop}
-use Rattle.fk_image_format.specs.Fields.{◌>>=◌, refuse_field, expect, read_byte, read_number, read_below}
-use Rattle.fk_image_format.specs.Reading.{read_link, read_words, read_word, same_state, read_mode, read_code, read_open_talk, read_talk, read_taker}
-use Rattle.fk_image_format.specs.Reading.{read_met_fault, read_fault, read_thread, read_extent, read_mapping, read_region, read_port, read_mutex}
-use Rattle.fk_image_format.specs.Reading.{read_reference, read_body, read_object, read_page, read_objects, read_pages}
+use Rattle.fk_image.specs.declared.image.image.Link.{Link}
+use Rattle.fk_image.specs.declared.image.image.Link.TheVariants.{Null, Dead, In, Out, Root, Outside}
+use Rattle.fk_image.specs.declared.image.image.ObjectRec.{ObjectRec}
+use Rattle.fk_image.specs.declared.image.image.PageRec.{PageRec}
+use Rattle.fk_image.specs.declared.image.image.Rec.{Rec}
+use Rattle.fk_image.specs.declared.image.image.Rec.TheVariants.{Mutex, Cond, Portset, Port, Reference}
+use Rattle.fk_image.specs.Image.Ranges.{is_extent, is_set_word, is_mode_byte, is_code}
+use Rattle.fk_image.specs.Image.Valid.{after_object, after_page}
+use Rattle.fk_image.specs.declared.format.reasons.reason.TheConstants as reasons
+use Rattle.fk_image.specs.declared.format.stop.Stop.{Stop}
+use Rattle.fk_image.specs.Format.Fields.{◌>>=◌, refuse_field, expect, read_byte, read_number, read_below}
+use Rattle.fk_image.specs.Format.Reading.{read_link, read_words, read_word, same_state, read_mode, read_code, read_open_talk, read_talk, read_taker}
+use Rattle.fk_image.specs.Format.Reading.{read_met_fault, read_fault, read_thread, read_extent, read_mapping, read_region, read_port, read_mutex}
+use Rattle.fk_image.specs.Format.Reading.{read_reference, read_body, read_object, read_page, read_objects, read_pages}
 use Rattle.laws_image_faults.specs.Forms.{Form}
 use Rattle.laws_image_faults.specs.Forms.Form.{Whole}
 use Rattle.laws_image_faults.specs.Images as forms

@@ -3,9 +3,9 @@ use Rattle.std.proofs.Common.{◌≡◌, ℕ, zero, suc, Bool, true, false, List
 use Rattle.std.proofs.Common.{ap, ◌∙◌, arith}
 use Rattle.std.proofs.lemmas.Bool.{le-ltb}
 use Rattle.std.specs.Int.{Width, byte_len, from_le_bytes}
-use Rattle.fk_image_format.specs.declared.reasons.reason.TheConstants as reasons
-use Rattle.fk_image_format.specs.declared.stop.Stop.{Stop}
-use Rattle.fk_image_format.specs.Fields.{◌>>=◌, refuse_field, read_byte, read_number, read_many}
+use Rattle.fk_image.specs.declared.format.reasons.reason.TheConstants as reasons
+use Rattle.fk_image.specs.declared.format.stop.Stop.{Stop}
+use Rattle.fk_image.specs.Format.Fields.{◌>>=◌, refuse_field, read_byte, read_number, read_many}
 use Rattle.laws_image_faults.specs.Forms.{Shape, Form}
 use Rattle.laws_image_faults.specs.Forms.Form.{Whole, Field, Pair}
 use Rattle.laws_image_faults.specs.Images.{◌>>=◌ as ◌>>>◌, byte, number, byte_for, number_for, any, many, byte_in}

@@ -3,17 +3,17 @@ use Rattle.std.proofs.Common.{◌≡◌, ℕ, Bool, true, false, not, ◌&&◌, 
 use Rattle.std.proofs.Common.{Result, Ok, Err, if◌then◌else◌, refl, sym, subst}
 use Rattle.std.specs.Cmp.Lexicographic.{pointwise}
 use Rattle.std.specs.Int.{w16, w32, byte_len, from_le_bytes}
-use Rattle.fk_image.specs.declared.image.SpaceRec.{SpaceRec}
-use Rattle.fk_image.specs.declared.image.Image.{Image}
-use Rattle.fk_image.specs.declared.open.Open.{Open}
-use Rattle.fk_image.specs.Preorder.{has_room, room_under, root_path, after_space}
-use Rattle.fk_image.specs.Links.{kind_in_space}
-use Rattle.fk_image_format.specs.Spelling.{magic}
-use Rattle.fk_image_format.specs.declared.reasons.reason.TheConstants as reasons
-use Rattle.fk_image_format.specs.declared.stop.Stop.{Stop}
-use Rattle.fk_image_format.specs.Fields.{◌>>=◌, refuse_field, expect, read_byte, read_number, read_below, read_many}
-use Rattle.fk_image_format.specs.Reading.{read_link, read_objects, read_pages, read_first, or_refuse_field, read_room, read_next, read_placed, read_space}
-use Rattle.fk_image_format.specs.Reading.{read_head, read_image}
+use Rattle.fk_image.specs.declared.image.image.SpaceRec.{SpaceRec}
+use Rattle.fk_image.specs.declared.image.image.Image.{Image}
+use Rattle.fk_image.specs.declared.image.open.Open.{Open}
+use Rattle.fk_image.specs.Image.Preorder.{has_room, room_under, root_path, after_space}
+use Rattle.fk_image.specs.Image.Links.{kind_in_space}
+use Rattle.fk_image.specs.Format.Spelling.{magic}
+use Rattle.fk_image.specs.declared.format.reasons.reason.TheConstants as reasons
+use Rattle.fk_image.specs.declared.format.stop.Stop.{Stop}
+use Rattle.fk_image.specs.Format.Fields.{◌>>=◌, refuse_field, expect, read_byte, read_number, read_below, read_many}
+use Rattle.fk_image.specs.Format.Reading.{read_link, read_objects, read_pages, read_first, or_refuse_field, read_room, read_next, read_placed, read_space}
+use Rattle.fk_image.specs.Format.Reading.{read_head, read_image}
 use Rattle.laws_image_faults.specs.Forms.{Form}
 use Rattle.laws_image_faults.specs.Forms.Form.{Whole}
 use Rattle.laws_image_faults.specs.Images as forms

@@ -1,9 +1,9 @@
 -- The first fault of bytes that are no image, by the form of an image alone.
 use Rattle.std.specs.Prelude.{◌≡◌, ℕ, List, Some, Err}
-use Rattle.fk_image.specs.declared.image.Image.{Image}
-use Rattle.fk_image_format.specs.declared.reasons.reason.TheConstants as reasons
-use Rattle.fk_image_format.specs.Reading.{image_reading}
-use Rattle.fk_image_format.specs.Offsets.{wrong_link}
+use Rattle.fk_image.specs.declared.image.image.Image.{Image}
+use Rattle.fk_image.specs.declared.format.reasons.reason.TheConstants as reasons
+use Rattle.fk_image.specs.Format.Reading.{image_reading}
+use Rattle.fk_image.specs.Format.Offsets.{wrong_link}
 use Rattle.laws_image_faults.specs.Forms.{BreaksAt, GoesOnAt, Holds}
 use Rattle.laws_image_faults.specs.Forms.Form.{Whole}
 use Rattle.laws_image_faults.specs.Images.{image}

@@ -2,7 +2,7 @@
 --
 -- How long a field is, what it may hold and what comes behind it may hang on what the fields before it hold.
 use Rattle.std.specs.Prelude.{◌≡◌, ◌⊎◌, ℕ, ◌<◌, Bool, true, false, List, [], ◌++◌, length}
-use Rattle.fk_image_format.specs.declared.reasons.reason.TheConstants as reasons
+use Rattle.fk_image.specs.declared.format.reasons.reason.TheConstants as reasons
 
 -- of a field: how many bytes it has, what it may hold, and for what reason it is refused that holds something else
 pub record Shape : Type 0 where

@@ -4,23 +4,23 @@ use Rattle.std.specs.Prelude.{ℕ, zero, suc, Bool, true, not, ◌&&◌, ◌||�
 use Rattle.std.specs.Prelude.{slice_index}
 use Rattle.std.specs.Cmp.Lexicographic.{pointwise}
 use Rattle.std.specs.Int.{Width, w16, w32, w64, byte_len, from_le_bytes}
-use Rattle.fk_image.specs.declared.image.Link.{Link}
-use Rattle.fk_image.specs.declared.image.Link.TheVariants.{Null, Dead, In, Out, Root, Outside}
-use Rattle.fk_image.specs.declared.image.TalkRec.{TalkRec}
-use Rattle.fk_image.specs.declared.image.FaultRec.{FaultRec}
-use Rattle.fk_image.specs.declared.image.Rec.{Rec}
-use Rattle.fk_image.specs.declared.image.Rec.TheVariants.{Mutex, Cond, Portset, Mapping, Region, Port, Thread, Reference}
-use Rattle.fk_image.specs.declared.image.ObjectRec.{ObjectRec}
-use Rattle.fk_image.specs.declared.image.PageRec.{PageRec}
-use Rattle.fk_image.specs.declared.image.SpaceRec.{SpaceRec}
-use Rattle.fk_image.specs.declared.image.Image.{Image}
-use Rattle.fk_image.specs.declared.open.Open.{Open}
-use Rattle.fk_image.specs.Ranges.{is_extent, is_set_word, is_mode_byte, is_code}
-use Rattle.fk_image.specs.Preorder.{has_room, room_under, root_path, after_space}
-use Rattle.fk_image.specs.Links.{kind_in_space}
-use Rattle.fk_image.specs.Valid.{after_object, after_page}
-use Rattle.fk_image_format.specs.Spelling.{magic}
-use Rattle.fk_image_format.specs.declared.reasons.reason.TheConstants as reasons
+use Rattle.fk_image.specs.declared.image.image.Link.{Link}
+use Rattle.fk_image.specs.declared.image.image.Link.TheVariants.{Null, Dead, In, Out, Root, Outside}
+use Rattle.fk_image.specs.declared.image.image.TalkRec.{TalkRec}
+use Rattle.fk_image.specs.declared.image.image.FaultRec.{FaultRec}
+use Rattle.fk_image.specs.declared.image.image.Rec.{Rec}
+use Rattle.fk_image.specs.declared.image.image.Rec.TheVariants.{Mutex, Cond, Portset, Mapping, Region, Port, Thread, Reference}
+use Rattle.fk_image.specs.declared.image.image.ObjectRec.{ObjectRec}
+use Rattle.fk_image.specs.declared.image.image.PageRec.{PageRec}
+use Rattle.fk_image.specs.declared.image.image.SpaceRec.{SpaceRec}
+use Rattle.fk_image.specs.declared.image.image.Image.{Image}
+use Rattle.fk_image.specs.declared.image.open.Open.{Open}
+use Rattle.fk_image.specs.Image.Ranges.{is_extent, is_set_word, is_mode_byte, is_code}
+use Rattle.fk_image.specs.Image.Preorder.{has_room, room_under, root_path, after_space}
+use Rattle.fk_image.specs.Image.Links.{kind_in_space}
+use Rattle.fk_image.specs.Image.Valid.{after_object, after_page}
+use Rattle.fk_image.specs.Format.Spelling.{magic}
+use Rattle.fk_image.specs.declared.format.reasons.reason.TheConstants as reasons
 use Rattle.laws_image_faults.specs.Forms.{Shape, Form}
 use Rattle.laws_image_faults.specs.Forms.Form.{Whole, Field, Pair}
 

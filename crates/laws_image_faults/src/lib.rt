@@ -1,7 +1,7 @@
 //! The first fault of bytes that are no image, by the form of an image alone: each law is the contract of a function that
 //! does nothing.
 //!
-//! It stands on `fk_image_format`, whose readings tell the fault, and on `fk_image`. `specs/Forms.antt` says what it is
+//! It stands on `fk_image::format`, whose readings tell the fault, and on `fk_image`. `specs/Forms.antt` says what it is
 //! that bytes hold fields of a form up to a place and for what reason no further, `specs/Images.antt` has the form of an
 //! image. No reader and no offset is in either.
 #![tactic(auto)]

@@ -22,13 +22,13 @@ use Rattle.fk_model.specs.Freezing.{body_pointers, is_in_set, is_swept}
 use Rattle.fk_model.specs.ObjectRows.{is_scratch}
 use Rattle.fk_model.specs.Valid.{IsValid, kind_there, is_one_of, leads_there, may_lead, all_in, is_good, is_good_peer, is_good_talk, is_good_fault}
 use Rattle.fk_model.specs.Closed.{open_place, is_led_to}
-use Rattle.laws_machine.proofs.Frame.{apply-body}
+use Rattle.laws_moves.proofs.InMachine.Frame.{apply-body}
 use Rattle.fk_model.proofs.walks.PlaceLaws.{same_path_eq, same_path_ne, leads_to_at}
-use Rattle.laws_frozen.specs.Frozen.{IsSameInside}
-use Rattle.laws_frozen.specs.Holding.{IsHolding, IsNear, only_reference}
-use Rattle.laws_frozen.proofs.Holding.{holder_none, none_above, decider_none}
-use Rattle.laws_frozen.proofs.Frozen.{there_live as led_live}
-use Rattle.laws_frozen.proofs.FrozenCut.{same-cut}
+use Rattle.laws_moves.specs.Frozen.Frozen.{IsSameInside}
+use Rattle.laws_moves.specs.Frozen.Holding.{IsHolding, IsNear, only_reference}
+use Rattle.laws_moves.proofs.InFrozen.Holding.{holder_none, none_above, decider_none}
+use Rattle.laws_moves.proofs.InFrozen.Frozen.{there_live as led_live}
+use Rattle.laws_moves.proofs.InFrozen.FrozenCut.{same-cut}
 use Rattle.laws_jobs.specs.Leads.{OwnKeepOpenPlace}
 use Rattle.laws_jobs.proofs.LeadLaws.{open_same}
 use Rattle.laws_jobs.proofs.Own.{leads_same}

@@ -16,9 +16,9 @@ use Rattle.fk_model.specs.Moves.{outcome, step, stepped}
 use Rattle.fk_model.specs.Runs.{Event, after}
 use Rattle.fk_model.specs.Valid.{IsRooted, is_fit}
 use Rattle.fk_model.proofs.walks.PlaceLaws.{same_path_eq}
-use Rattle.laws_frozen.specs.Users.{is_low, is_users, IsUsers, AreUsers}
-use Rattle.laws_frozen.proofs.Users.{users_name_low}
-use Rattle.laws_savable.specs.Savable.{OwesAsk}
+use Rattle.laws_moves.specs.Frozen.Users.{is_low, is_users, IsUsers, AreUsers}
+use Rattle.laws_moves.proofs.InFrozen.Users.{users_name_low}
+use Rattle.laws_moves.specs.Savable.Savable.{OwesAsk}
 use Rattle.laws_jobs.specs.Jobs.{IsClean}
 use Rattle.laws_jobs.specs.Nesters.{UsersFillLow}
 

@@ -19,7 +19,7 @@ use Rattle.fk_model.specs.Readers.{anything, object_in, space_argument}
 use Rattle.fk_model.specs.ObjectRows.{destroy}
 use Rattle.fk_model.specs.Moves.{call_row}
 use Rattle.fk_model.specs.Valid.{IsValid, kind_there}
-use Rattle.laws_machine.proofs.Frame.{apply-body}
+use Rattle.laws_moves.proofs.InMachine.Frame.{apply-body}
 use Rattle.fk_model.proofs.walks.PlaceLaws.{same_path_eq, same_path_refl, same_path_ne}
 use Rattle.laws_jobs.specs.Machines.{no_words, porter}
 use Rattle.laws_jobs.specs.Leads.{ReferenceGoesAlone}

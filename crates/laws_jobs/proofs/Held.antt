@@ -20,7 +20,7 @@ use Rattle.fk_model.specs.Cut.{ports_of, cut_by, cut, seen_by}
 use Rattle.fk_model.proofs.walks.Members.{IsIn, any_in, of_any}
 use Rattle.fk_model.proofs.walks.WalkLaws.{in_objects}
 use Rattle.fk_model.proofs.walks.PlaceLaws.{same_path_refl, same_path_ne, strip-append}
-use Rattle.laws_frozen.proofs.FrozenCut.{port_by_kind}
+use Rattle.laws_moves.proofs.InFrozen.FrozenCut.{port_by_kind}
 use Rattle.laws_jobs.specs.Leads.{held_world, HoldKeepsOpenPlace}
 use Rattle.laws_jobs.proofs.LeadLaws.{pointers_any, some_leads, leads_found, open_same}
 use Rattle.laws_jobs.proofs.Own.{same_kinds}

@@ -30,9 +30,9 @@ use Rattle.fk_model.specs.Valid.{IsValid, kind_there}
 use Rattle.fk_model.specs.Cut.{ports_of, cut_by, cut, seen_by}
 use Rattle.fk_model.specs.Closed.{open_place}
 use Rattle.fk_model.proofs.walks.PlaceLaws.{same_path_eq, same_path_refl, same_path_ne, strip_some, leads_to_at}
-use Rattle.laws_frozen.specs.Holding.{IsHolding}
-use Rattle.laws_frozen.proofs.FrozenCut.{port_by_kind}
-use Rattle.laws_frozen.proofs.Holding.{holder_none, none_above, decider_none}
+use Rattle.laws_moves.specs.Frozen.Holding.{IsHolding}
+use Rattle.laws_moves.proofs.InFrozen.FrozenCut.{port_by_kind}
+use Rattle.laws_moves.proofs.InFrozen.Holding.{holder_none, none_above, decider_none}
 use Rattle.laws_jobs.specs.Machines.{no_words, porter, IsReadyAt}
 use Rattle.laws_jobs.specs.Leads.{held_world}
 use Rattle.laws_jobs.specs.Holds.{hold, IsSpaceAt, Held, Unheld, HoldComesTo, released_world, ReleaseComesTo}

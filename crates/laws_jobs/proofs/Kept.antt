@@ -21,15 +21,15 @@ use Rattle.fk_model.specs.Outcomes.Outcome.{Refused, Waits, Goes}
 use Rattle.fk_model.specs.Moves.{GoesAllowed, stepped}
 use Rattle.fk_model.specs.Valid.{IsConsistent}
 use Rattle.fk_model.proofs.walks.PlaceLaws.{same_path_refl, same_path_eq, same_path_ne, strip_some, leads_to_at}
-use Rattle.laws_machine.proofs.safety.Safe.{IsSafe, AreSafe}
-use Rattle.laws_machine.proofs.safety.Outcomes.{SafeOutcome}
-use Rattle.laws_frozen.specs.Frozen.{IsSameInside}
-use Rattle.laws_frozen.specs.Users.{IsUsers, AreUsers}
-use Rattle.laws_frozen.specs.Once.{is_mild, AreMild, EitherOf, TouchOnce, MakesAnew}
-use Rattle.laws_frozen.proofs.Frozen.{frozen_inside, change-same}
+use Rattle.laws_moves.proofs.InMachine.safety.Safe.{IsSafe, AreSafe}
+use Rattle.laws_moves.proofs.InMachine.safety.Outcomes.{SafeOutcome}
+use Rattle.laws_moves.specs.Frozen.Frozen.{IsSameInside}
+use Rattle.laws_moves.specs.Frozen.Users.{IsUsers, AreUsers}
+use Rattle.laws_moves.specs.Frozen.Once.{is_mild, AreMild, EitherOf, TouchOnce, MakesAnew}
+use Rattle.laws_moves.proofs.InFrozen.Frozen.{frozen_inside, change-same}
 use Rattle.laws_jobs.specs.Leads.{LeadsIn, IsLed}
 use Rattle.laws_jobs.proofs.Bones.{bones, same_pointers, same_changed, same_lost, mild_same}
-use Rattle.laws_frozen.proofs.Frozen.{place_apart}
+use Rattle.laws_moves.proofs.InFrozen.Frozen.{place_apart}
 use Rattle.laws_jobs.proofs.Unled.{unfrozen_off, not_scratch}
 
 module _ (z : Path) where

@@ -21,13 +21,13 @@ use Rattle.fk_model.specs.Closed.{is_holders_scratch, leads_in_from, is_led_to, 
 use Rattle.fk_model.specs.Cut.{cut}
 use Rattle.fk_model.proofs.walks.Members.{IsIn, any_in, of_any}
 use Rattle.fk_model.proofs.walks.WalkLaws.{in_objects}
-use Rattle.laws_machine.proofs.safety.Moves.{outcome-safe}
-use Rattle.laws_machine.proofs.validity.Steps.{facts_of, step_keeps_valid_lem}
-use Rattle.laws_frozen.specs.Frozen.{IsFrozenMove}
-use Rattle.laws_frozen.specs.Holding.{IsHolding, IsUsersMove}
-use Rattle.laws_frozen.proofs.Users.{users_name_low}
-use Rattle.laws_frozen.proofs.FrozenLaws.{frozen_cut_stays, frozen_subtree_stays}
-use Rattle.laws_frozen.proofs.once.Moves.{users_touch_once}
+use Rattle.laws_moves.proofs.InMachine.safety.Moves.{outcome-safe}
+use Rattle.laws_moves.proofs.InMachine.validity.Steps.{facts_of, step_keeps_valid_lem}
+use Rattle.laws_moves.specs.Frozen.Frozen.{IsFrozenMove}
+use Rattle.laws_moves.specs.Frozen.Holding.{IsHolding, IsUsersMove}
+use Rattle.laws_moves.proofs.InFrozen.Users.{users_name_low}
+use Rattle.laws_moves.proofs.InFrozen.FrozenLaws.{frozen_cut_stays, frozen_subtree_stays}
+use Rattle.laws_moves.proofs.InFrozen.once.Moves.{users_touch_once}
 use Rattle.laws_jobs.specs.Leads.{LeadsIn, IsLed, IsUnledAt, OthersKeepLeads, OthersKeepUnled, OthersKeepOpenPlace, CountsTell}
 use Rattle.laws_jobs.proofs.Unled.{outcome_unled, held_frozen}
 use Rattle.laws_jobs.proofs.Kept.{outcome_kept}

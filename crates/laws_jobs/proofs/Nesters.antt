@@ -10,14 +10,14 @@ use Rattle.fk_model.specs.Outcomes.Outcome.{Refused, Waits, Goes}
 use Rattle.fk_model.specs.Moves.{outcome, step, stepped}
 use Rattle.fk_model.specs.Runs.{after}
 use Rattle.fk_model.specs.Valid.{IsConsistent, birth_at}
-use Rattle.laws_machine.proofs.validity.Changes.{valid-apply}
-use Rattle.laws_machine.proofs.validity.Steps.{facts_of}
-use Rattle.laws_machine.proofs.safety.Safe.{AreSafe}
-use Rattle.laws_machine.proofs.safety.Staying.{birth_one}
-use Rattle.laws_machine.proofs.safety.Outcomes.{SafeOutcome}
-use Rattle.laws_machine.proofs.safety.Moves.{outcome-safe}
-use Rattle.laws_frozen.specs.Users.{AreUsers}
-use Rattle.laws_frozen.proofs.Users.{users_name_low}
+use Rattle.laws_moves.proofs.InMachine.validity.Changes.{valid-apply}
+use Rattle.laws_moves.proofs.InMachine.validity.Steps.{facts_of}
+use Rattle.laws_moves.proofs.InMachine.safety.Safe.{AreSafe}
+use Rattle.laws_moves.proofs.InMachine.safety.Staying.{birth_one}
+use Rattle.laws_moves.proofs.InMachine.safety.Outcomes.{SafeOutcome}
+use Rattle.laws_moves.proofs.InMachine.safety.Moves.{outcome-safe}
+use Rattle.laws_moves.specs.Frozen.Users.{AreUsers}
+use Rattle.laws_moves.proofs.InFrozen.Users.{users_name_low}
 use Rattle.laws_jobs.specs.Nesters.{NesterStays}
 use Rattle.laws_jobs.proofs.Filling.{were_there, users_owed}
 

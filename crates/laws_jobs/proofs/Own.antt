@@ -20,11 +20,11 @@ use Rattle.fk_model.specs.Valid.{IsValid, kind_there}
 use Rattle.fk_model.specs.Closed.{is_led_to}
 use Rattle.fk_model.specs.Cut.{cut}
 use Rattle.fk_model.proofs.walks.PlaceLaws.{same_path_eq, same_path_refl, same_path_ne}
-use Rattle.laws_machine.proofs.validity.Edits.{outline-edited}
-use Rattle.laws_frozen.specs.Frozen.{IsSameInside}
-use Rattle.laws_frozen.specs.Holding.{IsNear, only_reference, IsHolding}
-use Rattle.laws_frozen.proofs.Frozen.{kind_outline, edited_outline}
-use Rattle.laws_frozen.proofs.FrozenCut.{same-cut}
+use Rattle.laws_moves.proofs.InMachine.validity.Edits.{outline-edited}
+use Rattle.laws_moves.specs.Frozen.Frozen.{IsSameInside}
+use Rattle.laws_moves.specs.Frozen.Holding.{IsNear, only_reference, IsHolding}
+use Rattle.laws_moves.proofs.InFrozen.Frozen.{kind_outline, edited_outline}
+use Rattle.laws_moves.proofs.InFrozen.FrozenCut.{same-cut}
 use Rattle.laws_jobs.proofs.LeadLaws.{some_leads, leads_found}
 
 -- ---- what leads in is of what is no scratch

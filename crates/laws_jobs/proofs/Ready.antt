@@ -18,8 +18,8 @@ use Rattle.fk_model.specs.Outcomes.{Said}
 use Rattle.fk_model.specs.Outcomes.Outcome.{Waits, Goes}
 use Rattle.fk_model.specs.Moves.{call_row, porter_move, outcome, GoesAllowed, IsReady}
 use Rattle.fk_model.proofs.walks.PlaceLaws.{same_path_refl, strip_some, strip-append}
-use Rattle.laws_frozen.specs.Holding.{IsHolding}
-use Rattle.laws_frozen.proofs.Holding.{decider_none}
+use Rattle.laws_moves.specs.Frozen.Holding.{IsHolding}
+use Rattle.laws_moves.proofs.InFrozen.Holding.{decider_none}
 use Rattle.laws_jobs.specs.Machines.{porter}
 use Rattle.laws_jobs.specs.Calls.{IsCalm, CalmCallIsReady}
 

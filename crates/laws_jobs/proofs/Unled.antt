@@ -25,13 +25,13 @@ use Rattle.fk_model.specs.Outcomes.Outcome.{Refused, Waits, Goes}
 use Rattle.fk_model.specs.ObjectRows.{is_scratch}
 use Rattle.fk_model.specs.Moves.{GoesAllowed, stepped}
 use Rattle.fk_model.proofs.walks.PlaceLaws.{same_path_sym, strip_some, leads_to_at}
-use Rattle.laws_machine.proofs.safety.Safe.{IsSafe, AreSafe}
-use Rattle.laws_machine.proofs.safety.Outcomes.{SafeOutcome}
+use Rattle.laws_moves.proofs.InMachine.safety.Safe.{IsSafe, AreSafe}
+use Rattle.laws_moves.proofs.InMachine.safety.Outcomes.{SafeOutcome}
 use Rattle.fk_model.specs.Valid.{IsConsistent}
-use Rattle.laws_frozen.specs.Frozen.{IsSameInside}
-use Rattle.laws_frozen.specs.Users.{IsUsers, AreUsers}
-use Rattle.laws_frozen.specs.Holding.{IsHolding}
-use Rattle.laws_frozen.proofs.Frozen.{frozen_inside, place_apart, change-same}
+use Rattle.laws_moves.specs.Frozen.Frozen.{IsSameInside}
+use Rattle.laws_moves.specs.Frozen.Users.{IsUsers, AreUsers}
+use Rattle.laws_moves.specs.Frozen.Holding.{IsHolding}
+use Rattle.laws_moves.proofs.InFrozen.Frozen.{frozen_inside, place_apart, change-same}
 use Rattle.laws_jobs.specs.Leads.{IsUnledAt}
 
 module _ (z : Path) where

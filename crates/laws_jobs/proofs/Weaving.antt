@@ -4,8 +4,8 @@ use Rattle.fk_model.specs.declared.stage.Stage.{Stage}
 use Rattle.fk_model.specs.Places.{Path}
 use Rattle.fk_model.specs.World.{World}
 use Rattle.fk_model.specs.Runs.{Event, after}
-use Rattle.laws_frozen.specs.Holding.{IsUsersMove}
-use Rattle.laws_savable.specs.Savable.{IsSound}
+use Rattle.laws_moves.specs.Frozen.Holding.{IsUsersMove}
+use Rattle.laws_moves.specs.Savable.Savable.{IsSound}
 use Rattle.laws_jobs.specs.Machines.{Machine, heard, call_of, said_of, IsReadyAt, IsAtCall, Interleaved, AtWork}
 use Rattle.laws_jobs.specs.Machines.Head.{Asks}
 use Rattle.laws_jobs.specs.Machines.Interleaved.{Here, Another, Own}

@@ -15,7 +15,7 @@ use Rattle.fk_model.specs.Outcomes.{Said}
 use Rattle.fk_model.specs.Outcomes.Outcome.{Goes}
 use Rattle.fk_model.specs.Moves.{call_row}
 use Rattle.fk_model.specs.Runs.{after}
-use Rattle.laws_frozen.specs.Holding.{IsHolding}
+use Rattle.laws_moves.specs.Frozen.Holding.{IsHolding}
 use Rattle.laws_jobs.specs.Machines.{porter, call_of, said_of, IsReadyAt}
 
 -- a new object of each kind

@@ -16,7 +16,7 @@ use Rattle.fk_model.specs.Runs.{Event, after}
 use Rattle.fk_model.specs.Valid.{IsValid, kind_there}
 use Rattle.fk_model.specs.Cut.{cut}
 use Rattle.fk_model.specs.Closed.{open_place}
-use Rattle.laws_frozen.specs.Holding.{IsHolding}
+use Rattle.laws_moves.specs.Frozen.Holding.{IsHolding}
 use Rattle.laws_jobs.specs.Machines.{no_words, call_of, said_of, IsReadyAt}
 use Rattle.laws_jobs.specs.Leads.{held_world}
 

@@ -11,7 +11,7 @@ use Rattle.fk_model.specs.Valid.{birth_at}
 use Rattle.fk_model.specs.Cut.{cut, IsPlain}
 use Rattle.fk_model.specs.Closed.{IsClosed}
 use Rattle.fk_model.specs.Rebind.{rebound}
-use Rattle.laws_savable.specs.Savable.{IsSound}
+use Rattle.laws_moves.specs.Savable.Savable.{IsSound}
 use Rattle.laws_jobs.specs.Machines.{Machine, AtWork, IsOwedCall}
 use Rattle.laws_jobs.specs.Machines.Head.{Stops, Asks}
 

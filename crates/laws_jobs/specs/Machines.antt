@@ -12,9 +12,9 @@ use Rattle.fk_model.specs.Outcomes.{Said, Caller}
 use Rattle.fk_model.specs.Outcomes.Said.{Answered}
 use Rattle.fk_model.specs.Moves.{chooses, porter_at, IsReady, step}
 use Rattle.fk_model.specs.Runs.{Event, after}
-use Rattle.laws_frozen.specs.Holding.{IsUsersMove}
-use Rattle.laws_whole.specs.Runnable.{IsProper}
-use Rattle.laws_savable.specs.Savable.{Owes, IsSound}
+use Rattle.laws_moves.specs.Frozen.Holding.{IsUsersMove}
+use Rattle.laws_moves.specs.Whole.Runnable.{IsProper}
+use Rattle.laws_moves.specs.Savable.Savable.{Owes, IsSound}
 
 -- a porter's call with the words that it gives, or the end
 pub data Head (A : Type 0) : Type 0 where

@@ -8,7 +8,7 @@ use Rattle.fk_model.specs.Searches.{depth}
 use Rattle.fk_model.specs.StateRows.{is_native}
 use Rattle.fk_model.specs.Runs.{Event, after}
 use Rattle.fk_model.specs.Valid.{IsValid, IsRooted, birth_at}
-use Rattle.laws_frozen.specs.Users.{is_users}
+use Rattle.laws_moves.specs.Frozen.Users.{is_users}
 
 -- what stands in a slot above 239 after their move stood there before
 abbrev pub UsersFillLow : Type 0

@@ -1,7 +1,7 @@
 //! Jobs: a job is a machine over the answers to its calls. Here stands what it does among the moves of users and native
 //! servers, in any order, and what a run wants of it. Each law is the contract of a function that does nothing.
 //!
-//! It stands on `laws_savable`, and on what that stands on. It names no core, no run and no image; the laws of the single
+//! It stands on `laws_moves::savable`, and on what that stands on. It names no core, no run and no image; the laws of the single
 //! jobs and those of runs stand above it.
 #![tactic(auto)]
 

@@ -7,14 +7,14 @@ use Rattle.std.proofs.lemmas.Bool.{and_parts, ltb-true, ltb-false}
 use Rattle.fk_model.specs.declared.names.Kind.{Kind}
 use Rattle.fk_model.specs.Places.{Path}
 use Rattle.fk_model.specs.Objects.{Body, Body as bodies, and_then, or_else}
-use Rattle.fk_image.specs.declared.image.Rec.{Rec}
-use Rattle.fk_image.specs.declared.image.ObjectRec.{ObjectRec}
-use Rattle.fk_image.specs.declared.image.SpaceRec.{SpaceRec}
-use Rattle.fk_image.specs.Objects.{kind_of_rec, kind_in}
-use Rattle.fk_image.specs.Ranges.{fits_body}
-use Rattle.fk_image.specs.Links.{space_leads, spaces_lead}
-use Rattle.fk_image.specs.Picture.{child, space_number, space_path, rec_in, pictured_holder, pictured_body, pictured_body_in, pictured_body_at}
-use Rattle.fk_image.specs.Valid.{all_from, fits_object, after_object, fits_objects}
+use Rattle.fk_image.specs.declared.image.image.Rec.{Rec}
+use Rattle.fk_image.specs.declared.image.image.ObjectRec.{ObjectRec}
+use Rattle.fk_image.specs.declared.image.image.SpaceRec.{SpaceRec}
+use Rattle.fk_image.specs.Image.Objects.{kind_of_rec, kind_in}
+use Rattle.fk_image.specs.Image.Ranges.{fits_body}
+use Rattle.fk_image.specs.Image.Links.{space_leads, spaces_lead}
+use Rattle.fk_image.specs.Image.Picture.{child, space_number, space_path, rec_in, pictured_holder, pictured_body, pictured_body_in, pictured_body_at}
+use Rattle.fk_image.specs.Image.Valid.{all_from, fits_object, after_object, fits_objects}
 use Rattle.laws_pictures.specs.Tree.{IsTree, IsFull}
 use Rattle.laws_pictures.proofs.Numbers.{Item, item_of, is_there, there_below, below, child_of, number_of, path_of, path_up}
 

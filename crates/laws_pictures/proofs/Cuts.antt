@@ -12,22 +12,22 @@ use Rattle.fk_model.specs.Holds.{is_porter}
 use Rattle.fk_model.specs.World.{World}
 use Rattle.fk_model.specs.Valid.{kind_there}
 use Rattle.fk_model.specs.Cut.{is_out, seen_by, unheld}
-use Rattle.fk_image.specs.declared.image.Link.{Link}
-use Rattle.fk_image.specs.declared.image.Link.TheVariants.{Null, Dead, In, Out, Root, Outside}
-use Rattle.fk_image.specs.declared.image.TalkRec.{TalkRec}
-use Rattle.fk_image.specs.declared.image.FaultRec.{FaultRec}
-use Rattle.fk_image.specs.declared.image.Rec.{Rec}
-use Rattle.fk_image.specs.declared.image.Rec.TheVariants.{Mutex, Cond, Portset, Mapping, Region, Port, Thread, Reference}
-use Rattle.fk_image.specs.declared.image.ObjectRec.{ObjectRec}
-use Rattle.fk_image.specs.declared.image.SpaceRec.{SpaceRec}
-use Rattle.fk_image.specs.declared.image.Image.{Image}
-use Rattle.fk_image.specs.Links.{may_hold, leads_to_region, leads_to_keeper, may_refer, leads_to_port, serves_port, talk_leads, taker_leads, fault_leads}
-use Rattle.fk_image.specs.Links.{body_leads, spaces_lead, all_lead}
-use Rattle.fk_image.specs.Picture.{ptr, mode, mode_while_calling, pictured_holder, pictured_talk, pictured_fault, pictured_thread, pictured_body}
-use Rattle.fk_image.specs.Picture.{pictured_body_at, picture}
-use Rattle.fk_image.specs.Valid.{fits_spaces, is_valid}
-use Rattle.laws_cut.specs.Likeness.{PtrLikeness, HasLikeness, IsPlainBody, AllInTalk, AllInFault, IfServer, seeing, seen_peer, seen_talk, seen_fault}
-use Rattle.laws_cut.specs.Likeness.PtrLikeness.{Nulls, Deads, Inside, PortOut}
+use Rattle.fk_image.specs.declared.image.image.Link.{Link}
+use Rattle.fk_image.specs.declared.image.image.Link.TheVariants.{Null, Dead, In, Out, Root, Outside}
+use Rattle.fk_image.specs.declared.image.image.TalkRec.{TalkRec}
+use Rattle.fk_image.specs.declared.image.image.FaultRec.{FaultRec}
+use Rattle.fk_image.specs.declared.image.image.Rec.{Rec}
+use Rattle.fk_image.specs.declared.image.image.Rec.TheVariants.{Mutex, Cond, Portset, Mapping, Region, Port, Thread, Reference}
+use Rattle.fk_image.specs.declared.image.image.ObjectRec.{ObjectRec}
+use Rattle.fk_image.specs.declared.image.image.SpaceRec.{SpaceRec}
+use Rattle.fk_image.specs.declared.image.image.Image.{Image}
+use Rattle.fk_image.specs.Image.Links.{may_hold, leads_to_region, leads_to_keeper, may_refer, leads_to_port, serves_port, talk_leads, taker_leads, fault_leads}
+use Rattle.fk_image.specs.Image.Links.{body_leads, spaces_lead, all_lead}
+use Rattle.fk_image.specs.Image.Picture.{ptr, mode, mode_while_calling, pictured_holder, pictured_talk, pictured_fault, pictured_thread, pictured_body}
+use Rattle.fk_image.specs.Image.Picture.{pictured_body_at, picture}
+use Rattle.fk_image.specs.Image.Valid.{fits_spaces, is_valid}
+use Rattle.laws_subtrees.specs.Cut.Likeness.{PtrLikeness, HasLikeness, IsPlainBody, AllInTalk, AllInFault, IfServer, seeing, seen_peer, seen_talk, seen_fault}
+use Rattle.laws_subtrees.specs.Cut.Likeness.PtrLikeness.{Nulls, Deads, Inside, PortOut}
 use Rattle.laws_pictures.proofs.Trees.{valid_is_tree}
 use Rattle.laws_pictures.proofs.Bodies.{Object, Inner, stands, lead_at, rec_all}
 use Rattle.laws_pictures.specs.Pictured.{PictureIsCutWorld}

@@ -19,10 +19,10 @@ use Rattle.fk_model.specs.Shapes.{IsShapedMode, IsCodeInRange}
 use Rattle.fk_model.specs.World.{World}
 use Rattle.fk_model.specs.Valid.{kind_there, is_good, is_good_set, is_one_of, may_lead}
 use Rattle.fk_model.proofs.calls.CallLaws.{words_read_back_lem, words_keep_length_lem}
-use Rattle.fk_image.specs.declared.image.Rec.{Rec}
-use Rattle.fk_image.specs.Ranges.{is_call_code, is_mode_byte, is_code, is_byte, is_half, is_bit, is_turn, are_words, fits_link, fits_talk, fits_taker}
-use Rattle.fk_image.specs.Ranges.{fits_fault, fits_body, is_set_word}
-use Rattle.fk_image.specs.Valid.{all_from, fits_object, after_object, fits_objects, fits_page, after_page, fits_pages}
+use Rattle.fk_image.specs.declared.image.image.Rec.{Rec}
+use Rattle.fk_image.specs.Image.Ranges.{is_call_code, is_mode_byte, is_code, is_byte, is_half, is_bit, is_turn, are_words, fits_link, fits_talk, fits_taker}
+use Rattle.fk_image.specs.Image.Ranges.{fits_fault, fits_body, is_set_word}
+use Rattle.fk_image.specs.Image.Valid.{all_from, fits_object, after_object, fits_objects, fits_page, after_page, fits_pages}
 use Rattle.laws_pictures.specs.Imaged.{link_of, peer_link, talk_rec, fault_rec, rec_of, with_object, objects_from, with_page, pages_from, rec_at, IsLed}
 use Rattle.laws_pictures.specs.Imaged.{IsPeerOf, IsLedTalk, IsTakenBy, IsLedFault, IsLedBody, IsAlone, IsSound, HasNumbers}
 

@@ -11,9 +11,9 @@ use Rattle.fk_model.specs.Records.{member_word}
 use Rattle.fk_model.specs.World.{World, serves}
 use Rattle.fk_model.specs.Valid.{services}
 use Rattle.fk_model.proofs.walks.PlaceLaws.{same_path_refl}
-use Rattle.fk_image.specs.declared.image.Rec.{Rec, Rec as recs}
-use Rattle.fk_image.specs.declared.image.ObjectRec.{ObjectRec}
-use Rattle.fk_image.specs.Links.{peer, talk_peers, taker_peers, fault_peers, body_peers, object_peers, space_peers, is_same_place, are_fresh}
+use Rattle.fk_image.specs.declared.image.image.Rec.{Rec, Rec as recs}
+use Rattle.fk_image.specs.declared.image.image.ObjectRec.{ObjectRec}
+use Rattle.fk_image.specs.Image.Links.{peer, talk_peers, taker_peers, fault_peers, body_peers, object_peers, space_peers, is_same_place, are_fresh}
 use Rattle.laws_pictures.specs.Imaged.{rank, link_of, peer_link, talk_rec, fault_rec, thread_rec, rec_of, with_object, objects_from, rec_at, space_rec}
 use Rattle.laws_pictures.specs.Imaged.{AreItsSpaces, IsPeerOf, IsLedTalk, IsTakenBy, IsLedFault, IsAlone, ServesOnce}
 use Rattle.laws_pictures.proofs.Imaged.{ranked_is}

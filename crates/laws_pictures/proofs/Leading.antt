@@ -16,14 +16,14 @@ use Rattle.fk_model.specs.World.{World}
 use Rattle.fk_model.specs.Valid.{kind_there, is_good, is_one_of, may_lead, leads_there, lies_with, is_good_talk, is_good_fault, is_good_peer, is_good_set}
 use Rattle.fk_model.specs.Valid.{all_in}
 use Rattle.fk_model.proofs.walks.PlaceLaws.{strip-append}
-use Rattle.fk_image.specs.declared.image.Rec.{Rec}
-use Rattle.fk_image.specs.declared.image.ObjectRec.{ObjectRec}
-use Rattle.fk_image.specs.declared.image.SpaceRec.{SpaceRec}
-use Rattle.fk_image.specs.Objects.{kind_of_rec, kind_in}
-use Rattle.fk_image.specs.Preorder.{run_beneath}
-use Rattle.fk_image.specs.Links.{kind_in_space, lies_in, has_space_at, end_of, is_space_within, is_region_kind, is_port_kind, is_portset_kind, is_thread_kind}
-use Rattle.fk_image.specs.Links.{is_referable, may_hold, leads_to_region, leads_to_keeper, may_refer, leads_to_port, serves_port, is_set_of, talk_leads}
-use Rattle.fk_image.specs.Links.{taker_leads, fault_leads, body_leads, space_leads, spaces_lead}
+use Rattle.fk_image.specs.declared.image.image.Rec.{Rec}
+use Rattle.fk_image.specs.declared.image.image.ObjectRec.{ObjectRec}
+use Rattle.fk_image.specs.declared.image.image.SpaceRec.{SpaceRec}
+use Rattle.fk_image.specs.Image.Objects.{kind_of_rec, kind_in}
+use Rattle.fk_image.specs.Image.Preorder.{run_beneath}
+use Rattle.fk_image.specs.Image.Links.{kind_in_space, lies_in, has_space_at, end_of, is_space_within, is_region_kind, is_port_kind, is_portset_kind, is_thread_kind}
+use Rattle.fk_image.specs.Image.Links.{is_referable, may_hold, leads_to_region, leads_to_keeper, may_refer, leads_to_port, serves_port, is_set_of, talk_leads}
+use Rattle.fk_image.specs.Image.Links.{taker_leads, fault_leads, body_leads, space_leads, spaces_lead}
 use Rattle.laws_pictures.specs.Imaged.{rank, link_of, peer_link, talk_rec, fault_rec, rec_of, rec_at, with_object, objects_from, holder_link, space_rec}
 use Rattle.laws_pictures.specs.Imaged.{AreItsSpaces, IsLed, IsPeerOf, IsLedTalk, IsTakenBy, IsLedFault, IsHeldBy, IsLedBody, IsAlone, IsSound, ImageLeads}
 use Rattle.laws_pictures.proofs.Numbers.{behind_first}

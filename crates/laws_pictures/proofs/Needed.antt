@@ -6,11 +6,11 @@ use Rattle.fk_model.specs.declared.stage.Stage.{Stage}
 use Rattle.fk_model.specs.Calls.{todo_of}
 use Rattle.fk_model.specs.Objects.{Body as bodies, Mode as modes, Thread, registers_of}
 use Rattle.fk_model.proofs.calls.CallLaws.{todo_writes_back_lem}
-use Rattle.fk_image.specs.declared.image.ThreadRec.{ThreadRec}
-use Rattle.fk_image.specs.declared.image.Rec.{Rec, Rec as recs}
-use Rattle.fk_image.specs.declared.image.SpaceRec.{SpaceRec}
-use Rattle.fk_image.specs.Ranges.{is_word, is_mode_byte, is_byte, is_code, is_half, are_words, fits_talk, fits_fault, fits_body}
-use Rattle.fk_image.specs.Picture.{mode, mode_while_calling, pictured_body, picture}
+use Rattle.fk_image.specs.declared.image.image.ThreadRec.{ThreadRec}
+use Rattle.fk_image.specs.declared.image.image.Rec.{Rec, Rec as recs}
+use Rattle.fk_image.specs.declared.image.image.SpaceRec.{SpaceRec}
+use Rattle.fk_image.specs.Image.Ranges.{is_word, is_mode_byte, is_byte, is_code, is_half, are_words, fits_talk, fits_fault, fits_body}
+use Rattle.fk_image.specs.Image.Picture.{mode, mode_while_calling, pictured_body, picture}
 use Rattle.laws_pictures.specs.Saved.{PicturesHaveWords}
 use Rattle.laws_pictures.proofs.Trees.{valid_is_tree}
 use Rattle.laws_pictures.proofs.Bodies.{Object, Inner, stands, rising, ranged}

@@ -4,9 +4,9 @@ use Rattle.std.proofs.Common.{◌∙◌, arith, eqb-true, eq-eqb, ne_eqb}
 use Rattle.std.specs.Prelude.{slice_get}
 use Rattle.fk_model.specs.Places.{Path}
 use Rattle.fk_model.specs.Objects.{and_then}
-use Rattle.fk_image.specs.declared.image.SpaceRec.{SpaceRec}
-use Rattle.fk_image.specs.Links.{lies_in}
-use Rattle.fk_image.specs.Picture.{child_from, child, space_number, path_within, space_path}
+use Rattle.fk_image.specs.declared.image.image.SpaceRec.{SpaceRec}
+use Rattle.fk_image.specs.Image.Links.{lies_in}
+use Rattle.fk_image.specs.Image.Picture.{child_from, child, space_number, path_within, space_path}
 use Rattle.laws_pictures.specs.Tree.{IsTree, NumbersArePaths}
 
 -- ---- lists by number

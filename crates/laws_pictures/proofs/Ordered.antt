@@ -10,13 +10,13 @@ use Rattle.fk_model.specs.Places.{Path, Ptr, Ptr as ptrs}
 use Rattle.fk_model.specs.Objects.{Body, Body as bodies, and_then, kind_of}
 use Rattle.fk_model.specs.World.{World}
 use Rattle.fk_model.specs.Valid.{kind_there}
-use Rattle.fk_image.specs.declared.image.SpaceRec.{SpaceRec}
-use Rattle.fk_image.specs.declared.open.Open.{Open}
-use Rattle.fk_image.specs.Objects.{kind_of_rec, kind_in}
-use Rattle.fk_image.specs.Ranges.{fits_link}
-use Rattle.fk_image.specs.Preorder.{from, first_floor, room_under, has_room, root_path, after_entering, path_after, after_space}
-use Rattle.fk_image.specs.Links.{kind_in_space}
-use Rattle.fk_image.specs.Valid.{all_from, fits_space, fits_spaces, is_null, is_first, is_next, fits_objects, fits_pages}
+use Rattle.fk_image.specs.declared.image.image.SpaceRec.{SpaceRec}
+use Rattle.fk_image.specs.declared.image.open.Open.{Open}
+use Rattle.fk_image.specs.Image.Objects.{kind_of_rec, kind_in}
+use Rattle.fk_image.specs.Image.Ranges.{fits_link}
+use Rattle.fk_image.specs.Image.Preorder.{from, first_floor, room_under, has_room, root_path, after_entering, path_after, after_space}
+use Rattle.fk_image.specs.Image.Links.{kind_in_space}
+use Rattle.fk_image.specs.Image.Valid.{all_from, fits_space, fits_spaces, is_null, is_first, is_next, fits_objects, fits_pages}
 use Rattle.laws_pictures.specs.Imaged.{rank, link_of, rec_of, rec_at, objects_from, pages_from, holder_link, space_rec, Follows, AreItsSpaces, IsLed, IsHeldBy}
 use Rattle.laws_pictures.specs.Imaged.{IsLedBody, IsAlone}
 use Rattle.laws_pictures.proofs.Trees.{there_low, get_before}

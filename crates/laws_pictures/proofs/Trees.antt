@@ -5,13 +5,13 @@ use Rattle.std.specs.Prelude.{slice_get}
 use Rattle.std.proofs.lemmas.Bool.{and_parts, ltb-true, ltb-false}
 use Rattle.std.proofs.lemmas.List.{append-nil, length-append}
 use Rattle.fk_model.specs.declared.names.Kind.{Kind}
-use Rattle.fk_image.specs.declared.image.SpaceRec.{SpaceRec}
-use Rattle.fk_image.specs.declared.open.Open.{Open}
-use Rattle.fk_image.specs.Objects.{kind_in}
-use Rattle.fk_image.specs.Ranges.{fits_link}
-use Rattle.fk_image.specs.Preorder.{from, first_floor, room_under, has_room, root_path, after_entering, after_space}
-use Rattle.fk_image.specs.Links.{kind_in_space, all_lead}
-use Rattle.fk_image.specs.Valid.{all_from, fits_space, fits_spaces, is_first, is_next, fits_objects, fits_pages, is_valid}
+use Rattle.fk_image.specs.declared.image.image.SpaceRec.{SpaceRec}
+use Rattle.fk_image.specs.declared.image.open.Open.{Open}
+use Rattle.fk_image.specs.Image.Objects.{kind_in}
+use Rattle.fk_image.specs.Image.Ranges.{fits_link}
+use Rattle.fk_image.specs.Image.Preorder.{from, first_floor, room_under, has_room, root_path, after_entering, after_space}
+use Rattle.fk_image.specs.Image.Links.{kind_in_space, all_lead}
+use Rattle.fk_image.specs.Image.Valid.{all_from, fits_space, fits_spaces, is_first, is_next, fits_objects, fits_pages, is_valid}
 use Rattle.laws_pictures.specs.Tree.{IsTree, IsFull, ValidIsTree}
 
 -- ---- one more at the end

@@ -1,6 +1,6 @@
 -- The image of a subtree is valid.
 use Rattle.std.proofs.lemmas.Bool.{and_from}
-use Rattle.fk_image.specs.Valid.{is_valid}
+use Rattle.fk_image.specs.Image.Valid.{is_valid}
 use Rattle.laws_pictures.specs.Imaged.{ImageIsValid}
 use Rattle.laws_pictures.proofs.Ordered.{link_fits, spaces_fit}
 use Rattle.laws_pictures.proofs.Fitting.{all_fit}

@@ -8,12 +8,12 @@ use Rattle.fk_model.specs.Objects.Body.{Mapping, Thread_of}
 use Rattle.fk_model.specs.World.{World}
 use Rattle.fk_model.specs.Whole.{IsWhole, IsSavable}
 use Rattle.fk_model.specs.Cut.{cut, is_out, IsPlain}
-use Rattle.laws_further.specs.ClosedLaws.{IsUncut}
+use Rattle.laws_subtrees.specs.Further.ClosedLaws.{IsUncut}
 use Rattle.laws_pictures.specs.Imaged.{image_of, AreItsSpaces, IsAlone, IsSound, HasNumbers}
-use Rattle.fk_image.specs.Picture.{picture}
-use Rattle.fk_image.specs.declared.image.Image.{Image}
-use Rattle.fk_image.specs.Ranges.{is_word}
-use Rattle.fk_image.specs.Valid.{is_valid}
+use Rattle.fk_image.specs.Image.Picture.{picture}
+use Rattle.fk_image.specs.declared.image.image.Image.{Image}
+use Rattle.fk_image.specs.Image.Ranges.{is_word}
+use Rattle.fk_image.specs.Image.Valid.{is_valid}
 
 -- what an image needs of a subtree of a world
 pub record IsSavedSubtree (w : World) (nester : Path) (slot : ℕ) : Type 0 where

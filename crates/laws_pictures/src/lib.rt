@@ -3,7 +3,7 @@
 //! The spaces of a valid image are a tree, in which a space has one number and one path; its picture is a world such as a subtree
 //! that is seen alone. And back: a subtree of a whole and savable world, closed and without a porter, is the picture of a valid image.
 //!
-//! It stands on `fk_model` and `fk_image`, whose definitions the laws are about, on `laws_machine`, `laws_cut` and `laws_further`.
+//! It stands on `fk_model` and `fk_image`, whose definitions the laws are about, on `laws_moves::machine`, `laws_subtrees::cut` and `laws_subtrees::further`.
 //! Checkpoints rest on the way back, restores on the way from an image.
 #![tactic(auto)]
 

@@ -1,12 +1,3 @@
-pub mod Rooms
-pub mod Script
-pub mod Fits
-pub mod Stages
-pub mod Roomed
-pub mod Laws
+pub mod Sites
 pub mod Restore
-pub mod Ends
-pub mod Exact
-pub mod Rest
-pub mod Example
-pub mod Bounded
+pub mod Rooms

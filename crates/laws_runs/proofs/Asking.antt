@@ -5,12 +5,12 @@ use Rattle.fk_model.specs.declared.limits.TheConstants.{LAST_PORTER_SLOT}
 use Rattle.fk_model.specs.declared.moves.Ask.{Ask}
 use Rattle.fk_model.specs.declared.names.Who.{Who}
 use Rattle.fk_model.specs.declared.stage.Stage.{Stage}
-use Rattle.laws_frozen.specs.Users.{is_users}
+use Rattle.laws_moves.specs.Frozen.Users.{is_users}
 use Rattle.laws_jobs.specs.Machines.{Head}
 use Rattle.laws_jobs.specs.Machines.Head.{Stops, Asks}
 use Rattle.laws_runs.specs.Cores.{House, Work, Core, current, is_porter_of, others_ask, job_asks, work_of, work_asks, asks_of_job, Asker, asker}
 use Rattle.laws_runs.specs.Cores.Asker.{Nobody, Others, Job}
-use Rattle.laws_whole.specs.Runnable.{has_all_words}
+use Rattle.laws_moves.specs.Whole.Runnable.{has_all_words}
 use Rattle.laws_runs.specs.Composed.{AskAsUsers}
 
 module _ {J S A V : Type 0} (h : House J S A V) (c : Core S A V) (who : Who) where

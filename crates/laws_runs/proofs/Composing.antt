@@ -17,13 +17,13 @@ use Rattle.fk_model.specs.StateRows.{is_native}
 use Rattle.fk_model.specs.Runs.{Event, after}
 use Rattle.fk_model.specs.Moves.{chooses}
 use Rattle.fk_model.specs.Who.{event_of, space_born, named}
-use Rattle.laws_frozen.specs.Users.{is_users}
-use Rattle.laws_frozen.specs.Holding.{IsUsersMove}
+use Rattle.laws_moves.specs.Frozen.Users.{is_users}
+use Rattle.laws_moves.specs.Frozen.Holding.{IsUsersMove}
 use Rattle.laws_jobs.proofs.Filling.{users_owed, clean_on}
-use Rattle.laws_whole.specs.Runnable.{has_all_words, IsProper}
-use Rattle.laws_whole.proofs.Laws.{gives_one_number, keeps_runnable, savable_runnable}
-use Rattle.laws_savable.specs.Savable.{Owes, IsSound}
-use Rattle.laws_savable.proofs.Laws.{keeps_savable}
+use Rattle.laws_moves.specs.Whole.Runnable.{has_all_words, IsProper}
+use Rattle.laws_moves.proofs.InWhole.Laws.{gives_one_number, keeps_runnable, savable_runnable}
+use Rattle.laws_moves.specs.Savable.Savable.{Owes, IsSound}
+use Rattle.laws_moves.proofs.InSavable.Laws.{keeps_savable}
 use Rattle.laws_jobs.specs.Machines.{Head, heard, call_of, said_of, IsReadyAt}
 use Rattle.laws_jobs.specs.Machines.Head.{Stops, Asks}
 use Rattle.laws_runs.specs.Cores.{JobEnd, House, Work, Core, current, asker, work_of, IsReadyBy, IsReadyIn, others_moved, job_moved, job_hears, moved_by, moved}

@@ -4,7 +4,7 @@ use Rattle.std.proofs.lemmas.Bool.{leb-true, leb-false}
 use Rattle.fk_model.specs.Places.{Path}
 use Rattle.fk_model.specs.Cut.{cut}
 use Rattle.fk_model.specs.Rebind.{rebound}
-use Rattle.laws_further.proofs.ClosedLaws.{closed_is_plain}
+use Rattle.laws_subtrees.proofs.InFurther.ClosedLaws.{closed_is_plain}
 use Rattle.laws_runs.specs.Cores.{world_at}
 use Rattle.laws_jobs.specs.Jobs.{MayBegin}
 use Rattle.laws_runs.specs.Headline.{CheckpointsHold, RestoresHold, RestoredGoOn}

@@ -11,12 +11,12 @@ use Rattle.fk_model.specs.Runs.{Event, after, run as events_run}
 use Rattle.fk_model.specs.Cut.{cut, IsPlain}
 use Rattle.fk_model.specs.Further.{Onward, Told, IsFurther}
 use Rattle.fk_model.specs.Rebind.{rebound, rebound_told}
-use Rattle.laws_whole.specs.Runnable.{IsProper, AreProper}
-use Rattle.laws_whole.proofs.Laws.{savable_runnable, gives_one_number}
-use Rattle.laws_savable.specs.Savable.{IsSound}
-use Rattle.laws_further.specs.Runs.{IsSeenRun}
-use Rattle.laws_further.proofs.Runs.{proper_run_keeps, cut_is_cut_world}
-use Rattle.laws_cut.proofs.joined.Rebinding.{run_rebinds}
+use Rattle.laws_moves.specs.Whole.Runnable.{IsProper, AreProper}
+use Rattle.laws_moves.proofs.InWhole.Laws.{savable_runnable, gives_one_number}
+use Rattle.laws_moves.specs.Savable.Savable.{IsSound}
+use Rattle.laws_subtrees.specs.Further.Runs.{IsSeenRun}
+use Rattle.laws_subtrees.proofs.InFurther.Runs.{proper_run_keeps, cut_is_cut_world}
+use Rattle.laws_subtrees.proofs.InCut.joined.Rebinding.{run_rebinds}
 use Rattle.laws_runs.specs.Cores.{House, Core, asker, IsReadyIn, moved, Settles, IsRun, world_at}
 use Rattle.laws_runs.specs.Cores.IsRun.{Begins, Goes}
 use Rattle.laws_runs.specs.Composed.{AskAsUsers, AreTidy, IsStart}

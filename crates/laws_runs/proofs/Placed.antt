@@ -16,9 +16,9 @@ use Rattle.fk_model.specs.Searches.{depth}
 use Rattle.fk_model.specs.World.{World}
 use Rattle.fk_model.specs.Runs.{Event, after}
 use Rattle.fk_model.specs.Who.{event_of, space_born, named}
-use Rattle.laws_frozen.specs.Users.{is_users}
-use Rattle.laws_frozen.specs.Holding.{IsUsersMove}
-use Rattle.laws_savable.specs.Savable.{IsSound}
+use Rattle.laws_moves.specs.Frozen.Users.{is_users}
+use Rattle.laws_moves.specs.Frozen.Holding.{IsUsersMove}
+use Rattle.laws_moves.specs.Savable.Savable.{IsSound}
 use Rattle.laws_jobs.specs.Machines.{Head, Machine, heard, call_of, said_of, IsReadyAt, IsAtCall, Interleaved, AtWork}
 use Rattle.laws_jobs.specs.Machines.Head.{Stops, Asks}
 use Rattle.laws_jobs.specs.Machines.Interleaved.{Here, Another, Own}

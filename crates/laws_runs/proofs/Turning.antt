@@ -11,7 +11,7 @@ use Rattle.fk_model.specs.Places.{Path}
 use Rattle.fk_model.specs.Moves.{chooses}
 use Rattle.fk_model.specs.Valid.{birth_at}
 use Rattle.fk_model.specs.Who.{event_of, space_born, named}
-use Rattle.laws_savable.specs.Savable.{IsSound}
+use Rattle.laws_moves.specs.Savable.Savable.{IsSound}
 use Rattle.laws_jobs.specs.Machines.{call_of, IsReadyAt, AtWork}
 use Rattle.fk_model.specs.Runs.{Event, after}
 use Rattle.fk_model.specs.Searches.{depth}

@@ -7,8 +7,8 @@ use Rattle.fk_model.specs.declared.moves.Move.{Move}
 use Rattle.fk_model.specs.declared.names.Who.{Who}
 use Rattle.fk_model.specs.Places.{Path}
 use Rattle.fk_model.specs.Searches.{depth}
-use Rattle.laws_frozen.specs.Users.{is_users}
-use Rattle.laws_savable.specs.Savable.{IsSound}
+use Rattle.laws_moves.specs.Frozen.Users.{is_users}
+use Rattle.laws_moves.specs.Savable.Savable.{IsSound}
 use Rattle.laws_jobs.specs.Machines.{Machine, AtWork, calls_made}
 use Rattle.fk_model.specs.World.{World}
 use Rattle.laws_jobs.specs.Machines.Head.{Stops}

@@ -12,7 +12,7 @@ use Rattle.fk_model.specs.World.{World}
 use Rattle.fk_model.specs.Valid.{birth_at}
 use Rattle.fk_model.specs.Runs.{Event, after}
 use Rattle.fk_model.specs.Who.{event_of}
-use Rattle.laws_whole.specs.Runnable.{has_all_words}
+use Rattle.laws_moves.specs.Whole.Runnable.{has_all_words}
 use Rattle.laws_jobs.specs.Machines.{Head, Machine, heard, said_of, IsReadyAt}
 use Rattle.laws_jobs.specs.Machines.Head.{Stops, Asks}
 

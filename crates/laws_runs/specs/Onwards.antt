@@ -10,7 +10,7 @@ use Rattle.fk_model.specs.Who.{event_of}
 use Rattle.fk_model.specs.Cut.{cut, IsPlain}
 use Rattle.fk_model.specs.Further.{Onward, Told, IsFurther}
 use Rattle.fk_model.specs.Rebind.{rebound, rebound_told}
-use Rattle.laws_further.specs.Runs.{IsSeenRun}
+use Rattle.laws_subtrees.specs.Further.Runs.{IsSeenRun}
 use Rattle.laws_runs.specs.Cores.{House, Core, Asker, asker, IsRun, world_at}
 use Rattle.laws_runs.specs.Cores.Asker.{Nobody, Others, Job}
 use Rattle.laws_runs.specs.Cores.IsRun.{Begins, Goes}

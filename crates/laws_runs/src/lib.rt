@@ -1,7 +1,7 @@
 //! Whole runs: cores, turns of users, native servers and jobs, one after the other, and what a run is for the jobs that
 //! work in it and for the subtrees that it moves. Each law is the contract of a function that does nothing.
 //!
-//! It stands on `laws_further` and `laws_jobs`. It names no store: a core of code says in its own clauses which of these
+//! It stands on `laws_subtrees::further` and `laws_jobs`. It names no store: a core of code says in its own clauses which of these
 //! cores it stands for.
 #![tactic(auto)]
 

@@ -6,24 +6,24 @@ use Rattle.std.proofs.lemmas.Grind.{flat_map-append}
 use Rattle.toml.specs.Data.{no_items, Members, no_members}
 use Rattle.fk_model.specs.declared.moves.Rule.{Rule}
 use Rattle.fk_model.specs.declared.job.JobSpec.{JobSpec}
-use Rattle.fk_scenario_fields.specs.declared.fail.ScenarioError.{ScenarioError}
-use Rattle.fk_scenario_fields.specs.Gives.{◌>>=◌, unless, placed}
-use Rattle.fk_scenario_fields.proofs.Steps.{after, placed-Ok}
-use Rattle.fk_scenario_entries.specs.declared.types.Program.{Program}
-use Rattle.fk_scenario_entries.specs.declared.types.SpaceEntry.{SpaceEntry}
-use Rattle.fk_scenario_entries.specs.declared.types.ObjectEntry.{ObjectEntry}
-use Rattle.fk_scenario_entries.specs.declared.types.ServerEntry.{ServerEntry}
-use Rattle.fk_scenario_entries.specs.declared.jobs.JobEntry.{JobEntry}
-use Rattle.fk_scenario_sections.specs.Programs.{programs_from}
-use Rattle.fk_scenario_sections.specs.Spaces.{spaces_from}
-use Rattle.fk_scenario_sections.specs.Objects.{objects_from}
-use Rattle.fk_scenario_sections.specs.Servers.{servers_from}
-use Rattle.fk_scenario_sections.specs.Jobs.{entries_from}
-use Rattle.fk_scenario.specs.declared.scenario.Scenario.{Scenario}
-use Rattle.fk_scenario.specs.Aims.{aims_from, aims_well, entry_space}
-use Rattle.fk_scenario.specs.Servers.{serving_from, may_serve, alias_of}
-use Rattle.fk_scenario.specs.Jobs.{job_after, jobs_from, nester_from, first_number}
-use Rattle.fk_scenario.specs.Reading.{Sections, sections_of, Top, top_of, places_of, first_round, second_round, scenario_of}
+use Rattle.fk_scenario.specs.declared.fields.fail.ScenarioError.{ScenarioError}
+use Rattle.fk_scenario.specs.Fields.Gives.{◌>>=◌, unless, placed}
+use Rattle.fk_scenario.proofs.InFields.Steps.{after, placed-Ok}
+use Rattle.fk_scenario.specs.declared.entries.types.Program.{Program}
+use Rattle.fk_scenario.specs.declared.entries.types.SpaceEntry.{SpaceEntry}
+use Rattle.fk_scenario.specs.declared.entries.types.ObjectEntry.{ObjectEntry}
+use Rattle.fk_scenario.specs.declared.entries.types.ServerEntry.{ServerEntry}
+use Rattle.fk_scenario.specs.declared.entries.jobs.JobEntry.{JobEntry}
+use Rattle.fk_scenario.specs.Sections.Programs.{programs_from}
+use Rattle.fk_scenario.specs.Sections.Spaces.{spaces_from}
+use Rattle.fk_scenario.specs.Sections.Objects.{objects_from}
+use Rattle.fk_scenario.specs.Sections.Servers.{servers_from}
+use Rattle.fk_scenario.specs.Sections.Jobs.{entries_from}
+use Rattle.fk_scenario.specs.declared.scenario.scenario.Scenario.{Scenario}
+use Rattle.fk_scenario.specs.Scenario.Aims.{aims_from, aims_well, entry_space}
+use Rattle.fk_scenario.specs.Scenario.Servers.{serving_from, may_serve, alias_of}
+use Rattle.fk_scenario.specs.Scenario.Jobs.{job_after, jobs_from, nester_from, first_number}
+use Rattle.fk_scenario.specs.Scenario.Reading.{Sections, sections_of, Top, top_of, places_of, first_round, second_round, scenario_of}
 use Rattle.laws_scenario_faults.specs.Asked.{AreKept, AllKeep}
 use Rattle.laws_scenario_faults.specs.Tables.{table, array, entries, number}
 use Rattle.laws_scenario_faults.specs.Entries.{top_asks, budget, workers, programs, spaces, servers, jobs}

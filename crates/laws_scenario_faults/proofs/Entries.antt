@@ -10,24 +10,24 @@ use Rattle.fk_model.specs.Names.{is_name}
 use Rattle.fk_model.specs.declared.moves.Rule.{Rule}
 use Rattle.fk_model.specs.declared.moves.Rule.TheVariants.{Echo}
 use Rattle.fk_asm.specs.Assembler.{assembled}
-use Rattle.fk_scenario_fields.specs.Gives.{◌>>=◌, or_rule, unless, placed}
-use Rattle.fk_scenario_fields.specs.Fields.{typed, array_in, integers_from, ranged}
-use Rattle.fk_scenario_entries.specs.declared.types.Program.{Program}
-use Rattle.fk_scenario_entries.specs.declared.types.SpaceEntry.{SpaceEntry}
-use Rattle.fk_scenario_entries.specs.declared.types.ServerEntry.{ServerEntry}
-use Rattle.fk_scenario_entries.specs.declared.types.ServiceSpec.TheVariants.{Console}
-use Rattle.fk_scenario_entries.specs.declared.jobs.JobEntry.{JobEntry}
-use Rattle.fk_scenario_entries.specs.declared.jobs.JobKind.TheVariants.{Checkpoint, Restore}
-use Rattle.fk_scenario_entries.specs.Programs.{program_of}
-use Rattle.fk_scenario_entries.specs.Servers as readers
-use Rattle.fk_scenario_entries.specs.Servers.{console_of, listed_of, rule_from, server_in}
-use Rattle.fk_scenario_entries.specs.Jobs as job_readers
-use Rattle.fk_scenario_entries.specs.Jobs.{lists_from, lists_of, is_restore, pairs_in, bind_in, job_fields, JobFields, pair_of, pairs_from, is_bound}
-use Rattle.fk_scenario_entries.specs.Jobs.{distinct_from, numbers_of, job_kind, job_in}
-use Rattle.fk_scenario_sections.specs.Programs.{programs_from, index_of, position_of}
-use Rattle.fk_scenario_sections.specs.Spaces.{space_fields, space_after, space_in, spaces_from}
-use Rattle.fk_scenario_sections.specs.Servers.{servers_from}
-use Rattle.fk_scenario_sections.specs.Jobs.{entries_from}
+use Rattle.fk_scenario.specs.Fields.Gives.{◌>>=◌, or_rule, unless, placed}
+use Rattle.fk_scenario.specs.Fields.Fields.{typed, array_in, integers_from, ranged}
+use Rattle.fk_scenario.specs.declared.entries.types.Program.{Program}
+use Rattle.fk_scenario.specs.declared.entries.types.SpaceEntry.{SpaceEntry}
+use Rattle.fk_scenario.specs.declared.entries.types.ServerEntry.{ServerEntry}
+use Rattle.fk_scenario.specs.declared.entries.types.ServiceSpec.TheVariants.{Console}
+use Rattle.fk_scenario.specs.declared.entries.jobs.JobEntry.{JobEntry}
+use Rattle.fk_scenario.specs.declared.entries.jobs.JobKind.TheVariants.{Checkpoint, Restore}
+use Rattle.fk_scenario.specs.Entries.Programs.{program_of}
+use Rattle.fk_scenario.specs.Entries.Servers as readers
+use Rattle.fk_scenario.specs.Entries.Servers.{console_of, listed_of, rule_from, server_in}
+use Rattle.fk_scenario.specs.Entries.Jobs as job_readers
+use Rattle.fk_scenario.specs.Entries.Jobs.{lists_from, lists_of, is_restore, pairs_in, bind_in, job_fields, JobFields, pair_of, pairs_from, is_bound}
+use Rattle.fk_scenario.specs.Entries.Jobs.{distinct_from, numbers_of, job_kind, job_in}
+use Rattle.fk_scenario.specs.Sections.Programs.{programs_from, index_of, position_of}
+use Rattle.fk_scenario.specs.Sections.Spaces.{space_fields, space_after, space_in, spaces_from}
+use Rattle.fk_scenario.specs.Sections.Servers.{servers_from}
+use Rattle.fk_scenario.specs.Sections.Jobs.{entries_from}
 use Rattle.laws_scenario_faults.specs.Tables.{table_of, each, is_so_if, is_table, is_integer, is_array_of, items, may_have, members, entries, text_at, has}
 use Rattle.laws_scenario_faults.specs.Tables.{is_text, is_in, is_in_if, number, number_or, is_path, integers, integers_at, integer}
 use Rattle.laws_scenario_faults.specs.Entries as asked

@@ -5,10 +5,10 @@ use Rattle.std.proofs.lemmas.List.{append-nil, append_assoc}
 use Rattle.std.specs.List.{list_all, slice_split}
 use Rattle.toml.specs.Data.{Data, Items, no_items, item, Members, no_members, member, get_member, as_str, as_integer, as_bool, as_array, as_table}
 use Rattle.fk_model.specs.Numbers.{plain_number_up_to}
-use Rattle.fk_scenario_fields.specs.Gives.{◌>>=◌, or_rule}
-use Rattle.fk_scenario_fields.specs.Fields.{is_among, known, typed, text_in, flag_in, integer_in, array_in, table_in, needed_text, needed_integer}
-use Rattle.fk_scenario_fields.specs.Fields.{integers_from, integers_of, integers_in, ranged, ranged_or, bytes_from, words_from}
-use Rattle.fk_scenario_fields.specs.Paths.{slots_from, is_slash, parse_path, optional_path}
+use Rattle.fk_scenario.specs.Fields.Gives.{◌>>=◌, or_rule}
+use Rattle.fk_scenario.specs.Fields.Fields.{is_among, known, typed, text_in, flag_in, integer_in, array_in, table_in, needed_text, needed_integer}
+use Rattle.fk_scenario.specs.Fields.Fields.{integers_from, integers_of, integers_in, ranged, ranged_or, bytes_from, words_from}
+use Rattle.fk_scenario.specs.Fields.Paths.{slots_from, is_slash, parse_path, optional_path}
 use Rattle.laws_scenario_faults.specs.Tables.{has_only, each, is_so, is_so_if, has, may_have, is_text, is_flag, is_integer, is_array, is_table, is_array_of}
 use Rattle.laws_scenario_faults.specs.Tables.{items, integer_of, integers, integers_at, is_in, is_in_if, number, number_or, is_slot, slot, is_path, path}
 use Rattle.laws_scenario_faults.specs.Tables.{is_path_if, path_if, text, text_at, flag, integer, array, table}

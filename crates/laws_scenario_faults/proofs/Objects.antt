@@ -3,17 +3,17 @@ use Rattle.std.proofs.Common.{◌≡◌, ℕ, ◌+◌, ℤ, Bool, true, false, n
 use Rattle.std.proofs.Common.{codes, refl, ap, ◌∙◌}
 use Rattle.std.proofs.lemmas.List.{append_assoc}
 use Rattle.toml.specs.Data.{Data, Items, no_items, item, Members}
-use Rattle.fk_scenario_fields.specs.Gives.{◌>>=◌, placed}
-use Rattle.fk_scenario_fields.specs.Paths.{enclosing}
-use Rattle.fk_scenario_entries.specs.declared.types.SpaceEntry.{SpaceEntry}
-use Rattle.fk_scenario_entries.specs.declared.types.ObjectEntry.{ObjectEntry}
-use Rattle.fk_scenario_entries.specs.declared.types.Spec.{Spec}
-use Rattle.fk_scenario_entries.specs.declared.types.Spec.TheVariants.{Cond, Portset}
-use Rattle.fk_scenario_entries.specs.Objects as readers
-use Rattle.fk_scenario_entries.specs.Objects.{thread_spec, mutex_spec, extent_in, window_of, mapping_keys, mapping_spec, region_spec, set_of, port_spec}
-use Rattle.fk_scenario_entries.specs.Objects.{reference_spec, plain_spec, spec_of, object_entry}
-use Rattle.fk_scenario_sections.specs.Spaces.{has_space, has_space_or_root}
-use Rattle.fk_scenario_sections.specs.Objects.{has_object, object_after, objects_from}
+use Rattle.fk_scenario.specs.Fields.Gives.{◌>>=◌, placed}
+use Rattle.fk_scenario.specs.Fields.Paths.{enclosing}
+use Rattle.fk_scenario.specs.declared.entries.types.SpaceEntry.{SpaceEntry}
+use Rattle.fk_scenario.specs.declared.entries.types.ObjectEntry.{ObjectEntry}
+use Rattle.fk_scenario.specs.declared.entries.types.Spec.{Spec}
+use Rattle.fk_scenario.specs.declared.entries.types.Spec.TheVariants.{Cond, Portset}
+use Rattle.fk_scenario.specs.Entries.Objects as readers
+use Rattle.fk_scenario.specs.Entries.Objects.{thread_spec, mutex_spec, extent_in, window_of, mapping_keys, mapping_spec, region_spec, set_of, port_spec}
+use Rattle.fk_scenario.specs.Entries.Objects.{reference_spec, plain_spec, spec_of, object_entry}
+use Rattle.fk_scenario.specs.Sections.Spaces.{has_space, has_space_or_root}
+use Rattle.fk_scenario.specs.Sections.Objects.{has_object, object_after, objects_from}
 use Rattle.laws_scenario_faults.specs.Tables.{table_of, is_table, is_text, has, items, text, text_at, integer, is_in_if, number, is_path}
 use Rattle.laws_scenario_faults.specs.Objects as asked
 use Rattle.laws_scenario_faults.specs.Objects.{thread_asks, thread, mutex_asks, mutex, first, count, window_asks, mapping_asks, mapping, region_asks, region}

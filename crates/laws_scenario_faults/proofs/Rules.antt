@@ -1,7 +1,7 @@
 -- Rules: what is read of entries by what they are asked.
 use Rattle.std.proofs.Common.{◌≡◌, ℕ, Bool, true, false, List, [], ◌∷◌, ◌++◌, length, Result, Ok, Err, if◌then◌else◌, refl, ap, subst}
-use Rattle.fk_scenario_fields.specs.declared.fail.ScenarioError.{ScenarioError}
-use Rattle.fk_scenario_fields.specs.Gives.{◌>>=◌, unless, placed}
+use Rattle.fk_scenario.specs.declared.fields.fail.ScenarioError.{ScenarioError}
+use Rattle.fk_scenario.specs.Fields.Gives.{◌>>=◌, unless, placed}
 use Rattle.laws_scenario_faults.specs.Asked.{AreKept, BreaksFirst, Section, AllKeep, BreaksAt}
 use Rattle.laws_scenario_faults.specs.Asked.BreaksFirst.{Here, Later}
 use Rattle.laws_scenario_faults.specs.Asked.AllKeep.{NoEntry, Entry}

@@ -9,18 +9,18 @@ use Rattle.fk_model.specs.Names.{is_name}
 use Rattle.fk_model.specs.declared.moves.Rule.{Rule}
 use Rattle.fk_model.specs.declared.moves.Rule.TheVariants.{Echo}
 use Rattle.fk_asm.specs.Assembler.{assembled}
-use Rattle.fk_scenario_entries.specs.declared.types.Program.{Program}
-use Rattle.fk_scenario_entries.specs.declared.types.SpaceEntry.{SpaceEntry}
-use Rattle.fk_scenario_entries.specs.declared.types.ServerEntry.{ServerEntry}
-use Rattle.fk_scenario_entries.specs.declared.types.ServiceSpec.{ServiceSpec}
-use Rattle.fk_scenario_entries.specs.declared.types.ServiceSpec.TheVariants.{Console, Listed}
-use Rattle.fk_scenario_entries.specs.declared.jobs.JobEntry.{JobEntry}
-use Rattle.fk_scenario_entries.specs.declared.jobs.JobKind.{JobKind}
-use Rattle.fk_scenario_entries.specs.declared.jobs.JobKind.TheVariants.{Checkpoint, Restore}
-use Rattle.fk_scenario_entries.specs.Servers.{rule_from}
-use Rattle.fk_scenario_entries.specs.Jobs.{is_restore, is_bound}
-use Rattle.fk_scenario_sections.specs.Programs.{position_of}
-use Rattle.fk_scenario_sections.specs.Spaces.{is_no_name, may_stand, has_room_for_space}
+use Rattle.fk_scenario.specs.declared.entries.types.Program.{Program}
+use Rattle.fk_scenario.specs.declared.entries.types.SpaceEntry.{SpaceEntry}
+use Rattle.fk_scenario.specs.declared.entries.types.ServerEntry.{ServerEntry}
+use Rattle.fk_scenario.specs.declared.entries.types.ServiceSpec.{ServiceSpec}
+use Rattle.fk_scenario.specs.declared.entries.types.ServiceSpec.TheVariants.{Console, Listed}
+use Rattle.fk_scenario.specs.declared.entries.jobs.JobEntry.{JobEntry}
+use Rattle.fk_scenario.specs.declared.entries.jobs.JobKind.{JobKind}
+use Rattle.fk_scenario.specs.declared.entries.jobs.JobKind.TheVariants.{Checkpoint, Restore}
+use Rattle.fk_scenario.specs.Entries.Servers.{rule_from}
+use Rattle.fk_scenario.specs.Entries.Jobs.{is_restore, is_bound}
+use Rattle.fk_scenario.specs.Sections.Programs.{position_of}
+use Rattle.fk_scenario.specs.Sections.Spaces.{is_no_name, may_stand, has_room_for_space}
 use Rattle.laws_scenario_faults.specs.Asked.{Section}
 use Rattle.laws_scenario_faults.specs.Tables.{table_of, has_only, has, may_have, is_text, is_flag, is_integer, is_table, is_array, is_array_of, text, flag}
 use Rattle.laws_scenario_faults.specs.Tables.{integer, text_at, integers_at, is_in, is_in_if, number, number_or, is_path, path, entries, integers}

@@ -4,13 +4,13 @@ use Rattle.std.specs.Prelude.{if◌then◌else◌}
 use Rattle.std.specs.List.{list_all}
 use Rattle.std.specs.Str.{bytes_eq}
 use Rattle.toml.specs.Data.{Data, Members}
-use Rattle.fk_scenario_fields.specs.Paths.{enclosing}
-use Rattle.fk_scenario_entries.specs.declared.types.SpaceEntry.{SpaceEntry}
-use Rattle.fk_scenario_entries.specs.declared.types.ObjectEntry.{ObjectEntry}
-use Rattle.fk_scenario_entries.specs.declared.types.Spec.{Spec}
-use Rattle.fk_scenario_entries.specs.declared.types.Spec.TheVariants.{Thread, Mutex, Cond, Portset, Mapping, Region, Port, Reference}
-use Rattle.fk_scenario_sections.specs.Spaces.{has_space, has_space_or_root}
-use Rattle.fk_scenario_sections.specs.Objects.{has_object}
+use Rattle.fk_scenario.specs.Fields.Paths.{enclosing}
+use Rattle.fk_scenario.specs.declared.entries.types.SpaceEntry.{SpaceEntry}
+use Rattle.fk_scenario.specs.declared.entries.types.ObjectEntry.{ObjectEntry}
+use Rattle.fk_scenario.specs.declared.entries.types.Spec.{Spec}
+use Rattle.fk_scenario.specs.declared.entries.types.Spec.TheVariants.{Thread, Mutex, Cond, Portset, Mapping, Region, Port, Reference}
+use Rattle.fk_scenario.specs.Sections.Spaces.{has_space, has_space_or_root}
+use Rattle.fk_scenario.specs.Sections.Objects.{has_object}
 use Rattle.laws_scenario_faults.specs.Asked.{Section}
 use Rattle.laws_scenario_faults.specs.Tables.{table_of, has_only, has, may_have, is_text, is_flag, is_integer, is_table, is_array_of, text, flag, integer}
 use Rattle.laws_scenario_faults.specs.Tables.{text_at, integers_at, is_in, is_in_if, number, number_or, is_path, path, is_path_if, path_if}

@@ -3,16 +3,16 @@ use Rattle.std.specs.Prelude.{◌≡◌, ℕ, List, [], ◌∷◌, map, flat_map
 use Rattle.toml.specs.Data.{Data, Members, no_members}
 use Rattle.fk_model.specs.declared.moves.Rule.{Rule}
 use Rattle.fk_model.specs.declared.job.JobSpec.{JobSpec}
-use Rattle.fk_scenario_fields.specs.declared.fail.ScenarioError.{ScenarioError}
-use Rattle.fk_scenario_entries.specs.declared.types.Program.{Program}
-use Rattle.fk_scenario_entries.specs.declared.types.SpaceEntry.{SpaceEntry}
-use Rattle.fk_scenario_entries.specs.declared.types.ObjectEntry.{ObjectEntry}
-use Rattle.fk_scenario_entries.specs.declared.types.ServerEntry.{ServerEntry}
-use Rattle.fk_scenario_entries.specs.declared.jobs.JobEntry.{JobEntry}
-use Rattle.fk_scenario.specs.Aims.{aims_well, entry_space}
-use Rattle.fk_scenario.specs.Servers.{may_serve, alias_of}
-use Rattle.fk_scenario.specs.Jobs.{nester_from, first_number, may_be_done, job_spec}
-use Rattle.fk_scenario.specs.Reading.{scenario_of}
+use Rattle.fk_scenario.specs.declared.fields.fail.ScenarioError.{ScenarioError}
+use Rattle.fk_scenario.specs.declared.entries.types.Program.{Program}
+use Rattle.fk_scenario.specs.declared.entries.types.SpaceEntry.{SpaceEntry}
+use Rattle.fk_scenario.specs.declared.entries.types.ObjectEntry.{ObjectEntry}
+use Rattle.fk_scenario.specs.declared.entries.types.ServerEntry.{ServerEntry}
+use Rattle.fk_scenario.specs.declared.entries.jobs.JobEntry.{JobEntry}
+use Rattle.fk_scenario.specs.Scenario.Aims.{aims_well, entry_space}
+use Rattle.fk_scenario.specs.Scenario.Servers.{may_serve, alias_of}
+use Rattle.fk_scenario.specs.Scenario.Jobs.{nester_from, first_number, may_be_done, job_spec}
+use Rattle.fk_scenario.specs.Scenario.Reading.{scenario_of}
 use Rattle.laws_scenario_faults.specs.Asked.{AreKept, BreaksFirst, Section, AllKeep, BreaksAt}
 use Rattle.laws_scenario_faults.specs.Tables.{members, table, entries}
 use Rattle.laws_scenario_faults.specs.Entries.{top_asks, programs, spaces, servers, jobs}

@@ -3,8 +3,8 @@ use Rattle.std.specs.Prelude.{ℕ, ℤ, pos, negsuc, Bool, true, false, ◌&&◌
 use Rattle.std.specs.List.{list_all, slice_split}
 use Rattle.toml.specs.Data.{Data, Items, no_items, item, Members, no_members, member, get_member, as_str, as_integer, as_bool, as_array, as_table}
 use Rattle.fk_model.specs.Numbers.{plain_number_up_to}
-use Rattle.fk_scenario_fields.specs.Fields.{is_among}
-use Rattle.fk_scenario_fields.specs.Paths.{is_slash}
+use Rattle.fk_scenario.specs.Fields.Fields.{is_among}
+use Rattle.fk_scenario.specs.Fields.Paths.{is_slash}
 
 -- ---- entries
 

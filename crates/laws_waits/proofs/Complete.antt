@@ -74,7 +74,7 @@ use Rattle.fk_model.specs.Searches.{peer_pointer, fault_pointers}
 use Rattle.fk_model.specs.Valid.{leads_there, all_in, is_good, is_good_talk, is_good_peer}
 use Rattle.fk_model.proofs.walks.PlaceLaws.{same_path_refl}
 use Rattle.std.proofs.lemmas.List.Folds.{list_any-append}
-use Rattle.laws_machine.proofs.Frame.{or_off}
+use Rattle.laws_moves.proofs.InMachine.Frame.{or_off}
 use Rattle.laws_waits.proofs.Found.{awake-free}
 use Rattle.laws_waits.specs.Stuck.{End as End_of_talk, is_at_hand, is_with, HasRoom, IsTalkingTo}
 use Rattle.laws_waits.specs.Stuck.End.{Absent, Unclaimed}

@@ -25,7 +25,7 @@ use Rattle.fk_model.specs.Moves.{GoesAllowed, closed, with_pick, goes_on, user_m
 use Rattle.fk_model.specs.Valid.{kind_there, IsValid}
 use Rattle.fk_model.proofs.walks.PlaceLaws.{same_path_eq, same_path_refl}
 use Rattle.fk_model.proofs.walks.WalkLaws.{no_client, no_faulter, none_from}
-use Rattle.laws_machine.proofs.Frame.{or_off}
+use Rattle.laws_moves.proofs.InMachine.Frame.{or_off}
 use Rattle.laws_waits.specs.Stuck.{is_resting, is_held, IsBeneath, is_in, comes_faulting, comes_connecting, comes_resuming, comes_to, is_served_by, IsSet}
 use Rattle.laws_waits.specs.Stuck.{IsAtStage}
 use Rattle.laws_waits.specs.Found.{IsIdleWait, IdleWaitsAreStuck, UnheldWaitsAreStuck}

@@ -15,11 +15,11 @@ use Rattle.fk_model.specs.Searches.{thread_at}
 use Rattle.fk_model.specs.Readers.{kind_at, is_kind, handled}
 use Rattle.fk_model.specs.Valid.{kind_there}
 use Rattle.fk_model.proofs.walks.PlaceLaws.{same_path_eq}
-use Rattle.laws_machine.specs.Frame.{names_body}
-use Rattle.laws_machine.proofs.Frame.{or_off, apply-body}
-use Rattle.laws_machine.proofs.safety.Reads.{body-thread_of}
-use Rattle.laws_machine.proofs.validity.Outlines.{Outline}
-use Rattle.laws_machine.proofs.validity.Edits.{outline-edited}
+use Rattle.laws_moves.specs.Machine.Frame.{names_body}
+use Rattle.laws_moves.proofs.InMachine.Frame.{or_off, apply-body}
+use Rattle.laws_moves.proofs.InMachine.safety.Reads.{body-thread_of}
+use Rattle.laws_moves.proofs.InMachine.validity.Outlines.{Outline}
+use Rattle.laws_moves.proofs.InMachine.validity.Edits.{outline-edited}
 use Rattle.laws_waits.specs.Touching.{remakes, is_loud, stirs, is_pointing, repoints, is_grouping, regroups, is_holding, reholds, takes_page}
 use Rattle.fk_model.specs.Holds.{holder_of}
 use Rattle.fk_model.proofs.walks.WalkLaws.{none_from}

@@ -15,9 +15,9 @@ use Rattle.fk_model.specs.Reach.Reach.{Missing, Bad}
 use Rattle.std.proofs.lemmas.Bool.{and_parts, eqb-true}
 use Rattle.fk_model.proofs.walks.PlaceLaws.{same_path_eq}
 use Rattle.fk_model.proofs.walks.WalkLaws.{none_from}
-use Rattle.laws_machine.proofs.validity.Outlines.{Outline}
-use Rattle.laws_machine.proofs.validity.Edits.{outline-edited}
-use Rattle.laws_machine.proofs.Frame.{or_off}
+use Rattle.laws_moves.proofs.InMachine.validity.Outlines.{Outline}
+use Rattle.laws_moves.proofs.InMachine.validity.Edits.{outline-edited}
+use Rattle.laws_moves.proofs.InMachine.Frame.{or_off}
 use Rattle.laws_waits.specs.Touching.{is_home, LeavesMemory, is_map_edit, has_map}
 
 -- ---- the numbers of a region, without its keeper

@@ -14,8 +14,8 @@ use Rattle.fk_model.specs.World.{Edit, edited, at_mode, on_talk, shifted, shifte
 use Rattle.fk_model.specs.World.Edit.{SetLocked, Proceed, Shift, Finish, End, Replace, SetStops, SetTalk, CountMoved, PassTurn, SetPeer, SetFault, SetTaker}
 use Rattle.fk_model.specs.Holds.{is_user}
 use Rattle.fk_model.specs.Talks.{first_stage, receive_on, receiving}
-use Rattle.laws_machine.proofs.validity.Outlines.{Outline}
-use Rattle.laws_machine.proofs.validity.Edits.{outline-edited}
+use Rattle.laws_moves.proofs.InMachine.validity.Outlines.{Outline}
+use Rattle.laws_moves.proofs.InMachine.validity.Edits.{outline-edited}
 use Rattle.laws_waits.specs.Touching.{is_loud}
 use Rattle.laws_waits.specs.Stuck.{is_resting, is_at_hand}
 

@@ -18,7 +18,7 @@ use Rattle.fk_model.specs.Talks.{first_stage, other_side, receiving}
 use Rattle.fk_model.specs.Outcomes.{Outcome, listed}
 use Rattle.fk_model.specs.Outcomes.Outcome.{Refused, Waits, Goes}
 use Rattle.fk_model.specs.Moves.{outcome, step, stepped}
-use Rattle.laws_machine.specs.Frame.{names_body}
+use Rattle.laws_moves.specs.Machine.Frame.{names_body}
 use Rattle.fk_model.proofs.walks.PlaceLaws.{same_path_refl}
 use Rattle.laws_waits.specs.Touching.{remakes, stirs, reholds, takes_page}
 use Rattle.laws_waits.specs.Stuck.{is_resting, IsBeneath, End, talk_place, is_talk_of, is_with, is_at_hand, IsGone, IsTalking, IsTalkingTo, IsAtHome, IsReached}

@@ -41,7 +41,7 @@ use Rattle.laws_waits.specs.Stuck.Reason.{Resting, Beneath, Locking, Sleeping, C
 use Rattle.laws_waits.specs.Stuck.Reason.{WaitingOut, Barred}
 use Rattle.laws_waits.specs.Touching.{is_home}
 use Rattle.laws_waits.specs.Laws.{StuckIsUnready}
-use Rattle.laws_machine.proofs.Frame.{or_off}
+use Rattle.laws_moves.proofs.InMachine.Frame.{or_off}
 use Rattle.laws_waits.proofs.Comes.{comes_by}
 use Rattle.laws_waits.proofs.Rows.{goes-on, free-resting, free-beneath, held-decider, at-stage, object-ok, serves-is, line_of, turn-ok, reached-home}
 use Rattle.laws_waits.proofs.Rows.{faulter-found, held-some}

@@ -9,7 +9,7 @@ use Rattle.fk_model.specs.World.{World, Change, serves}
 use Rattle.fk_model.specs.World.Change.{Alter, Make, MakeSpace, Kill, Move, PutPage, DropPage}
 use Rattle.fk_model.specs.Searches.{thread_at, talk_at}
 use Rattle.fk_model.proofs.walks.PlaceLaws.{same_path_eq}
-use Rattle.laws_machine.specs.Frame.{names_body}
+use Rattle.laws_moves.specs.Machine.Frame.{names_body}
 use Rattle.laws_waits.specs.Touching.{is_loud, stirs}
 use Rattle.laws_waits.specs.Stuck.{End, talk_place, is_talk_of, is_with, IsTalking, IsTalkingTo, HasTaken, LeavesEnd, Reason, IsStuck, IsUntouched}
 use Rattle.laws_waits.specs.Stuck.End.{Absent, Covered, Unclaimed, Closed}

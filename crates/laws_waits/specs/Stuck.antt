@@ -24,7 +24,7 @@ use Rattle.fk_model.specs.Valid.{kind_there}
 use Rattle.fk_model.specs.Reach.{reach_word}
 use Rattle.fk_model.specs.Moves.{IsReady}
 use Rattle.fk_model.specs.declared.moves.Ask.TheVariants as asks
-use Rattle.laws_machine.specs.Frame.{names_body}
+use Rattle.laws_moves.specs.Machine.Frame.{names_body}
 use Rattle.laws_waits.specs.Touching.{remakes, stirs, repoints, regroups, reholds, takes_page, is_home, LeavesMemory}
 
 -- ---- what is read of one body

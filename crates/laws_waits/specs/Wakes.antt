@@ -7,7 +7,7 @@ use Rattle.std.specs.Prelude.{◌≡◌, true, false}
 use Rattle.std.specs.Prelude.{◌∷◌}
 use Rattle.fk_model.specs.Places.{Path, parent, is_within}
 use Rattle.fk_model.specs.World.{World, Change}
-use Rattle.laws_machine.specs.Frame.{names_body}
+use Rattle.laws_moves.specs.Machine.Frame.{names_body}
 use Rattle.laws_waits.specs.Few.{is_peer_of, is_taker_of}
 use Rattle.laws_waits.specs.Stuck.{is_held, End, LeavesPage, LeavesPlace, BringsNobody, Reason, IsStuck, IsUntouched}
 use Rattle.laws_waits.specs.Stuck.End.{Absent, Covered, Unclaimed, Closed}

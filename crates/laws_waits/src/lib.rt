@@ -6,7 +6,7 @@
 //! reason of a thread needn't wake it. The laws hold over all changes in any world, valid or not, and so between the changes of
 //! one row. Beside them stand laws of lists of linked nodes, which is what queues are made of.
 //!
-//! It stands on `fk_model`, whose definitions the laws are about, and on `laws_machine`. It names no store and no queue.
+//! It stands on `fk_model`, whose definitions the laws are about, and on `laws_moves::machine`. It names no store and no queue.
 #![tactic(auto)]
 
 ghost use Rattle.laws_waits.specs.Calm.{CalmTouchesNobody};

@@ -1,6 +1,6 @@
 //! The verbs that watch a run.
 ghost use Rattle.std.specs.Prelude.{⊤, map};
-ghost use Rattle.fk_scenario.specs.Kept.{KeepsScenario, HasRules};
+ghost use Rattle.fk_scenario.specs.Scenario.Kept.{KeepsScenario, HasRules};
 
 use crate::images::Files;
 use crate::shows::{Show, show_of};

@@ -6,8 +6,8 @@ use Rattle.fk_model.specs.Places.{Path}
 use Rattle.fk_model.specs.Valid.{IsValid, birth_at}
 use Rattle.fk_model.specs.World.{World, apply}
 use Rattle.fk_model.specs.World.Change.{Make}
-use Rattle.laws_machine.proofs.safety.Safe.{IsSafeMake}
-use Rattle.laws_machine.proofs.validity.Changes.{valid-apply, rooted-apply, paged-apply}
+use Rattle.laws_moves.proofs.InMachine.safety.Safe.{IsSafeMake}
+use Rattle.laws_moves.proofs.InMachine.validity.Changes.{valid-apply, rooted-apply, paged-apply}
 use Rattle.fk_boot.proofs.validity.Pages.{birth-space}
 
 pub valid-with : (w : World) (k : ℕ) (s : Path) (n : ℕ) (t : Thread) → IsValid w → k < 256 → birth_at w s ≡ Some n → w.body (k ∷ s) ≡ None →

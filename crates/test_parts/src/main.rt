@@ -43,6 +43,22 @@ fn world_of<R: Files + AllocGlobal>(rt: &R, line: &Line) -> anyhow::Result<World
     World::new(rt.alloc(), scenario.as_slice(), line.subject.name_at(0))
 }
 
+/// Begins the world of a line.
+fn begin_world<R: Files + AllocGlobal>(
+    rt: &R,
+    world: &mut Option<World>,
+    line: &Line,
+) -> anyhow::Result<()> {
+    *world = Some(world_of(rt, line)?);
+    Ok(())
+}
+
+/// Begins a store that holds the root alone.
+fn begin_store(alloc: Global, store: &mut Store) -> anyhow::Result<()> {
+    *store = Store::new(alloc).ok().context("no memory")?;
+    Ok(())
+}
+
 /// Says how long the text of the scenario of `soak` is; it must be that of the file that the line names.
 fn say_soak<R: Files + AllocGlobal>(
     rt: &R,
@@ -97,11 +113,10 @@ fn take_line<R: Files + Print + AllocGlobal>(
     let line = line_of(text);
     let mut found = Numbers::none();
     if line.verb == "world" {
-        *world = Some(world_of(rt, &line)?);
-        return Ok(());
+        return begin_world(rt, world, &line);
     }
     if line.verb == "anew" {
-        *store = Store::new(rt.alloc()).ok().context("no memory")?;
+        begin_store(rt.alloc(), store)?;
     }
     if line.verb == "soak" {
         say_soak(rt, &line, &mut found)?;
@@ -137,18 +152,36 @@ fn try_file<R: Files + Print + AllocGlobal>(
 fn try_files<R: Files + Print + AllocGlobal + Clone + Drop>(
     rt: &R,
     tally: &mut Tally,
+    world: &mut Option<World>,
+    store: &mut Store,
 ) -> anyhow::Result<()> {
-    // A world and a store are large: they are dropped at one place alone.
-    let mut world = None;
-    let mut store = Store::new(rt.alloc()).ok().context("no memory")?;
     for entry in fs::read_dir(rt, ".")? {
         let entry = entry?;
         let path = entry.file_name();
         if path.ends_with(".steps") {
-            try_file(rt, tally, &mut world, &mut store, path).context(format_args!("{path}"))?;
+            try_file(rt, tally, world, store, path).context(format_args!("{path}"))?;
         }
     }
     Ok(())
+}
+
+/// Makes them in this store, and in a world. What is large is owned by a function of its own, which has one end.
+fn try_in_store<R: Files + Print + AllocGlobal + Clone + Drop>(
+    rt: &R,
+    tally: &mut Tally,
+    store: &mut Store,
+) -> anyhow::Result<()> {
+    let mut world = None;
+    try_files(rt, tally, &mut world, store)
+}
+
+/// Makes them in a store, which holds the root alone at first.
+fn try_all<R: Files + Print + AllocGlobal + Clone + Drop>(
+    rt: &R,
+    tally: &mut Tally,
+) -> anyhow::Result<()> {
+    let mut store = Store::new(rt.alloc()).ok().context("no memory")?;
+    try_in_store(rt, tally, &mut store)
 }
 
 fn main(rt: HostRuntime) -> anyhow::Result<()> {
@@ -156,7 +189,7 @@ fn main(rt: HostRuntime) -> anyhow::Result<()> {
         steps: 0,
         differ: 0,
     };
-    try_files(&rt, &mut tally)?;
+    try_all(&rt, &mut tally)?;
     let Tally { steps, differ } = tally;
     println!(rt; "{steps} steps, {differ} differ")?;
     ensure!(steps > 0, "no step was found");

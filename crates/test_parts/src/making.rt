@@ -3,10 +3,10 @@ ghost use Rattle.std.specs.Prelude.{◌≡◌, true, is_some, Some, None, IfSome
 ghost use Rattle.fk_model.specs.Calls.{todo_of};
 ghost use Rattle.fk_model.specs.declared.thread.Peer.TheVariants as peers;
 ghost use Rattle.fk_model.specs.declared.thread.Turn.TheVariants as turns;
-ghost use Rattle.fk_store.specs.Makes.{IsNext};
-ghost use Rattle.fk_store.specs.Named.{OnNamed};
-ghost use Rattle.fk_store.specs.WellFormed.{HasCall, IsSized};
-ghost use Rattle.fk_store.specs.World.{world, IsLive};
+ghost use Rattle.fk_store.specs.Store.Makes.{IsNext};
+ghost use Rattle.fk_store.specs.Store.Named.{OnNamed};
+ghost use Rattle.fk_store.specs.Store.WellFormed.{HasCall, IsSized};
+ghost use Rattle.fk_store.specs.Store.World.{world, IsLive};
 
 use crate::numbers::Numbers;
 use crate::showing::all;

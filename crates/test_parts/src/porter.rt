@@ -1,7 +1,7 @@
 //! A porter, put into a world by hand.
 ghost use Rattle.std.specs.Prelude.{OnOk};
 ghost use Rattle.fk_model.specs.Valid.{IsValid};
-ghost use Rattle.fk_store.specs.World.{world};
+ghost use Rattle.fk_store.specs.Store.World.{world};
 
 use fk_model::{Body, Mode, NoMemory, Thread, Who};
 use fk_store::Store;

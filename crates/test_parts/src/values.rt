@@ -131,8 +131,8 @@ fn say_sink(alloc: Global, fails: &[u64], found: &mut Numbers) -> Result<(), NoM
     let mut sink = MemSink::new(alloc, 5, fails.to_vec(alloc)?)?;
     let both = [1u8, 2u8];
     for turn in 0..7u8 {
-        let piece = if turn < 6 { &both[..] } else { &both[..0] };
-        match sink.write(piece) {
+        let length = if turn < 6 { 2 } else { 0 };
+        match sink.write(&both[..length]) {
             Ok(count) => found.say(count as u64),
             Err(_) => found.say(99),
         }

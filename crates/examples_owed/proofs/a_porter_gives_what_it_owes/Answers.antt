@@ -1,6 +1,6 @@
 use Rattle.std.proofs.Common.{◌≡◌, [], ◌∷◌, refl}
 use Rattle.examples_moves.proofs.Tested.{legal-tested}
-use Rattle.laws_savable.proofs.Laws.{keeps_savable}
+use Rattle.laws_moves.proofs.InSavable.Laws.{keeps_savable}
 use Rattle.examples_premises.specs.Premises.{premises}
 use Rattle.examples_owed.specs.Owed.{leads_outside, gives_hold, makes_within}
 use Rattle.examples_owed.proofs.Worlds.{whole-outside, savable-outside, clear}

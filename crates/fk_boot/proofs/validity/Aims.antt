@@ -16,17 +16,17 @@ use Rattle.fk_model.specs.World.{World, Edit, edited, apply, apply_all, set_at}
 use Rattle.fk_model.specs.World.Change.{Alter}
 use Rattle.fk_model.specs.StateRows.{referable}
 use Rattle.fk_model.specs.Valid.{kind_there, is_one_of, may_lead, all_in}
-use Rattle.laws_machine.proofs.safety.Safe.{takes_pointer, takes_set, AreSafe}
-use Rattle.laws_machine.proofs.validity.Edits.{outline-edited}
-use Rattle.laws_machine.proofs.validity.Outlines.{Outline, outline_of, outline-kind}
-use Rattle.fk_scenario_entries.specs.declared.types.SpaceEntry.{SpaceEntry}
-use Rattle.fk_scenario_entries.specs.declared.types.ObjectEntry.{ObjectEntry}
-use Rattle.fk_scenario_entries.specs.declared.types.Spec.{Spec}
-use Rattle.fk_scenario_entries.specs.declared.types.Spec.TheVariants as specs
-use Rattle.fk_scenario_fields.specs.Paths.{enclosing}
-use Rattle.fk_scenario.specs.Aims.{object_with, is_region_spec, is_port_spec, is_portset_spec, can_be_referred_to, is_one, entry_space, aims_well}
-use Rattle.fk_scenario_sections.specs.Spaces.{has_space}
-use Rattle.fk_scenario.specs.Servers.{has_key}
+use Rattle.laws_moves.proofs.InMachine.safety.Safe.{takes_pointer, takes_set, AreSafe}
+use Rattle.laws_moves.proofs.InMachine.validity.Edits.{outline-edited}
+use Rattle.laws_moves.proofs.InMachine.validity.Outlines.{Outline, outline_of, outline-kind}
+use Rattle.fk_scenario.specs.declared.entries.types.SpaceEntry.{SpaceEntry}
+use Rattle.fk_scenario.specs.declared.entries.types.ObjectEntry.{ObjectEntry}
+use Rattle.fk_scenario.specs.declared.entries.types.Spec.{Spec}
+use Rattle.fk_scenario.specs.declared.entries.types.Spec.TheVariants as specs
+use Rattle.fk_scenario.specs.Fields.Paths.{enclosing}
+use Rattle.fk_scenario.specs.Scenario.Aims.{object_with, is_region_spec, is_port_spec, is_portset_spec, can_be_referred_to, is_one, entry_space, aims_well}
+use Rattle.fk_scenario.specs.Sections.Spaces.{has_space}
+use Rattle.fk_scenario.specs.Scenario.Servers.{has_key}
 use Rattle.fk_boot.specs.FirstWorld.{first_body, aim_changes, aims}
 use Rattle.fk_boot.proofs.Aiming.{find-passes, both-hold}
 use Rattle.fk_boot.proofs.Changes.{apply_all-append}

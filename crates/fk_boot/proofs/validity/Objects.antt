@@ -11,16 +11,16 @@ use Rattle.fk_model.specs.World.Change.{Make}
 use Rattle.fk_model.specs.Records.{is_page_range}
 use Rattle.fk_model.specs.Valid.{kind_there, is_good}
 use Rattle.fk_model.proofs.walks.PlaceLaws.{same_path_refl, same_path_eq}
-use Rattle.laws_machine.proofs.safety.Safe.{is_plain, AreSafe}
-use Rattle.laws_machine.proofs.validity.Outlines.{Outline, outline_of}
-use Rattle.fk_scenario_entries.specs.declared.types.SpaceEntry.{SpaceEntry}
-use Rattle.fk_scenario_entries.specs.declared.types.ObjectEntry.{ObjectEntry}
-use Rattle.fk_scenario_entries.specs.declared.types.Spec.{Spec}
-use Rattle.fk_scenario_entries.specs.declared.types.Spec.TheVariants as specs
-use Rattle.fk_scenario_entries.specs.Kept.{IsSpecInRange}
-use Rattle.fk_scenario_fields.specs.Paths.{enclosing}
-use Rattle.fk_scenario_sections.specs.Kept.{EachAfter, KeepsObject}
-use Rattle.fk_scenario.specs.Servers.{has_key}
+use Rattle.laws_moves.proofs.InMachine.safety.Safe.{is_plain, AreSafe}
+use Rattle.laws_moves.proofs.InMachine.validity.Outlines.{Outline, outline_of}
+use Rattle.fk_scenario.specs.declared.entries.types.SpaceEntry.{SpaceEntry}
+use Rattle.fk_scenario.specs.declared.entries.types.ObjectEntry.{ObjectEntry}
+use Rattle.fk_scenario.specs.declared.entries.types.Spec.{Spec}
+use Rattle.fk_scenario.specs.declared.entries.types.Spec.TheVariants as specs
+use Rattle.fk_scenario.specs.Entries.Kept.{IsSpecInRange}
+use Rattle.fk_scenario.specs.Fields.Paths.{enclosing}
+use Rattle.fk_scenario.specs.Sections.Kept.{EachAfter, KeepsObject}
+use Rattle.fk_scenario.specs.Scenario.Servers.{has_key}
 use Rattle.fk_boot.specs.FirstWorld.{first_body, object_changes}
 use Rattle.fk_boot.specs.MadeSoFar.{HasObjects}
 use Rattle.fk_boot.proofs.MadeSoFar.{object-stands, object-place}

@@ -11,12 +11,12 @@ use Rattle.fk_model.specs.World.{World, Change, apply, apply_all}
 use Rattle.fk_model.specs.World.Change.{MakeSpace, PutPage}
 use Rattle.fk_model.specs.Searches.{slots}
 use Rattle.fk_model.specs.Valid.{kind_there, birth_of, birth_at}
-use Rattle.laws_machine.proofs.safety.Safe.{IsVacant, AreSafe}
-use Rattle.fk_scenario_entries.specs.declared.types.Program.{Program}
-use Rattle.fk_scenario_entries.specs.declared.types.SpaceEntry.{SpaceEntry}
-use Rattle.fk_scenario_entries.specs.Kept.{AreSlots}
-use Rattle.fk_scenario_fields.specs.Paths.{enclosing}
-use Rattle.fk_scenario_sections.specs.Kept.{KeepsSpace}
+use Rattle.laws_moves.proofs.InMachine.safety.Safe.{IsVacant, AreSafe}
+use Rattle.fk_scenario.specs.declared.entries.types.Program.{Program}
+use Rattle.fk_scenario.specs.declared.entries.types.SpaceEntry.{SpaceEntry}
+use Rattle.fk_scenario.specs.Entries.Kept.{AreSlots}
+use Rattle.fk_scenario.specs.Fields.Paths.{enclosing}
+use Rattle.fk_scenario.specs.Sections.Kept.{KeepsSpace}
 use Rattle.fk_boot.specs.FirstWorld.{page_words, zero_pages, program_page, program_pages, words_of_program, space_itself, space_changes}
 use Rattle.fk_boot.specs.MadeSoFar.{HasPlace, CanStand, HasSpaces}
 use Rattle.fk_boot.proofs.Walks.{last, made-space}

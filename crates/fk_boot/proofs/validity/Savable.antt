@@ -17,23 +17,23 @@ use Rattle.fk_model.specs.Searches.{slots, depth, talk_at, fault_at}
 use Rattle.fk_model.specs.Holds.{holder_of}
 use Rattle.fk_model.specs.StateRows.{is_native}
 use Rattle.fk_model.specs.Whole.{stands_in, is_scratch_slot, are_words, HasFullPages, IsSavable}
-use Rattle.laws_whole.specs.Runnable.{IsRunnable}
-use Rattle.laws_whole.proofs.Laws.{savable_runnable}
-use Rattle.laws_savable.proofs.Words.{AreWords, below-word, all-words, words-append, words-take, words-drop, words-zeros}
-use Rattle.laws_savable.proofs.Kept.{IsTidy, IsKept, AreKept}
-use Rattle.laws_savable.proofs.Standing.{low-stands}
-use Rattle.laws_savable.proofs.Laws.{savable-all}
-use Rattle.fk_scenario_entries.specs.declared.types.Program.{Program}
-use Rattle.fk_scenario_entries.specs.declared.types.SpaceEntry.{SpaceEntry}
-use Rattle.fk_scenario_entries.specs.declared.types.ObjectEntry.{ObjectEntry}
-use Rattle.fk_scenario_entries.specs.declared.types.Spec.{Spec}
-use Rattle.fk_scenario_entries.specs.declared.types.Spec.TheVariants as specs
-use Rattle.fk_scenario.specs.declared.scenario.Scenario.{Scenario}
-use Rattle.fk_scenario_entries.specs.Kept.{AreSlots, IsSpecInRange}
-use Rattle.fk_scenario_sections.specs.Kept.{EachAfter, KeepsSpace, KeepsObject}
-use Rattle.fk_scenario.specs.Kept.{KeepsScenario}
-use Rattle.fk_store.specs.World.{first_world}
-use Rattle.fk_scenario.specs.Servers.{has_key}
+use Rattle.laws_moves.specs.Whole.Runnable.{IsRunnable}
+use Rattle.laws_moves.proofs.InWhole.Laws.{savable_runnable}
+use Rattle.laws_moves.proofs.InSavable.Words.{AreWords, below-word, all-words, words-append, words-take, words-drop, words-zeros}
+use Rattle.laws_moves.proofs.InSavable.Kept.{IsTidy, IsKept, AreKept}
+use Rattle.laws_moves.proofs.InSavable.Standing.{low-stands}
+use Rattle.laws_moves.proofs.InSavable.Laws.{savable-all}
+use Rattle.fk_scenario.specs.declared.entries.types.Program.{Program}
+use Rattle.fk_scenario.specs.declared.entries.types.SpaceEntry.{SpaceEntry}
+use Rattle.fk_scenario.specs.declared.entries.types.ObjectEntry.{ObjectEntry}
+use Rattle.fk_scenario.specs.declared.entries.types.Spec.{Spec}
+use Rattle.fk_scenario.specs.declared.entries.types.Spec.TheVariants as specs
+use Rattle.fk_scenario.specs.declared.scenario.scenario.Scenario.{Scenario}
+use Rattle.fk_scenario.specs.Entries.Kept.{AreSlots, IsSpecInRange}
+use Rattle.fk_scenario.specs.Sections.Kept.{EachAfter, KeepsSpace, KeepsObject}
+use Rattle.fk_scenario.specs.Scenario.Kept.{KeepsScenario}
+use Rattle.fk_store.specs.Store.World.{first_world}
+use Rattle.fk_scenario.specs.Scenario.Servers.{has_key}
 use Rattle.fk_boot.specs.Words.{has_words, HasWords}
 use Rattle.fk_boot.specs.FirstWorld.{words_in, page_words, zero_pages, program_page, words_of_program, space_itself, space_changes, first_body}
 use Rattle.fk_boot.specs.FirstWorld.{object_changes, aims, points_to, belongs_to, aim_changes, porter, porter_changes, served_ports, boot_changes}

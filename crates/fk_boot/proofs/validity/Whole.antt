@@ -10,16 +10,16 @@ use Rattle.fk_model.specs.declared.limits.TheConstants.{LAST_PORTER_SLOT}
 use Rattle.fk_model.specs.World.{World, apply_all}
 use Rattle.fk_model.specs.World.Change.{Make}
 use Rattle.fk_model.specs.Valid.{IsConsistent, IsRooted, IsPaged, IsValid, kind_there, birth_at, all_in, is_good, services}
-use Rattle.fk_store.specs.World.{first_world}
-use Rattle.laws_machine.proofs.safety.Safe.{AreSafe}
-use Rattle.laws_machine.proofs.validity.Changes.{valid-apply_all, rooted-apply_all, paged-apply_all}
-use Rattle.fk_scenario_entries.specs.declared.types.Program.{Program}
-use Rattle.fk_scenario_entries.specs.declared.types.SpaceEntry.{SpaceEntry}
-use Rattle.fk_scenario_entries.specs.declared.types.ObjectEntry.{ObjectEntry}
-use Rattle.fk_scenario.specs.declared.scenario.Scenario.{Scenario}
-use Rattle.fk_scenario_sections.specs.Kept.{EachAfter, KeepsSpace}
-use Rattle.fk_scenario.specs.Kept.{KeepsScenario}
-use Rattle.fk_scenario_sections.specs.Spaces.{has_space}
+use Rattle.fk_store.specs.Store.World.{first_world}
+use Rattle.laws_moves.proofs.InMachine.safety.Safe.{AreSafe}
+use Rattle.laws_moves.proofs.InMachine.validity.Changes.{valid-apply_all, rooted-apply_all, paged-apply_all}
+use Rattle.fk_scenario.specs.declared.entries.types.Program.{Program}
+use Rattle.fk_scenario.specs.declared.entries.types.SpaceEntry.{SpaceEntry}
+use Rattle.fk_scenario.specs.declared.entries.types.ObjectEntry.{ObjectEntry}
+use Rattle.fk_scenario.specs.declared.scenario.scenario.Scenario.{Scenario}
+use Rattle.fk_scenario.specs.Sections.Kept.{EachAfter, KeepsSpace}
+use Rattle.fk_scenario.specs.Scenario.Kept.{KeepsScenario}
+use Rattle.fk_scenario.specs.Sections.Spaces.{has_space}
 use Rattle.fk_boot.specs.FirstWorld.{space_changes, object_changes, aim_changes, porter, porter_changes, served_ports, boot_changes, booted}
 use Rattle.fk_boot.specs.MadeSoFar.{HasSpaces, AreNestable}
 use Rattle.fk_boot.proofs.Aiming.{or_right, all-inside, each-aims}

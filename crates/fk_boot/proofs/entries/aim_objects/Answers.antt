@@ -1,5 +1,5 @@
 use Rattle.std.proofs.Common.{◌∙◌, refl}
-use Rattle.fk_store.specs.World.{world}
+use Rattle.fk_store.specs.Store.World.{world}
 use Rattle.fk_boot.specs.FirstWorld.{aim_changes}
 use Rattle.fk_boot.proofs.Aiming.{next-aim}
 use Rattle.fk_boot.proofs.Changes.{more-entries, no-entries}

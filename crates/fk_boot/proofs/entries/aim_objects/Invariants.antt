@@ -2,7 +2,7 @@ use Rattle.std.proofs.Common.{◌≡◌, drop}
 use Rattle.std.specs.List.{flat_map}
 use Rattle.fk_model.specs.Valid.{kind_there}
 use Rattle.fk_model.specs.World.{apply_all}
-use Rattle.fk_store.specs.World.{world}
+use Rattle.fk_store.specs.Store.World.{world}
 use Rattle.fk_boot.specs.FirstWorld.{aim_changes}
 use Rattle.fk_boot.proofs.entries.aim_objects.Given as goal
 

@@ -1,6 +1,6 @@
 use Rattle.std.proofs.Common.{[], ◌++◌}
 use Rattle.std.specs.List.{flat_map}
-use Rattle.fk_store.specs.World.{world, first_world}
+use Rattle.fk_store.specs.Store.World.{world, first_world}
 use Rattle.fk_boot.specs.FirstWorld.{booted, space_changes, object_changes, aim_changes, porter_changes, served_ports}
 use Rattle.fk_boot.proofs.Aiming.{all-can, all-inside}
 use Rattle.fk_boot.proofs.Nesting.{nestable, ports-stand}

@@ -1,6 +1,6 @@
 use Rattle.std.proofs.Common.{take, refl}
-use Rattle.fk_scenario_sections.specs.Kept.{KeepsObject}
-use Rattle.fk_store.specs.World.{world}
+use Rattle.fk_scenario.specs.Sections.Kept.{KeepsObject}
+use Rattle.fk_store.specs.Store.World.{world}
 use Rattle.fk_boot.specs.FirstWorld.{object_changes}
 use Rattle.fk_boot.proofs.Changes.{more-entries, no-entries}
 use Rattle.fk_boot.proofs.MadeSoFar.{object-place, next-object, spaces-stand, each-first, each-rest}

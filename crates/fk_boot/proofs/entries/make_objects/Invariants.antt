@@ -1,8 +1,8 @@
 use Rattle.std.proofs.Common.{◌≡◌, take, drop}
 use Rattle.std.specs.List.{flat_map}
 use Rattle.fk_model.specs.World.{apply_all}
-use Rattle.fk_scenario_sections.specs.Kept.{EachAfter, KeepsObject}
-use Rattle.fk_store.specs.World.{world}
+use Rattle.fk_scenario.specs.Sections.Kept.{EachAfter, KeepsObject}
+use Rattle.fk_store.specs.Store.World.{world}
 use Rattle.fk_boot.specs.FirstWorld.{object_changes}
 use Rattle.fk_boot.specs.MadeSoFar.{HasObjects}
 use Rattle.fk_boot.proofs.entries.make_objects.Given as goal

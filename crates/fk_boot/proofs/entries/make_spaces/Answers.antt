@@ -1,5 +1,5 @@
 use Rattle.std.proofs.Common.{take, refl}
-use Rattle.fk_scenario_sections.specs.Kept.{KeepsSpace}
+use Rattle.fk_scenario.specs.Sections.Kept.{KeepsSpace}
 use Rattle.fk_boot.specs.FirstWorld.{space_changes}
 use Rattle.fk_boot.proofs.Changes.{more-entries, no-entries}
 use Rattle.fk_boot.proofs.MadeSoFar.{can-stand, first-stands, few-born, next-stands, each-first, each-rest}

@@ -1,8 +1,8 @@
 use Rattle.std.proofs.Common.{◌≡◌, take, drop}
 use Rattle.std.specs.List.{flat_map}
 use Rattle.fk_model.specs.World.{apply_all}
-use Rattle.fk_scenario_sections.specs.Kept.{EachAfter, KeepsSpace}
-use Rattle.fk_store.specs.World.{world}
+use Rattle.fk_scenario.specs.Sections.Kept.{EachAfter, KeepsSpace}
+use Rattle.fk_store.specs.Store.World.{world}
 use Rattle.fk_boot.specs.FirstWorld.{space_changes}
 use Rattle.fk_boot.specs.MadeSoFar.{HasSpaces}
 use Rattle.fk_boot.proofs.entries.make_spaces.Given as goal

@@ -1,7 +1,7 @@
 use Rattle.std.proofs.Common.{◌≡◌, ◌∙◌, ◌++◌, ap, reverse}
-use Rattle.fk_store.proofs.finding.Results.{on_ok}
-use Rattle.fk_store.specs.Paths.{path}
-use Rattle.fk_store.specs.World.{world}
+use Rattle.fk_store.proofs.InStore.finding.Results.{on_ok}
+use Rattle.fk_store.specs.Store.Paths.{path}
+use Rattle.fk_store.specs.Store.World.{world}
 use Rattle.fk_boot.specs.FirstWorld.{space_itself, zero_pages, program_pages, words_of_program}
 use Rattle.fk_boot.proofs.Changes.{then-all}
 use Rattle.fk_boot.proofs.entries.put_space.Goals as goal

@@ -1,8 +1,8 @@
 use Rattle.std.proofs.Common.{◌∙◌, ap, reverse}
-use Rattle.fk_scenario.specs.Servers.{has_key}
-use Rattle.fk_store.specs.World.{world}
-use Rattle.fk_store.specs.Paths.{path}
-use Rattle.fk_store.proofs.finding.Results.{on_ok}
+use Rattle.fk_scenario.specs.Scenario.Servers.{has_key}
+use Rattle.fk_store.specs.Store.World.{world}
+use Rattle.fk_store.specs.Store.Paths.{path}
+use Rattle.fk_store.proofs.InStore.finding.Results.{on_ok}
 use Rattle.fk_boot.specs.FirstWorld.{first_body}
 use Rattle.fk_boot.proofs.Walks.{makes}
 use Rattle.fk_boot.proofs.making.make_object.Goals as goal

@@ -1,7 +1,7 @@
 use Rattle.std.proofs.Common.{refl, reverse, ◌∙◌, sym}
 use Rattle.fk_model.specs.World.{apply_all}
-use Rattle.fk_store.proofs.finding.Walks.{path-root}
-use Rattle.fk_store.specs.World.{world}
+use Rattle.fk_store.proofs.InStore.finding.Walks.{path-root}
+use Rattle.fk_store.specs.Store.World.{world}
 use Rattle.fk_boot.proofs.Walks.{no-slots, makes-space, new-space, root-space}
 use Rattle.fk_boot.proofs.making.make_space.Goals as goal
 

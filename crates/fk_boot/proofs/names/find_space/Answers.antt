@@ -1,7 +1,7 @@
 use Rattle.std.proofs.Common.{◌≡◌, ◌∙◌, ◌∷◌, sym, None, append-nil, get_or}
-use Rattle.fk_store.proofs.finding.Walks.{path-root}
-use Rattle.fk_store.specs.Paths.{path}
-use Rattle.fk_store.specs.World.{world}
+use Rattle.fk_store.proofs.InStore.finding.Walks.{path-root}
+use Rattle.fk_store.specs.Store.Paths.{path}
+use Rattle.fk_store.specs.Store.World.{world}
 use Rattle.fk_model.specs.Valid.{birth_at}
 use Rattle.fk_boot.proofs.Walks.{root-space, lost}
 use Rattle.fk_boot.proofs.names.find_space.Goals as goal

@@ -1,6 +1,6 @@
 use Rattle.std.proofs.Common.{◌≡◌, ◌++◌, drop, reverse}
-use Rattle.fk_store.specs.Paths.{path}
-use Rattle.fk_store.specs.World.{IsSpace}
+use Rattle.fk_store.specs.Store.Paths.{path}
+use Rattle.fk_store.specs.Store.World.{IsSpace}
 use Rattle.fk_boot.proofs.names.find_space.Given as goal
 
 -- the slots that are left lead from the space to the one that is looked for

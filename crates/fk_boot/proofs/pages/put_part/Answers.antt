@@ -1,8 +1,8 @@
 use Rattle.std.proofs.Common.{◌≡◌, ◌*◌, ◌-◌, length, take, drop, refl, ap, ◌∙◌}
 use Rattle.std.proofs.lemmas.List.{take_rest}
 use Rattle.fk_model.specs.World.{apply_all}
-use Rattle.fk_store.proofs.finding.Results.{on_ok}
-use Rattle.fk_store.specs.Paths.{path}
+use Rattle.fk_store.proofs.InStore.finding.Results.{on_ok}
+use Rattle.fk_store.specs.Store.Paths.{path}
 use Rattle.fk_boot.specs.FirstWorld.{page_words}
 use Rattle.fk_boot.proofs.Changes.{no-part, some-part, space-put, first-words}
 use Rattle.fk_boot.proofs.pages.put_part.Goals as goal

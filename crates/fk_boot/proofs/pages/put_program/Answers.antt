@@ -1,7 +1,7 @@
 use Rattle.std.proofs.Common.{◌∙◌, refl}
 use Rattle.fk_model.specs.World.{apply_all}
 use Rattle.fk_model.specs.Searches.{slots}
-use Rattle.fk_store.specs.Paths.{path}
+use Rattle.fk_store.specs.Store.Paths.{path}
 use Rattle.fk_boot.proofs.Changes.{more-parts}
 use Rattle.fk_boot.proofs.pages.put_program.Goals as goal
 

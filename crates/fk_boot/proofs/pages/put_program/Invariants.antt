@@ -2,8 +2,8 @@ use Rattle.std.proofs.Common.{◌≡◌}
 use Rattle.std.specs.List.{flat_map}
 use Rattle.fk_model.specs.World.{apply_all}
 use Rattle.fk_model.specs.Searches.{slots}
-use Rattle.fk_store.specs.Paths.{path}
-use Rattle.fk_store.specs.World.{world, IsSpace}
+use Rattle.fk_store.specs.Store.Paths.{path}
+use Rattle.fk_store.specs.Store.World.{world, IsSpace}
 use Rattle.fk_boot.specs.FirstWorld as definitions
 use Rattle.fk_boot.proofs.pages.put_program.Given as goal
 

@@ -1,6 +1,6 @@
 use Rattle.std.proofs.Common.{◌∙◌, [], get_or}
 use Rattle.fk_boot.specs.FirstWorld.{page_words}
-use Rattle.fk_store.specs.Paths.{path}
+use Rattle.fk_store.specs.Store.Paths.{path}
 use Rattle.fk_boot.proofs.Changes.{more-zeros, no-zeros, space-put}
 use Rattle.fk_boot.proofs.pages.put_zeros.Goals as goal
 

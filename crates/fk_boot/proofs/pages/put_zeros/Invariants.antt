@@ -1,7 +1,7 @@
 use Rattle.std.proofs.Common.{◌≡◌, drop}
 use Rattle.fk_model.specs.World.{apply_all}
-use Rattle.fk_store.specs.Paths.{path}
-use Rattle.fk_store.specs.World.{world, IsSpace}
+use Rattle.fk_store.specs.Store.Paths.{path}
+use Rattle.fk_store.specs.Store.World.{world, IsSpace}
 use Rattle.fk_boot.specs.FirstWorld as definitions
 use Rattle.fk_boot.proofs.pages.put_zeros.Given as goal
 

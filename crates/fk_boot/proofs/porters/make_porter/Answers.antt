@@ -1,9 +1,9 @@
 use Rattle.std.proofs.Common.{refl, reverse, ◌∙◌, ap, ◌∷◌}
 use Rattle.fk_model.specs.declared.limits.TheConstants.{LAST_PORTER_SLOT}
 use Rattle.fk_model.specs.World.{apply_all}
-use Rattle.fk_store.specs.Paths.{path}
-use Rattle.fk_store.specs.World.{world}
-use Rattle.fk_store.proofs.finding.Results.{on_ok}
+use Rattle.fk_store.specs.Store.Paths.{path}
+use Rattle.fk_store.specs.Store.World.{world}
+use Rattle.fk_store.proofs.InStore.finding.Results.{on_ok}
 use Rattle.fk_boot.proofs.Nesting.{kind-birth, makes-porter}
 use Rattle.fk_boot.proofs.porters.make_porter.Goals as goal
 

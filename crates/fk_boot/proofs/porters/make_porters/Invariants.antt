@@ -1,7 +1,7 @@
 use Rattle.std.proofs.Common.{◌≡◌, drop}
 use Rattle.std.specs.List.{flat_map}
 use Rattle.fk_model.specs.World.{apply_all}
-use Rattle.fk_store.specs.World.{world}
+use Rattle.fk_store.specs.Store.World.{world}
 use Rattle.fk_boot.specs.FirstWorld.{porter_changes}
 use Rattle.fk_boot.specs.MadeSoFar.{AreNestable}
 use Rattle.fk_boot.proofs.porters.make_porters.Given as goal

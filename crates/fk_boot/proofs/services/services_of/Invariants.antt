@@ -1,5 +1,5 @@
 use Rattle.std.proofs.Common.{◌≡◌, ◌++◌, drop}
-use Rattle.fk_store.specs.World.{world}
+use Rattle.fk_store.specs.Store.World.{world}
 use Rattle.fk_boot.specs.Services.{first_services, by_paths}
 use Rattle.fk_boot.proofs.services.services_of.Given as goal
 

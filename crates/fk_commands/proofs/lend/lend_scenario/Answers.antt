@@ -1,6 +1,6 @@
 use Rattle.std.proofs.Common.{rules, ◌≡◌, map, string_bytes, Ok, inl, subst}
-use Rattle.fk_scenario.specs.Reading.{scenario_reading}
-use Rattle.fk_scenario.specs.Rules.{server_rules}
+use Rattle.fk_scenario.specs.Scenario.Reading.{scenario_reading}
+use Rattle.fk_scenario.specs.Scenario.Rules.{server_rules}
 use Rattle.fk_commands.proofs.lend.lend_scenario.Goals as goal
 
 pub returns-in-Ok-scenario_in : goal.returns-in-Ok-scenario_in

@@ -1,6 +1,6 @@
 use Rattle.std.proofs.Common.{◌≡◌, ◌++◌, map, drop, string_bytes}
 use Rattle.fk_responders.specs.Tables.{rule_text}
-use Rattle.fk_scenario.specs.Rules.{server_rules}
+use Rattle.fk_scenario.specs.Scenario.Rules.{server_rules}
 use Rattle.fk_commands.proofs.lend.lend_scenario.Given as goal
 
 -- the reader hasn't been called; the rules of the responders that stand there, and those that are left

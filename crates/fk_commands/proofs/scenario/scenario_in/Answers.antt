@@ -1,7 +1,7 @@
 use Rattle.std.proofs.Common.{◌≡◌, map, ap, ◌∙◌, subst, string_bytes}
 use Rattle.std.proofs.lemmas.Simd.{map-map}
 use Rattle.fk_responders.specs.Tables.{rules_view}
-use Rattle.fk_scenario.specs.Kept.{HasRules, rules_of}
+use Rattle.fk_scenario.specs.Scenario.Kept.{HasRules, rules_of}
 use Rattle.fk_commands.proofs.scenario.scenario_in.Goals as goal
 
 pub returns-in-Ok-clause-rules : goal.returns-in-Ok-clause-rules

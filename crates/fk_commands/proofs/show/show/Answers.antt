@@ -1,6 +1,6 @@
 use Rattle.std.proofs.Common.{◌≡◌, ℕ, List, Ok, Some, rules}
 use Rattle.fk_causes.specs.Shelf.{HasAt}
-use Rattle.fk_image_format.specs.Reading.{image_reading}
+use Rattle.fk_image.specs.Format.Reading.{image_reading}
 use Rattle.fk_commands.specs.Files.{image_name}
 use Rattle.fk_commands.specs.Show.{IsShow, IsShown}
 use Rattle.fk_commands.proofs.Comes.{comes-also}

@@ -1,8 +1,8 @@
 use Rattle.std.proofs.Common.{◌≡◌, ◌∙◌, map, refl, ap, sym, subst}
-use Rattle.fk_core.specs.Cores.{run_core}
+use Rattle.fk_core.specs.Cores.Cores.{run_core}
 use Rattle.fk_jobs.specs.Jobs.{Queue, job_of}
 use Rattle.fk_model.specs.Who.{named}
-use Rattle.fk_core.specs.Kernels.{world_of as world}
+use Rattle.fk_core.specs.Cores.Kernels.{world_of as world}
 use Rattle.fk_first.proofs.Grounds.{has-come}
 use Rattle.fk_first.proofs.Servers.{all-fit, placed-first}
 use Rattle.laws_first.proofs.Users.{scenario_jobs_name_users_slots}

@@ -1,6 +1,6 @@
 use Rattle.std.proofs.Common.{map}
-use Rattle.fk_core.specs.Goings.{IsGoing}
-use Rattle.fk_core.specs.Served.{AllFit}
+use Rattle.fk_core.specs.Cores.Goings.{IsGoing}
+use Rattle.fk_core.specs.Cores.Served.{AllFit}
 use Rattle.fk_first.proofs.watching.play.Given as goal
 
 -- the table fits the servers still, and the core was come to by a run

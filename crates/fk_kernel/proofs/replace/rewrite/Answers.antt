@@ -1,5 +1,5 @@
 use Rattle.std.proofs.Common.{refl, ◌∙◌}
-use Rattle.fk_store.specs.Paths.{path}
+use Rattle.fk_store.specs.Store.Paths.{path}
 use Rattle.fk_kernel.proofs.Replacing.{rewritten-none, first-there, goes-rest, goes-there}
 use Rattle.fk_kernel.proofs.replace.rewrite.Goals as goal
 

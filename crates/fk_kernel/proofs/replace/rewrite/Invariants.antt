@@ -1,6 +1,6 @@
 use Rattle.std.proofs.Common.{◌≡◌, All, drop}
-use Rattle.fk_store.specs.Paths.{path}
-use Rattle.fk_store.specs.World.{world}
+use Rattle.fk_store.specs.Store.Paths.{path}
+use Rattle.fk_store.specs.Store.World.{world}
 use Rattle.fk_kernel.specs.Replaced.{IsPageThere, rewritten}
 use Rattle.fk_kernel.proofs.replace.rewrite.Given as goal
 

@@ -1,5 +1,5 @@
-use Rattle.fk_store.specs.Paths.{path}
-use Rattle.fk_store.specs.World.{world}
+use Rattle.fk_store.specs.Store.Paths.{path}
+use Rattle.fk_store.specs.Store.World.{world}
 use Rattle.fk_links.proofs.Faulted.{faulting_closed, faulting_open}
 use Rattle.fk_links.proofs.candidates.faulting.Goals as goal
 

@@ -1,7 +1,7 @@
 use Rattle.std.proofs.Common.{sym, refl, ◌∙◌}
-use Rattle.fk_deaths.proofs.Endings.{talking_list}
-use Rattle.fk_store.specs.Paths.{path, place}
-use Rattle.fk_store.specs.World.{world}
+use Rattle.fk_changes.proofs.InDeaths.Endings.{talking_list}
+use Rattle.fk_store.specs.Store.Paths.{path, place}
+use Rattle.fk_store.specs.Store.World.{world}
 use Rattle.fk_links.proofs.leaving.removal.Goals as goal
 
 pub returns-then-is_at_talk-clause-changes : goal.returns-then-is_at_talk-clause-changes

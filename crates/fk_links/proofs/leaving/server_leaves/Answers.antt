@@ -1,6 +1,6 @@
-use Rattle.fk_store.specs.Paths.{path, place}
-use Rattle.fk_store.specs.World.{world}
-use Rattle.fk_plans.specs.Plans.{caller_by}
+use Rattle.fk_store.specs.Store.Paths.{path, place}
+use Rattle.fk_store.specs.Store.World.{world}
+use Rattle.fk_plans.specs.Plans.Plans.{caller_by}
 use Rattle.fk_links.proofs.Served.{server_ends, server_idle}
 use Rattle.fk_links.proofs.leaving.server_leaves.Goals as goal
 

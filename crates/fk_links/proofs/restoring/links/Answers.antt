@@ -2,8 +2,8 @@ use Rattle.std.proofs.Common.{[], ◌∷◌, refl, ap}
 use Rattle.fk_model.specs.Outcomes.{done}
 use Rattle.fk_model.specs.World.Change.{Alter}
 use Rattle.fk_model.specs.World.Edit.{SetTalk}
-use Rattle.fk_store.specs.Paths.{path, place}
-use Rattle.fk_plans.specs.Plans.{caller_by}
+use Rattle.fk_store.specs.Store.Paths.{path, place}
+use Rattle.fk_plans.specs.Plans.Plans.{caller_by}
 use Rattle.fk_links.proofs.restoring.links.Goals as goal
 
 pub returns-clause-outcome : goal.returns-clause-outcome

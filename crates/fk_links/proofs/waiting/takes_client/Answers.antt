@@ -1,7 +1,7 @@
 use Rattle.std.proofs.Common.{refl}
 use Rattle.fk_model.specs.World.{apply_all}
-use Rattle.fk_store.specs.Paths.{path, place}
-use Rattle.fk_store.specs.World.{world}
+use Rattle.fk_store.specs.Store.Paths.{path, place}
+use Rattle.fk_store.specs.Store.World.{world}
 use Rattle.fk_links.proofs.Taken.{client_apart}
 use Rattle.fk_links.proofs.waiting.takes_client.Goals as goal
 

@@ -1,5 +1,5 @@
 use Rattle.std.proofs.Common.{◌≡◌, ◌-◌, ◌+◌, suc, true, rules, sym, ◌∙◌, arith}
-use Rattle.fk_store.specs.World.{world}
+use Rattle.fk_store.specs.Store.World.{world}
 use Rattle.fk_lone.specs.Lones.{lone_state}
 use Rattle.fk_lone.specs.Machine.{State, is_running}
 use Rattle.fk_lone.proofs.Runs.{run_more, run_none, events_more, events_none}

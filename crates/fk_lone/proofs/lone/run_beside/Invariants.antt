@@ -1,5 +1,5 @@
 use Rattle.std.proofs.Common.{◌≡◌, ◌+◌, ◌-◌}
-use Rattle.fk_store.specs.World.{world}
+use Rattle.fk_store.specs.Store.World.{world}
 use Rattle.fk_lone.specs.LoneThread.{IsAlone}
 use Rattle.fk_lone.specs.Lones.{lone_state}
 use Rattle.fk_lone.specs.Machine.{run, events}

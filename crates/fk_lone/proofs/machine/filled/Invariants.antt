@@ -1,5 +1,5 @@
 use Rattle.std.proofs.Common.{◌≡◌}
-use Rattle.fk_store.specs.World.{world}
+use Rattle.fk_store.specs.Store.World.{world}
 use Rattle.fk_lone.specs.LoneThread.{filled}
 use Rattle.fk_lone.proofs.machine.filled.Given as goal
 

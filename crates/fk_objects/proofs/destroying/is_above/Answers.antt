@@ -1,6 +1,6 @@
 use Rattle.std.proofs.Common.{◌≡◌, sym, ap, ◌∙◌, arith}
-use Rattle.fk_store.specs.Paths.{path, place}
-use Rattle.fk_store.proofs.finding.Walks.{path-root}
+use Rattle.fk_store.specs.Store.Paths.{path, place}
+use Rattle.fk_store.proofs.InStore.finding.Walks.{path-root}
 use Rattle.fk_objects.proofs.Above.{above_none, above_some, above_on}
 use Rattle.fk_objects.proofs.destroying.is_above.Goals as goal
 

@@ -1,7 +1,7 @@
 use Rattle.std.proofs.Common.{◌≡◌, ◌+◌, ◌≤◌}
 use Rattle.fk_model.specs.Places.{is_within}
-use Rattle.fk_store.specs.Paths.{path, place}
-use Rattle.fk_store.specs.World.{IsSpace}
+use Rattle.fk_store.specs.Store.Paths.{path, place}
+use Rattle.fk_store.specs.Store.World.{IsSpace}
 use Rattle.fk_objects.proofs.destroying.is_above.Given as goal
 
 -- the object is above the space that is reached where it is above the first

@@ -1,7 +1,7 @@
 use Rattle.std.proofs.Common.{arith, sym, ◌∙◌}
-use Rattle.fk_store.specs.Paths.{path}
-use Rattle.fk_store.specs.World.{world}
-use Rattle.fk_store.proofs.finding.ReachLaws.{lowest-none}
+use Rattle.fk_store.specs.Store.Paths.{path}
+use Rattle.fk_store.specs.Store.World.{world}
+use Rattle.fk_store.proofs.InStore.finding.ReachLaws.{lowest-none}
 use Rattle.fk_objects.proofs.Slots.{none_below, none_there, first_there, none_first}
 use Rattle.fk_objects.proofs.searching.first_taken.Goals as goal
 

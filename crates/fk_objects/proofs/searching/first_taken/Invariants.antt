@@ -1,8 +1,8 @@
 use Rattle.std.proofs.Common.{◌≡◌, None}
 use Rattle.fk_model.specs.ObjectRows.{taken_from}
 use Rattle.fk_model.specs.Searches.{lowest}
-use Rattle.fk_store.specs.Paths.{path}
-use Rattle.fk_store.specs.World.{world}
+use Rattle.fk_store.specs.Store.Paths.{path}
+use Rattle.fk_store.specs.Store.World.{world}
 use Rattle.fk_objects.proofs.searching.first_taken.Given as goal
 
 -- none so far

@@ -2,7 +2,7 @@ use Rattle.std.proofs.Common.{◌≡◌, Ok, map, string_bytes}
 use Rattle.fk_commands.proofs.Comes.{comes-also}
 use Rattle.fk_plays.specs.Play.{IsPlay, IsPlayedBy, IsScenario}
 use Rattle.fk_plays.proofs.Found.{refused-with}
-use Rattle.fk_scenario.specs.Reading.{scenario_reading}
+use Rattle.fk_scenario.specs.Scenario.Reading.{scenario_reading}
 use Rattle.fk_plays.proofs.play.play.Goals as goal
 
 pub returns-clause-comes : goal.returns-clause-comes

@@ -3,7 +3,7 @@ use Rattle.fk_causes.specs.Shelf.{HasAt}
 use Rattle.fk_commands.specs.Files.{trace_name}
 use Rattle.fk_commands.proofs.Comes.{comes-also}
 use Rattle.fk_plays.specs.Play.{IsPlayedBy}
-use Rattle.fk_runs.specs.Runs.{IsPlayedFrom}
+use Rattle.fk_runs.specs.Runs.Runs.{IsPlayedFrom}
 use Rattle.fk_plays.proofs.play.play_with.Goals as goal
 
 pub returns-clause-comes : goal.returns-clause-comes

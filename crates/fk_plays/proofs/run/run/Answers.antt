@@ -1,8 +1,8 @@
 use Rattle.std.proofs.Common.{◌≡◌, Ok, map, string_bytes}
 use Rattle.fk_plays.specs.Play.{IsWholeRun}
-use Rattle.fk_runs.specs.Runs.{IsRunFrom}
+use Rattle.fk_runs.specs.Runs.Runs.{IsRunFrom}
 use Rattle.fk_commands.proofs.Comes.{comes-also}
-use Rattle.fk_scenario.specs.Reading.{scenario_reading}
+use Rattle.fk_scenario.specs.Scenario.Reading.{scenario_reading}
 use Rattle.fk_plays.proofs.run.run.Goals as goal
 
 pub returns-clause-comes : goal.returns-clause-comes

@@ -2,8 +2,8 @@ use Rattle.std.proofs.Common.{◌≡◌, Ok, map, string_bytes}
 use Rattle.fk_commands.proofs.Comes.{comes-also}
 use Rattle.fk_gen.specs.Soak.{scenario}
 use Rattle.fk_plays.specs.Play.{IsSoak}
-use Rattle.fk_runs.specs.Runs.{IsSoakFrom}
-use Rattle.fk_scenario.specs.Reading.{scenario_reading}
+use Rattle.fk_runs.specs.Runs.Runs.{IsSoakFrom}
+use Rattle.fk_scenario.specs.Scenario.Reading.{scenario_reading}
 use Rattle.fk_plays.proofs.soak.soak.Goals as goal
 
 pub returns-clause-comes : goal.returns-clause-comes

@@ -1,5 +1,5 @@
 use Rattle.std.proofs.Common.{Some, subst, refl}
-use Rattle.fk_store.specs.World.{world, place_of}
+use Rattle.fk_store.specs.Store.World.{world, place_of}
 use Rattle.fk_report.specs.Threads.{HaveHalted}
 use Rattle.fk_report.proofs.ThreadScans.{AreOver, over-first, over-more, over-all}
 use Rattle.fk_report.proofs.resting.all_halted.Goals as goal

@@ -1,6 +1,6 @@
 use Rattle.std.proofs.Common.{sym}
-use Rattle.fk_store.specs.Paths.{path}
-use Rattle.fk_store.specs.World.{world, place_of}
+use Rattle.fk_store.specs.Store.Paths.{path}
+use Rattle.fk_store.specs.Store.World.{world, place_of}
 use Rattle.fk_report.proofs.ThreadScans.{over-thread, over-nobody}
 use Rattle.fk_report.proofs.resting.has_halted.Goals as goal
 

@@ -1,6 +1,6 @@
 use Rattle.std.proofs.Common.{Some, subst}
 use Rattle.std.proofs.lemmas.Bool.{OnTrue_at}
-use Rattle.fk_store.specs.World.{world}
+use Rattle.fk_store.specs.Store.World.{world}
 use Rattle.fk_report.proofs.Lines.{no-line}
 use Rattle.fk_report.proofs.ThreadScans.{AreFound, found-first, found-more, found-all}
 use Rattle.fk_report.proofs.threads.in_line.Goals as goal

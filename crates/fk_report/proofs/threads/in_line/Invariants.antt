@@ -1,4 +1,4 @@
-use Rattle.fk_store.specs.World.{world}
+use Rattle.fk_store.specs.Store.World.{world}
 use Rattle.fk_report.specs.Threads.{IsLine}
 use Rattle.fk_report.proofs.ThreadScans.{AreFound, left_from}
 use Rattle.fk_report.proofs.threads.in_line.Given as goal

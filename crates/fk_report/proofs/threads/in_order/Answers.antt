@@ -1,4 +1,4 @@
-use Rattle.fk_store.specs.World.{world}
+use Rattle.fk_store.specs.Store.World.{world}
 use Rattle.fk_report.proofs.KeptThreads.{listed-threads}
 use Rattle.fk_report.proofs.threads.in_order.Goals as goal
 

@@ -1,5 +1,5 @@
 use Rattle.std.proofs.Common.{◌≡◌, Some, sym, ◌∙◌}
-use Rattle.fk_store.specs.World.{world, place_of}
+use Rattle.fk_store.specs.Store.World.{world, place_of}
 use Rattle.fk_report.specs.Threads.{state_at}
 use Rattle.fk_report.proofs.ThreadScans.{state-itself}
 use Rattle.fk_report.proofs.threads.keep_at.Goals as goal

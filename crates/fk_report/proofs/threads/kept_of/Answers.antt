@@ -1,7 +1,7 @@
 use Rattle.std.proofs.Common.{◌≡◌, [], Some, sym, subst}
 use Rattle.std.specs.BTreeMap.{values}
 use Rattle.std.proofs.lemmas.List.Elements.{All-nil}
-use Rattle.fk_store.specs.World.{world}
+use Rattle.fk_store.specs.Store.World.{world}
 use Rattle.fk_report.specs.Threads.{IsKept, AreKept}
 use Rattle.fk_report.proofs.ThreadScans.{AreFound, found-first, found-more, found-all}
 use Rattle.fk_report.proofs.threads.kept_of.Goals as goal

@@ -1,5 +1,5 @@
 use Rattle.std.specs.BTreeMap.{values}
-use Rattle.fk_store.specs.World.{world}
+use Rattle.fk_store.specs.Store.World.{world}
 use Rattle.fk_report.specs.Threads.{AreKept}
 use Rattle.fk_report.proofs.ThreadScans.{AreFound, left_from}
 use Rattle.fk_report.proofs.threads.kept_of.Given as goal

@@ -1,6 +1,6 @@
 use Rattle.std.proofs.Common.{◌≡◌, Some, sym, ◌∙◌}
 use Rattle.std.proofs.lemmas.Option.{same_Some}
-use Rattle.fk_store.specs.World.{world, place_of}
+use Rattle.fk_store.specs.Store.World.{world, place_of}
 use Rattle.fk_report.specs.Threads.{state_at}
 use Rattle.fk_report.proofs.ThreadScans.{state-itself}
 use Rattle.fk_report.proofs.Lines.{lined-up, lined-others, lined-itself}

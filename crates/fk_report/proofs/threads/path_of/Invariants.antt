@@ -1,6 +1,6 @@
 use Rattle.std.proofs.Common.{◌≡◌, ◌++◌}
-use Rattle.fk_store.specs.Paths.{path}
-use Rattle.fk_store.specs.World.{place_of, IsLive}
+use Rattle.fk_store.specs.Store.Paths.{path}
+use Rattle.fk_store.specs.Store.World.{place_of, IsLive}
 use Rattle.fk_report.proofs.threads.path_of.Given as goal
 
 abbrev pub invariant-loop-space : goal.invariant-loop-space

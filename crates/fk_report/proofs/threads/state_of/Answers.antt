@@ -1,5 +1,5 @@
 use Rattle.std.proofs.Common.{sym}
-use Rattle.fk_store.specs.World.{world, place_of}
+use Rattle.fk_store.specs.Store.World.{world, place_of}
 use Rattle.fk_report.proofs.ThreadPaths.{thread-there}
 use Rattle.fk_report.proofs.threads.state_of.Goals as goal
 

@@ -1,5 +1,5 @@
 use Rattle.std.proofs.Common.{arith}
-use Rattle.fk_store.specs.Paths.{path}
+use Rattle.fk_store.specs.Store.Paths.{path}
 use Rattle.fk_spaces.proofs.PorterScans.{none_among, nowhere_among}
 use Rattle.fk_spaces.proofs.beneath.is_any_beneath.Goals as goal
 

@@ -1,5 +1,5 @@
 use Rattle.std.proofs.Common.{arith}
-use Rattle.fk_store.specs.Paths.{path}
+use Rattle.fk_store.specs.Store.Paths.{path}
 use Rattle.fk_spaces.proofs.PorterScans.{none_so_far, is_nowhere}
 use Rattle.fk_spaces.proofs.beneath.is_born_beneath.Goals as goal
 

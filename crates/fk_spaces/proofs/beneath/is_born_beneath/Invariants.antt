@@ -1,4 +1,4 @@
-use Rattle.fk_store.specs.Paths.{path}
+use Rattle.fk_store.specs.Store.Paths.{path}
 use Rattle.fk_spaces.proofs.PorterScans.{NoneBelow}
 use Rattle.fk_spaces.proofs.beneath.is_born_beneath.Given as goal
 

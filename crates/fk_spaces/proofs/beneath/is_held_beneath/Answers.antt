@@ -1,5 +1,5 @@
 use Rattle.std.proofs.Common.{sym, ap, ◌∙◌}
-use Rattle.fk_store.specs.Paths.{path}
+use Rattle.fk_store.specs.Store.Paths.{path}
 use Rattle.fk_spaces.specs.Sought.{is_sought_at}
 use Rattle.fk_spaces.proofs.PorterScans.{is_there}
 use Rattle.fk_spaces.proofs.beneath.is_held_beneath.Goals as goal

@@ -1,7 +1,7 @@
 use Rattle.std.proofs.Common.{◌≡◌, None}
 use Rattle.fk_model.specs.Searches.{lowest}
-use Rattle.fk_store.specs.Paths.{path}
-use Rattle.fk_store.specs.World.{world}
+use Rattle.fk_store.specs.Store.Paths.{path}
+use Rattle.fk_store.specs.Store.World.{world}
 use Rattle.fk_spaces.proofs.NextPages.{from_on}
 use Rattle.fk_spaces.proofs.finding.next_page.Given as goal
 

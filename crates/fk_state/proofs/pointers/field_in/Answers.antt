@@ -1,5 +1,5 @@
 use Rattle.std.proofs.Common.{subst, IfSome}
-use Rattle.fk_store.specs.World.{IsLive}
+use Rattle.fk_store.specs.Store.World.{IsLive}
 use Rattle.fk_state.specs.Fields.{OnField}
 use Rattle.fk_state.proofs.pointers.field_in.Goals as goal
 

@@ -1,11 +1,11 @@
 use Rattle.std.proofs.Common.{◌≡◌, true}
 use Rattle.fk_model.specs.Reach.{words_at}
 use Rattle.fk_model.specs.Talks.{other_side, receiving}
-use Rattle.fk_plans.specs.Plans.{caller_by}
-use Rattle.fk_store.specs.Bodies.{thread_by}
-use Rattle.fk_store.specs.Paths.{path, place}
-use Rattle.fk_store.specs.Threads.{is_free_at}
-use Rattle.fk_store.specs.World.{world}
+use Rattle.fk_plans.specs.Plans.Plans.{caller_by}
+use Rattle.fk_store.specs.Store.Bodies.{thread_by}
+use Rattle.fk_store.specs.Store.Paths.{path, place}
+use Rattle.fk_store.specs.Store.Threads.{is_free_at}
+use Rattle.fk_store.specs.Store.World.{world}
 use Rattle.fk_transfer.proofs.SendLaws.{ends_if, if_moving, to_thread}
 use Rattle.fk_transfer.proofs.sending.moves_to_thread.Goals as goal
 

@@ -1,8 +1,8 @@
 use Rattle.std.proofs.Common.{ap, ◌∙◌}
-use Rattle.fk_store.specs.Bodies.{peer_by}
-use Rattle.fk_store.specs.Paths.{path, place}
-use Rattle.fk_store.specs.World.{world}
-use Rattle.fk_plans.specs.Plans.{caller_by}
+use Rattle.fk_store.specs.Store.Bodies.{peer_by}
+use Rattle.fk_store.specs.Store.Paths.{path, place}
+use Rattle.fk_store.specs.Store.World.{world}
+use Rattle.fk_plans.specs.Plans.Plans.{caller_by}
 use Rattle.fk_transfer.specs.Lines.{line_by}
 use Rattle.fk_transfer.proofs.SendLaws.{if_moving, send_goes, some_words}
 use Rattle.fk_transfer.proofs.sending.moving.Goals as goal

@@ -1,6 +1,6 @@
 use Rattle.std.proofs.Common.{◌<◌, ◌+◌, refl, arith}
-use Rattle.fk_store.specs.Paths.{path, place}
-use Rattle.fk_store.specs.World.{world}
+use Rattle.fk_store.specs.Store.Paths.{path, place}
+use Rattle.fk_store.specs.Store.World.{world}
 use Rattle.fk_transfer.proofs.SendLaws.{own_low}
 use Rattle.fk_transfer.proofs.sending.sends_to_service.Goals as goal
 

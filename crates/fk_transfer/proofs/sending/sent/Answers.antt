@@ -1,6 +1,6 @@
 use Rattle.std.proofs.Common.{◌<◌, ◌+◌, arith}
-use Rattle.fk_store.specs.Paths.{path, place}
-use Rattle.fk_store.specs.World.{world}
+use Rattle.fk_store.specs.Store.Paths.{path, place}
+use Rattle.fk_store.specs.Store.World.{world}
 use Rattle.fk_transfer.proofs.SendLaws.{both_low}
 use Rattle.fk_transfer.proofs.sending.sent.Goals as goal
 

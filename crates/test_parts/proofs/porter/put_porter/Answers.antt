@@ -1,8 +1,8 @@
 use Rattle.std.proofs.Common.{rules, OnOk, ◌≡◌, ℕ, ◌<◌, None, refl}
 use Rattle.fk_model.specs.Valid.{IsValid}
-use Rattle.fk_store.specs.Paths.{path}
-use Rattle.fk_store.specs.World.{world, place_of, IsSpace}
-use Rattle.fk_store.proofs.finding.Results.{on_ok}
+use Rattle.fk_store.specs.Store.Paths.{path}
+use Rattle.fk_store.specs.Store.World.{world, place_of, IsSpace}
+use Rattle.fk_store.proofs.InStore.finding.Results.{on_ok}
 use Rattle.test_parts.proofs.Made.{valid-made}
 use Rattle.test_parts.proofs.porter.put_porter.Goals as goal
 

@@ -1,5 +1,5 @@
 use Rattle.std.proofs.Common.{None, ap}
-use Rattle.fk_steps.proofs.Leading.{if_none}
+use Rattle.fk_turns.proofs.InSteps.Leading.{if_none}
 use Rattle.fk_kernel.specs.Kernels.{Kept}
 use Rattle.fk_kernel.proofs.Scans.{idle_around, nobody_besides}
 use Rattle.fk_kernel.proofs.kernel.Kernel.any_besides.Goals as goal

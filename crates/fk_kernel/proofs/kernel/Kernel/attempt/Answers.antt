@@ -1,8 +1,8 @@
 use Rattle.std.proofs.Common.{sym}
 use Rattle.fk_kernel.proofs.Endings.{ended-tried, heard-tried}
-use Rattle.fk_steps.specs.Waiting.{standing}
+use Rattle.fk_turns.specs.Steps.Waiting.{standing}
 use Rattle.fk_kernel.proofs.Kept.{same-lacking, same-unready}
-use Rattle.fk_store.specs.World.{world}
+use Rattle.fk_store.specs.Store.World.{world}
 use Rattle.fk_kernel.proofs.Promises.{correct-tried, fit-move, prompt-tried, sized-runnable}
 use Rattle.fk_kernel.proofs.kernel.Kernel.attempt.Goals as goal
 

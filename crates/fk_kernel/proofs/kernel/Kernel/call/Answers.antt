@@ -1,8 +1,8 @@
 use Rattle.std.proofs.Common.{sym}
 use Rattle.fk_model.specs.declared.moves.Ask.TheVariants as asks
-use Rattle.fk_steps.specs.Tried.{tried_of}
+use Rattle.fk_turns.specs.Steps.Tried.{tried_of}
 use Rattle.fk_kernel.proofs.Endings.{ended-tried, heard-tried}
-use Rattle.fk_steps.specs.Waiting.{standing}
+use Rattle.fk_turns.specs.Steps.Waiting.{standing}
 use Rattle.fk_kernel.proofs.Kept.{same-lacking, same-unready}
 use Rattle.fk_kernel.proofs.Promises.{fit-move}
 use Rattle.fk_kernel.proofs.kernel.Kernel.call.Goals as goal

@@ -1,4 +1,4 @@
-use Rattle.fk_store.specs.World.{world}
+use Rattle.fk_store.specs.Store.World.{world}
 use Rattle.fk_kernel.proofs.Promises.{sized-runnable}
 use Rattle.fk_kernel.proofs.kernel.Kernel.is_runnable.Goals as goal
 

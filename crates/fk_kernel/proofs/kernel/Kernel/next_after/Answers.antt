@@ -1,5 +1,5 @@
 use Rattle.std.proofs.Common.{None, refl}
-use Rattle.fk_steps.proofs.Leading.{if_none}
+use Rattle.fk_turns.proofs.InSteps.Leading.{if_none}
 use Rattle.fk_kernel.proofs.Scans.{idle_around, nobody_ready}
 use Rattle.fk_kernel.proofs.kernel.Kernel.next_after.Goals as goal
 

@@ -1,4 +1,4 @@
-use Rattle.fk_steps.proofs.Stepped.{kept_wider}
+use Rattle.fk_turns.proofs.InSteps.Stepped.{kept_wider}
 use Rattle.fk_kernel.proofs.kernel.Kernel.of.Goals as goal
 
 pub reserve-requires : goal.reserve-requires

@@ -1,5 +1,5 @@
 use Rattle.fk_kernel.proofs.Endings.{ended-proceeded, made-proceeded}
-use Rattle.fk_steps.specs.Waiting.{standing}
+use Rattle.fk_turns.specs.Steps.Waiting.{standing}
 use Rattle.fk_kernel.proofs.Kept.{same-false}
 use Rattle.fk_kernel.proofs.kernel.Kernel.proceed_on.Goals as goal
 

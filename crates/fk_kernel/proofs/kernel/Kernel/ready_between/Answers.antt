@@ -1,5 +1,5 @@
 use Rattle.std.proofs.Common.{ap}
-use Rattle.fk_steps.proofs.Ahead.{IsAhead, ahead_next}
+use Rattle.fk_turns.proofs.InSteps.Ahead.{IsAhead, ahead_next}
 use Rattle.fk_kernel.specs.Kernels.{Kept}
 use Rattle.fk_kernel.proofs.Scans.{IsUpBetween, all_ahead}
 use Rattle.fk_kernel.proofs.kernel.Kernel.ready_between.Goals as goal

@@ -1,4 +1,4 @@
-use Rattle.fk_steps.proofs.Ahead.{IsAhead, left_from}
+use Rattle.fk_turns.proofs.InSteps.Ahead.{IsAhead, left_from}
 use Rattle.fk_kernel.proofs.Scans.{IsUpBetween}
 use Rattle.fk_kernel.proofs.kernel.Kernel.ready_between.Given as goal
 

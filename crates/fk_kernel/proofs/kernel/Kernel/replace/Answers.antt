@@ -7,12 +7,12 @@ use Rattle.fk_model.specs.Valid.{IsValid}
 use Rattle.fk_model.specs.World.{apply}
 use Rattle.fk_model.specs.World.Change.{Alter}
 use Rattle.fk_model.specs.World.Edit.{Proceed}
-use Rattle.fk_store.specs.Paths.{path, place}
-use Rattle.fk_store.specs.World.{world}
-use Rattle.fk_steps.specs.Kept.{is_user_at}
-use Rattle.fk_steps.specs.Told.{IsStored}
-use Rattle.fk_steps.proofs.Went.{free_when_ready}
-use Rattle.laws_users.specs.Stood.{is_users_at}
+use Rattle.fk_store.specs.Store.Paths.{path, place}
+use Rattle.fk_store.specs.Store.World.{world}
+use Rattle.fk_turns.specs.Steps.Kept.{is_user_at}
+use Rattle.fk_turns.specs.Steps.Told.{IsStored}
+use Rattle.fk_turns.proofs.InSteps.Went.{free_when_ready}
+use Rattle.laws_moves.specs.Users.Stood.{is_users_at}
 use Rattle.fk_kernel.specs.Replaced.{rewritten, IsPageThere}
 use Rattle.fk_kernel.proofs.Quietly.{replaced_stays, runs_at}
 use Rattle.fk_kernel.proofs.Replacing.{valid-proceeded, valid-rewritten}

@@ -1,5 +1,5 @@
 use Rattle.fk_kernel.proofs.Endings.{ended-said, heard-said, made-said}
-use Rattle.fk_steps.specs.Waiting.{standing}
+use Rattle.fk_turns.specs.Steps.Waiting.{standing}
 use Rattle.fk_kernel.proofs.Kept.{same-none}
 use Rattle.fk_kernel.proofs.kernel.Kernel.say.Goals as goal
 

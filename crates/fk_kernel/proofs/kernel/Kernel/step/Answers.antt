@@ -1,7 +1,7 @@
 use Rattle.std.proofs.Common.{sym}
-use Rattle.fk_steps.specs.Waiting.{standing}
+use Rattle.fk_turns.specs.Steps.Waiting.{standing}
 use Rattle.fk_kernel.proofs.Kept.{same-err}
-use Rattle.fk_store.specs.World.{world}
+use Rattle.fk_store.specs.Store.World.{world}
 use Rattle.fk_kernel.proofs.Promises.{correct-step, fit-move, sized-runnable}
 use Rattle.fk_kernel.proofs.kernel.Kernel.step.Goals as goal
 

@@ -1,6 +1,6 @@
 use Rattle.std.proofs.Common.{sym, ap, subst}
-use Rattle.fk_waits.specs.Lists.{Lists}
-use Rattle.fk_steps.specs.Waiting.{standing, AreWaiting}
+use Rattle.fk_waits.specs.Waits.Lists.{Lists}
+use Rattle.fk_turns.specs.Steps.Waiting.{standing, AreWaiting}
 use Rattle.fk_kernel.proofs.kernel.Kernel.waits.Goals as goal
 
 pub waiting-requires : goal.waiting-requires

@@ -1,4 +1,0 @@
-pub use Rattle.fk_endings.proofs.Verdicts
-pub mod Rows
-pub mod Allowed
-pub mod Made

@@ -1,8 +1,0 @@
-use Rattle.std.proofs.Common.{refl}
-use Rattle.fk_model.specs.World.{apply_all}
-use Rattle.fk_store.specs.Paths.{path}
-use Rattle.fk_answers.proofs.answering.answer.Goals as goal
-
-pub returns-in-Refused-clause-step : goal.returns-in-Refused-clause-step
-unfolding apply_all
-returns-in-Refused-clause-step c = rw (c.in-Refused.is, c.requires.porter, c.lay.ensures.said (path c.args.store.now)) refl

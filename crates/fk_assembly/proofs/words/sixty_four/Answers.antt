@@ -1,6 +1,0 @@
-use Rattle.std.proofs.Common.{rules}
-use Rattle.fk_assembly.proofs.Loops.{filled}
-use Rattle.fk_assembly.proofs.words.sixty_four.Goals as goal
-
-pub returns : goal.returns
-returns c = filled c.args.words.now _ _ c.min-count.ensures (search rules)

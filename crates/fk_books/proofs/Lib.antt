@@ -1,5 +1,0 @@
-mod Coming
-mod Playing
-pub mod Runs
-mod Fitting
-mod Bursting

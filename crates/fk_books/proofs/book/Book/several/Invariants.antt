@@ -1,6 +1,0 @@
-use Rattle.std.proofs.Common.{◌+◌, ◌≤◌, length}
-use Rattle.fk_books.specs.Told.{GoesOn}
-use Rattle.fk_books.proofs.book.Book.several.Given as goal
-
-abbrev pub invariant-loop : goal.invariant-loop
-invariant-loop g l = GoesOn l.fn.self l.self × (length l.self.history ≤ length l.fn.self.history + l.counter)

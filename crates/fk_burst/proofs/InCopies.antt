@@ -1,0 +1,4 @@
+pub mod Acts
+pub mod Equal
+pub mod Places
+pub mod Used

@@ -1,0 +1,13 @@
+pub mod Doings
+pub mod Judged
+pub mod Firsts
+pub mod Choices
+pub mod Given
+pub mod Restored
+pub mod Families
+pub mod Quiet
+pub mod Pointing
+pub mod Untold
+pub mod Chosen
+pub mod Running
+pub mod Touches

@@ -1,6 +1,0 @@
-use Rattle.fk_calls.proofs.Touches.{acting}
-use Rattle.fk_calls.proofs.moves.attempt_act.Goals as goal
-
-pub returns-in-Some-clause-touched : goal.returns-in-Some-clause-touched
-returns-in-Some-clause-touched c =
-    acting c.args.store.now c.args.m.now c.args.ask.now c.client_of-client.result c.requires.act c.client_of-client.ensures

@@ -1,8 +1,0 @@
-use Rattle.fk_store.specs.Paths.{path, place}
-use Rattle.fk_store.specs.World.{world}
-use Rattle.fk_calls.proofs.silent.stage_of.Goals as goal
-
-pub returns-in-Stage-clause-at : goal.returns-in-Stage-clause-at
-returns-in-Stage-clause-at c =
-    let m = c.args.store.now in
-    c.in-Stage.ensures (world m) (place (path m) c.args.who) (path m) c.in_ok-thread.ensures.there

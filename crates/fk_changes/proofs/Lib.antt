@@ -1,0 +1,4 @@
+pub mod InReaders
+pub mod InThreads
+pub mod InRecords
+pub mod InDeaths

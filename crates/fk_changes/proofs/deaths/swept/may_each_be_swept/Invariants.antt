@@ -1,0 +1,12 @@
+use Rattle.fk_store.specs.Store.Paths.{path, place}
+use Rattle.fk_store.specs.Store.World.{IsLive}
+use Rattle.fk_changes.proofs.InDeaths.Scans.{ArePassed, left_from}
+use Rattle.fk_changes.proofs.InDeaths.Sweeps.{IsSweepable}
+use Rattle.fk_changes.proofs.deaths.swept.may_each_be_swept.Given as goal
+
+-- each may be swept, or is yet to come
+abbrev pub invariant-loop-at : goal.invariant-loop-at
+invariant-loop-at l = ArePassed (IsLive l.store) (IsSweepable l.store (place (path l.store) l.me) (place (path l.store) l.gone)) l.at
+
+abbrev pub decreases-loop-at : goal.decreases-loop-at
+decreases-loop-at l = left_from l.at

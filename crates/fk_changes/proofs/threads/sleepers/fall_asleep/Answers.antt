@@ -1,0 +1,12 @@
+use Rattle.fk_model.specs.declared.stage.Stage.TheVariants.{CondAsleep}
+use Rattle.fk_model.specs.World.Edit.{Replace}
+use Rattle.fk_store.specs.Store.Paths.{path, place}
+use Rattle.fk_store.specs.Store.World.{world}
+use Rattle.fk_changes.proofs.InThreads.Falling.{fall_there}
+use Rattle.fk_changes.proofs.threads.sleepers.fall_asleep.Goals as goal
+
+pub returns-in-Some-clause-world : goal.returns-in-Some-clause-world
+returns-in-Some-clause-world c =
+    c.go_on.ensures.edits (Replace (CondAsleep c.args.cond c.args.mutex))
+    (fall_there (world c.args.store.now) (place (path c.args.store.now) c.args.who) (path c.args.store.now) c.in-Some.field-0.now
+    c.args.cond c.args.mutex _ c.in-Some.ensures.thread c.requires.waits (c.asleep.ensures.edit (path c.args.store.now) c.args.cond c.args.mutex))

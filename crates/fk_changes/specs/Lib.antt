@@ -1,0 +1,4 @@
+pub mod Readers
+pub mod Threads
+pub mod Records
+pub mod Deaths

@@ -1,0 +1,45 @@
+-- Shifted: what a moved block makes of the registers of a call.
+use Rattle.std.specs.Prelude.{◌<◌, ◌^◌, ℕ, ◌+◌, ◌-◌, ◌||◌, ◌==◌, List, ◌∷◌, Option, Some, None, if◌then◌else◌, slice_index, slice_set}
+use Rattle.fk_model.specs.declared.stage.Stage.{Stage}
+use Rattle.fk_model.specs.declared.stage.Stage.TheVariants.{ClientReceive, ClientSend, ServerReceive, ServerSend}
+use Rattle.fk_model.specs.declared.thread.Turn.{Turn}
+use Rattle.fk_model.specs.declared.thread.Turn.TheVariants as turns
+use Rattle.fk_model.specs.Places.{Path}
+use Rattle.fk_model.specs.World.{World}
+use Rattle.fk_store.specs.Store.Threads.{todo_at}
+
+-- the register of the address at which the first stage of a call moves words, by the call's code
+abbrev pub moving : ℕ → Option ℕ
+moving n = if n == 34 || n == 37 || n == 51 || n == 53 then Some 2 else (if n == 36 || n == 50 then Some 4 else None)
+
+abbrev pub advanced : ℕ → Option ℕ → List ℕ → List ℕ
+advanced k None g = g
+advanced k (Some i) g = slice_set (slice_set g i (slice_index g i + k)) (i + 1) (slice_index g (i + 1) - k)
+
+abbrev pub shifted_registers : ℕ → List ℕ → List ℕ
+shifted_registers k g = advanced k (moving (slice_index g 0)) g
+
+-- the code of the call that is a Receive alone, on this side of a talk
+abbrev pub receive_code : Turn → ℕ
+receive_code turns.Client = 36
+receive_code turns.Server = 50
+
+-- address and room of a Receive on this side
+abbrev pub receive_in : Turn → List ℕ → Option (ℕ × ℕ)
+receive_in side g = if slice_index g 0 == receive_code side then Some (slice_index g 4, slice_index g 5) else None
+
+-- the address of a stage that moves words; 0 of every other
+abbrev pub address_of : List Stage → ℕ
+address_of (ClientSend address count ∷ todo) = address
+address_of (ClientReceive into room ∷ todo) = into
+address_of (ServerSend address count ∷ todo) = address
+address_of (ServerReceive into room ∷ todo) = into
+address_of other = 0
+
+abbrev pub address_in : Option ℕ → List ℕ → ℕ
+address_in None g = 0
+address_in (Some i) g = slice_index g i
+
+-- so many words more still have an address
+abbrev pub IsLow : World → Path → ℕ → Type 0
+IsLow w x k = address_of (todo_at w x) + k < 2 ^ 64

@@ -1,5 +1,0 @@
-use Rattle.fk_checkpoint.proofs.Calls.{at_call}
-use Rattle.fk_checkpoint.proofs.checkpoint.Checkpoint.finish.Goals as goal
-
-pub returns : goal.returns
-returns c = record { some = tt; way = tt; none = at_call c.args.self.slot c.args.self.phase c.in_default.not-Over }

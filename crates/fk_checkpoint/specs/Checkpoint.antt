@@ -1,0 +1,4 @@
+pub mod Ends
+pub mod Checkpoints
+pub mod Phases
+pub mod Lefts

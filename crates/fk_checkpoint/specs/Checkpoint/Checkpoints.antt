@@ -1,0 +1,38 @@
+-- What a checkpoint in code is about to end with.
+use Rattle.std.specs.Prelude.{ℕ}
+use Rattle.fk_finish.specs.declared.finish.Place.{Place as CodePlace}
+use Rattle.fk_model.specs.Closed.{Place}
+use Rattle.laws_checkpoint.specs.Checkpoint.{End}
+use Rattle.laws_checkpoint.specs.Checkpoint.End.{Gone, Foreign, Done}
+use Rattle.laws_checkpoint.specs.Foreign.{place_of}
+use Rattle.laws_checkpoint.specs.Assembly.{assembled}
+use Rattle.laws_checkpoint.specs.Narrow.{narrowed}
+use Rattle.fk_checkpoint.specs.Seeking.Seeking.{task_at}
+use Rattle.fk_checkpoint.specs.Gathering.Gathering.{contents_of, leads_of}
+use Rattle.fk_finish.specs.declared.finish.Finish.{Finish}
+use Rattle.fk_finish.specs.declared.finish.Finish.TheVariants as finishes
+use Rattle.fk_checkpoint.specs.declared.checkpoint.ending.Ending.{Ending}
+use Rattle.fk_checkpoint.specs.declared.checkpoint.ending.Ending.TheVariants as endings
+
+abbrev pub shown_place : CodePlace → Place
+shown_place p = record { path = p.path; field = p.field }
+
+-- how it has ended, as the machine says it; a checkpoint ends in the first three ways alone
+abbrev pub end_of : Finish → End
+end_of (finishes.Image image) = Done image
+end_of (finishes.Foreign place) = Foreign (shown_place place)
+end_of finishes.Dead = Gone
+end_of finishes.Restored = Gone
+end_of finishes.Occupied = Gone
+end_of (finishes.NoPort port) = Gone
+
+abbrev pub ending_of : ℕ → Ending → End
+ending_of slot (endings.Foreign walk at field) = Foreign (place_of slot (task_at walk.mets.items at) field)
+ending_of slot (endings.Done contents leads) = Done (narrowed (assembled (contents_of contents.items) (leads_of leads.items)))
+ending_of slot (endings.Made finish) = end_of finish
+
+-- what it ends with is made
+abbrev pub IsReady : Ending → Type 0
+IsReady (endings.Foreign walk at field) = ⊥
+IsReady (endings.Done contents leads) = ⊥
+IsReady (endings.Made finish) = Unit {0}

@@ -1,0 +1,14 @@
+-- What `read` gives, against what is read: want of memory says nothing.
+use Rattle.std.specs.Prelude.{◌≡◌, ℕ, Result, Ok, Err}
+use Rattle.fk_image.specs.declared.image.image.Image.{Image}
+use Rattle.fk_codec.specs.declared.codec.fail.ReadFail.{ReadFail}
+use Rattle.fk_codec.specs.declared.codec.fail.ReadFail.TheVariants as fails
+
+abbrev pub IsFirstFault : ReadFail → Result Image (ℕ × ℕ) → Type 0
+IsFirstFault fails.NoMemory read = Unit {0}
+IsFirstFault (fails.Image e) read = read ≡ Err (e.offset, e.reason)
+
+-- what `read` gives is the image, or the offset and the reason of the first fault
+abbrev pub Reads : Result Image ReadFail → Result Image (ℕ × ℕ) → Type 0
+Reads (Ok i) read = read ≡ Ok i
+Reads (Err e) read = IsFirstFault e read

@@ -1,4 +1,0 @@
-mod Acts
-mod Equal
-pub mod Places
-pub mod Used

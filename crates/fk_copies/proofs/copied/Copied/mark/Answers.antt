@@ -1,6 +1,0 @@
-use Rattle.std.proofs.Common.{rules}
-use Rattle.fk_copies.proofs.Places.{marked}
-use Rattle.fk_copies.proofs.copied.Copied.mark.Goals as goal
-
-pub returns-clause-burst : goal.returns-clause-burst
-returns-clause-burst c = marked c.args.self.now c.args.k (search rules)

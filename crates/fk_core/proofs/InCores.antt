@@ -1,0 +1,12 @@
+pub use Rattle.fk_core.proofs.InRounds.Hearing
+pub mod Turning
+pub mod Histories
+pub mod Cutting
+pub mod Proceeding
+pub mod Going
+pub mod Trying
+pub mod Settles
+pub mod Leaving
+pub mod Rooms
+pub mod Timely
+pub mod Bursting

@@ -1,0 +1,12 @@
+use Rattle.std.proofs.Common.{◌↔◌, IsTrue}
+use Rattle.fk_core.specs.Rounds.Moments.{seen}
+use Rattle.fk_core.specs.Cores.Cores.{run_core, IsDue}
+use Rattle.fk_core.proofs.InCores.Trying.{there}
+use Rattle.fk_core.proofs.cores.turns.Core.is_due.Goals as goal
+
+pub returns : goal.returns
+returns g c =
+    let self = c.args.self.now in
+    let moment = c.moment.result in
+    there (λ q core. IsTrue c.is_due.result ↔ IsDue q.jobs core) self.jobs moment.jobs.now (run_core self) (seen moment) c.moment.ensures.jobs
+    c.moment.ensures.seen c.is_due.ensures

@@ -1,0 +1,396 @@
+//! The core: a kernel with its native servers and its jobs.
+ghost use Rattle.fk_model.specs.declared.moves.Rule.{Rule};
+ghost use Rattle.std.specs.Prelude.{◌≡◌, ◌↔◌, List, [], ◌+◌, ◌<◌, Some, true, false, IsTrue, OnOk, OnErr, map};
+ghost use Rattle.std.specs.Bool.{OnTrue, OnFalse};
+ghost use Rattle.fk_core.specs.Rounds.Served.{AllFit, shown};
+ghost use Rattle.fk_core.specs.Cores.Cores.{run_core, is_porter, reply_to, IsReadyMove, IsAskedMove, IsCalledMove, IsTurned, IsTried, IsAdvanced, is_timely};
+ghost use Rattle.fk_core.specs.Cores.Cuts.{KeepsCuts, LeavesStrangers};
+ghost use Rattle.fk_core.specs.Cores.Goings.{IsGoing};
+ghost use Rattle.fk_core.specs.Cores.Leaves.{LeavesTheRest};
+ghost use Rattle.fk_core.specs.Rounds.Kernels.{world_of as world};
+ghost use Rattle.fk_jobs.specs.Jobs.{hears};
+
+use crate::cores::given::Given;
+use crate::cores::room::Room;
+use crate::rounds::Rounds;
+use fk_jobs::{Jobs, Worker};
+use fk_model::{Answer, Ask, Move, NoMemory, Reply, Said, Who};
+use fk_natives::Service;
+use fk_responders::Table;
+use fk_served::{Kernel, Services};
+
+/// A kernel with its native servers and its jobs, and how many moves it has made of how many.
+#[derive(Drop)]
+pub struct Core<S: Service + Drop, W: Worker + Drop> {
+    /// What each move writes stands together, and first: where workers take turns it passes from one processor to another.
+    pub(crate) events: u64,
+    /// The thread that has moved last, after which the next is sought.
+    pub(crate) last: Option<Who>,
+    pub(crate) budget: u64,
+    pub(crate) rounds: Rounds,
+    pub(crate) kernel: Kernel,
+    pub(crate) services: Services<S>,
+    pub(crate) jobs: Jobs<W>,
+    /// What a porter is told is laid here, so that no call on the way copies it.
+    pub(crate) room: Room,
+    /// The words that a job gives with its call are laid here.
+    pub(crate) given: Given,
+}
+
+/// The thread that has moved last, once this one has or a server.
+fn last_thread(ask: &Ask, who: Who, last: Option<Who>) -> Option<Who> {
+    match ask {
+        Ask::Run => Some(who),
+        _ => last,
+    }
+}
+
+/// The port whose server hears what a move tells.
+fn hearer(said: &Said) -> Option<Who> {
+    match said {
+        Said::Taken { port, .. }
+        | Said::Words { port, .. }
+        | Said::Given { port, .. }
+        | Said::Full { port }
+        | Said::Over { port } => Some(*port),
+        Said::Nothing | Said::Answer(_) | Said::Ended { .. } => None,
+    }
+}
+
+/// The jobs hear that a move of theirs told nothing. It stands apart, since it is rare and takes much room.
+#[inline(never)]
+fn tell_nothing<W: Worker + Drop>(jobs: &mut Jobs<W>, events: u64)
+    requires { jobs.old.ready ≡ true }
+    ensures { jobs.new ≡ hears jobs.old events 0 [] }
+{
+    jobs.absorb(
+        events,
+        &Answer {
+            status: 0,
+            words: [0; 64],
+            len: 0,
+        },
+    );
+}
+
+/// The jobs hear what a move of theirs tells.
+fn tell_jobs<W: Worker + Drop>(jobs: &mut Jobs<W>, events: u64, said: &Said)
+    requires { jobs.old.ready ≡ true }
+    ensures { jobs.new ≡ hears jobs.old events (reply_to said.now).status (reply_to said.now).words }
+{
+    match said {
+        Said::Answer(answer) => jobs.absorb(events, answer),
+        _ => tell_nothing(jobs, events),
+    }
+}
+
+impl<S: Service + Drop, W: Worker + Drop> Core<S, W> {
+    /// A kernel with its servers, each by its port, and its jobs, before the first of so many moves.
+    pub fn new(kernel: Kernel, services: Vec<(Who, S)>, jobs: Jobs<W>, budget: u64) -> Core<S, W>
+        ensures kernel { result.kernel ≡ kernel }
+        ensures services { result.services.list ≡ shown S.meaning services.items }
+        ensures jobs { result.jobs ≡ jobs }
+        ensures budget { result.budget ≡ budget }
+        ensures events { result.events ≡ 0 }
+    {
+        Core {
+            kernel,
+            services: Services::of(services),
+            jobs,
+            budget,
+            events: 0,
+            last: None,
+            rounds: Rounds::new(),
+            room: Room::new(),
+            given: Given::new(),
+        }
+    }
+
+    /// The kernel.
+    pub fn kernel(&self) -> &Kernel
+        ensures { result.now ≡ self.now.kernel }
+    {
+        &self.kernel
+    }
+
+    /// The servers with their ports, in the order of the file.
+    pub fn services(&self) -> &[(Who, S)]
+        ensures { shown S.meaning result.now ≡ self.now.services.list }
+    {
+        self.services.as_slice()
+    }
+
+    /// The jobs: what is planned of each, and how those have ended that have.
+    pub fn jobs(&self) -> &Jobs<W>
+        ensures { result.now ≡ self.now.jobs }
+    {
+        &self.jobs
+    }
+
+    /// They are handed out, and the rest is let go.
+    pub fn into_jobs(self) -> Jobs<W>
+        ensures { result ≡ self.jobs }
+    {
+        self.jobs
+    }
+
+    /// Whether the budget has a move more.
+    pub fn is_below_budget(&self) -> bool
+        ensures { IsTrue result ↔ (self.now.events < self.now.budget) }
+    {
+        self.events < self.budget
+    }
+
+    /// How many moves may be made.
+    pub fn budget(&self) -> u64
+        ensures { result ≡ self.now.budget }
+    {
+        self.budget
+    }
+
+    /// How many moves were made.
+    pub fn events(&self) -> u64
+        ensures { result ≡ self.now.events }
+    {
+        self.events
+    }
+
+    /// Makes a move that is ready, and tells the servers, or the jobs. For want of memory all is as before. That a run has come here
+    /// makes it known that what a job asks for is fit.
+    pub fn turn(&mut self, table: &Table, m: &Move) -> Result<(), NoMemory>
+        requires ready { IsReadyMove self.old.jobs.jobs (run_core self.old) m.now }
+        requires few { self.old.events < self.old.budget }
+        requires come { IsGoing self.old }
+        requires fits { AllFit (map (λ r. r.rule) table.now.list.items) self.old.services.list }
+        ensures turned { OnOk result (IsTurned self.old.jobs.jobs (run_core self.old) m.now (run_core self.new)) }
+        ensures lacking { OnErr result (run_core self.new ≡ run_core self.old) }
+        ensures fits { AllFit (map (λ r. r.rule) table.now.list.items) self.new.services.list }
+        ensures budget { self.new.budget ≡ self.old.budget }
+        ensures jobs { self.new.jobs.jobs ≡ self.old.jobs.jobs }
+        ensures come { IsGoing self.new }
+        ensures events { OnOk result (self.new.events ≡ self.old.events + 1) }
+        ensures cut { OnOk result (KeepsCuts self.old.jobs.jobs (run_core self.old) m.now (world self.new.kernel)) }
+        ensures strangers { OnOk result (LeavesStrangers self.old.jobs.jobs (run_core self.old) m.now (world self.new.kernel)) }
+        ensures rest { OnOk result (LeavesTheRest self.old.jobs.jobs (run_core self.old) m.now (run_core self.new)) }
+    {
+        self.go(table, m)?;
+        Ok(())
+    }
+
+    /// Makes a move where it is ready, tells the servers, and answers whether it was. Where it wasn't, and for
+    /// want of memory, all is as before.
+    pub fn go(&mut self, table: &Table, m: &Move) -> Result<bool, NoMemory>
+        requires few { self.old.events < self.old.budget }
+        requires come { IsGoing self.old }
+        requires fits { AllFit (map (λ r. r.rule) table.now.list.items) self.old.services.list }
+        ensures tried { IsTried (IsReadyMove self.old.jobs.jobs (run_core self.old) m.now) self.old.jobs.jobs
+            (run_core self.old) m.now (run_core self.new) result }
+        ensures fits { AllFit (map (λ r. r.rule) table.now.list.items) self.new.services.list }
+        ensures budget { self.new.budget ≡ self.old.budget }
+        ensures jobs { self.new.jobs.jobs ≡ self.old.jobs.jobs }
+        ensures come { IsGoing self.new }
+    {
+        if self.go_plain(m) {
+            return Ok(true);
+        }
+        self.go_told(table, m)
+    }
+
+    /// Makes an instruction, or a stage that tells nobody of anything, where that is what a move is and where it is ready, and
+    /// answers whether it did; else all is as before. What other moves tell takes much room; this needs none.
+    fn go_plain(&mut self, m: &Move) -> bool
+        requires few { self.old.events < self.old.budget }
+        ensures made { OnTrue result (IsAdvanced self.old.jobs.jobs self.old.budget (run_core self.old) (Some m.now) (run_core self.new)) }
+        ensures kernel { OnFalse result (self.new.kernel ≡ self.old.kernel) }
+        ensures events { OnFalse result (self.new.events ≡ self.old.events) }
+        ensures services { self.new.services.list ≡ self.old.services.list }
+        ensures queue { OnFalse result (self.new.jobs ≡ self.old.jobs) }
+        ensures budget { self.new.budget ≡ self.old.budget }
+        ensures jobs { self.new.jobs.jobs ≡ self.old.jobs.jobs }
+    {
+        if m.pick.is_some() || self.is_porter(m.who) {
+            return false;
+        }
+        if self.kernel.proceed(m.who) {
+            self.events += 1;
+            self.last = Some(m.who);
+            self.rounds.hear(None);
+            self.settle();
+            return true;
+        }
+        false
+    }
+
+    /// The same of any move.
+    pub(crate) fn go_told(&mut self, table: &Table, m: &Move) -> Result<bool, NoMemory>
+        requires few { self.old.events < self.old.budget }
+        requires come { IsGoing self.old }
+        requires fits { AllFit (map (λ r. r.rule) table.now.list.items) self.old.services.list }
+        ensures tried { IsTried (IsReadyMove self.old.jobs.jobs (run_core self.old) m.now) self.old.jobs.jobs
+            (run_core self.old) m.now (run_core self.new) result }
+        ensures fits { AllFit (map (λ r. r.rule) table.now.list.items) self.new.services.list }
+        ensures budget { self.new.budget ≡ self.old.budget }
+        ensures jobs { self.new.jobs.jobs ≡ self.old.jobs.jobs }
+    {
+        if self.is_porter(m.who) {
+            self.go_job(table, m)
+        } else {
+            self.go_other(table, m)
+        }
+    }
+
+    /// The same of a move of a user or a server.
+    fn go_other(&mut self, table: &Table, m: &Move) -> Result<bool, NoMemory>
+        requires other { is_porter self.old.jobs m.now.who ≡ false }
+        requires few { self.old.events < self.old.budget }
+        requires fits { AllFit (map (λ r. r.rule) table.now.list.items) self.old.services.list }
+        ensures tried { IsTried (IsAskedMove self.old.jobs.jobs (run_core self.old) m.now) self.old.jobs.jobs
+            (run_core self.old) m.now (run_core self.new) result }
+        ensures fits { AllFit (map (λ r. r.rule) table.now.list.items) self.new.services.list }
+        ensures budget { self.new.budget ≡ self.old.budget }
+        ensures jobs { self.new.jobs.jobs ≡ self.old.jobs.jobs }
+    {
+        if self.go_said(m) {
+            return Ok(true);
+        }
+        self.go_asked(table, m)
+    }
+
+    /// Makes a send of words to a native server, where that is what a move is and where it is ready, and answers whether it did; else, and
+    /// for want of memory, all is as before. The words are laid where they are heard; what other moves tell is handed on, which takes more.
+    #[inline(never)]
+    fn go_said(&mut self, m: &Move) -> bool
+        requires other { is_porter self.old.jobs m.now.who ≡ false }
+        requires few { self.old.events < self.old.budget }
+        ensures made { OnTrue result (IsAdvanced self.old.jobs.jobs self.old.budget (run_core self.old) (Some m.now) (run_core self.new)) }
+        ensures kernel { OnFalse result (self.new.kernel ≡ self.old.kernel) }
+        ensures events { OnFalse result (self.new.events ≡ self.old.events) }
+        ensures services { OnFalse result (self.new.services.list ≡ self.old.services.list) }
+        ensures queue { OnFalse result (self.new.jobs ≡ self.old.jobs) }
+        ensures fits { (rules : List Rule) → AllFit rules self.old.services.list → AllFit rules self.new.services.list }
+        ensures budget { self.new.budget ≡ self.old.budget }
+        ensures jobs { self.new.jobs.jobs ≡ self.old.jobs.jobs }
+    {
+        if m.pick.is_some() {
+            return false;
+        }
+        let Ok(()) = self.services.reserve() else {
+            return false;
+        };
+        let mut words = Reply {
+            words: [0; 64],
+            len: 0,
+        };
+        let Some(sent) = self.kernel.say(m.who, &mut words.words) else {
+            return false;
+        };
+        words.len = sent.len;
+        self.services.hear_words(sent.port, &words);
+        self.events += 1;
+        self.last = Some(m.who);
+        self.rounds.hear(Some(sent.port));
+        self.settle();
+        true
+    }
+
+    /// The same of what it asks for.
+    #[inline(never)]
+    fn go_asked(&mut self, table: &Table, m: &Move) -> Result<bool, NoMemory>
+        requires other { is_porter self.old.jobs m.now.who ≡ false }
+        requires few { self.old.events < self.old.budget }
+        requires fits { AllFit (map (λ r. r.rule) table.now.list.items) self.old.services.list }
+        ensures tried { IsTried (IsAskedMove self.old.jobs.jobs (run_core self.old) m.now) self.old.jobs.jobs
+            (run_core self.old) m.now (run_core self.new) result }
+        ensures fits { AllFit (map (λ r. r.rule) table.now.list.items) self.new.services.list }
+        ensures budget { self.new.budget ≡ self.old.budget }
+        ensures jobs { self.new.jobs.jobs ≡ self.old.jobs.jobs }
+    {
+        self.services.reserve()?;
+        let asked = self.ask(m.who);
+        let Some(ask) = &asked else {
+            return Ok(false);
+        };
+        // What is told takes much room, so it stands there once.
+        let made = self.kernel.attempt(m, ask);
+        let Ok(tried) = &made else {
+            return Err(NoMemory);
+        };
+        let Some(told) = tried else {
+            return Ok(false);
+        };
+        self.services.hear(table, told);
+        self.events += 1;
+        self.last = last_thread(ask, m.who, self.last);
+        self.rounds.hear(hearer(&told.said));
+        self.settle();
+        Ok(true)
+    }
+
+    /// The same of a job's move, where the job is due.
+    pub(crate) fn go_job(&mut self, table: &Table, m: &Move) -> Result<bool, NoMemory>
+        requires job { is_porter self.old.jobs m.now.who ≡ true }
+        requires few { self.old.events < self.old.budget }
+        requires come { IsGoing self.old }
+        requires fits { AllFit (map (λ r. r.rule) table.now.list.items) self.old.services.list }
+        ensures tried { IsTried (IsReadyMove self.old.jobs.jobs (run_core self.old) m.now) self.old.jobs.jobs
+            (run_core self.old) m.now (run_core self.new) result }
+        ensures fits { AllFit (map (λ r. r.rule) table.now.list.items) self.new.services.list }
+        ensures budget { self.new.budget ≡ self.old.budget }
+        ensures jobs { self.new.jobs.jobs ≡ self.old.jobs.jobs }
+    {
+        if self.is_due() {
+            self.go_call(table, m)
+        } else {
+            Ok(false)
+        }
+    }
+
+    /// The same of a job's move whose time has come.
+    #[inline(always)]
+    pub(crate) fn go_timely_job(&mut self, table: &Table, m: &Move) -> Result<bool, NoMemory>
+        requires job { is_porter self.old.jobs m.now.who ≡ true }
+        requires few { self.old.events < self.old.budget }
+        requires timely { is_timely self.old.jobs self.old.events ≡ true }
+        requires come { IsGoing self.old }
+        requires fits { AllFit (map (λ r. r.rule) table.now.list.items) self.old.services.list }
+        ensures tried { IsTried (IsReadyMove self.old.jobs.jobs (run_core self.old) m.now) self.old.jobs.jobs
+            (run_core self.old) m.now (run_core self.new) result }
+        ensures fits { AllFit (map (λ r. r.rule) table.now.list.items) self.new.services.list }
+        ensures budget { self.new.budget ≡ self.old.budget }
+        ensures jobs { self.new.jobs.jobs ≡ self.old.jobs.jobs }
+    {
+        self.go_call(table, m)
+    }
+
+    /// Makes the call that the job asks for whose turn it is, where it is ready.
+    #[inline(never)]
+    fn go_call(&mut self, table: &Table, m: &Move) -> Result<bool, NoMemory>
+        requires job { is_porter self.old.jobs m.now.who ≡ true }
+        requires few { self.old.events < self.old.budget }
+        requires come { IsGoing self.old }
+        requires fits { AllFit (map (λ r. r.rule) table.now.list.items) self.old.services.list }
+        ensures tried { IsTried (IsCalledMove self.old.jobs (run_core self.old) m.now) self.old.jobs.jobs
+            (run_core self.old) m.now (run_core self.new) result }
+        ensures fits { AllFit (map (λ r. r.rule) table.now.list.items) self.new.services.list }
+        ensures budget { self.new.budget ≡ self.old.budget }
+        ensures jobs { self.new.jobs.jobs ≡ self.old.jobs.jobs }
+    {
+        self.services.reserve()?;
+        self.jobs.reserve()?;
+        let next = self.given.next(&self.jobs);
+        let Some(stage) = next else {
+            return Ok(false);
+        };
+        let made = self.room.call(&mut self.kernel, m, &stage, &self.given)?;
+        if !made {
+            return Ok(false);
+        }
+        let told = self.room.told();
+        self.services.hear(table, told);
+        tell_jobs(&mut self.jobs, self.events, &told.said);
+        self.events += 1;
+        self.rounds.hear(hearer(&told.said));
+        self.settle();
+        Ok(true)
+    }
+}

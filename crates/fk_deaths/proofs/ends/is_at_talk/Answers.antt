@@ -1,5 +1,0 @@
-use Rattle.fk_store.specs.Paths.{path}
-use Rattle.fk_deaths.proofs.ends.is_at_talk.Goals as goal
-
-pub returns-in-Some : goal.returns-in-Some
-returns-in-Some c = rw (← c.in-Some.ensures.thread) (c.is_talking.ensures (path c.args.store.now))

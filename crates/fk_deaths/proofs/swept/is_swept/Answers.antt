@@ -1,4 +1,0 @@
-use Rattle.fk_deaths.proofs.swept.is_swept.Goals as goal
-
-pub returns-in-Port : goal.returns-in-Port
-returns-in-Port c p apart = rw c.in-Port.is (c.is_member.ensures p apart)

@@ -1,7 +1,0 @@
-use Rattle.std.proofs.Common.{refl}
-use Rattle.fk_image_format.specs.Spelling.{spelling}
-use Rattle.fk_image_format.proofs.RoundTrip.{reading_again}
-use Rattle.fk_image_format.proofs.laws.read_again.Goals as goal
-
-pub returns : goal.returns
-returns c = λ i valid. reading_again (spelling i) i (record { valid = valid; spelled = refl })

@@ -1,4 +1,0 @@
-use Rattle.fk_image_pointers.proofs.places.Index.of.Goals as goal
-
-pub returns : goal.returns
-returns c = record { places = tt; ends = c.in_ok-ends_of.ensures }

@@ -1,5 +1,0 @@
-use Rattle.fk_image_pointers.proofs.Sets.{inserted}
-use Rattle.fk_image_pointers.proofs.places.Places.insert.Goals as goal
-
-pub returns : goal.returns
-returns c = inserted c.args.self.now (record { set = c.insert.new.self }) c.args.place c.in_ok-insert.ensures.updates.0

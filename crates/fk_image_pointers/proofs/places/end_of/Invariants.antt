@@ -1,9 +1,0 @@
-use Rattle.std.proofs.Common.{◌-◌, length}
-use Rattle.fk_image_pointers.proofs.Within.{EndsFrom}
-use Rattle.fk_image_pointers.proofs.places.end_of.Given as goal
-
-abbrev pub invariant-loop-end : goal.invariant-loop-end
-invariant-loop-end l = EndsFrom l.spaces l.space l.end
-
-abbrev pub decreases-loop-end : goal.decreases-loop-end
-decreases-loop-end l = length l.spaces - l.end

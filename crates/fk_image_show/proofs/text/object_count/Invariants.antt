@@ -1,6 +1,0 @@
-use Rattle.std.proofs.Common.{◌≡◌, ◌+◌, drop}
-use Rattle.fk_image_show.specs.Shown.{object_count}
-use Rattle.fk_image_show.proofs.text.object_count.Given as goal
-
-abbrev pub invariant-loop-space : goal.invariant-loop-space
-invariant-loop-space l = l.count + object_count (drop l.space-index l.spaces) ≡ object_count l.spaces

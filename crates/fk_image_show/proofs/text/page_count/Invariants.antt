@@ -1,6 +1,0 @@
-use Rattle.std.proofs.Common.{◌≡◌, ◌+◌, drop}
-use Rattle.fk_image_show.specs.Shown.{page_count}
-use Rattle.fk_image_show.proofs.text.page_count.Given as goal
-
-abbrev pub invariant-loop-space : goal.invariant-loop-space
-invariant-loop-space l = l.count + page_count (drop l.space-index l.spaces) ≡ page_count l.spaces

@@ -1,6 +1,0 @@
-use Rattle.std.proofs.Common.{arith}
-use Rattle.fk_image_valid.proofs.Led.{each_word}
-use Rattle.fk_image_valid.proofs.objects.words_fit.Goals as goal
-
-pub returns : goal.returns
-returns c = each_word c.args.words.now (λ i. omega (arith, c.type_inv.words i))

@@ -1,9 +1,0 @@
-use Rattle.std.proofs.Common.{◌≤◌, drop}
-use Rattle.fk_image.specs.declared.image.ObjectRec.{ObjectRec}
-use Rattle.fk_positions.specs.Code.{leads_out}
-use Rattle.fk_orders.proofs.Below.{NoneBelow}
-use Rattle.fk_orders.proofs.used.lower_space.Given as goal
-
-abbrev pub invariant-loop-object : goal.invariant-loop-object
-invariant-loop-object l =
-    (l.from ≤ l.lowest) × (l.lowest ≤ l.most) × NoneBelow (λ i (o : ObjectRec). leads_out i o.body) l.from l.lowest (drop l.object-index l.objects) l.objects

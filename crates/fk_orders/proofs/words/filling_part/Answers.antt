@@ -1,5 +1,0 @@
-use Rattle.std.proofs.Common.{rules}
-use Rattle.fk_orders.proofs.words.filling_part.Goals as goal
-
-pub returns-then-part-eq0 : goal.returns-then-part-eq0
-returns-then-part-eq0 c ss slot bind n = search (rules, c.filling.ensures ss slot bind n)

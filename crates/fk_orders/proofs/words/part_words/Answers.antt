@@ -1,5 +1,0 @@
-use Rattle.std.proofs.Common.{rules}
-use Rattle.fk_orders.proofs.words.part_words.Goals as goal
-
-pub returns-in-Fills : goal.returns-in-Fills
-returns-in-Fills c ss slot bind n = search (rules, c.filling_part.ensures ss slot bind n)

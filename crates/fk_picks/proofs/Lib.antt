@@ -1,4 +1,0 @@
-pub mod Scans
-mod Slots
-mod Stands
-pub mod Leading

@@ -1,4 +1,0 @@
--- What a move tells, and what a server is told, as the calls have them.
-pub use Rattle.fk_calls.specs.declared.moves.Told.{Told}
-pub use Rattle.fk_calls.specs.declared.moves.Ran.{Ran}
-pub use Rattle.fk_calls.specs.declared.sayings.Sent.{Sent}

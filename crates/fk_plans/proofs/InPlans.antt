@@ -1,0 +1,12 @@
+pub mod Lists
+pub mod Pointers
+pub mod Destroyed
+pub mod Ready
+pub mod Recorded
+pub mod Renamed
+pub mod Following
+pub mod Told
+pub mod Low
+pub mod Woken
+pub mod Moved
+pub mod Hearers

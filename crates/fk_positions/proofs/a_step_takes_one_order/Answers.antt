@@ -1,5 +1,0 @@
-use Rattle.fk_positions.proofs.Scripted.{positions_are_the_places}
-use Rattle.fk_positions.proofs.a_step_takes_one_order.Goals as goal
-
-pub returns : goal.returns
-returns c = positions_are_the_places

@@ -1,5 +1,0 @@
-use Rattle.std.proofs.Common.{rules}
-use Rattle.fk_positions.proofs.parts.raised_part.Goals as goal
-
-pub returns-in-0 : goal.returns-in-0
-returns-in-0 c bind s = search (rules, c.walks_to.ensures bind c.args.number s)

@@ -1,0 +1,80 @@
+-- A restore in code as a state of the machine.
+use Rattle.std.specs.Prelude.{◌≡◌, ℕ, Bool, true, false, not, ◌&&◌, ◌==◌, suc, List, take, drop, Option, Some, None, if◌then◌else◌}
+use Rattle.fk_model.specs.declared.moves.Answer.{Answer}
+use Rattle.fk_finish.specs.declared.finish.Finish.{Finish}
+use Rattle.fk_finish.specs.declared.finish.Finish.TheVariants as finishes
+use Rattle.fk_image.specs.declared.image.image.Image.{Image}
+use Rattle.fk_image.specs.declared.image.image.SpaceRec.{SpaceRec}
+use Rattle.laws_restore.specs.Restore.Restore.{End, End as ends, State, State as states, drops, objects, lowest_bound}
+use Rattle.fk_model.specs.declared.statuses.status.TheConstants.{OK}
+use Rattle.laws_restore.specs.Sites.Orders.{Order, is_port_in}
+use Rattle.laws_restore.specs.Rooms.Rooms.{rooms_from}
+use Rattle.fk_restore.specs.declared.orders.looks.Look.{Look}
+use Rattle.fk_restore.specs.declared.orders.looks.Look.TheVariants.{Plain, Pins, Checks}
+use Rattle.laws_restore.specs.Rooms.Restoring.{bound_by, IsRestoreJob}
+use Rattle.fk_restore.specs.Positions.Positions.{rest, order_at, IsPosition}
+use Rattle.fk_restore.specs.Orders.Left.{is_empty}
+use Rattle.fk_restore.specs.declared.restore.restore.Phase.{Phase}
+use Rattle.fk_restore.specs.declared.restore.restore.Phase.TheVariants.{Makes, Works, Clears, Over}
+use Rattle.fk_restore.specs.declared.restore.restore.Restore.{Restore}
+
+-- a space of an image that isn't the first is one more
+abbrev pub inner : ℕ → ℕ
+inner n = if n == 0 then 0 else 1
+
+-- the words that an answer has
+abbrev pub answered : Answer → List ℕ
+answered a = take a.len a.words
+
+-- so many of the scratch references are gone, and so many more than one stages of destroying are left
+abbrev pub clears : ℕ → ℕ → ℕ → State
+clears dropped more port = states.Clears (drop dropped drops) more port
+
+-- the slot of the nester in which an answer says that no port is
+abbrev pub missing : Look → ℕ → List ℕ → Option ℕ
+missing Plain status words = None
+missing (Pins i) status words = if status == OK then None else Some i
+missing (Checks i) status words = if status == OK && is_port_in i words then None else Some i
+
+-- what a restore does then, with these orders left
+abbrev pub goes_on : List SpaceRec → List (ℕ × ℕ) → List Order → Option ℕ → State
+goes_on ss pairs os None = states.Works os
+goes_on ss pairs os (Some j) = states.Clears drops (suc (objects (rooms_from ss 0 ss))) (lowest_bound (bound_by pairs) (rooms_from ss 0 ss) j 240 0)
+
+-- how it has ended, as the machine says it
+abbrev pub end_of : Finish → End
+end_of finishes.Occupied = ends.Occupied
+end_of (finishes.NoPort i) = ends.NoPort i
+end_of other = ends.Done
+
+abbrev pub phase_of : List SpaceRec → ℕ → List (ℕ × ℕ) → Phase → State
+phase_of ss slot pairs Makes = states.Makes
+phase_of ss slot pairs (Works p) = states.Works (rest ss slot (bound_by pairs) p)
+phase_of ss slot pairs (Clears dropped more port) = clears dropped more port
+phase_of ss slot pairs (Over finish) = states.Over (end_of finish)
+
+abbrev pub state_of : Restore → State
+state_of r = phase_of r.image.spaces r.slot r.pairs r.phase
+
+-- it is over as a restore is
+abbrev pub IsEnd : Finish → Type 0
+IsEnd finishes.Restored = Unit {0}
+IsEnd finishes.Occupied = Unit {0}
+IsEnd (finishes.NoPort i) = Unit {0}
+IsEnd other = ⊥
+
+-- it has no call to make
+abbrev pub IsOver : Phase → Type 0
+IsOver (Over finish) = Unit {0}
+IsOver other = ⊥
+
+-- an order stands at its position, or it is behind all
+abbrev pub IsSoundPhase : List SpaceRec → ℕ → List (ℕ × ℕ) → Phase → Type 0
+IsSoundPhase ss slot pairs (Works p) =
+    IsPosition ss slot (bound_by pairs) p × (is_empty p (order_at ss slot (bound_by pairs) p) ≡ false)
+IsSoundPhase ss slot pairs (Over finish) = IsEnd finish
+IsSoundPhase ss slot pairs other = Unit {0}
+
+pub record IsSound (r : Restore) : Type 0 where
+  pub job : IsRestoreJob r.slot r.image r.pairs
+  pub phase : IsSoundPhase r.image.spaces r.slot r.pairs r.phase

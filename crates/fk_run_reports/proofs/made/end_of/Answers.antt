@@ -1,8 +1,0 @@
-use Rattle.fk_core.specs.Cores.{run_core}
-use Rattle.fk_run_reports.proofs.Ending.{ended-end}
-use Rattle.fk_run_reports.proofs.made.end_of.Goals as goal
-
-pub returns-in-Some : goal.returns-in-Some
-returns-in-Some g c =
-    let core = c.args.core.now in
-    ended-end core.jobs.jobs core.budget (run_core core) c.in-Some.end (rw c.in-Some.is at c.ended.ensures) c.requires.within

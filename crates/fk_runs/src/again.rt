@@ -1,7 +1,0 @@
-//! Runs that play again.
-ghost use Rattle.fk_runs.specs.Runs.{RunPlaysAgain};
-
-/// The trace of a run that went by itself plays to the same status, report and text.
-pub fn a_run_plays_again()
-    ensures { RunPlaysAgain }
-{}

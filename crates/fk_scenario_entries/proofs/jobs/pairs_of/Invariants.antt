@@ -1,6 +1,0 @@
-use Rattle.std.proofs.Common.{◌≡◌, [], drop}
-use Rattle.fk_scenario_entries.specs.Jobs as definitions
-use Rattle.fk_scenario_entries.proofs.jobs.pairs_of.Given as goal
-
-abbrev pub invariant-loop-list : goal.invariant-loop-list
-invariant-loop-list l = definitions.pairs_from l.pairs (drop l.list-index l.lists) ≡ definitions.pairs_from [] l.lists

@@ -1,6 +1,0 @@
-use Rattle.std.proofs.Common.{is_some, ap, ◌∙◌}
-use Rattle.fk_scenario_fields.proofs.Places.{is_some-position_from}
-use Rattle.fk_scenario_fields.proofs.entries.Entries.has.Goals as goal
-
-pub returns : goal.returns
-returns g c = c.is_some.ensures ∙ ap is_some c.position.ensures ∙ is_some-position_from _ 0 c.args.self.now

@@ -1,6 +1,0 @@
-use Rattle.std.proofs.Common.{◌≡◌, [], drop}
-use Rattle.fk_scenario_fields.specs.Fields as spec
-use Rattle.fk_scenario_fields.proofs.fields.words_of.Given as goal
-
-abbrev pub invariant-loop-number : goal.invariant-loop-number
-invariant-loop-number l = spec.words_from l.words (drop l.number-index l.numbers) ≡ spec.words_from [] l.numbers

@@ -1,6 +1,0 @@
-use Rattle.std.proofs.Common.{◌≡◌, [], drop, map}
-use Rattle.fk_scenario_fields.specs.Paths as spec
-use Rattle.fk_scenario_fields.proofs.paths.slots_of.Given as goal
-
-abbrev pub invariant-loop-piece : goal.invariant-loop-piece
-invariant-loop-piece l = spec.slots_from l.slots (map (λ x. x.now) (drop l.piece-index l.pieces)) ≡ spec.slots_from [] (map (λ x. x.now) l.pieces)

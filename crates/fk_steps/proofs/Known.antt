@@ -1,2 +1,0 @@
--- Known: names and users' threads, as what is told of a move has them.
-pub use Rattle.fk_turns_moved.proofs.Told.{same_name, user_there}

@@ -1,5 +1,0 @@
-use Rattle.fk_steps.proofs.Beside.{move_if}
-use Rattle.fk_steps.proofs.plain.can_move.Goals as goal
-
-pub returns : goal.returns
-returns c = move_if c.args.store.now c.args.who c.ready.result c.ready.ensures.0

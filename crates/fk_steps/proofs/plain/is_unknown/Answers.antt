@@ -1,5 +1,0 @@
-use Rattle.std.proofs.Common.{sym, ◌∙◌}
-use Rattle.fk_steps.proofs.plain.is_unknown.Goals as goal
-
-pub returns : goal.returns
-returns c = sym c.knows.ensures ∙ c.if-knows.false

@@ -1,0 +1,2 @@
+pub mod FrozenLaws
+pub mod HeldLaws

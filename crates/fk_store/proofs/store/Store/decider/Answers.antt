@@ -1,7 +1,0 @@
-use Rattle.std.proofs.Common.{sym}
-use Rattle.fk_store.proofs.finding.HoldLaws.{decider-free}
-use Rattle.fk_store.proofs.store.Store.decider.Goals as goal
-
--- nothing is held
-pub returns-else-is_any_held-clause-decider : goal.returns-else-is_any_held-clause-decider
-returns-else-is_any_held-clause-decider c = rw (← c.self.view_is) (sym (decider-free _ (c.is_any_held.ensures c.if-is_any_held.false) _))

@@ -1,5 +1,0 @@
-use Rattle.fk_store.proofs.finding.Leading.{leading}
-use Rattle.fk_store.proofs.store.Store.leads.Goals as goal
-
-pub returns : goal.returns
-returns c = λ test null dead leads. leading test null dead leads _

@@ -1,8 +1,0 @@
-use Rattle.fk_store.proofs.finding.Firsts.{kept-first, world-first}
-use Rattle.fk_store.proofs.store.Store.new.Goals as goal
-
-pub invariant_of-result : goal.invariant_of-result
-invariant_of-result c = rw (c.new.ensures, c.new-2.ensures) kept-first
-
-pub returns : goal.returns
-returns c = rw (c.new.ensures, c.new-2.ensures) world-first

@@ -1,0 +1,14 @@
+pub use Rattle.fk_store_graph.specs.Bodies.Leads
+pub use Rattle.fk_store_graph.specs.Bodies.Sweeps
+pub use Rattle.fk_store_graph.specs.Bodies.Pointers
+pub use Rattle.fk_store_graph.specs.Bodies.Parts
+pub use Rattle.fk_store_graph.specs.Bodies.Nudges
+pub use Rattle.fk_store_graph.specs.Bodies.Names
+pub use Rattle.fk_store_graph.specs.Bodies.Marks
+pub use Rattle.fk_store_graph.specs.Bodies.Leading
+pub use Rattle.fk_store_graph.specs.Bodies.Held
+pub use Rattle.fk_store_graph.specs.Bodies.Births
+pub use Rattle.fk_store_graph.specs.Bodies.Shapes
+pub use Rattle.fk_store_graph.specs.Bodies.Orders
+pub use Rattle.fk_store_graph.specs.Bodies.Threads
+pub mod Freezing

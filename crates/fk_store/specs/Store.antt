@@ -1,0 +1,16 @@
+pub mod Words
+pub mod Moves
+pub mod Threads
+pub mod Nudges
+pub mod Names
+pub mod Orders
+pub mod Contents
+pub mod Paths
+pub mod Bodies
+pub mod World
+pub mod Named
+pub mod WellFormed
+pub mod Makes
+pub mod Edits
+pub mod Parts
+pub mod Reaches

@@ -1,0 +1,10 @@
+-- Nudges: the edit that a small change of a thread is.
+use Rattle.fk_model.specs.World.{Edit}
+use Rattle.fk_model.specs.World.Edit.{CountMoved, PassTurn, SetStops}
+use Rattle.fk_store_graph.specs.declared.leads.nudges.Nudge.{Nudge}
+use Rattle.fk_store_graph.specs.declared.leads.nudges.Nudge.TheVariants.{Counts, Passes, Stops}
+
+abbrev pub edit_of : Nudge → Edit
+edit_of (Counts count) = CountMoved count
+edit_of (Passes turn) = PassTurn turn
+edit_of (Stops stops) = SetStops stops

@@ -1,8 +1,0 @@
-use Rattle.fk_store_bodies.proofs.FreshLaws.{fresh_all, fresh_map}
-use Rattle.fk_store_bodies.proofs.bodies.Bodies.new.Goals as goal
-
-pub invariant_of-result : goal.invariant_of-result
-invariant_of-result c = rw (c.new.ensures, c.new-2.ensures.none, c.new-3.ensures.items) (fresh_all (rw c.new-2.ensures.none at c.new-2.ensures.rings))
-
-pub returns : goal.returns
-returns c = rw c.new.ensures fresh_map

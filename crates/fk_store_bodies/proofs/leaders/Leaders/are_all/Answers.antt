@@ -1,5 +1,0 @@
-use Rattle.std.proofs.Common.{refl}
-use Rattle.fk_store_bodies.proofs.leaders.Leaders.are_all.Goals as goal
-
-pub returns : goal.returns
-returns c = rw (← c.self.view_is) refl

@@ -1,0 +1,4 @@
+pub mod KeyLaws
+pub mod TableLaws
+pub mod PlaceLaws
+pub mod Results

@@ -1,0 +1,3 @@
+pub mod FiledLaws
+pub mod ChangeLaws
+pub mod Results

@@ -1,0 +1,3 @@
+pub mod InSlots
+pub mod InKeys
+pub mod InObjects

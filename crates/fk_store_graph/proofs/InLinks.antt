@@ -1,0 +1,5 @@
+pub mod Distinct
+pub mod LinkLaws
+pub mod NodeLaws
+pub mod RingLaws
+pub mod WalkLaws

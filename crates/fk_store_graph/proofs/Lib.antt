@@ -1,0 +1,5 @@
+pub mod InHints
+pub mod InLinks
+pub mod InLeads
+pub mod InLinked
+pub mod InBodies

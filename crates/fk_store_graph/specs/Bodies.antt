@@ -1,0 +1,14 @@
+pub use Rattle.fk_store_graph.specs.Linked.Leads
+pub use Rattle.fk_store_graph.specs.Linked.Sweeps
+pub use Rattle.fk_store_graph.specs.Linked.Pointers
+pub use Rattle.fk_store_graph.specs.Linked.Parts
+pub use Rattle.fk_store_graph.specs.Linked.Nudges
+pub use Rattle.fk_store_graph.specs.Linked.Names
+pub use Rattle.fk_store_graph.specs.Linked.Marks
+pub use Rattle.fk_store_graph.specs.Linked.Leading
+pub use Rattle.fk_store_graph.specs.Linked.Held
+pub use Rattle.fk_store_graph.specs.Linked.Births
+pub use Rattle.fk_store_graph.specs.Linked.Shapes
+pub mod Orders
+pub mod Playing
+pub mod Threads

@@ -1,0 +1,5 @@
+pub mod Hints
+pub mod Links
+pub mod Leads
+pub mod Linked
+pub mod Bodies

@@ -1,2 +1,0 @@
-mod FrozenLaws
-mod HeldLaws

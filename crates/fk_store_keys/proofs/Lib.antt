@@ -1,4 +1,0 @@
-pub mod KeyLaws
-pub mod TableLaws
-pub mod PlaceLaws
-mod Results

@@ -1,7 +1,0 @@
-use Rattle.std.proofs.Common.{◌∙◌}
-use Rattle.fk_store_keys.proofs.PlaceLaws.{key_read}
-use Rattle.fk_store_keys.proofs.keys.Keys.at.Goals as goal
-
-pub returns : goal.returns
-returns c = rw (← c.self.view_is) (c.key_in.ensures ∙ key_read c.self.inside.places.items c.self.inside.tables c.self.invariant c.args.space _
-    c.table_at-table.ensures c.args.slot)

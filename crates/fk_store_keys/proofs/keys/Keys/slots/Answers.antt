@@ -1,5 +1,0 @@
-use Rattle.fk_store_keys.proofs.TableLaws.{short_all}
-use Rattle.fk_store_keys.proofs.keys.Keys.slots.Goals as goal
-
-pub returns : goal.returns
-returns c = rw (← c.self.view_is) (short_all _ c.self.invariant.are)

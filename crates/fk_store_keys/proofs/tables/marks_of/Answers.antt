@@ -1,5 +1,0 @@
-use Rattle.fk_store_keys.proofs.KeyLaws.{unmarked}
-use Rattle.fk_store_keys.proofs.tables.marks_of.Goals as goal
-
-pub returns-in-None : goal.returns-in-None
-returns-in-None c = rw c.in-None.is (unmarked 32)

@@ -1,6 +1,0 @@
-use Rattle.std.proofs.Common.{◌∙◌}
-use Rattle.fk_store_linked.proofs.HomeLaws.{home_more}
-use Rattle.fk_store_linked.proofs.homes.grow.Goals as goal
-
-pub loop-homes-preserved : goal.loop-homes-preserved
-loop-homes-preserved c = rw c.in_ok-push.ensures.items (λ n. home_more _ n ∙ c.loop-homes.invariant n)

@@ -1,5 +1,0 @@
-mod Distinct
-mod LinkLaws
-pub mod NodeLaws
-mod RingLaws
-mod WalkLaws

@@ -1,5 +1,0 @@
-use Rattle.fk_store_links.proofs.LinkLaws.{prev-read}
-use Rattle.fk_store_links.proofs.links.prev_of.Goals as goal
-
-pub returns : goal.returns
-returns c = prev-read _ _ c.index.result.now c.requires c.index.ensures

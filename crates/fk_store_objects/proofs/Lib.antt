@@ -1,3 +1,0 @@
-mod FiledLaws
-mod ChangeLaws
-mod Results

@@ -1,5 +1,0 @@
-use Rattle.fk_threads.proofs.FinishLaws.{end_not}
-use Rattle.fk_threads.proofs.answers.well_ended.Goals as goal
-
-pub returns-clause-edit : goal.returns-clause-edit
-returns-clause-edit c p = end_not p c.args.thread _ c.in_default.not-Calling

@@ -1,8 +1,0 @@
-use Rattle.fk_store.specs.Paths.{path, place}
-use Rattle.fk_store.specs.World.{world}
-use Rattle.fk_store.proofs.changing.GoneOn.{gone_on}
-use Rattle.fk_threads.proofs.going.go_on.Goals as goal
-
-pub returns-clause-edits : goal.returns-clause-edits
-returns-clause-edits c e is = gone_on (world c.proceed.new.self) (world c.args.store.now) (place (path c.args.store.now) c.args.who) (path c.args.store.now)
-    c.args.was c.args.thread e c.requires.there c.requires.talk c.requires.fault c.requires.stops c.proceed.ensures.world is

@@ -1,0 +1,4 @@
+pub mod Scans
+pub mod Slots
+pub mod Stands
+pub mod Leading

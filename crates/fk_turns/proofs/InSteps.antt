@@ -1,0 +1,11 @@
+pub use Rattle.fk_turns.proofs.InNext.Ahead
+pub use Rattle.fk_turns.proofs.InNext.Leading
+pub mod Wanted
+pub mod Giving
+pub mod Stepped
+pub mod Sends
+pub mod Acts
+pub mod Went
+pub mod Beside
+pub mod Known
+pub mod Unknown

@@ -1,0 +1,3 @@
+pub mod Woken
+pub mod Roused
+pub mod Firsts

@@ -1,0 +1,34 @@
+use Rattle.std.proofs.Common.{◌==◌, ℕ, not, ◌++◌, ◌∷◌, sym, ap, ◌∙◌}
+use Rattle.fk_waits.proofs.causes.causes.Causes.turn.Goals as goal
+
+pub queue_for-head-requires : goal.queue_for-head-requires
+queue_for-head-requires c = let h = c.requires in record { list = h.before ++ h.one ∷ h.behind; standing = h.standing }
+
+pub turn_to-left-requires : goal.turn_to-left-requires
+turn_to-left-requires c =
+    let h = c.requires in
+    record {
+      before = h.before;
+      one = h.one;
+      behind = h.behind;
+      is = h.is;
+      standing = c.queue_for-head.ensures.standing (h.before ++ h.one ∷ h.behind) h.standing;
+    }
+
+pub drop_empty-requires : goal.drop_empty-requires
+drop_empty-requires c =
+    let h = c.requires in
+    record {
+      list = _;
+      standing = c.turn_to-left.ensures.standing h.before h.behind h.one (c.queue_for-head.ensures.standing (h.before ++ h.one ∷ h.behind) h.standing) h.is;
+    }
+
+pub returns-clause-standing : goal.returns-clause-standing
+returns-clause-standing c a b s standing is =
+    let turned = c.turn_to-left.ensures.standing a b s (c.queue_for-head.ensures.standing (a ++ s ∷ b) standing) is in
+    rw (← c.queue_for-head.ensures.cause) (c.drop_empty.ensures.standing _ turned)
+
+pub returns-clause-waited : goal.returns-clause-waited
+returns-clause-waited c a b s standing is =
+    let told = c.turn_to-left.ensures.waited a b s (c.queue_for-head.ensures.standing (a ++ s ∷ b) standing) is in
+    ap (λ (n : ℕ). not (c.turn_to-left.result == n)) c.turn_to-left.ensures.ready ∙ sym told

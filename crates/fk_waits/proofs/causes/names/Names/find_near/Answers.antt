@@ -1,0 +1,15 @@
+use Rattle.std.proofs.Common.{◌≡◌, ℕ, List, Some, sym, ap, ◌∙◌}
+use Rattle.fk_waits.specs.Causes.Names.{key_at}
+use Rattle.fk_waits.specs.declared.causes.names.Name.{Name}
+use Rattle.fk_waits.proofs.InCauses.Order.{found_there}
+use Rattle.fk_waits.proofs.causes.names.Names.find_near.Goals as goal
+
+pub returns-in-Some-clause-found : goal.returns-in-Some-clause-found
+returns-in-Some-clause-found c =
+    let l = c.self.inside.items.items in
+    let is : l ≡ c.args.self.now.0 = ap (λ (p : List Name × ℕ). p.0) c.self.view_is in
+    let d : Name = record { who = c.args.who; key = 0 } in
+    let there = rw c.deref.ensures.value at c.in-Some.ensures.there in
+    let here = there.1 d in
+    sym (found_there l c.self.inside.next d c.args.who c.self.invariant there.0 here.0 ∙ ap (λ (k : ℕ). Some k) here.1)
+    ∙ ap (λ (k : List Name). key_at k c.args.who) is

@@ -1,0 +1,30 @@
+-- Names: entries by rising rank, and the number of a name.
+use Rattle.std.specs.Prelude.{◌+◌, ◌*◌, ◌<◌, ◌≤◌, ℕ, ◌==◌, Bool, ◌&&◌, List, [], ◌∷◌, length, Option, Some, None, if◌then◌else◌}
+use Rattle.fk_model.specs.declared.names.Who.{Who}
+use Rattle.fk_waits.specs.declared.causes.names.Name.{Name}
+
+abbrev pub is_same : Who → Who → Bool
+is_same a b = (a.space == b.space) && (a.slot == b.slot)
+
+-- the number of a name, if it is among these
+abbrev pub key_at : List Name → Who → Option ℕ
+key_at [] who = None
+key_at (n ∷ l) who = if is_same n.who who then Some n.key else key_at l who
+
+-- the place of a name in the order of spaces and slots
+abbrev pub rank : Who → ℕ
+rank who = who.space * 256 + who.slot
+
+-- all these come after a rank
+abbrev pub AreAbove : ℕ → List Name → Type 0
+AreAbove r [] = Unit {0}
+AreAbove r (n ∷ l) = (r < rank n.who) × AreAbove r l
+
+-- each comes after those before it
+abbrev pub IsRising : List Name → Type 0
+IsRising [] = Unit {0}
+IsRising (n ∷ l) = (n.who.slot < 256) × AreAbove (rank n.who) l × IsRising l
+
+-- there is room for so many more
+abbrev pub HasRoom : List Name × ℕ → ℕ → Type 0
+HasRoom names more = length names.0 + more ≤ names.1

@@ -1,0 +1,212 @@
+//! Names in order.
+ghost use Rattle.std.specs.Prelude.{◌≡◌, ◌+◌, ◌≤◌, ◌<◌, ℕ, [], length, true, false, Some, None, IfSome, IsSome, OnOk, if◌then◌else◌, slice_index_or};
+ghost use Rattle.std.specs.Bool.{OnTrue};
+ghost use Rattle.fk_model.specs.declared.names.Who as names_of;
+ghost use Rattle.fk_waits.specs.Causes.Names.{is_same, key_at, rank, HasRoom, IsRising};
+
+use fk_model::{NoMemory, Who};
+use std::alloc::Global;
+use std::marker::Model;
+
+/// A name, and the number that belongs to it.
+#[derive(Clone, Copy)]
+pub struct Name {
+    pub who: Who,
+    pub key: usize,
+}
+
+/// Names, each once, by rising rank, with their numbers.
+#[derive(Drop)]
+pub struct Names {
+    items: Vec<Name>,
+    /// Behind where a name was found last. Who looks for one name after another finds the next one there.
+    next: usize,
+}
+
+impl Model for Names {
+    ghost use Rattle.std.specs.Prelude.{ℕ, List, vec_capacity};
+    ghost use Rattle.fk_waits.specs.Causes.Names.{IsRising};
+    ghost use Rattle.fk_waits.specs.declared.causes.names.Name.{Name};
+
+    ghost Value = { List Name × ℕ };
+
+    ghost view = { λ s. (s.items.items, vec_capacity s.items) };
+
+    ghost invariant = { λ s. IsRising s.items.items };
+}
+
+/// The place of a name in the order of spaces and slots.
+fn rank(who: Who) -> u64
+    ensures place { result ≡ rank who }
+    ensures slot { who.slot < 256 }
+{
+    u64::from(who.space) * 256 + u64::from(who.slot)
+}
+
+/// How many names come before one.
+fn place_of(items: &[Name], who: Who) -> usize
+    requires { IsRising items.now }
+    ensures slot { who.slot < 256 }
+    ensures within { result ≤ length items.now }
+    ensures before { (k : ℕ) (d : Name) → k < result → rank (slice_index_or items.now k d).who < rank who }
+    ensures behind { (k : ℕ) (d : Name) → result ≤ k → k < length items.now → rank who ≤ rank (slice_index_or items.now k d).who }
+{
+    // Names mostly come in order.
+    if comes_last(items, who) {
+        return items.len();
+    }
+    place_within(items, who)
+}
+
+/// All names come before one.
+fn comes_last(items: &[Name], who: Who) -> bool
+    requires { IsRising items.now }
+    ensures slot { who.slot < 256 }
+    ensures last { OnTrue result ((k : ℕ) (d : Name) → k < length items.now → rank (slice_index_or items.now k d).who < rank who) }
+{
+    let own = rank(who);
+    let many = items.len();
+    if many == 0 {
+        return true;
+    }
+    if rank(items[many - 1].who) < own {
+        return true;
+    }
+    false
+}
+
+/// The same by halving.
+fn place_within(items: &[Name], who: Who) -> usize
+    requires { IsRising items.now }
+    ensures slot { who.slot < 256 }
+    ensures within { result ≤ length items.now }
+    ensures before { (k : ℕ) (d : Name) → k < result → rank (slice_index_or items.now k d).who < rank who }
+    ensures behind { (k : ℕ) (d : Name) → result ≤ k → k < length items.now → rank who ≤ rank (slice_index_or items.now k d).who }
+{
+    let own = rank(who);
+    let mut low = 0;
+    let mut high = items.len();
+    while low < high {
+        let middle = low + (high - low) / 2;
+        if rank(items[middle].who) < own {
+            low = middle + 1;
+        } else {
+            high = middle;
+        }
+    }
+    low
+}
+
+/// The number of a name, where the name is at a place.
+fn key_in(items: &[Name], at: usize, who: Who) -> Option<usize>
+    ensures there { IfSome result (λ key. (at < length items.now)
+        × ((d : Name) → (is_same (slice_index_or items.now at d).who who ≡ true) × ((slice_index_or items.now at d).key ≡ key))) }
+    ensures none { result ≡ None → (d : Name) → at < length items.now → is_same (slice_index_or items.now at d).who who ≡ false }
+{
+    let name = items.get(at)?;
+    if name.who == who {
+        Some(name.key)
+    } else {
+        None
+    }
+}
+
+/// The place behind one. It is where a look begins, so any would do.
+fn behind(at: usize) -> usize {
+    at.wrapping_add(1)
+}
+
+impl Names {
+    /// No names, and no room yet.
+    pub fn new(alloc: Global) -> Names
+        ensures { result.0 ≡ [] }
+    {
+        Names {
+            items: Vec::new(alloc),
+            next: 0,
+        }
+    }
+
+    /// How many names there are.
+    pub fn len(&self) -> usize
+        ensures { result ≡ length self.now.0 }
+    {
+        self.items.len()
+    }
+
+    /// Makes room for so many more names. For want of memory there may be no more room than before.
+    pub fn reserve(&mut self, more: usize) -> Result<(), NoMemory>
+        ensures entries { self.new.0 ≡ self.old.0 }
+        ensures room { OnOk result (HasRoom self.new more) }
+        ensures kept { self.old.1 ≤ self.new.1 }
+    {
+        match self.items.reserve(more) {
+            Ok(()) => Ok(()),
+            Err(_) => Err(NoMemory),
+        }
+    }
+
+    /// The number of a name.
+    pub fn find(&self, who: Who) -> Option<usize>
+        ensures { result ≡ key_at self.now.0 who }
+    {
+        key_in(&self.items, place_of(&self.items, who), who)
+    }
+
+    /// The same, sought first behind the name that was found so last.
+    pub fn find_near(&mut self, who: Who) -> Option<usize>
+        ensures found { result ≡ key_at self.old.0 who }
+        ensures same { self.new ≡ self.old }
+    {
+        match key_in(&self.items, self.next, who) {
+            Some(key) => {
+                self.next = behind(self.next);
+                Some(key)
+            }
+            None => self.find_far(who),
+        }
+    }
+
+    /// The same by halving.
+    fn find_far(&mut self, who: Who) -> Option<usize>
+        ensures found { result ≡ key_at self.old.0 who }
+        ensures same { self.new ≡ self.old }
+    {
+        let at = place_of(&self.items, who);
+        self.next = behind(at);
+        key_in(&self.items, at, who)
+    }
+
+    /// Puts in a name that isn't there, with a number.
+    pub fn put(&mut self, who: Who, key: usize)
+        requires new { key_at self.old.0 who ≡ None }
+        requires room { HasRoom self.old 1 }
+        ensures put { (other : names_of.Who) → key_at self.new.0 other ≡ (if is_same who other then Some key else key_at self.old.0 other) }
+        ensures len { length self.new.0 ≡ length self.old.0 + 1 }
+        ensures kept { self.old.1 ≤ self.new.1 }
+    {
+        let at = place_of(&self.items, who);
+        match self.items.insert(at, Name { who, key }) {
+            Ok(()) => {}
+            Err(_) => unreachable!(),
+        }
+    }
+
+    /// Takes a name out, and gives its number.
+    pub fn take(&mut self, who: Who) -> Option<usize>
+        ensures taken { result ≡ key_at self.old.0 who }
+        ensures left { (other : names_of.Who) → key_at self.new.0 other ≡ (if is_same who other then None else key_at self.old.0 other) }
+        ensures len { IsSome result → length self.new.0 + 1 ≡ length self.old.0 }
+        ensures same { result ≡ None → self.new ≡ self.old }
+        ensures kept { self.old.1 ≡ self.new.1 }
+    {
+        let at = place_of(&self.items, who);
+        match key_in(&self.items, at, who) {
+            Some(key) => {
+                self.items.remove(at);
+                Some(key)
+            }
+            None => None,
+        }
+    }
+}

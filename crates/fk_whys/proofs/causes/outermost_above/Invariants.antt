@@ -1,8 +1,0 @@
-use Rattle.fk_whys.proofs.Waited.{IsFound}
-use Rattle.fk_whys.proofs.causes.outermost_above.Given as goal
-
-abbrev pub invariant-loop-space : goal.invariant-loop-space
-invariant-loop-space l = IsFound l.store l.fn.who l.at l.found
-
-abbrev pub decreases-loop-space : goal.decreases-loop-space
-decreases-loop-space l = l.at.space

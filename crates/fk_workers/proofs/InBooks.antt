@@ -1,0 +1,5 @@
+pub mod Coming
+pub mod Playing
+pub mod Runs
+pub mod Fitting
+pub mod Bursting

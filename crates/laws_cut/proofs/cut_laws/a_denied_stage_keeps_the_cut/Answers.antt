@@ -1,5 +1,0 @@
-use Rattle.laws_cut.proofs.cut.Calls.{denied_stages_keep}
-use Rattle.laws_cut.proofs.cut_laws.a_denied_stage_keeps_the_cut.Goals as goal
-
-pub returns : goal.returns
-returns c = denied_stages_keep

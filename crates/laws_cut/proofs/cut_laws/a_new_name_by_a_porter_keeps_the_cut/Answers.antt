@@ -1,5 +1,0 @@
-use Rattle.laws_cut.proofs.cut.PorterRows.{rename_call}
-use Rattle.laws_cut.proofs.cut_laws.a_new_name_by_a_porter_keeps_the_cut.Goals as goal
-
-pub returns : goal.returns
-returns c = rename_call

@@ -1,5 +1,0 @@
-use Rattle.laws_cut.proofs.cut.GivenPages.{page_give_call}
-use Rattle.laws_cut.proofs.cut_laws.a_page_given_by_a_porter_keeps_the_cut.Goals as goal
-
-pub returns : goal.returns
-returns c = page_give_call

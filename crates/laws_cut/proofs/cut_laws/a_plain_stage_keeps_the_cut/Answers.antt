@@ -1,5 +1,0 @@
-use Rattle.laws_cut.proofs.cut.Rows.{plain_keeps}
-use Rattle.laws_cut.proofs.cut_laws.a_plain_stage_keeps_the_cut.Goals as goal
-
-pub returns : goal.returns
-returns c = plain_keeps

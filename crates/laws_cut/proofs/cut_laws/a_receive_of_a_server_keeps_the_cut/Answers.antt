@@ -1,5 +1,0 @@
-use Rattle.laws_cut.proofs.talks.Receives.{server_receive_keeps}
-use Rattle.laws_cut.proofs.cut_laws.a_receive_of_a_server_keeps_the_cut.Goals as goal
-
-pub returns : goal.returns
-returns c = server_receive_keeps

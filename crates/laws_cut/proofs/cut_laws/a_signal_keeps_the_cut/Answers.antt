@@ -1,5 +1,0 @@
-use Rattle.laws_cut.proofs.waits.Signals.{signal_keeps}
-use Rattle.laws_cut.proofs.cut_laws.a_signal_keeps_the_cut.Goals as goal
-
-pub returns : goal.returns
-returns c = signal_keeps

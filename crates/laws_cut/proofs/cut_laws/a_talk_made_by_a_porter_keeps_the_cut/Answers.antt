@@ -1,5 +1,0 @@
-use Rattle.laws_cut.proofs.cut.Calls.{named_calls_keep}
-use Rattle.laws_cut.proofs.cut_laws.a_talk_made_by_a_porter_keeps_the_cut.Goals as goal
-
-pub returns : goal.returns
-returns c = named_calls_keep

@@ -1,5 +1,0 @@
-use Rattle.laws_cut.proofs.waits.Outside.{wait_outside_keeps}
-use Rattle.laws_cut.proofs.cut_laws.a_wait_outside_keeps_the_cut.Goals as goal
-
-pub returns : goal.returns
-returns c = wait_outside_keeps

@@ -1,5 +1,0 @@
-use Rattle.laws_cut.proofs.waits.FaultsDone.{fault_done_user}
-use Rattle.laws_cut.proofs.cut_laws.an_end_of_a_fault_keeps_the_cut.Goals as goal
-
-pub returns : goal.returns
-returns c = fault_done_user

@@ -1,5 +1,0 @@
-use Rattle.laws_cut.proofs.cut.Instructions.{instruction_keeps}
-use Rattle.laws_cut.proofs.cut_laws.an_instruction_keeps_the_cut.Goals as goal
-
-pub returns : goal.returns
-returns c = instruction_keeps

@@ -1,5 +1,0 @@
-use Rattle.laws_cut.proofs.talks.Messages.{client_send_keeps}
-use Rattle.laws_cut.proofs.cut_laws.words_of_a_client_keep_the_cut.Goals as goal
-
-pub returns : goal.returns
-returns c = client_send_keeps

@@ -1,5 +1,0 @@
-use Rattle.laws_cut.proofs.talks.Given.{server_words_keep}
-use Rattle.laws_cut.proofs.cut_laws.words_of_a_server_keep_the_cut.Goals as goal
-
-pub returns : goal.returns
-returns c = server_words_keep

@@ -1,5 +1,0 @@
-use Rattle.laws_cut.proofs.likeness.Laws.{cut_changes_alike, plain_stays}
-use Rattle.laws_cut.proofs.likeness_laws.cut_changes_alike.Goals as goal
-
-pub returns : goal.returns
-returns c = record { changes = cut_changes_alike; plain = plain_stays }

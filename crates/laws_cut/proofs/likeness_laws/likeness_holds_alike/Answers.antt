@@ -1,5 +1,0 @@
-use Rattle.laws_cut.proofs.likeness.Laws.{likeness_holds_alike}
-use Rattle.laws_cut.proofs.likeness_laws.likeness_holds_alike.Goals as goal
-
-pub returns : goal.returns
-returns c = likeness_holds_alike

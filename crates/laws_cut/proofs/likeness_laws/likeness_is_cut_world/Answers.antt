@@ -1,5 +1,0 @@
-use Rattle.laws_cut.proofs.likeness.Laws.{likeness_is_cut_world}
-use Rattle.laws_cut.proofs.likeness_laws.likeness_is_cut_world.Goals as goal
-
-pub returns : goal.returns
-returns c = likeness_is_cut_world

@@ -1,5 +1,0 @@
-use Rattle.laws_cut.proofs.likeness.Laws.{lock_acts_alike}
-use Rattle.laws_cut.proofs.likeness_laws.lock_acts_alike.Goals as goal
-
-pub returns : goal.returns
-returns c = lock_acts_alike

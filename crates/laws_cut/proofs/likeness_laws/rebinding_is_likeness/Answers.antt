@@ -1,5 +1,0 @@
-use Rattle.laws_cut.proofs.likeness.Laws.{rebinding_is_likeness}
-use Rattle.laws_cut.proofs.likeness_laws.rebinding_is_likeness.Goals as goal
-
-pub returns : goal.returns
-returns c = rebinding_is_likeness

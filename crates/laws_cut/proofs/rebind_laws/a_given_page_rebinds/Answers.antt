@@ -1,5 +1,0 @@
-use Rattle.laws_cut.proofs.cut.Gifts.{page_give_rebinds}
-use Rattle.laws_cut.proofs.rebind_laws.a_given_page_rebinds.Goals as goal
-
-pub returns : goal.returns
-returns c = page_give_rebinds

@@ -1,5 +1,0 @@
-use Rattle.laws_cut.proofs.cut.Objects.{rename_rebinds}
-use Rattle.laws_cut.proofs.rebind_laws.a_new_name_rebinds.Goals as goal
-
-pub returns : goal.returns
-returns c = rename_rebinds

@@ -1,5 +1,0 @@
-use Rattle.laws_cut.proofs.rebinding.Messages.{server_over_rebinds}
-use Rattle.laws_cut.proofs.rebind_laws.a_turn_of_a_server_rebinds.Goals as goal
-
-pub returns : goal.returns
-returns c = server_over_rebinds

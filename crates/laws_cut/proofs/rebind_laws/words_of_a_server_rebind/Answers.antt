@@ -1,5 +1,0 @@
-use Rattle.laws_cut.proofs.rebinding.Messages.{server_send_rebinds}
-use Rattle.laws_cut.proofs.rebind_laws.words_of_a_server_rebind.Goals as goal
-
-pub returns : goal.returns
-returns c = server_send_rebinds

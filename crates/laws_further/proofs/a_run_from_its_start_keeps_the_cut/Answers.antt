@@ -1,5 +1,0 @@
-use Rattle.laws_further.proofs.Runs.{proper_run_keeps}
-use Rattle.laws_further.proofs.a_run_from_its_start_keeps_the_cut.Goals as goal
-
-pub returns : goal.returns
-returns c = proper_run_keeps

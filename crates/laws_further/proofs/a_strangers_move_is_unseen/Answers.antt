@@ -1,5 +1,0 @@
-use Rattle.laws_further.proofs.strangers.Laws.{strangers_move_unseen}
-use Rattle.laws_further.proofs.a_strangers_move_is_unseen.Goals as goal
-
-pub returns : goal.returns
-returns c = strangers_move_unseen

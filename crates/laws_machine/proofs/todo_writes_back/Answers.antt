@@ -1,5 +1,0 @@
-use Rattle.fk_model.proofs.calls.CallLaws.{todo_writes_back_lem}
-use Rattle.laws_machine.proofs.todo_writes_back.Goals as goal
-
-pub returns : goal.returns
-returns c = todo_writes_back_lem

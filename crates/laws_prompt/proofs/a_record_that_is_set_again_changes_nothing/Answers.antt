@@ -1,8 +1,0 @@
-use Rattle.laws_prompt.proofs.Setting.{set_state_of_itself, porters_set_state_of_itself}
-use Rattle.laws_prompt.proofs.a_record_that_is_set_again_changes_nothing.Goals as goal
-
-pub returns-clause-user : goal.returns-clause-user
-returns-clause-user c = set_state_of_itself
-
-pub returns-clause-porter : goal.returns-clause-porter
-returns-clause-porter c = porters_set_state_of_itself

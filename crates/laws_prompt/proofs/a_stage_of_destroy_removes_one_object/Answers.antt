@@ -1,8 +1,0 @@
-use Rattle.laws_prompt.proofs.Destroying.{users_destroy_one, porters_destroy_one}
-use Rattle.laws_prompt.proofs.a_stage_of_destroy_removes_one_object.Goals as goal
-
-pub returns-clause-user : goal.returns-clause-user
-returns-clause-user c = users_destroy_one
-
-pub returns-clause-porter : goal.returns-clause-porter
-returns-clause-porter c = porters_destroy_one

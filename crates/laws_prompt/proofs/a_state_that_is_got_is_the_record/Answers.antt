@@ -1,5 +1,0 @@
-use Rattle.laws_prompt.proofs.Correct.{get_state_shows}
-use Rattle.laws_prompt.proofs.a_state_that_is_got_is_the_record.Goals as goal
-
-pub returns : goal.returns
-returns c = get_state_shows

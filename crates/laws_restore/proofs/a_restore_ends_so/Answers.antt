@@ -1,5 +1,0 @@
-use Rattle.laws_restore.proofs.Coming.{ends_so}
-use Rattle.laws_restore.proofs.a_restore_ends_so.Goals as goal
-
-pub returns : goal.returns
-returns c = ends_so

@@ -1,5 +1,0 @@
-use Rattle.laws_restore.proofs.Bounds.{restore_is_bounded}
-use Rattle.laws_restore.proofs.a_restore_is_bounded.Goals as goal
-
-pub returns : goal.returns
-returns c = restore_is_bounded

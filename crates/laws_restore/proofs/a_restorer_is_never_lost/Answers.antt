@@ -1,5 +1,0 @@
-use Rattle.laws_restore.proofs.Scripted.{no_lost}
-use Rattle.laws_restore.proofs.a_restorer_is_never_lost.Goals as goal
-
-pub returns : goal.returns
-returns c = no_lost

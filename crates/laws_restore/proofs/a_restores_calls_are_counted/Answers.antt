@@ -1,5 +1,0 @@
-use Rattle.laws_restore.proofs.Counted.{is_counted}
-use Rattle.laws_restore.proofs.a_restores_calls_are_counted.Goals as goal
-
-pub returns : goal.returns
-returns c = is_counted

@@ -1,5 +1,0 @@
-use Rattle.laws_restore.proofs.Lasting.{last_call_is_known}
-use Rattle.laws_restore.proofs.a_restores_last_call_is_known.Goals as goal
-
-pub returns : goal.returns
-returns c = last_call_is_known

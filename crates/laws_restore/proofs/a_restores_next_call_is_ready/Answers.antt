@@ -1,5 +1,0 @@
-use Rattle.laws_restore.proofs.Readied.{is_ready}
-use Rattle.laws_restore.proofs.a_restores_next_call_is_ready.Goals as goal
-
-pub returns : goal.returns
-returns c = is_ready

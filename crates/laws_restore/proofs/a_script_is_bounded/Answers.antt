@@ -1,5 +1,0 @@
-use Rattle.laws_restore.proofs.Bounds.{script_is_bounded}
-use Rattle.laws_restore.proofs.a_script_is_bounded.Goals as goal
-
-pub returns : goal.returns
-returns c = script_is_bounded

@@ -1,5 +1,0 @@
-use Rattle.laws_restore.proofs.Example.{small_is_roomed}
-use Rattle.laws_restore.proofs.a_small_subtree_is_roomed.Goals as goal
-
-pub returns : goal.returns
-returns c = small_is_roomed

@@ -1,5 +1,0 @@
-use Rattle.laws_rooms.proofs.Restored.{image_restore_is_bounded}
-use Rattle.laws_rooms.proofs.image_restores_are_bounded.Goals as goal
-
-pub returns : goal.returns
-returns c = image_restore_is_bounded

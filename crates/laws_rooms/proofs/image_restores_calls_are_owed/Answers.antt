@@ -1,5 +1,0 @@
-use Rattle.laws_rooms.proofs.Restored.{image_restore_is_owed}
-use Rattle.laws_rooms.proofs.image_restores_calls_are_owed.Goals as goal
-
-pub returns : goal.returns
-returns c = image_restore_is_owed

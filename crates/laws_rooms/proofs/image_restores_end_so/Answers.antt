@@ -1,5 +1,0 @@
-use Rattle.laws_rooms.proofs.Restored.{image_restore_ends_so}
-use Rattle.laws_rooms.proofs.image_restores_end_so.Goals as goal
-
-pub returns : goal.returns
-returns c = image_restore_ends_so

@@ -1,5 +1,0 @@
-use Rattle.laws_sites.proofs.Near.{others_keep_new_unled}
-use Rattle.laws_sites.proofs.others_come_not_to_lead_in.Goals as goal
-
-pub returns : goal.returns
-returns c = others_keep_new_unled

@@ -1,5 +1,0 @@
-use Rattle.laws_sites.proofs.Looking.{others_keep_looks}
-use Rattle.laws_sites.proofs.others_keep_what_a_pin_tells.Goals as goal
-
-pub returns : goal.returns
-returns c = others_keep_looks

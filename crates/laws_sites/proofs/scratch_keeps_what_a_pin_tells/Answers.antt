@@ -1,5 +1,0 @@
-use Rattle.laws_sites.proofs.Looking.{takes_keep_looks}
-use Rattle.laws_sites.proofs.scratch_keeps_what_a_pin_tells.Goals as goal
-
-pub returns : goal.returns
-returns c = takes_keep_looks

@@ -1,0 +1,3 @@
+pub mod InCut
+pub mod InFurther
+pub mod InUncut

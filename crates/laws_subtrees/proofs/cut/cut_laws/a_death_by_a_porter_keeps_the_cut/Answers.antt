@@ -1,0 +1,5 @@
+use Rattle.laws_subtrees.proofs.InCut.cut.Calls.{destroy_calls_keep}
+use Rattle.laws_subtrees.proofs.cut.cut_laws.a_death_by_a_porter_keeps_the_cut.Goals as goal
+
+pub returns : goal.returns
+returns c = destroy_calls_keep

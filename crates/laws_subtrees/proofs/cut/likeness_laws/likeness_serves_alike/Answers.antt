@@ -1,0 +1,5 @@
+use Rattle.laws_subtrees.proofs.InCut.likeness.Laws.{likeness_serves_alike}
+use Rattle.laws_subtrees.proofs.cut.likeness_laws.likeness_serves_alike.Goals as goal
+
+pub returns : goal.returns
+returns c = likeness_serves_alike

@@ -1,5 +1,0 @@
-use Rattle.laws_whole.proofs.Younger.{keeps_younger}
-use Rattle.laws_whole.proofs.a_fit_move_keeps_spaces_younger.Goals as goal
-
-pub returns : goal.returns
-returns c = keeps_younger

@@ -1,5 +1,0 @@
-use Rattle.laws_whole.proofs.Laws.{run_keeps_runnable}
-use Rattle.laws_whole.proofs.a_run_keeps_a_runnable_world.Goals as goal
-
-pub returns : goal.returns
-returns c = run_keeps_runnable
