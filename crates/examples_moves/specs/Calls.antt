@@ -5,6 +5,7 @@ use Rattle.fk_model.specs.declared.stage.Stage.TheVariants.{Create, Destroy, Ren
 use Rattle.fk_model.specs.declared.stage.Stage.TheVariants.{SpaceHold, SpaceRelease, ThreadStop, ThreadGo, PageGive, PageTake, PageRead, PageNext, MutexLock}
 use Rattle.fk_model.specs.declared.stage.Stage.TheVariants.{MutexTrylock, MutexUnlock, CondWait, CondAsleep, CondSignal, CondBroadcast, Connect, ClientReceive}
 use Rattle.fk_model.specs.declared.stage.Stage.TheVariants.{ClientSend, ClientOver, Disconnect, Wait, ServerReceive, ServerSend, ServerOver, ServerEnd}
+use Rattle.fk_model.specs.declared.stage.Stage.TheVariants.{ClientOverRef, ClientReceiveRef, ServerOverRef, ServerReceiveRef}
 use Rattle.fk_model.specs.declared.stage.Stage.TheVariants.{FaultDone, LinkSet, LinkPark, FaultSet, FaultPark, HoldSet, SpaceMakeHeld}
 use Rattle.fk_model.specs.Calls.{code_of_stage}
 
@@ -15,7 +16,8 @@ one_of_each =
     SpaceRelease 0 0 ∷ ThreadStop 0 ∷ ThreadGo 0 ∷ PageGive 0 0 0 ∷ PageTake 0 0 0 ∷ PageRead 0 0 0 ∷
     PageNext 0 0 ∷ MutexLock 0 ∷ MutexTrylock 0 ∷ MutexUnlock 0 ∷ CondWait 0 0 ∷ CondAsleep 0 0 ∷
     CondSignal 0 ∷ CondBroadcast 0 ∷ Connect 0 ∷ ClientReceive 0 0 ∷ ClientSend 0 0 ∷ ClientOver ∷
-    Disconnect ∷ Wait 0 ∷ ServerReceive 0 0 ∷ ServerSend 0 0 ∷ ServerOver ∷ ServerEnd ∷ FaultDone ∷
+    Disconnect ∷ ClientOverRef 0 ∷ ClientReceiveRef 0 0 0 ∷ Wait 0 ∷ ServerReceive 0 0 ∷ ServerSend 0 0 ∷ ServerOver ∷ ServerEnd ∷ FaultDone ∷
+    ServerOverRef 0 ∷ ServerReceiveRef 0 0 0 ∷
     LinkSet 0 0 0 0 ∷ LinkPark 0 0 0 ∷ FaultSet 0 0 0 0 ∷ FaultPark 0 0 0 0 ∷ HoldSet 0 0 0 ∷
     SpaceMakeHeld 0 ∷ []
 

@@ -27,7 +27,7 @@ in_call_21 = 8 ∷ 21 ∷ 3 ∷ (replicate 14 0 ++ (9 ∷ 1 ∷ 0 ∷ 0 ∷ []))
 
 -- the same with 40, which is no call, in its first register
 abbrev pub in_no_call : List ℕ
-in_no_call = 8 ∷ 40 ∷ 3 ∷ (replicate 14 0 ++ (9 ∷ 1 ∷ 0 ∷ 0 ∷ []))
+in_no_call = 8 ∷ 42 ∷ 3 ∷ (replicate 14 0 ++ (9 ∷ 1 ∷ 0 ∷ 0 ∷ []))
 
 -- one that has halted with code 7 and is stopped twice
 abbrev pub halted_twice_stopped : List ℕ

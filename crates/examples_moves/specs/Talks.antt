@@ -1,15 +1,15 @@
 -- Talks: a client in /1 and a server thread in /2, linked at the port in slot 3 of /2.
 use Rattle.std.specs.Prelude.{ℕ, false, true, List, [], ◌∷◌, ◌++◌, map, Bool, Option, Some, None}
 use Rattle.fk_model.specs.declared.thread.Turn.TheVariants as turns
-use Rattle.fk_model.specs.Places.{Path}
-use Rattle.fk_model.specs.Places.Ptr.{At}
+use Rattle.fk_model.specs.Places.{Path, Ptr}
+use Rattle.fk_model.specs.Places.Ptr.{Null, At}
 use Rattle.fk_model.specs.Objects.{Talk, Fault, Peer, Body}
 use Rattle.fk_model.specs.Objects.Peer.{Server, Parked}
 use Rattle.fk_model.specs.Objects.Body.{Region, Port, Portset, Space, Reference}
 use Rattle.fk_model.specs.World.{World}
 use Rattle.fk_model.specs.Runs.{Event, run}
 use Rattle.examples_moves.specs.Worked.{Page, machine, world_of, page_with, numbered, running, calling, stopped, with_talk, with_fault, served_by, registers_at}
-use Rattle.examples_moves.specs.Worked.{registers_from, goes, picks, times, client, server}
+use Rattle.examples_moves.specs.Worked.{scene, registers_from, goes, picks, times, client, server}
 
 -- the port
 abbrev pub port : Path
@@ -80,6 +80,25 @@ linked_in g =
 -- and without one
 unfoldable pub unlinked_in : List ℕ → World
 unlinked_in g = world_of ((4 ∷ 1 ∷ [], Reference (At port)) ∷ talkers (calling 20 g) (calling 30 (48 ∷ 7 ∷ []))) both_pages
+
+-- ---- a pointer goes with the turn. Slot 4 of /1 holds a reference, and slot 5 of /2 one that leads nowhere
+
+-- both in calls, at the client's turn
+unfoldable pub handing : Ptr → List ℕ → List ℕ → World
+handing to g h = world_of ((4 ∷ 1 ∷ [], Reference to) ∷ (5 ∷ 2 ∷ [], Reference Null) ∷ talkers (with_talk (clients_turn 7) (calling 20 g)) (calling 30 h))
+    both_pages
+
+-- the reference that is to take the pointer
+abbrev pub taker : Path
+taker = 5 ∷ 2 ∷ []
+
+-- both ends, and that reference, after a move of the client
+abbrev pub handed : World → List (Option Body)
+handed w = scene (client ∷ server ∷ taker ∷ []) (run w (goes client ∷ []))
+
+-- the server's call with this reference
+abbrev pub taking_in : ℕ → List ℕ
+taking_in k = 58 ∷ 8 ∷ 7 ∷ 6 ∷ 320 ∷ 40 ∷ k ∷ []
 
 -- ---- two threads of the root read the states of both ends, into page 1 of the root
 
@@ -238,5 +257,5 @@ still_serving = world_of ((8 ∷ 2 ∷ [], Portset) ∷ talkers (with_talk (clie
 
 -- ---- to compute in these worlds is to unfold these
 unfoldable pub talk_worlds : Unit {0}
-unfolding machine message sent sent_to_few linked_in unlinked_in watched kept meeting replying ending waiting picked still_serving
+unfolding machine message sent sent_to_few linked_in unlinked_in handing watched kept meeting replying ending waiting picked still_serving
 talk_worlds = tt

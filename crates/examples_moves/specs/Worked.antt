@@ -21,7 +21,7 @@ use Rattle.fk_model.specs.Readers.{object_in, handle, space_argument, referred}
 use Rattle.fk_model.specs.Talks.{line}
 use Rattle.fk_model.specs.UserRows.{run_row_by}
 use Rattle.fk_model.specs.SyncRows.{mutex_lock, mutex_trylock, mutex_unlock, cond_wait, cond_asleep, sleepers, cond_signal, cond_broadcast}
-use Rattle.fk_model.specs.TransferRows.{send, receive, over}
+use Rattle.fk_model.specs.TransferRows.{send, receive, receive_ref, over, over_ref}
 use Rattle.fk_model.specs.LinkRows.{connect, candidate, wait, disconnect, link_set, link_park}
 use Rattle.fk_model.specs.FaultRows.{fault_done, fault_set, fault_park}
 use Rattle.fk_model.specs.SpaceRows.{space_hold, space_release, thread_stop, thread_go, page_give, page_take, page_read, next_page, page_next, hold_set}
@@ -195,7 +195,7 @@ unfoldable pub machine : Unit {0}
 unfolding body_in page_among world_of numbers_from registers_at after_each same_path strip code_of
     words todo_of rest_of edited apply apply_all lowest slots residents beneath_by beneath leaf_by leaf client_of faulter_of clients_at client_at mapping_at
     region_at keeper reach_within reach decider object_in handle space_argument referred line run_row_by mutex_lock mutex_trylock mutex_unlock cond_wait
-    cond_asleep sleepers cond_signal cond_broadcast send receive over connect candidate wait disconnect link_set link_park fault_done fault_set fault_park
+    cond_asleep sleepers cond_signal cond_broadcast send receive receive_ref over over_ref connect candidate wait disconnect link_set link_park fault_done fault_set fault_park
     space_hold space_release thread_stop thread_go page_give page_take page_read next_page page_next hold_set space_make_held record_of set takes_state
     get_state set_state get_ptr set_ptr create destroy rename search point clear locate count_in accept_row give_row over_row call_row outcome step run
 machine = tt

@@ -11,11 +11,11 @@ ghost use Rattle.examples_moves.specs.Calls.{codes_where};
 pub fn some_calls_are_denied()
     ensures users { codes_where is_for_porters ≡ 8 ∷ 60 ∷ 61 ∷ 62 ∷ 63 ∷ 64 ∷ 65 ∷ [] }
     ensures porters { codes_where is_for_users ≡
-        21 ∷ 22 ∷ 23 ∷ 24 ∷ 25 ∷ 26 ∷ 27 ∷ 32 ∷ 36 ∷ 37 ∷ 38 ∷ 39 ∷ 50 ∷ 51 ∷ 52 ∷ 55 ∷ [] }
+        21 ∷ 22 ∷ 23 ∷ 24 ∷ 25 ∷ 26 ∷ 27 ∷ 32 ∷ 36 ∷ 37 ∷ 38 ∷ 39 ∷ 40 ∷ 41 ∷ 50 ∷ 51 ∷ 52 ∷ 55 ∷ 57 ∷ 58 ∷ [] }
 {}
 
 /// The end of a talk ends the call of a client at its Receive, Send or Over, and of a server at its.
 pub fn some_calls_end_with_a_talk()
-    ensures clients { codes_where (talks_on turns.Client) ≡ 36 ∷ 37 ∷ 38 ∷ [] }
-    ensures servers { codes_where (talks_on turns.Server) ≡ 50 ∷ 51 ∷ 52 ∷ [] }
+    ensures clients { codes_where (talks_on turns.Client) ≡ 36 ∷ 37 ∷ 38 ∷ 40 ∷ 41 ∷ [] }
+    ensures servers { codes_where (talks_on turns.Server) ≡ 50 ∷ 51 ∷ 52 ∷ 57 ∷ 58 ∷ [] }
 {}

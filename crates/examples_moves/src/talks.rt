@@ -3,13 +3,14 @@
 
 ghost use Rattle.std.specs.Prelude.{◌≡◌, [], ◌∷◌, ◌++◌, Some, None, true, false, map, replicate};
 ghost use Rattle.fk_model.specs.declared.thread.Turn.TheVariants as turns;
-ghost use Rattle.fk_model.specs.Places.Ptr.{At};
+ghost use Rattle.fk_model.specs.Places.Ptr.{Null, Dead, At};
+ghost use Rattle.fk_model.specs.Objects.Body.{Reference};
 ghost use Rattle.fk_model.specs.Objects.Peer.{Server};
 ghost use Rattle.fk_model.specs.Runs.{run, IsLegal};
 ghost use Rattle.examples_moves.specs.Worked.{becomes, scene, after_each, IsReadyTo, with_fault, goes, picks, times, running, calling, stopped, with_talk};
 ghost use Rattle.examples_moves.specs.Worked.{registers_from, numbers_from, client, server};
-ghost use Rattle.examples_moves.specs.Talks.{clients_turn, servers_turn, sending, asking_to_receive, message, sent, ends_at, left, sent_all, both_ends};
-ghost use Rattle.examples_moves.specs.Talks.{sent_to_few, linked_in, unlinked_in, reader, second_reader, watched, sent_and_read, keeper_thread, kept, sent_5};
+ghost use Rattle.examples_moves.specs.Talks.{port, clients_turn, servers_turn, sending, asking_to_receive, message, sent, ends_at, left, sent_all, both_ends};
+ghost use Rattle.examples_moves.specs.Talks.{sent_to_few, linked_in, unlinked_in, handing, handed, taking_in, reader, second_reader, watched, sent_and_read, keeper_thread, kept, sent_5};
 ghost use Rattle.examples_moves.specs.Talks.{received_5, write_missed_5, arrives, misses, keeper_parts, talkers_and_keeper, until_mended, meeting, replying};
 ghost use Rattle.examples_moves.specs.Talks.{ending, waiting, waited_for, receives_10, taken_fault, picked, still_serving};
 
@@ -69,6 +70,40 @@ pub fn a_clients_calls_ask_for_its_talk()
         Some (with_talk (clients_turn 0) (running 21 (11 ∷ 4 ∷ []))) }
     ensures no_fault { becomes (unlinked_in (56 ∷ [])) client ≡ Some (running 21 (10 ∷ [])) }
     ensures waits { ¬ IsReadyTo (unlinked_in (32 ∷ 4 ∷ [])) (goes client) }
+{}
+
+/// With call 40 the pointer of a reference goes with the turn: the server's reference takes it, and
+/// r1 says so. A server that takes no pointer, at 50, is given none; one that is given none, by call
+/// 38, answers 0; and a pointer that leads nowhere goes like any other.
+pub fn a_pointer_goes_with_the_turn()
+    ensures ready { IsReadyTo (handing (At port) (40 ∷ 4 ∷ []) (taking_in 5)) (goes client) }
+    ensures handed { handed (handing (At port) (40 ∷ 4 ∷ []) (taking_in 5)) ≡
+        Some (with_talk (servers_turn 0) (running 21 (0 ∷ 4 ∷ [])))
+        ∷ Some (running 31 (0 ∷ 1 ∷ 7 ∷ 6 ∷ 320 ∷ 40 ∷ 5 ∷ [])) ∷ Some (Reference (At port)) ∷ [] }
+    ensures no_taker { handed (handing (At port) (40 ∷ 4 ∷ []) (asking_to_receive 320 40)) ≡
+        Some (with_talk (servers_turn 0) (running 21 (0 ∷ 4 ∷ [])))
+        ∷ Some (running 31 (0 ∷ 8 ∷ 7 ∷ 6 ∷ 320 ∷ 40 ∷ [])) ∷ Some (Reference Null) ∷ [] }
+    ensures nothing { handed (handing (At port) (38 ∷ []) (taking_in 5)) ≡
+        Some (with_talk (servers_turn 0) (running 21 []))
+        ∷ Some (running 31 (0 ∷ 0 ∷ 7 ∷ 6 ∷ 320 ∷ 40 ∷ 5 ∷ [])) ∷ Some (Reference Null) ∷ [] }
+    ensures nowhere { handed (handing Dead (40 ∷ 4 ∷ []) (taking_in 5)) ≡
+        Some (with_talk (servers_turn 0) (running 21 (0 ∷ 4 ∷ [])))
+        ∷ Some (running 31 (0 ∷ 1 ∷ 7 ∷ 6 ∷ 320 ∷ 40 ∷ 5 ∷ [])) ∷ Some (Reference Dead) ∷ [] }
+{}
+
+/// An empty slot is refused BADHANDLE and what is no reference WRONGKIND, before the talk is looked at,
+/// on either side; a client waits for a server that is refused.
+pub fn a_slot_without_a_reference_is_refused()
+    ensures empty { becomes (handing (At port) (40 ∷ 9 ∷ []) (taking_in 5)) client ≡
+        Some (with_talk (clients_turn 7) (running 21 (2 ∷ 9 ∷ []))) }
+    ensures no_reference { becomes (handing (At port) (40 ∷ 0 ∷ []) (taking_in 5)) client ≡
+        Some (with_talk (clients_turn 7) (running 21 (3 ∷ 0 ∷ []))) }
+    ensures no_talk { becomes (unlinked_in (40 ∷ 9 ∷ [])) client ≡ Some (running 21 (2 ∷ 9 ∷ [])) }
+    ensures talk { becomes (unlinked_in (40 ∷ 4 ∷ [])) client ≡ Some (running 21 (10 ∷ 4 ∷ [])) }
+    ensures waits { ¬ IsReadyTo (handing (At port) (40 ∷ 4 ∷ []) (taking_in 6)) (goes client) }
+    ensures server { becomes (handing (At port) (40 ∷ 4 ∷ []) (taking_in 6)) server ≡
+        Some (running 31 (2 ∷ 8 ∷ 7 ∷ 6 ∷ 320 ∷ 40 ∷ 6 ∷ [])) }
+    ensures server_waits { ¬ IsReadyTo (handing (At port) (40 ∷ 4 ∷ []) (taking_in 5)) (goes server) }
 {}
 
 /// In the midst of a message the client's record names the rest of its call, its talk at its own

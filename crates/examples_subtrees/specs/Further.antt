@@ -13,6 +13,7 @@ use Rattle.fk_model.specs.Outcomes.Outcome.{Refused, Waits, Goes}
 use Rattle.fk_model.specs.Further.{Onward, Told, touch_row, onward_row, told_by}
 use Rattle.fk_model.specs.Further.Onward.{Own}
 use Rattle.fk_model.specs.Seen.{outcome_said}
+use Rattle.fk_model.specs.Valid.{kind_there}
 use Rattle.examples_moves.specs.Worked.{Page, machine, body_in, page_among, numbered, running, calling, with_talk, with_fault, served_by}
 
 -- a subtree seen alone: its root, which nobody holds, and what lies in it
@@ -81,6 +82,22 @@ held_within holder = alone_of
     ((2 ∷ [], Space 0 holder) ∷ (5 ∷ [], running 0 []) ∷ (in_2 0, with_talk (outward turns.Server 0) (calling 20 (36 ∷ 0 ∷ 0 ∷ 0 ∷ 192 ∷ 4 ∷ [])))
     ∷ (in_2 1, fault_out None) ∷ (in_2 3, fault_out (Some (Server Outside))) ∷ []) (numbered (2 ∷ []) 1000 3 ∷ [])
 
+-- ---- the reference in slot 6 is to take a pointer, or is handed over. The space in slot 2, with a port in it, is held by the thread in slot 5, or by nobody
+
+unfoldable pub awaiting : Ptr → Option Ptr → World
+awaiting old holder = alone_of
+    ((0 ∷ [], with_talk (outward turns.Server 3) (calling 20 (41 ∷ 0 ∷ 0 ∷ 0 ∷ 192 ∷ 4 ∷ 6 ∷ []))) ∷ (6 ∷ [], Reference old) ∷ (7 ∷ [], Mutex false)
+    ∷ (2 ∷ [], Space 0 holder) ∷ (5 ∷ [], running 0 []) ∷ (in_2 1, Port None false) ∷ []) []
+
+unfoldable pub handing_out : Ptr → Option Ptr → World
+handing_out to holder = alone_of
+    ((0 ∷ [], with_talk (outward turns.Client 3) (calling 20 (40 ∷ 6 ∷ []))) ∷ (6 ∷ [], Reference to)
+    ∷ (2 ∷ [], Space 0 holder) ∷ (5 ∷ [], running 0 []) ∷ (in_2 1, Port None false) ∷ []) []
+
+-- the thread in slot 5 holds it
+abbrev pub by_5 : Option Ptr
+by_5 = Some (At (5 ∷ []))
+
 -- ---- a thread in the space in slot 2 receives through a mapping, into page 3 of the space in slot 3, which is held by the thread in slot 5,
 -- or by nobody
 
@@ -105,5 +122,5 @@ inner_talk port = with_talk (served_by port (5 ∷ []) turns.Client 0) (running 
 
 -- ---- to compute in these worlds is to unfold these
 unfoldable pub further_worlds : Unit {0}
-unfolding machine alone_of talking_out kept_out connecting held_within receiving_through destroying touch_row onward_row
+unfolding machine alone_of talking_out kept_out connecting held_within awaiting handing_out receiving_through destroying touch_row onward_row kind_there
 further_worlds = tt

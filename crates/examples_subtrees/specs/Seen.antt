@@ -3,7 +3,7 @@
 use Rattle.std.specs.Prelude.{◌≡◌, ℕ, true, false, List, [], ◌∷◌, ◌++◌, replicate, Option, Some, None}
 use Rattle.fk_model.specs.declared.thread.Turn.{Turn}
 use Rattle.fk_model.specs.declared.thread.Turn.TheVariants as turns
-use Rattle.fk_model.specs.Places.{Path}
+use Rattle.fk_model.specs.Places.{Path, Ptr}
 use Rattle.fk_model.specs.Places.Ptr.{At}
 use Rattle.fk_model.specs.Objects.{Peer, Body}
 use Rattle.fk_model.specs.Objects.Mode.{Native}
@@ -105,6 +105,18 @@ waits = calling 30 (48 ∷ 8 ∷ [])
 abbrev pub faulty : Option Peer → Body
 faulty taker = with_fault (record { page = 9; write = true; port = At root_port; taker = taker }) (running 0 [])
 
+-- ---- the server hands over the pointer in slot 3, or in another
+
+abbrev pub hands_over_of : ℕ → Body
+hands_over_of k = calling 30 (57 ∷ k ∷ [])
+
+-- the client receives into 4 words of room, and the reference in slot 1, or another, awaits a pointer
+abbrev pub awaits_in : ℕ → Body
+awaits_in k = calling 20 (41 ∷ 0 ∷ 0 ∷ 0 ∷ 192 ∷ 4 ∷ k ∷ [])
+
+unfoldable pub handing_in : Ptr → Body → World
+handing_in to client = facing_beside (3 ∷ []) (Reference to) (hands_over_of 3) (at_9 turns.Server client)
+
 -- ---- two threads inside talk at the port in slot 5, and a third sleeps on the condition
 
 abbrev pub inner_server : Path
@@ -135,5 +147,5 @@ storing_in word = world_of
 
 -- ---- to compute in these worlds is to unfold these
 unfoldable pub seen_worlds : Unit {0}
-unfolding machine seen_by cut facing facing_beside talking_inside sleeping_inside waiting_inside storing_in
+unfolding machine seen_by cut facing facing_beside handing_in talking_inside sleeping_inside waiting_inside storing_in
 seen_worlds = tt

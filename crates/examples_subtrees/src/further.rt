@@ -3,14 +3,14 @@
 
 ghost use Rattle.std.specs.Prelude.{◌≡◌, [], ◌∷◌, Some, None, true, false, replicate};
 ghost use Rattle.fk_model.specs.declared.thread.Turn.TheVariants as turns;
-ghost use Rattle.fk_model.specs.Places.Ptr.{Null, At, Out, Far};
-ghost use Rattle.fk_model.specs.Objects.Body.{Port, Space};
+ghost use Rattle.fk_model.specs.Places.Ptr.{Null, Dead, At, Out, Outside, Far};
+ghost use Rattle.fk_model.specs.Objects.Body.{Port, Space, Reference};
 ghost use Rattle.fk_model.specs.Further.Onward.{ByOthers};
-ghost use Rattle.fk_model.specs.Further.Touch.{Taken, Given, Filled, Handed, Left, FaultTaken, FaultDone, PageGiven, PageTaken};
+ghost use Rattle.fk_model.specs.Further.Touch.{Taken, Given, Filled, Handed, HandedWith, Left, FaultTaken, FaultDone, PageGiven, PageTaken};
 ghost use Rattle.fk_model.specs.Further.Told.{ToldWords, ToldOver, ToldEnd, ToldFault};
 ghost use Rattle.examples_moves.specs.Worked.{numbers_from, running, calling, stopped, with_talk};
 ghost use Rattle.examples_subtrees.specs.Further.{is_ready, later, heard, own_move_taking, outward, talking_out, sending_out, kept_out, connecting, connects};
-ghost use Rattle.examples_subtrees.specs.Further.{in_2, held_within, receiving_through, destroying, inner_talk};
+ghost use Rattle.examples_subtrees.specs.Further.{in_2, held_within, awaiting, handing_out, by_5, receiving_through, destroying, inner_talk};
 
 /// A peer outside takes at least one word of a Send and at most what lies before the page's end, the
 /// count and 64; both sides are then that much further.
@@ -40,7 +40,7 @@ pub fn other_moves_take_no_words()
     ensures unreachable_counted { is_ready (sending_out 0 70) (own_move_taking 64) ≡ false }
     ensures fault { heard (kept_out (37 ∷ 0 ∷ 512 ∷ 70 ∷ [])) (own_move_taking 0) ≡ ToldFault (0 ∷ []) (Out 9) 8 false ∷ [] }
     ensures fault_counted { is_ready (kept_out (37 ∷ 0 ∷ 512 ∷ 70 ∷ [])) (own_move_taking 64) ≡ false }
-    ensures over { heard (talking_out turns.Client 5 (38 ∷ [])) (own_move_taking 0) ≡ ToldOver (0 ∷ []) (Out 9) ∷ [] }
+    ensures over { heard (talking_out turns.Client 5 (38 ∷ [])) (own_move_taking 0) ≡ ToldOver (0 ∷ []) (Out 9) None ∷ [] }
     ensures over_counted { is_ready (talking_out turns.Client 5 (38 ∷ [])) (own_move_taking 5) ≡ false }
     ensures end { heard (talking_out turns.Client 5 (39 ∷ [])) (own_move_taking 0) ≡ ToldEnd (0 ∷ []) (Out 9) ∷ [] }
     ensures end_counted { is_ready (talking_out turns.Client 5 (39 ∷ [])) (own_move_taking 5) ≡ false }
@@ -74,6 +74,56 @@ pub fn a_hold_inside_bars_no_end_and_no_page()
     ensures fault_done { is_ready (held_within (Some (At (5 ∷ [])))) (ByOthers (FaultDone (in_2 3))) ≡ false }
     ensures given { is_ready (held_within (Some (At (5 ∷ [])))) (ByOthers (Given (in_2 0) (7 ∷ []))) ≡ false }
     ensures handed { is_ready (held_within (Some (At (5 ∷ [])))) (ByOthers (Handed (in_2 0))) ≡ false }
+{}
+
+/// A pointer that comes with the turn may lead to nothing, to a port outside, or to what a reference
+/// may lead to inside, and the reference that awaits it takes it. Without a pointer that stays.
+pub fn the_outside_hands_over_a_pointer()
+    ensures null { is_ready (awaiting (Out 9) None) (ByOthers (HandedWith (0 ∷ []) Null)) ≡ true }
+    ensures dead { is_ready (awaiting (Out 9) None) (ByOthers (HandedWith (0 ∷ []) Dead)) ≡ true }
+    ensures port { is_ready (awaiting Null None) (ByOthers (HandedWith (0 ∷ []) (Out 11))) ≡ true }
+    ensures inside { is_ready (awaiting Null None) (ByOthers (HandedWith (0 ∷ []) (At (in_2 1)))) ≡ true }
+    ensures root { is_ready (awaiting Null None) (ByOthers (HandedWith (0 ∷ []) (At []))) ≡ true }
+    ensures no_reference_leads { is_ready (awaiting Null None) (ByOthers (HandedWith (0 ∷ []) (At (7 ∷ [])))) ≡ false }
+    ensures nothing_there { is_ready (awaiting Null None) (ByOthers (HandedWith (0 ∷ []) (At (9 ∷ [])))) ≡ false }
+    ensures far { is_ready (awaiting Null None) (ByOthers (HandedWith (0 ∷ []) Far)) ≡ false }
+    ensures peer { is_ready (awaiting Null None) (ByOthers (HandedWith (0 ∷ []) Outside)) ≡ false }
+    ensures taken { (later (awaiting Null None) (ByOthers (HandedWith (0 ∷ []) (Out 11)))).body (6 ∷ []) ≡ Some (Reference (Out 11)) }
+    ensures client { (later (awaiting Null None) (ByOthers (HandedWith (0 ∷ []) (Out 11)))).body (0 ∷ []) ≡
+        Some (with_talk (outward turns.Client 0) (running 21 (0 ∷ 1 ∷ 0 ∷ 0 ∷ 192 ∷ 4 ∷ 6 ∷ []))) }
+    ensures none { (later (awaiting (Out 9) None) (ByOthers (Handed (0 ∷ [])))).body (0 ∷ []) ≡
+        Some (with_talk (outward turns.Client 0) (running 21 (0 ∷ 0 ∷ 0 ∷ 0 ∷ 192 ∷ 4 ∷ 6 ∷ []))) }
+    ensures kept { (later (awaiting (Out 9) None) (ByOthers (Handed (0 ∷ [])))).body (6 ∷ []) ≡ Some (Reference (Out 9)) }
+    ensures unawaited { is_ready (held_within None) (ByOthers (HandedWith (in_2 0) Null)) ≡ false }
+    ensures heard { heard (awaiting Null None) (ByOthers (HandedWith (0 ∷ []) (Out 11))) ≡ [] }
+{}
+
+/// Neither the pointer that comes nor the one that it replaces leads to what is held inside. Where
+/// none comes nothing is asked of the one that stays.
+pub fn no_pointer_comes_to_what_is_held_inside()
+    ensures into { is_ready (awaiting Null by_5) (ByOthers (HandedWith (0 ∷ []) (At (in_2 1)))) ≡ false }
+    ensures held { is_ready (awaiting Null by_5) (ByOthers (HandedWith (0 ∷ []) (At (2 ∷ [])))) ≡ false }
+    ensures beside { is_ready (awaiting Null by_5) (ByOthers (HandedWith (0 ∷ []) (At (5 ∷ [])))) ≡ true }
+    ensures replaced { is_ready (awaiting (At (in_2 1)) by_5) (ByOthers (HandedWith (0 ∷ []) Null)) ≡ false }
+    ensures replaced_unheld { is_ready (awaiting (At (in_2 1)) None) (ByOthers (HandedWith (0 ∷ []) Null)) ≡ true }
+    ensures stays { is_ready (awaiting (At (in_2 1)) by_5) (ByOthers (Handed (0 ∷ []))) ≡ true }
+{}
+
+/// The outside is told of the pointer that goes there with the turn, whatever that is, as the subtree
+/// names it. One that leads to what is held inside doesn't go.
+pub fn a_pointer_goes_out_with_the_turn()
+    ensures port { heard (handing_out (Out 11) None) (own_move_taking 0) ≡ ToldOver (0 ∷ []) (Out 9) (Some (Out 11)) ∷ [] }
+    ensures inside { heard (handing_out (At (in_2 1)) None) (own_move_taking 0) ≡ ToldOver (0 ∷ []) (Out 9) (Some (At (in_2 1))) ∷ [] }
+    ensures null { heard (handing_out Null None) (own_move_taking 0) ≡ ToldOver (0 ∷ []) (Out 9) (Some Null) ∷ [] }
+    ensures dead { heard (handing_out Dead None) (own_move_taking 0) ≡ ToldOver (0 ∷ []) (Out 9) (Some Dead) ∷ [] }
+    ensures kept { (later (handing_out (Out 11) None) (own_move_taking 0)).body (6 ∷ []) ≡ Some (Reference (Out 11)) }
+    ensures client { (later (handing_out (Out 11) None) (own_move_taking 0)).body (0 ∷ []) ≡
+        Some (with_talk (outward turns.Server 0) (running 21 (0 ∷ 6 ∷ []))) }
+    ensures held { is_ready (handing_out (At (in_2 1)) by_5) (own_move_taking 0) ≡ false }
+    ensures beside { is_ready (handing_out (At (5 ∷ [])) by_5) (own_move_taking 0) ≡ true }
+    ensures counted { is_ready (handing_out (Out 11) None) (own_move_taking 3) ≡ false }
+    ensures no_reference { heard (talking_out turns.Client 5 (40 ∷ 1 ∷ [])) (own_move_taking 0) ≡ [] }
+    ensures refused { is_ready (talking_out turns.Client 5 (40 ∷ 1 ∷ [])) (own_move_taking 0) ≡ true }
 {}
 
 /// Words that are given to a free thread go to no page of a space that is held inside, to which a mapping

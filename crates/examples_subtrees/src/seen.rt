@@ -4,15 +4,16 @@
 ghost use Rattle.std.specs.Prelude.{[], ◌∷◌, Some, None, replicate};
 ghost use Rattle.fk_model.specs.declared.stage.Stage.TheVariants.{Search, PageGive, PageTake, MutexLock};
 ghost use Rattle.fk_model.specs.declared.thread.Turn.TheVariants as turns;
-ghost use Rattle.fk_model.specs.Places.Ptr.{At};
+ghost use Rattle.fk_model.specs.Places.Ptr.{Null, Dead, At, Out};
 ghost use Rattle.fk_model.specs.Objects.Peer.{Server, Parked};
 ghost use Rattle.fk_model.specs.Further.Onward.{Own};
-ghost use Rattle.fk_model.specs.Further.Touch.{Taken, Given, Filled, Handed, Left, FaultTaken, FaultDone, PageGiven, PageTaken};
+ghost use Rattle.fk_model.specs.Further.Touch.{Taken, Given, Filled, Handed, HandedWith, Left, FaultTaken, FaultDone, PageGiven, PageTaken};
 ghost use Rattle.fk_model.specs.Seen.Seen.{Onwards, Unseen, Other};
 ghost use Rattle.examples_moves.specs.Worked.{goes, picks, makes, accepts, gives, hands_over, running, calling, stopped, numbers_from};
 ghost use Rattle.examples_subtrees.specs.Seen.{LooksLike, Touches, IsInNoRow, outer_server, native_port, porter, inner_client, facing, at_9, at_10, parked_at};
 ghost use Rattle.examples_subtrees.specs.Seen.{sends_words, receives_into, server_receives, server_sends, waits, faulty, inner_server, talking_inside};
-ghost use Rattle.examples_subtrees.specs.Seen.{sleeping_inside, waiting_inside, storing_in};
+ghost use Rattle.examples_subtrees.specs.Cuts.{in_subtree, subtree};
+ghost use Rattle.examples_subtrees.specs.Seen.{hands_over_of, awaits_in, handing_in, sleeping_inside, waiting_inside, storing_in};
 
 /// What a thread inside does is the subtree's own, with whom it picks inside, and with as many words
 /// as somebody outside takes of it: none where it sends none, or sends them to somebody inside.
@@ -59,6 +60,25 @@ pub fn the_outside_hands_the_turn_and_leaves()
     ensures refused { IsInNoRow (facing (calling 30 (52 ∷ [])) (at_9 turns.Client (receives_into 4))) (goes outer_server) }
     ensures left { Touches (facing (calling 30 (55 ∷ [])) (at_9 turns.Client (running 0 []))) (goes outer_server) (Left (0 ∷ [])) }
     ensures no_talk { IsInNoRow (facing (calling 30 (55 ∷ [])) (running 0 [])) (goes outer_server) }
+{}
+
+/// A thread outside hands a pointer to a thread that awaits one: to nothing, into the subtree, to its
+/// root or to a port of its nester, each as the subtree names it. With one that leads elsewhere the
+/// move fits no row. A thread that awaits no pointer is handed the turn alone, wherever that leads,
+/// and one that awaits one is handed the turn alone where none comes.
+pub fn the_outside_hands_a_pointer_with_the_turn()
+    ensures null { Touches (handing_in Null (awaits_in 1)) (goes outer_server) (HandedWith (0 ∷ []) Null) }
+    ensures dead { Touches (handing_in Dead (awaits_in 1)) (goes outer_server) (HandedWith (0 ∷ []) Dead) }
+    ensures inside { Touches (handing_in (At (in_subtree 5)) (awaits_in 1)) (goes outer_server) (HandedWith (0 ∷ []) (At (5 ∷ []))) }
+    ensures root { Touches (handing_in (At subtree) (awaits_in 1)) (goes outer_server) (HandedWith (0 ∷ []) (At [])) }
+    ensures port { Touches (handing_in (At native_port) (awaits_in 1)) (goes outer_server) (HandedWith (0 ∷ []) (Out 10)) }
+    ensures beside { IsInNoRow (handing_in (At outer_server) (awaits_in 1)) (goes outer_server) }
+    ensures above { IsInNoRow (handing_in (At []) (awaits_in 1)) (goes outer_server) }
+    ensures beside_unawaited { Touches (handing_in (At outer_server) (receives_into 4)) (goes outer_server) (Handed (0 ∷ [])) }
+    ensures none { Touches (facing (calling 30 (52 ∷ [])) (at_9 turns.Server (awaits_in 1))) (goes outer_server) (Handed (0 ∷ [])) }
+    ensures none_by_native { Touches (facing (running 0 []) (at_10 turns.Server (awaits_in 1))) (hands_over native_port) (Handed (0 ∷ [])) }
+    ensures no_reference { IsInNoRow (facing (hands_over_of 4) (at_9 turns.Server (awaits_in 1))) (goes outer_server) }
+    ensures unready { IsInNoRow (handing_in Null (awaits_in 3)) (goes outer_server) }
 {}
 
 /// A thread outside takes a thread's fault, or is done with it. A parked fault that is taken up isn't

@@ -8,9 +8,11 @@
 
 mod answers;
 mod going;
+mod receivers;
 mod shifts;
 mod sleepers;
 
-pub use answers::{Answers, Four, end_well, finish};
-pub use shifts::{advance, count_moved, receive_of};
+pub use answers::{Answers, Four, answered, end_well, finish};
+pub use receivers::receiving;
+pub use shifts::{advance, awaited_by, count_moved, receive_of};
 pub use sleepers::{asleep_on, fall_asleep, is_slept_on, wake, wake_all};

@@ -3,3 +3,4 @@ pub mod Again
 pub mod Taken
 pub mod Leads
 pub mod RoundTrip
+pub mod Allowed

@@ -3,3 +3,4 @@ pub mod Fields
 pub mod Offsets
 pub mod Reading
 pub mod Spells
+pub mod Versions

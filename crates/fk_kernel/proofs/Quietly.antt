@@ -7,7 +7,7 @@ use Rattle.fk_model.specs.Objects.{Body, Mode, Thread, and_then, thread_of}
 use Rattle.fk_model.specs.Objects.Mode.{Calling, Halted, Native, Running}
 use Rattle.fk_model.specs.Places.{Path, same_path}
 use Rattle.fk_model.specs.Searches.{thread_at}
-use Rattle.fk_model.specs.Talks.{other_side, receiving}
+use Rattle.fk_model.specs.Talks.{other_side}
 use Rattle.fk_model.specs.Who.{named, space_born}
 use Rattle.fk_model.specs.World.{World, Change, apply}
 use Rattle.fk_model.specs.World.Change.{Alter, PutPage}
@@ -19,7 +19,7 @@ use Rattle.fk_store.specs.Store.Paths.{path}
 use Rattle.fk_store.specs.Store.World.{world, place_of}
 use Rattle.laws_waits.specs.Calm.{IsApart, IsCalm}
 use Rattle.laws_waits.specs.Complete.{is_barred}
-use Rattle.laws_waits.specs.Stuck.{HasRoom, IsStuck, Reason}
+use Rattle.laws_waits.specs.Stuck.{awaits_on, HasRoom, IsStuck, Reason}
 use Rattle.laws_waits.specs.Stuck.Reason.{Barred, Beneath, Connecting, Ending, Holding, Lacking, Locking, Passing, Receiving, Resting, Sending, Sleeping}
 use Rattle.laws_waits.specs.Stuck.Reason.{Waiting, WaitingOut}
 use Rattle.laws_waits.proofs.Calm.{calm_touches_nobody_lem}
@@ -65,7 +65,7 @@ no_room w me runs side y into room has = by (same_path y me) refl
     by true e =
         let here : thread_at w y ≡ Some runs.thread = ap (thread_at w) (same_path_eq y me e) ∙ runs.there in
         none_some (into, room)
-        (sym (ap (and_then (λ (u : Thread). receiving (other_side side) u.mode)) here ∙ ap (receiving (other_side side)) runs.mode) ∙ has.0)
+        (sym (ap (and_then (λ (u : Thread). awaits_on (other_side side) u.mode)) here ∙ ap (awaits_on (other_side side)) runs.mode) ∙ has.0)
 
 -- so no reason of another looks at its words
 apart_by : (w : World) (me x : Path) → Runs w me → same_path x me ≡ false → (r : Reason) → IsStuck w x r → is_barred r ≡ false → IsApart me x r
@@ -76,8 +76,8 @@ apart_by w me x runs other (Beneath space) stuck named = other
 apart_by w me x runs other (Locking m) stuck named = other
 apart_by w me x runs other (Sleeping c m) stuck named = other
 apart_by w me x runs other (Connecting h port) stuck named = other
-apart_by w me x runs other (Receiving side into room far client) stuck named = other
-apart_by w me x runs other (Passing side client end) stuck named = other
+apart_by w me x runs other (Receiving side into room reference far client) stuck named = other
+apart_by w me x runs other (Passing side reference client end) stuck named = other
 apart_by w me x runs other (Sending side address count far client end) stuck named = other
 apart_by w me x runs other (Ending y space) stuck named = other
 apart_by w me x runs other (Holding s y space) stuck named = other

@@ -86,7 +86,10 @@ fn takes_client(caller: Caller, client: Who, slot: u8) -> Verdict
     };
     let plan = Plan::Two(
         Deed::Links { client, talk },
-        Deed::Finishes { thread: client },
+        Deed::Finishes {
+            thread: client,
+            came: None,
+        },
     );
     Verdict::Done(plan, Answers::Two(u64::from(slot), 0))
 }

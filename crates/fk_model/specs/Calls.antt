@@ -6,56 +6,14 @@
 use Rattle.std.specs.Prelude.{ℕ, ◌+◌, true, ◌==◌, nat_lt, ◌≡◌, List, [], ◌∷◌, length, Option, Some, None, if◌then◌else◌, slice_index, slice_set}
 use Rattle.std.specs.List.{flat_map}
 use Rattle.fk_model.specs.declared.stage.Stage.{Stage}
+use Rattle.fk_model.specs.StageFacts.{facts_of}
 use Rattle.fk_model.specs.declared.stage.Todo.{Todo}
 use Rattle.fk_model.specs.declared.stage.Todo.TheVariants.{One, Two, Three, Four}
-use Rattle.fk_model.specs.declared.stage.Stage.TheVariants.{Create, Destroy, Rename, Search, Point, Clear, Locate, CountIn, GetState, SetState, GetPtr, SetPtr, SpaceHold, SpaceRelease, ThreadStop, ThreadGo, PageGive, PageTake, PageRead, PageNext, MutexLock, MutexTrylock, MutexUnlock, CondWait, CondAsleep, CondSignal, CondBroadcast, Connect, ClientReceive, ClientSend, ClientOver, Disconnect, Wait, ServerReceive, ServerSend, ServerOver, ServerEnd, FaultDone, LinkSet, LinkPark, FaultSet, FaultPark, HoldSet, SpaceMakeHeld}
+use Rattle.fk_model.specs.declared.stage.Stage.TheVariants.{Create, Destroy, Rename, Search, Point, Clear, Locate, CountIn, GetState, SetState, GetPtr, SetPtr, SpaceHold, SpaceRelease, ThreadStop, ThreadGo, PageGive, PageTake, PageRead, PageNext, MutexLock, MutexTrylock, MutexUnlock, CondWait, CondAsleep, CondSignal, CondBroadcast, Connect, ClientReceive, ClientSend, ClientOver, Disconnect, ClientOverRef, ClientReceiveRef, Wait, ServerReceive, ServerSend, ServerOver, ServerEnd, FaultDone, ServerOverRef, ServerReceiveRef, LinkSet, LinkPark, FaultSet, FaultPark, HoldSet, SpaceMakeHeld}
 
 -- the code of the call that has this stage alone
 abbrev pub code_of_stage : Stage → ℕ
-code_of_stage (Create s x kind) = 1
-code_of_stage (Destroy s x) = 2
-code_of_stage (Rename s x y) = 3
-code_of_stage (Search s from) = 4
-code_of_stage (Point s x s2 x2) = 5
-code_of_stage (Clear s x) = 6
-code_of_stage (Locate reference s) = 7
-code_of_stage (CountIn base s x) = 8
-code_of_stage (GetState s x address) = 9
-code_of_stage (SetState s x address) = 10
-code_of_stage (GetPtr s x field reference) = 11
-code_of_stage (SetPtr s x field reference) = 12
-code_of_stage (SpaceHold s x) = 13
-code_of_stage (SpaceRelease s x) = 14
-code_of_stage (ThreadStop h) = 15
-code_of_stage (ThreadGo h) = 16
-code_of_stage (PageGive s page address) = 17
-code_of_stage (PageTake s page address) = 18
-code_of_stage (PageRead s page address) = 19
-code_of_stage (PageNext s from) = 20
-code_of_stage (MutexLock m) = 21
-code_of_stage (MutexTrylock m) = 22
-code_of_stage (MutexUnlock m) = 23
-code_of_stage (CondWait c m) = 24
-code_of_stage (CondAsleep c m) = 25
-code_of_stage (CondSignal c) = 26
-code_of_stage (CondBroadcast c) = 27
-code_of_stage (Connect h) = 32
-code_of_stage (ClientReceive into room) = 36
-code_of_stage (ClientSend address count) = 37
-code_of_stage ClientOver = 38
-code_of_stage Disconnect = 39
-code_of_stage (Wait set) = 48
-code_of_stage (ServerReceive into room) = 50
-code_of_stage (ServerSend address count) = 51
-code_of_stage ServerOver = 52
-code_of_stage ServerEnd = 55
-code_of_stage FaultDone = 56
-code_of_stage (LinkSet s x port server) = 60
-code_of_stage (LinkPark s x port) = 61
-code_of_stage (FaultSet s x port taker) = 62
-code_of_stage (FaultPark s x port taken) = 63
-code_of_stage (HoldSet s x thread) = 64
-code_of_stage (SpaceMakeHeld x) = 65
+code_of_stage stage = (facts_of stage).code
 
 -- the code of a list of stages; 0 where no call has these stages
 unfoldable pub code_of : List Stage → ℕ
@@ -111,12 +69,16 @@ arguments (ClientReceive into room) = from_register 4 (into ∷ room ∷ [])
 arguments (ClientSend address count) = from_register 2 (address ∷ count ∷ [])
 arguments ClientOver = []
 arguments Disconnect = []
+arguments (ClientOverRef reference) = from_register 1 (reference ∷ [])
+arguments (ClientReceiveRef into room reference) = from_register 4 (into ∷ room ∷ reference ∷ [])
 arguments (Wait set) = from_register 1 (set ∷ [])
 arguments (ServerReceive into room) = from_register 4 (into ∷ room ∷ [])
 arguments (ServerSend address count) = from_register 2 (address ∷ count ∷ [])
 arguments ServerOver = []
 arguments ServerEnd = []
 arguments FaultDone = []
+arguments (ServerOverRef reference) = from_register 1 (reference ∷ [])
+arguments (ServerReceiveRef into room reference) = from_register 4 (into ∷ room ∷ reference ∷ [])
 arguments (LinkSet s x port server) = from_register 1 (s ∷ x ∷ port ∷ server ∷ [])
 arguments (LinkPark s x port) = from_register 1 (s ∷ x ∷ port ∷ [])
 arguments (FaultSet s x port taker) = from_register 1 (s ∷ x ∷ port ∷ taker ∷ [])
@@ -172,6 +134,9 @@ r4 g = slice_index g 4
 abbrev pub r5 : List ℕ → ℕ
 r5 g = slice_index g 5
 
+abbrev pub r6 : List ℕ → ℕ
+r6 g = slice_index g 6
+
 -- every call
 abbrev pub calls : List Call
 calls =
@@ -210,6 +175,8 @@ calls =
     call 37 (λ g. ClientSend (r2 g) (r3 g) ∷ []) ∷
     call 38 (λ g. ClientOver ∷ []) ∷
     call 39 (λ g. Disconnect ∷ []) ∷
+    call 40 (λ g. ClientOverRef (r1 g) ∷ []) ∷
+    call 41 (λ g. ClientReceiveRef (r4 g) (r5 g) (r6 g) ∷ []) ∷
     call 48 (λ g. Wait (r1 g) ∷ []) ∷
     call 49 (λ g. Wait (r1 g) ∷ ServerReceive (r4 g) (r5 g) ∷ []) ∷
     call 50 (λ g. ServerReceive (r4 g) (r5 g) ∷ []) ∷
@@ -219,6 +186,8 @@ calls =
     call 54 (λ g. ServerOver ∷ ServerReceive (r4 g) (r5 g) ∷ []) ∷
     call 55 (λ g. ServerEnd ∷ []) ∷
     call 56 (λ g. FaultDone ∷ []) ∷
+    call 57 (λ g. ServerOverRef (r1 g) ∷ []) ∷
+    call 58 (λ g. ServerReceiveRef (r4 g) (r5 g) (r6 g) ∷ []) ∷
     call 60 (λ g. LinkSet (r1 g) (r2 g) (r3 g) (r4 g) ∷ []) ∷
     call 61 (λ g. LinkPark (r1 g) (r2 g) (r3 g) ∷ []) ∷
     call 62 (λ g. FaultSet (r1 g) (r2 g) (r3 g) (r4 g) ∷ []) ∷

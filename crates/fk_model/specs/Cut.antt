@@ -115,6 +115,14 @@ is_far Outside = false
 abbrev pub has_far : Option Body → Bool
 has_far body = holds (λ b. list_any is_far (pointers b)) body
 
+abbrev pub is_outer : Ptr → Bool
+is_outer Outside = true
+is_outer Far = false
+is_outer Null = false
+is_outer Dead = false
+is_outer (At x) = false
+is_outer (Out i) = false
+
 -- a peer that is a thread inside
 abbrev pub is_inner_peer : Path → Peer → Bool
 is_inner_peer root (Server (At x)) = is_within root x

@@ -35,3 +35,4 @@ pub mod Numbers
 pub mod Rebind
 pub mod Names
 pub mod Endings
+pub mod StageFacts

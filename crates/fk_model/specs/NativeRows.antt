@@ -10,15 +10,15 @@ use Rattle.fk_model.specs.Objects.Peer.{Service}
 use Rattle.fk_model.specs.World.{World}
 use Rattle.fk_model.specs.World.Change.{Alter, PutPage}
 use Rattle.fk_model.specs.World.Edit.{Shift, Finish, End, SetTalk, CountMoved, PassTurn, SetPeer}
-use Rattle.fk_model.specs.Searches.{talk_at, client_at}
+use Rattle.fk_model.specs.Searches.{talk_at, thread_at, client_at}
 use Rattle.fk_model.specs.Reach.{words_at}
 use Rattle.fk_model.specs.Holds.{is_free, is_unheld}
 use Rattle.fk_model.specs.Outcomes.{Outcome, when}
 use Rattle.fk_model.specs.Outcomes.Outcome.{Waits, Goes}
 use Rattle.fk_model.specs.Outcomes.Said.{Taken, Given, Full, Passed}
 use Rattle.fk_model.specs.Readers.{their_page}
-use Rattle.fk_model.specs.Talks.{receiving, same_side}
-use Rattle.fk_model.specs.TransferRows.{overwritten, moved_words}
+use Rattle.fk_model.specs.Talks.{receiving, awaited, same_side}
+use Rattle.fk_model.specs.TransferRows.{overwritten, moved_words, takes_turn}
 use Rattle.fk_model.specs.LinkRows.{connecting_to, is_parked, new_talk}
 
 -- the server of a port is free
@@ -59,7 +59,7 @@ accept_row w port pick = when (is_serving_port w port && is_none (client_at w po
 
 abbrev pub if_receiving : World → Path → (Path → ℕ × ℕ → Outcome) → Thread → Outcome
 if_receiving w x go t =
-    when (is_free w (parent x) t && holds (λ (talk : Talk). same_side talk.turn turns.Server) t.talk) (received (receiving turns.Client t.mode))
+    when (is_free w (parent x) t && holds (λ (talk : Talk). same_side talk.turn turns.Server) t.talk) (received (receiving w (parent x) turns.Client t.mode))
   where
     received : Option (ℕ × ℕ) → Outcome
     received None = Waits
@@ -98,10 +98,14 @@ unfoldable pub give_row : World → Path → List ℕ → Outcome
 give_row w port [] = when (is_serving_port w port && has_turn w port) (Goes [] (Given (At port) 0))
 give_row w port (word ∷ words) = with_client w port (gives_to w port (word ∷ words))
 
--- ---- over: the client's Receive is done, and the client has the turn
+-- ---- over: the client's Receive is done, and the client has the turn. A native server gives no pointer
 
-abbrev pub passes_client : Path → Path → ℕ × ℕ → Outcome
-passes_client port x receive = Goes (Alter x (PassTurn turns.Client) ∷ Alter x (Finish []) ∷ []) (Passed (At port))
+-- the slot of the reference that the thread at x is to fill
+abbrev pub awaited_at : World → Path → Option ℕ
+awaited_at w x = and_then (λ (t : Thread). awaited t.mode) (thread_at w x)
+
+abbrev pub passes_client : World → Path → Path → ℕ × ℕ → Outcome
+passes_client w port x receive = Goes (Alter x (PassTurn turns.Client) ∷ takes_turn x None (awaited_at w x)) (Passed (At port))
 
 unfoldable pub over_row : World → Path → Outcome
-over_row w port = with_client w port (passes_client port)
+over_row w port = with_client w port (passes_client w port)

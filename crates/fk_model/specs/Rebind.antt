@@ -5,7 +5,9 @@ use Rattle.fk_model.specs.Places.Ptr.{Null, Dead, At, Out, Outside, Far}
 use Rattle.fk_model.specs.Objects.{Peer}
 use Rattle.fk_model.specs.Objects.Peer.{Server, Service, Parked}
 use Rattle.fk_model.specs.World.{World, Sweep, through}
-use Rattle.fk_model.specs.Further.{Told}
+use Rattle.fk_model.specs.Further.{Told, Touch, Onward}
+use Rattle.fk_model.specs.Further.Touch.{HandedWith}
+use Rattle.fk_model.specs.Further.Onward.{Own, ByOthers}
 use Rattle.fk_model.specs.Further.Told.{ToldWords, ToldOver, ToldEnd, ToldFault}
 
 -- slot i of the nester becomes slot `bind i`
@@ -39,9 +41,18 @@ rebound bind c = record {
   next = c.next;
 }
 
--- what is told names the port by its new name. A move names no port
+-- what is told names the port by its new name, and so does what goes with it
 abbrev pub rebound_told : (ℕ → ℕ) → Told → Told
 rebound_told bind (ToldWords thread port words) = ToldWords thread (rebound_ptr bind port) words
-rebound_told bind (ToldOver thread port) = ToldOver thread (rebound_ptr bind port)
+rebound_told bind (ToldOver thread port carried) = ToldOver thread (rebound_ptr bind port) (option_map (rebound_ptr bind) carried)
 rebound_told bind (ToldEnd thread port) = ToldEnd thread (rebound_ptr bind port)
 rebound_told bind (ToldFault thread port page write) = ToldFault thread (rebound_ptr bind port) page write
+
+-- a move names a port only where a pointer is handed over
+abbrev pub touch_by : (Ptr → Ptr) → Touch → Touch
+touch_by see (HandedWith thread pointer) = HandedWith thread (see pointer)
+touch_by see other = other
+
+abbrev pub rebound_move : (ℕ → ℕ) → Onward → Onward
+rebound_move bind (Own mover pick taken) = Own mover pick taken
+rebound_move bind (ByOthers touch) = ByOthers (touch_by (rebound_ptr bind) touch)

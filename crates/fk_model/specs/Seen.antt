@@ -6,12 +6,12 @@ use Rattle.std.specs.Option.{option_map_or}
 use Rattle.fk_model.specs.declared.moves.Ask.{Ask}
 use Rattle.fk_model.specs.declared.moves.Ask.TheVariants as asks
 use Rattle.fk_model.specs.declared.stage.Stage.{Stage}
-use Rattle.fk_model.specs.declared.stage.Stage.TheVariants.{Wait, ServerSend, ServerOver, ServerEnd, PageGive, PageTake, ClientSend}
+use Rattle.fk_model.specs.declared.stage.Stage.TheVariants.{Wait, ServerSend, ServerOver, ServerEnd, ServerOverRef, PageGive, PageTake, ClientSend}
 use Rattle.fk_model.specs.declared.stage.Stage.TheVariants as stages
 use Rattle.fk_model.specs.declared.thread.Turn.TheVariants as turns
-use Rattle.fk_model.specs.Places.{Path, same_path, strip, is_within, parent, Ptr}
+use Rattle.fk_model.specs.Places.{Path, same_path, strip, is_within, parent, slot_of, Ptr}
 use Rattle.fk_model.specs.Places.Ptr.{Null, Dead, At, Out, Outside, Far}
-use Rattle.fk_model.specs.Objects.{Talk, Fault, Thread, and_then, holds}
+use Rattle.fk_model.specs.Objects.{Talk, Fault, Thread, reference_of, and_then, holds}
 use Rattle.fk_model.specs.World.{World, Change}
 use Rattle.fk_model.specs.World.Change.{Alter, PutPage, DropPage}
 use Rattle.fk_model.specs.World.Edit.{End, SetTalk, CountMoved, PassTurn, SetFault}
@@ -26,9 +26,10 @@ use Rattle.fk_model.specs.LinkRows.{Candidate, candidate, user_at}
 use Rattle.fk_model.specs.LinkRows.Candidate.{Faulting, Connecting, Resuming}
 use Rattle.fk_model.specs.Moves.{outcome, porter_at}
 use Rattle.fk_model.specs.Runs.{Event, after}
-use Rattle.fk_model.specs.Cut.{cut, is_inner_peer}
+use Rattle.fk_model.specs.Cut.{cut, cut_ptr, ports_of, is_far, is_inner_peer}
+use Rattle.fk_model.specs.NativeRows.{awaited_at}
 use Rattle.fk_model.specs.Further.{Touch, Onward}
-use Rattle.fk_model.specs.Further.Touch.{Taken, Given, Filled, Handed, Left, FaultTaken, FaultDone, PageGiven, PageTaken}
+use Rattle.fk_model.specs.Further.Touch.{Taken, Given, Filled, Handed, HandedWith, Left, FaultTaken, FaultDone, PageGiven, PageTaken}
 use Rattle.fk_model.specs.Further.Onward.{Own, ByOthers}
 
 pub data Seen : Type 0 where
@@ -121,7 +122,7 @@ own_of w root x q pick changes =
 -- k words from the receiver's address on, out of the page that was put
 abbrev pub received_words : World → Path → ℕ → List ℕ → List ℕ
 received_words w x k page =
-    option_map_or (λ (receive : ℕ × ℕ). block k receive.0 page) (and_then (λ (t : Thread). receiving turns.Client t.mode) (thread_at w x)) []
+    option_map_or (λ (receive : ℕ × ℕ). block k receive.0 page) (and_then (λ (t : Thread). receiving w (parent x) turns.Client t.mode) (thread_at w x)) []
 
 abbrev pub fills : Path → List Change → Bool
 fills x (Alter y (End status answers) ∷ []) = same_path y x
@@ -146,6 +147,22 @@ taken_as q (Some (Faulting slot fault)) = if is_none fault.taker then Some (Faul
 taken_as q (Some (Resuming slot talk)) = None
 taken_as q None = None
 
+-- a pointer, as the subtree names it
+abbrev pub named : World → Path → Ptr → Ptr
+named w root p = cut_ptr (ports_of w (parent root) (slot_of root)) (parent root) (slot_of root) p
+
+-- the turn is handed to a thread, with a pointer where it awaits one. One that leads elsewhere than inside or to a port of the nester is no touch
+abbrev pub handed_as : Path → Option ℕ → Ptr → Option Touch
+handed_as q None p = Some (Handed q)
+handed_as q (Some k) p = if is_far p then None else Some (HandedWith q p)
+
+abbrev pub handed_by : World → Path → Option Ptr → Path → Path → Option Touch
+handed_by w root None x q = Some (Handed q)
+handed_by w root (Some p) x q = handed_as q (awaited_at w x) (named w root p)
+
+abbrev pub over_touch : World → Path → Caller → List Change → Option Ptr → Option Touch
+over_touch w root c changes carried = if passes_turn changes then on_inner root (handed_by w root carried) (client_of w (path_of c)) else None
+
 abbrev pub page_given : Path → ℕ → Option (List ℕ) → Option Touch
 page_given q page None = None
 page_given q page (Some words) = Some (PageGiven q page words)
@@ -157,7 +174,8 @@ on_place root touch (Err status) = None
 abbrev pub stage_touch : World → Path → Caller → Option Path → List Change → Stage → Option Touch
 stage_touch w root c pick changes (Wait set) = on_inner root (λ x q. taken_as q (candidate w c.space set x)) pick
 stage_touch w root c pick changes (ServerSend address count) = on_inner root (given_of w changes) (client_of w (path_of c))
-stage_touch w root c pick changes ServerOver = if passes_turn changes then on_inner root (λ x q. Some (Handed q)) (client_of w (path_of c)) else None
+stage_touch w root c pick changes ServerOver = over_touch w root c changes None
+stage_touch w root c pick changes (ServerOverRef reference) = over_touch w root c changes (and_then reference_of (w.body (reference ∷ c.space)))
 stage_touch w root c pick changes ServerEnd = if ends_talk changes then on_inner root (λ x q. Some (Left q)) (client_of w (path_of c)) else None
 stage_touch w root c pick changes stages.FaultDone = on_inner root (λ x q. Some (FaultDone q)) (faulter_of w (path_of c))
 stage_touch w root c pick changes (PageGive s page address) = on_place root (λ q. page_given q page (page_put changes)) (space_argument w c s)

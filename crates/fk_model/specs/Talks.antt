@@ -2,14 +2,16 @@
 --
 -- A thread has at most one talk as a client and serves at most one. So the side on which a stage acts says which talk
 -- it is of.
-use Rattle.std.specs.Prelude.{ℕ, Bool, true, false, List, [], ◌∷◌, Option, Some, None, if◌then◌else◌}
+use Rattle.std.specs.Prelude.{ℕ, Bool, true, false, ◌&&◌, nat_le, is_some, List, [], ◌∷◌, Option, Some, None, if◌then◌else◌}
+use Rattle.fk_model.specs.declared.limits.TheConstants.{LAST_USER_SLOT}
 use Rattle.fk_model.specs.declared.stage.Stage.{Stage}
-use Rattle.fk_model.specs.declared.stage.Stage.TheVariants.{Create, Destroy, Rename, Search, Point, Clear, Locate, CountIn, GetState, SetState, GetPtr, SetPtr, SpaceHold, SpaceRelease, ThreadStop, ThreadGo, PageGive, PageTake, PageRead, PageNext, MutexLock, MutexTrylock, MutexUnlock, CondWait, CondAsleep, CondSignal, CondBroadcast, Connect, ClientReceive, ClientSend, ClientOver, Disconnect, Wait, ServerReceive, ServerSend, ServerOver, ServerEnd, FaultDone, LinkSet, LinkPark, FaultSet, FaultPark, HoldSet, SpaceMakeHeld}
+use Rattle.fk_model.specs.declared.stage.Stage.TheVariants.{ClientReceive, ServerReceive, ClientReceiveRef, ServerReceiveRef}
+use Rattle.fk_model.specs.StageFacts.{facts_of}
 use Rattle.fk_model.specs.declared.thread.Turn.{Turn}
 use Rattle.fk_model.specs.declared.thread.Turn.TheVariants as turns
 use Rattle.fk_model.specs.Places.{Path, parent, Ptr}
 use Rattle.fk_model.specs.Places.Ptr.{Null, Dead, At, Out, Outside, Far}
-use Rattle.fk_model.specs.Objects.{Mode, Peer, Talk, Thread, thread_of, and_then, holds}
+use Rattle.fk_model.specs.Objects.{Mode, Peer, Talk, Thread, thread_of, reference_of, and_then, holds}
 use Rattle.fk_model.specs.Objects.Mode.{Calling}
 use Rattle.fk_model.specs.Objects.Peer.{Server, Service, Parked}
 use Rattle.fk_model.specs.World.{World}
@@ -48,64 +50,43 @@ abbrev pub first_stage : Mode → Option Stage
 first_stage (Calling (stage ∷ todo) rest) = Some stage
 first_stage other = None
 
--- the address and the room of a Receive on this side
+-- the address and the room of a Receive or a ReceiveRef on this side
 abbrev pub receive_on : Turn → Stage → Option (ℕ × ℕ)
 receive_on turns.Client (ClientReceive into room) = Some (into, room)
 receive_on turns.Server (ServerReceive into room) = Some (into, room)
+receive_on turns.Client (ClientReceiveRef into room reference) = Some (into, room)
+receive_on turns.Server (ServerReceiveRef into room reference) = Some (into, room)
 receive_on side other = None
 
--- the side of a talk on which a stage sends, hands over or receives, if it does
+-- the slot of the reference that is to take a pointer, of a ReceiveRef
+abbrev pub reference_awaited : Stage → Option ℕ
+reference_awaited (ClientReceiveRef into room reference) = Some reference
+reference_awaited (ServerReceiveRef into room reference) = Some reference
+reference_awaited other = None
+
+-- the side of a talk on which a stage sends, hands over or receives, with a reference or without, if it does
 abbrev pub side_of : Stage → Option Turn
-side_of (Create s x kind) = None
-side_of (Destroy s x) = None
-side_of (Rename s x y) = None
-side_of (Search s from) = None
-side_of (Point s x s2 x2) = None
-side_of (Clear s x) = None
-side_of (Locate reference s) = None
-side_of (CountIn base s x) = None
-side_of (GetState s x address) = None
-side_of (SetState s x address) = None
-side_of (GetPtr s x field reference) = None
-side_of (SetPtr s x field reference) = None
-side_of (SpaceHold s x) = None
-side_of (SpaceRelease s x) = None
-side_of (ThreadStop h) = None
-side_of (ThreadGo h) = None
-side_of (PageGive s page address) = None
-side_of (PageTake s page address) = None
-side_of (PageRead s page address) = None
-side_of (PageNext s from) = None
-side_of (MutexLock m) = None
-side_of (MutexTrylock m) = None
-side_of (MutexUnlock m) = None
-side_of (CondWait c m) = None
-side_of (CondAsleep c m) = None
-side_of (CondSignal c) = None
-side_of (CondBroadcast c) = None
-side_of (Connect h) = None
-side_of (ClientReceive into room) = Some turns.Client
-side_of (ClientSend address count) = Some turns.Client
-side_of ClientOver = Some turns.Client
-side_of Disconnect = None
-side_of (Wait set) = None
-side_of (ServerReceive into room) = Some turns.Server
-side_of (ServerSend address count) = Some turns.Server
-side_of ServerOver = Some turns.Server
-side_of ServerEnd = None
-side_of FaultDone = None
-side_of (LinkSet s x port server) = None
-side_of (LinkPark s x port) = None
-side_of (FaultSet s x port taker) = None
-side_of (FaultPark s x port taken) = None
-side_of (HoldSet s x thread) = None
-side_of (SpaceMakeHeld x) = None
+side_of stage = (facts_of stage).side
 
 abbrev pub talks_on : Turn → Stage → Bool
 talks_on side stage = holds (same_side side) (side_of stage)
 
-abbrev pub receiving : Turn → Mode → Option (ℕ × ℕ)
-receiving side mode = and_then (receive_on side) (first_stage mode)
+-- a user's slot of a space holds a reference
+abbrev pub is_reference_in : World → Path → ℕ → Bool
+is_reference_in w space k = nat_le k LAST_USER_SLOT && holds (λ b. is_some (reference_of b)) (w.body (k ∷ space))
+
+-- the slot of the reference that a thread's stage is to fill
+abbrev pub awaited : Mode → Option ℕ
+awaited mode = and_then reference_awaited (first_stage mode)
+
+-- a thread in this space isn't refused for its handle, where it is at a ReceiveRef
+abbrev pub is_handled : World → Path → Option ℕ → Bool
+is_handled w space None = true
+is_handled w space (Some k) = is_reference_in w space k
+
+-- the address and the room of a thread in a space, where it is at a Receive on this side, or at a ReceiveRef that isn't refused for its handle
+abbrev pub receiving : World → Path → Turn → Mode → Option (ℕ × ℕ)
+receiving w space side mode = if is_handled w space (awaited mode) then and_then (receive_on side) (first_stage mode) else None
 
 abbrev pub is_talking : Turn → Mode → Bool
 is_talking side mode = holds (talks_on side) (first_stage mode)
@@ -132,7 +113,7 @@ abbrev pub if_talking : Turn → Option (Path × Thread) → List Path
 if_talking side None = []
 if_talking side (Some e) = if is_talking side e.1.mode then e.0 ∷ [] else []
 
--- a thread whose call ends with a talk: it is at a Send, an Over or a Receive on this side of it
+-- a thread whose call ends with a talk: it is at a Send, an Over or a Receive on this side of it, with a reference or without
 abbrev pub talking_end : World → Turn → Ptr → List Path
 talking_end w side p = if_talking side (thread_led_to w p)
 

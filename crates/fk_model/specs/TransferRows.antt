@@ -1,24 +1,24 @@
--- Messages: Send, Receive and Over, by either side of a talk.
+-- Messages: Send, Receive and Over, by either side of a talk, and with a reference.
 --
 -- A Send moves a block of words from one page to one page, at most 64, and advances both sides. So a message of any
 -- length is sent block by block, and each side's registers say at any time what is left.
-use Rattle.std.specs.Prelude.{ℕ, ◌+◌, ◌-◌, ◌%◌, min, true, false, ◌&&◌, ◌==◌, is_some, List, [], ◌∷◌, ◌++◌, take, drop, length, Option, Some, None, Result, Ok, Err, if◌then◌else◌}
+use Rattle.std.specs.Prelude.{ℕ, ◌+◌, ◌-◌, ◌%◌, min, Bool, true, false, not, ◌&&◌, ◌==◌, is_some, List, [], ◌∷◌, ◌++◌, take, drop, length, Option, Some, None, Result, Ok, Err, if◌then◌else◌}
 use Rattle.fk_model.specs.declared.limits.TheConstants.{PAGE_WORDS, BLOCK_WORDS}
 use Rattle.fk_model.specs.declared.statuses.status.TheConstants.{NOTLINKED, WRONGTURN, FULL}
 use Rattle.fk_model.specs.declared.thread.Turn.{Turn}
 use Rattle.fk_model.specs.Places.{Path, parent, Ptr}
-use Rattle.fk_model.specs.Objects.{Peer, Thread}
+use Rattle.fk_model.specs.Objects.{Peer, Thread, reference_of, flag_of}
 use Rattle.fk_model.specs.Objects.Peer.{Server, Service, Parked}
 use Rattle.fk_model.specs.World.{World, Change}
 use Rattle.fk_model.specs.World.Change.{Alter, PutPage}
-use Rattle.fk_model.specs.World.Edit.{Shift, Finish, End, CountMoved, PassTurn}
+use Rattle.fk_model.specs.World.Edit.{SetPointer, Shift, Finish, End, CountMoved, PassTurn}
 use Rattle.fk_model.specs.Reach.{words_at}
-use Rattle.fk_model.specs.Holds.{is_free}
+use Rattle.fk_model.specs.Holds.{is_free, leads_to_frozen}
 use Rattle.fk_model.specs.Outcomes.{Said, Outcome, ◌>>=◌, when, Caller, path_of, done, telling}
 use Rattle.fk_model.specs.Outcomes.Outcome.{Waits, Goes}
 use Rattle.fk_model.specs.Outcomes.Said.{Nothing, Words, Passed}
-use Rattle.fk_model.specs.Readers.{own_page, their_page}
-use Rattle.fk_model.specs.Talks.{Line, line, other_side, same_side, receiving, thread_led_to, is_service_free}
+use Rattle.fk_model.specs.Readers.{object_in, own_page, their_page}
+use Rattle.fk_model.specs.Talks.{Line, line, other_side, same_side, receiving, awaited, thread_led_to, is_service_free}
 
 -- ---- blocks of words
 
@@ -74,7 +74,7 @@ sends_into w c client y address count page (Some receive) =
 abbrev pub sends_to_thread : World → Caller → Turn → Path → ℕ → ℕ → List ℕ → Option (Path × Thread) → Outcome
 sends_to_thread w c side client address count page None = Waits
 sends_to_thread w c side client address count page (Some e) =
-    when (is_free w (parent e.0) e.1) (sends_into w c client e.0 address count page (receiving (other_side side) e.1.mode))
+    when (is_free w (parent e.0) e.1) (sends_into w c client e.0 address count page (receiving w (parent e.0) (other_side side) e.1.mode))
 
 -- a native server has room for 64 words at each of its client's turns, at a page's begin
 abbrev pub sends_to_service : Caller → Path → Ptr → ℕ → ℕ → List ℕ → Outcome
@@ -104,20 +104,53 @@ awaits w c into room = if room == 0 then Waits else own_page w c into true (λ s
 unfoldable pub receive : World → Caller → Turn → ℕ → ℕ → Outcome
 receive w c side into room = in_turn w (path_of c) side (other_side side) >>= λ l. awaits w c into room
 
--- ---- Over. The other end's Receive is done, whatever its address, and has the turn
+-- with a reference that is to take a pointer, which is looked at first
+unfoldable pub receive_ref : World → Caller → Turn → ℕ → ℕ → ℕ → Outcome
+receive_ref w c side into room reference = object_in w c reference_of c.space reference >>= λ p. receive w c side into room
+
+-- ---- Over. The other end's Receive is done, whatever its address, and has the turn. A pointer may go with it
 
 abbrev pub passes : Caller → Turn → Path → List Change → Outcome
 passes c side client changes = done c (changes ++ Alter client (PassTurn (other_side side)) ∷ []) []
 
-abbrev pub passes_to_thread : World → Caller → Turn → Path → Option (Path × Thread) → Outcome
-passes_to_thread w c side client None = Waits
-passes_to_thread w c side client (Some e) =
-    when (is_free w (parent e.0) e.1 && is_some (receiving (other_side side) e.1.mode)) (passes c side client (Alter e.0 (Finish []) ∷ []))
+-- a ReceiveRef answers 1 with a pointer, 0 without
+abbrev pub taken_answers : Option ℕ → Option Ptr → List ℕ
+taken_answers None carried = []
+taken_answers (Some k) carried = flag_of (is_some carried) ∷ []
 
-abbrev pub passes_to : World → Caller → Turn → Line → Peer → Outcome
-passes_to w c side l (Server thread) = passes_to_thread w c side l.client (thread_led_to w thread)
-passes_to w c side l Service = when (is_service_free w l.talk.port) (telling (Passed l.talk.port) (passes c side l.client []))
-passes_to w c side l Parked = Waits
+-- the reference that awaits a pointer takes it
+abbrev pub fills_in : Path → Option Ptr → Option ℕ → List Change
+fills_in space None to = []
+fills_in space (Some p) None = []
+fills_in space (Some p) (Some k) = Alter (k ∷ space) (SetPointer p) ∷ []
 
-unfoldable pub over : World → Caller → Turn → Outcome
-over w c side = in_turn w (path_of c) side side >>= λ l. passes_to w c side l l.other
+-- the receive of a thread at y is done
+abbrev pub takes_turn : Path → Option Ptr → Option ℕ → List Change
+takes_turn y carried to = fills_in (parent y) carried to ++ Alter y (Finish (taken_answers to carried)) ∷ []
+
+abbrev pub passes_to_thread : World → Caller → Turn → Path → Option Ptr → Option (Path × Thread) → Outcome
+passes_to_thread w c side client carried None = Waits
+passes_to_thread w c side client carried (Some e) =
+    when (is_free w (parent e.0) e.1 && is_some (receiving w (parent e.0) (other_side side) e.1.mode))
+    (passes c side client (takes_turn e.0 carried (awaited e.1.mode)))
+
+-- a native server drops the pointer
+abbrev pub passes_to : World → Caller → Turn → Line → Option Ptr → Peer → Outcome
+passes_to w c side l carried (Server thread) = passes_to_thread w c side l.client carried (thread_led_to w thread)
+passes_to w c side l carried Service = when (is_service_free w l.talk.port) (telling (Passed l.talk.port) (passes c side l.client []))
+passes_to w c side l carried Parked = Waits
+
+-- a pointer that leads to what is frozen for the caller isn't handed on, whoever the peer is
+abbrev pub may_carry : World → Path → Option Ptr → Bool
+may_carry w me None = true
+may_carry w me (Some p) = not (leads_to_frozen w me p)
+
+abbrev pub passes_on : World → Caller → Turn → Option Ptr → Line → Outcome
+passes_on w c side carried l = when (may_carry w (path_of c) carried) (passes_to w c side l carried l.other)
+
+unfoldable pub over : World → Caller → Turn → Option Ptr → Outcome
+over w c side carried = in_turn w (path_of c) side side >>= passes_on w c side carried
+
+-- with the pointer of a reference, which is looked at first
+unfoldable pub over_ref : World → Caller → Turn → ℕ → Outcome
+over_ref w c side reference = object_in w c reference_of c.space reference >>= λ p. over w c side (Some p)

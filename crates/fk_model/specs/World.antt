@@ -6,7 +6,7 @@
 use Rattle.std.specs.Prelude.{ℕ, ◌+◌, ◌-◌, min, Bool, false, ◌&&◌, ◌||◌, ◌==◌, List, [], ◌∷◌, Option, Some, None, option_map, if◌then◌else◌, slice_set}
 use Rattle.fk_model.specs.declared.limits.TheConstants.{MOST_MOVED}
 use Rattle.fk_model.specs.declared.stage.Stage.{Stage}
-use Rattle.fk_model.specs.declared.stage.Stage.TheVariants.{ClientReceive, ClientSend, ServerReceive, ServerSend}
+use Rattle.fk_model.specs.declared.stage.Stage.TheVariants.{ClientReceive, ClientSend, ClientReceiveRef, ServerReceive, ServerSend, ServerReceiveRef}
 use Rattle.fk_model.specs.declared.statuses.status.TheConstants.{OK}
 use Rattle.fk_model.specs.declared.thread.Turn.{Turn}
 use Rattle.fk_model.specs.Places.{Path, same_path, parent, slot_of, Ptr, leads_to}
@@ -76,6 +76,8 @@ shifted k (ClientSend address count) = ClientSend (address + k) (count - k)
 shifted k (ClientReceive into room) = ClientReceive (into + k) (room - k)
 shifted k (ServerSend address count) = ServerSend (address + k) (count - k)
 shifted k (ServerReceive into room) = ServerReceive (into + k) (room - k)
+shifted k (ClientReceiveRef into room reference) = ClientReceiveRef (into + k) (room - k) reference
+shifted k (ServerReceiveRef into room reference) = ServerReceiveRef (into + k) (room - k) reference
 shifted k other = other
 
 abbrev pub shifted_in : ℕ → Mode → Mode

@@ -28,6 +28,10 @@ pub const CLIENT_OVER: u64 = 38;
 
 pub const DISCONNECT: u64 = 39;
 
+pub const CLIENT_OVER_REF: u64 = 40;
+
+pub const CLIENT_RECEIVE_REF: u64 = 41;
+
 pub const WAIT: u64 = 48;
 
 pub const WAIT_RECEIVE: u64 = 49;
@@ -43,5 +47,9 @@ pub const SERVER_SEND_OVER_RECEIVE: u64 = 53;
 pub const SERVER_OVER_RECEIVE: u64 = 54;
 
 pub const FAULT_DONE: u64 = 56;
+
+pub const SERVER_OVER_REF: u64 = 57;
+
+pub const SERVER_RECEIVE_REF: u64 = 58;
 /// The first call that only porters make, but for `COUNT_IN`.
 pub const LINK_SET: u64 = 60;

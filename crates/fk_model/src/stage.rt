@@ -131,6 +131,14 @@ pub enum Stage {
     },
     ClientOver,
     Disconnect,
+    ClientOverRef {
+        reference: u64,
+    },
+    ClientReceiveRef {
+        addr: u64,
+        room: u64,
+        reference: u64,
+    },
     Wait {
         set: u64,
     },
@@ -145,6 +153,14 @@ pub enum Stage {
     ServerOver,
     ServerEnd,
     FaultDone,
+    ServerOverRef {
+        reference: u64,
+    },
+    ServerReceiveRef {
+        addr: u64,
+        room: u64,
+        reference: u64,
+    },
     LinkSet {
         s: u64,
         x: u64,

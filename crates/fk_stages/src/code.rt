@@ -20,7 +20,7 @@ fn code_of_porters_stage(stage: &Stage) -> u64
     }
 }
 
-/// The code of a call of one stage of a talk or a fault: 32 to 56.
+/// The code of a call of one stage of a talk or a fault: 32 to 58.
 fn code_of_talks_stage(stage: &Stage) -> u64
     requires { 32 ≤ calls.code_of_stage stage.now }
     ensures { result ≡ calls.code_of_stage stage.now }
@@ -31,17 +31,21 @@ fn code_of_talks_stage(stage: &Stage) -> u64
         Stage::ClientSend { .. } => 37,
         Stage::ClientOver => 38,
         Stage::Disconnect => 39,
+        Stage::ClientOverRef { .. } => 40,
+        Stage::ClientReceiveRef { .. } => 41,
         Stage::Wait { .. } => 48,
         Stage::ServerReceive { .. } => 50,
         Stage::ServerSend { .. } => 51,
         Stage::ServerOver => 52,
         Stage::ServerEnd => 55,
         Stage::FaultDone => 56,
+        Stage::ServerOverRef { .. } => 57,
+        Stage::ServerReceiveRef { .. } => 58,
         other => code_of_porters_stage(other),
     }
 }
 
-/// The code of a call of one stage: 1 to 27, 32, 36 to 39, 48, 50 to 52, 55, 56, 60 to 65.
+/// The code of a call of one stage: 1 to 27, 32, 36 to 41, 48, 50 to 52, 55 to 58, 60 to 65.
 #[inline(always)]
 pub fn code_of_stage(stage: &Stage) -> u64
     ensures { result ≡ calls.code_of_stage stage.now }

@@ -81,10 +81,10 @@ fn named_thread_call(registers: &[u64; 16]) -> Option<Todo>
     Some(Todo::One(stage))
 }
 
-/// Those of a client's call: codes 32 to 39.
+/// Those of a client's call: codes 32 to 41.
 #[inline(always)]
 fn named_client_call(registers: &[u64; 16]) -> Option<Todo>
-    ensures { option_map stages_of result ≡ named_by (take 8 (drop 27 calls)) (slice_index registers.now 0) registers.now }
+    ensures { option_map stages_of result ≡ named_by (take 10 (drop 27 calls)) (slice_index registers.now 0) registers.now }
 {
     let connect = Stage::Connect { h: registers[1] };
     let send = Stage::ClientSend {
@@ -104,14 +104,22 @@ fn named_client_call(registers: &[u64; 16]) -> Option<Todo>
         37 => Some(Todo::One(send)),
         38 => Some(Todo::One(Stage::ClientOver)),
         39 => Some(Todo::One(Stage::Disconnect)),
+        40 => Some(Todo::One(Stage::ClientOverRef {
+            reference: registers[1],
+        })),
+        41 => Some(Todo::One(Stage::ClientReceiveRef {
+            addr: registers[4],
+            room: registers[5],
+            reference: registers[6],
+        })),
         _ => None,
     }
 }
 
-/// Those of a server's call: codes 48 to 56.
+/// Those of a server's call: codes 48 to 58.
 #[inline(always)]
 fn named_server_call(registers: &[u64; 16]) -> Option<Todo>
-    ensures { option_map stages_of result ≡ named_by (take 9 (drop 35 calls)) (slice_index registers.now 0) registers.now }
+    ensures { option_map stages_of result ≡ named_by (take 11 (drop 37 calls)) (slice_index registers.now 0) registers.now }
 {
     let wait = Stage::Wait { set: registers[1] };
     let send = Stage::ServerSend {
@@ -132,6 +140,14 @@ fn named_server_call(registers: &[u64; 16]) -> Option<Todo>
         54 => Some(Todo::Two(Stage::ServerOver, receive)),
         55 => Some(Todo::One(Stage::ServerEnd)),
         56 => Some(Todo::One(Stage::FaultDone)),
+        57 => Some(Todo::One(Stage::ServerOverRef {
+            reference: registers[1],
+        })),
+        58 => Some(Todo::One(Stage::ServerReceiveRef {
+            addr: registers[4],
+            room: registers[5],
+            reference: registers[6],
+        })),
         _ => None,
     }
 }
@@ -139,7 +155,7 @@ fn named_server_call(registers: &[u64; 16]) -> Option<Todo>
 /// Those of a porter's call: codes 60 to 65.
 #[inline(always)]
 fn named_porter_call(registers: &[u64; 16]) -> Option<Todo>
-    ensures { option_map stages_of result ≡ named_by (drop 44 calls) (slice_index registers.now 0) registers.now }
+    ensures { option_map stages_of result ≡ named_by (drop 48 calls) (slice_index registers.now 0) registers.now }
 {
     let (s, x, c, d) = (registers[1], registers[2], registers[3], registers[4]);
     let stage = match registers[0] {

@@ -49,7 +49,10 @@ fn write_talks_arguments(stage: &Stage, registers: &mut [u64; 16])
     ensures { registers.new ≡ calls.with_values (calls.arguments stage.now) registers.old }
 {
     match *stage {
-        Stage::Connect { h: a } | Stage::Wait { set: a } => registers[1] = a,
+        Stage::Connect { h: a }
+        | Stage::Wait { set: a }
+        | Stage::ClientOverRef { reference: a }
+        | Stage::ServerOverRef { reference: a } => registers[1] = a,
         Stage::ClientSend { addr, count } | Stage::ServerSend { addr, count } => {
             registers[2] = addr;
             registers[3] = count;
@@ -57,6 +60,20 @@ fn write_talks_arguments(stage: &Stage, registers: &mut [u64; 16])
         Stage::ClientReceive { addr, room } | Stage::ServerReceive { addr, room } => {
             registers[4] = addr;
             registers[5] = room;
+        }
+        Stage::ClientReceiveRef {
+            addr,
+            room,
+            reference,
+        }
+        | Stage::ServerReceiveRef {
+            addr,
+            room,
+            reference,
+        } => {
+            registers[4] = addr;
+            registers[5] = room;
+            registers[6] = reference;
         }
         Stage::ClientOver
         | Stage::Disconnect

@@ -2,7 +2,7 @@
 use Rattle.std.proofs.Common.{◌≡◌, ℕ, ◌+◌, ◌<◌, ◌≤◌, ◌^◌, Bool, true, false, cond, List, [], ◌∷◌, Option, Some, None, option_map, IfSome, Ok, ◌==◌, refl, sym, ap, subst, ◌∙◌, arith}
 use Rattle.std.proofs.lemmas.Bool.Decides.{nat_tests}
 use Rattle.fk_model.specs.declared.stage.Stage.{Stage}
-use Rattle.fk_model.specs.declared.stage.Stage.TheVariants.{ClientReceive, ServerReceive}
+use Rattle.fk_model.specs.declared.stage.Stage.TheVariants.{ClientReceive, ServerReceive, ClientReceiveRef, ServerReceiveRef}
 use Rattle.fk_model.specs.declared.thread.Turn.{Turn}
 use Rattle.fk_model.specs.declared.thread.Turn.TheVariants as turns
 use Rattle.fk_model.specs.Objects.{Mode, Thread, Body, thread_of, and_then}
@@ -10,13 +10,13 @@ use Rattle.fk_model.specs.Objects.Body.{Mutex, Cond, Mapping, Region, Port, Port
 use Rattle.fk_model.specs.Objects.Mode.{Running, Calling, Halted, Native}
 use Rattle.fk_model.specs.Objects.Peer.{Server}
 use Rattle.fk_model.specs.Outcomes.{Caller, Outcome, path_of}
-use Rattle.fk_model.specs.Places.{Path, same_path}
+use Rattle.fk_model.specs.Places.{Path, same_path, parent}
 use Rattle.fk_model.specs.Places.Ptr.{At}
 use Rattle.fk_model.specs.Reach.{reach_word, words_at}
 use Rattle.fk_model.specs.Reach.Reach.{Home}
 use Rattle.fk_model.specs.Searches.{thread_at}
 use Rattle.fk_model.specs.Talks as talks
-use Rattle.fk_model.specs.Talks.{other_side, receive_on, receiving}
+use Rattle.fk_model.specs.Talks.{other_side, receive_on, receiving, first_stage, awaited, is_handled}
 use Rattle.fk_model.specs.TransferRows.{in_turn, send, sends_into, sends_to_thread}
 use Rattle.fk_model.specs.World.{World, Edit, apply, edited}
 use Rattle.fk_model.specs.World.Change.{Alter, PutPage}
@@ -41,18 +41,31 @@ abbrev first_or : Option (ℕ × ℕ) → ℕ
 first_or None = 0
 first_or (Some p) = p.0
 
-receives_low : (side : Turn) (m : Mode) (into room : ℕ) → Some (into, room) ≡ receiving side m → address_of (todo_of_mode m) ≤ into
+-- at a Receive on this side, whatever its handle
+abbrev awaiting : Turn → Mode → Option (ℕ × ℕ)
+awaiting side m = and_then (receive_on side) (first_stage m)
+
+received : (w : World) (space : Path) (side : Turn) (m : Mode) (r : ℕ × ℕ) → Some r ≡ receiving w space side m → Some r ≡ awaiting side m
+received w space side m r h = by (is_handled w space (awaited m)) h
+  where
+    by : (b : Bool) → Some r ≡ cond b (awaiting side m) None → Some r ≡ awaiting side m
+    by true h = h
+    by false h = absurd (cc)
+
+receives_low : (side : Turn) (m : Mode) (into room : ℕ) → Some (into, room) ≡ awaiting side m → address_of (todo_of_mode m) ≤ into
 receives_low side (Running g) into room is = absurd (cc)
 receives_low side (Calling [] rest) into room is = absurd (cc)
 receives_low turns.Client (Calling (ClientReceive i r ∷ todo) rest) into room is = let same : into ≡ i = ap first_or is in omega arith
 receives_low turns.Server (Calling (ServerReceive i r ∷ todo) rest) into room is = let same : into ≡ i = ap first_or is in omega arith
+receives_low turns.Client (Calling (ClientReceiveRef i r reference ∷ todo) rest) into room is = let same : into ≡ i = ap first_or is in omega arith
+receives_low turns.Server (Calling (ServerReceiveRef i r reference ∷ todo) rest) into room is = let same : into ≡ i = ap first_or is in omega arith
 receives_low side (Calling (stage ∷ todo) rest) into room is = absurd (cc)
 receives_low side (Halted g code) into room is = absurd (cc)
 receives_low side (Native g) into room is = absurd (cc)
 
 -- nobody does both
 no_sender : (side : Turn) (m : Mode) (address count into room : ℕ) →
-    IsFirst (sending side address count) (todo_of_mode m) → Some (into, room) ≡ receiving (other_side side) m → ⊥
+    IsFirst (sending side address count) (todo_of_mode m) → Some (into, room) ≡ awaiting (other_side side) m → ⊥
 no_sender side (Running g) address count into room first is = absurd (cc)
 no_sender side (Calling [] rest) address count into room first is = absurd (cc)
 no_sender side (Calling (stage ∷ later) rest) address count into room first is = by side first is
@@ -64,7 +77,7 @@ no_sender side (Halted g code) address count into room first is = absurd (cc)
 no_sender side (Native g) address count into room first is = absurd (cc)
 
 apart : (w : World) (me you : Path) (side : Turn) (address count into room : ℕ) (t : Thread) → IsSender w me side address count →
-    Some t ≡ thread_at w you → Some (into, room) ≡ receiving (other_side side) t.mode → same_path me you ≡ false
+    Some t ≡ thread_at w you → Some (into, room) ≡ awaiting (other_side side) t.mode → same_path me you ≡ false
 unfolding todo_at
 apart w me you side address count into room t sends there is = by (same_path me you) refl
   where
@@ -76,7 +89,7 @@ apart w me you side address count into room t sends there is = by (same_path me 
         absurd (no_sender side t.mode address count into room at is)
 
 ends : (w : World) (me you : Path) (side : Turn) (address count into room : ℕ) (t : Thread) → IsSender w me side address count →
-    Some t ≡ thread_at w you → Some (into, room) ≡ receiving (other_side side) t.mode → AreEnds w me you address into
+    Some t ≡ thread_at w you → Some (into, room) ≡ awaiting (other_side side) t.mode → AreEnds w me you address into
 unfolding todo_at
 ends w me you side address count into room t sends there is = record {
   apart = apart w me you side address count into room t sends there is;
@@ -85,14 +98,14 @@ ends w me you side address count into room t sends there is = record {
 }
 
 pub ends_if : (w : World) (me you : Path) (side : Turn) (address count : ℕ) (t : Thread) (receive : Option (ℕ × ℕ)) → IsSender w me side address count →
-    Some t ≡ thread_at w you → receive ≡ receiving (other_side side) t.mode → IfSome receive (λ r. AreEnds w me you address r.0)
+    Some t ≡ thread_at w you → receive ≡ receiving w (parent you) (other_side side) t.mode → IfSome receive (λ r. AreEnds w me you address r.0)
 ends_if w me you side address count t None sends there is = tt
-ends_if w me you side address count t (Some r) sends there is = ends w me you side address count r.0 r.1 t sends there is
+ends_if w me you side address count t (Some r) sends there is = ends w me you side address count r.0 r.1 t sends there (received w (parent you) (other_side side) t.mode r is)
 
 -- it is free and at this, so the row goes on
 pub to_thread : (w : World) (c : Caller) (side : Turn) (client you : Path)
     (address count : ℕ) (page : List ℕ) (t : Thread) (receive : Option (ℕ × ℕ)) (o : Outcome) →
-    Some t ≡ thread_at w you → is_free_at w you ≡ true → receive ≡ receiving (other_side side) t.mode →
+    Some t ≡ thread_at w you → is_free_at w you ≡ true → receive ≡ receiving w (parent you) (other_side side) t.mode →
     o ≡ sends_into w c client you address count page receive → o ≡ sends_to_thread w c side client address count page (talks.thread_led_to w (At you))
 unfolding is_free_at
 to_thread w c side client you address count page t receive o there free is goes = let here = rw (← there) at free in rw (← there, here, ← is) goes

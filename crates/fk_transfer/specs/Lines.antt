@@ -1,5 +1,5 @@
 -- Lines: a talk by paths, and who is at which end of it.
-use Rattle.std.specs.Prelude.{◌≡◌, ◌≤◌, ℕ, false, List, [], ◌∷◌, ⊤}
+use Rattle.std.specs.Prelude.{◌≡◌, ◌≤◌, ℕ, Bool, false, List, [], ◌∷◌, Option, ⊤}
 use Rattle.fk_model.specs.declared.stage.Stage.{Stage}
 use Rattle.fk_model.specs.declared.stage.Stage.TheVariants.{ClientSend, ServerSend}
 use Rattle.fk_model.specs.declared.thread.Turn.{Turn}
@@ -11,6 +11,12 @@ use Rattle.fk_store.specs.Store.Bodies.{talk_by, peer_by}
 use Rattle.fk_store.specs.Store.Paths.{place}
 use Rattle.fk_store.specs.Store.Threads.{todo_at}
 use Rattle.fk_changes.specs.Threads.Shifted.{address_of}
+use Rattle.fk_model.specs.declared.names.Who.{Who}
+use Rattle.fk_changes.specs.declared.threads.answers.Answers.TheVariants.{Nothing}
+use Rattle.fk_plans.specs.declared.plans.plan.Deed.TheVariants as deeds
+use Rattle.fk_plans.specs.declared.plans.plan.Plan.TheVariants as plans
+use Rattle.fk_plans.specs.declared.plans.plan.Verdict.{Verdict}
+use Rattle.fk_plans.specs.declared.plans.plan.Verdict.TheVariants as verdicts
 use Rattle.fk_transfer.specs.declared.lines.Line.{Line}
 
 abbrev pub line_by : (ℕ → Path) → Line → talks.Line
@@ -35,3 +41,7 @@ pub record AreEnds (w : World) (sender receiver : Path) (address into : ℕ) : T
   pub apart : same_path sender receiver ≡ false
   pub sends : address_of (todo_at w sender) ≤ address
   pub receives : address_of (todo_at w receiver) ≤ into
+
+-- the receive of a thread is done, and the turn passes
+abbrev pub passed_by : Who → Turn → Who → Option Bool → Verdict
+passed_by client turn peer came = verdicts.Done (plans.Two (deeds.Finishes peer came) (deeds.Passes client turn)) Nothing

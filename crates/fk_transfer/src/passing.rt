@@ -1,29 +1,96 @@
 //! Over, on either side of a talk.
-ghost use Rattle.std.specs.Prelude.{◌≡◌, ℕ, List, false, IfOk};
+ghost use Rattle.std.specs.Prelude.{◌≡◌, ◌≤◌, ℕ, List, false, None, option_map, IfOk, IfSome};
 ghost use Rattle.fk_model.specs.Places.Ptr.{At};
 ghost use Rattle.fk_model.specs.Talks as talks;
 ghost use Rattle.fk_model.specs.TransferRows as rows;
 ghost use Rattle.fk_model.specs.Valid.{IsValid};
-ghost use Rattle.fk_store.specs.Store.Bodies.{peer_by};
+ghost use Rattle.fk_store.specs.Store.Bodies.{peer_by, pointer_by};
+ghost use Rattle.fk_store.specs.Store.Named.{OnPointer};
 ghost use Rattle.fk_store.specs.Store.Paths.{path, place};
 ghost use Rattle.fk_store.specs.Store.World.{world, IsLive};
 ghost use Rattle.fk_plans.specs.Plans.Plans.{caller_by};
 ghost use Rattle.fk_plans.specs.Plans.Verdicts.{outcome_by, IsSureVerdict, IsVerdict, Judges};
-ghost use Rattle.fk_transfer.specs.Lines.{line_by};
+ghost use Rattle.fk_transfer.specs.Lines.{line_by, passed_by};
 
 use crate::lines::{Line, in_turn, other_side};
-use fk_changes::readers::Caller;
-use fk_changes::threads::{Answers, receive_of};
-use fk_model::{Peer, Turn, Who};
+use fk_changes::readers::{Caller, reference_in};
+use fk_changes::threads::{Answers, awaited_by, receiving};
+use fk_model::{Peer, Ptr, Turn, Who};
 use fk_plans::{Deed, News, Plan, Verdict};
 use fk_store::Store;
 
-/// It waits until the other end is free and at its Receive, which is done then and has the turn.
+/// The receive of a thread is done, which answers whether a pointer came where it awaited one, and the
+/// turn is the other side's.
+fn passed(client: Who, turn: Turn, peer: Who, came: Option<bool>) -> Verdict
+    ensures { result ≡ passed_by client turn peer came }
+{
+    let plan = Plan::Two(
+        Deed::Finishes { thread: peer, came },
+        Deed::Passes { client, turn },
+    );
+    Verdict::Done(plan, Answers::Nothing)
+}
+
+/// The receive of the thread at the other end is done, which has the turn then. The reference that
+/// awaits a pointer takes the one that goes with the turn.
+fn handed(
+    store: &Store,
+    caller: Caller,
+    side: Turn,
+    client: Who,
+    carried: Option<Ptr>,
+    peer: Who,
+    awaited: Option<u64>,
+) -> Verdict
+    requires carried { IfSome carried (OnPointer (IsLive store.now)) }
+    requires slot { IfSome awaited (λ slot. slot ≤ 239) }
+    ensures outcome { (words : List ℕ) → outcome_by (world store.now) (path store.now) (caller_by (path store.now) caller words) result
+        ≡ rows.passes (caller_by (path store.now) caller words) side (place (path store.now) client)
+        (rows.takes_turn (place (path store.now) peer) (option_map (pointer_by (path store.now)) carried) awaited) }
+    ensures fits { IsVerdict store.now caller result }
+    ensures sure { IsSureVerdict result }
+{
+    let turn = other_side(side);
+    match carried {
+        None => match awaited {
+            None => passed(client, turn, peer, None),
+            Some(_) => passed(client, turn, peer, Some(false)),
+        },
+        Some(to) => match awaited {
+            None => passed(client, turn, peer, None),
+            Some(slot) => {
+                let reference = Who {
+                    space: peer.space,
+                    slot: slot as u8,
+                };
+                let plan = Plan::HandsOver {
+                    reference,
+                    to,
+                    receiver: peer,
+                    client,
+                    turn,
+                };
+                Verdict::Done(plan, Answers::Nothing)
+            }
+        },
+    }
+}
+
+/// It waits until the other end is free and at its Receive, which is done then and has the turn. One
+/// that would be refused for the handle of the reference that is to take a pointer isn't at it.
 #[tactic(auto, unfolding(fk_store::specs::Store::Threads::is_free_at))]
-fn passes_to_thread(store: &Store, caller: Caller, side: Turn, client: Who, peer: Who) -> Verdict
+fn passes_to_thread(
+    store: &Store,
+    caller: Caller,
+    side: Turn,
+    client: Who,
+    carried: Option<Ptr>,
+    peer: Who,
+) -> Verdict
+    requires carried { IfSome carried (OnPointer (IsLive store.now)) }
     ensures outcome { (words : List ℕ) → outcome_by (world store.now) (path store.now) (caller_by (path store.now) caller words) result
         ≡ rows.passes_to_thread (world store.now) (caller_by (path store.now) caller words) side (place (path store.now) client)
-        (talks.thread_led_to (world store.now) (At (place (path store.now) peer))) }
+        (option_map (pointer_by (path store.now)) carried) (talks.thread_led_to (world store.now) (At (place (path store.now) peer))) }
     ensures fits { IsVerdict store.now caller result }
     ensures sure { IsSureVerdict result }
 {
@@ -33,33 +100,35 @@ fn passes_to_thread(store: &Store, caller: Caller, side: Turn, client: Who, peer
     if !store.is_free(peer) {
         return Verdict::Waits;
     }
-    let turn = other_side(side);
-    match receive_of(thread, turn) {
-        Some(_) => {
-            let plan = Plan::Two(
-                Deed::Finishes { thread: peer },
-                Deed::Passes { client, turn },
-            );
-            Verdict::Done(plan, Answers::Nothing)
-        }
+    match receiving(store, peer.space, thread, other_side(side)) {
+        Some(_) => handed(
+            store,
+            caller,
+            side,
+            client,
+            carried,
+            peer,
+            awaited_by(thread),
+        ),
         None => Verdict::Waits,
     }
 }
 
-/// Hands the turn to the other end of a talk.
-fn passes_to(store: &Store, caller: Caller, side: Turn, line: Line) -> Verdict
+/// Hands the turn to the other end of a talk. A native server drops the pointer.
+fn passes_to(store: &Store, caller: Caller, side: Turn, line: Line, carried: Option<Ptr>) -> Verdict
     requires user { caller.is_porter ≡ false }
     requires port { IsLive store.now line.talk.port }
+    requires carried { IfSome carried (OnPointer (IsLive store.now)) }
     ensures outcome { (words : List ℕ) → outcome_by (world store.now) (path store.now) (caller_by (path store.now) caller words) result
         ≡ rows.passes_to (world store.now) (caller_by (path store.now) caller words) side (line_by (path store.now) line)
-        (peer_by (path store.now) line.other) }
+        (option_map (pointer_by (path store.now)) carried) (peer_by (path store.now) line.other) }
     ensures fits { IsVerdict store.now caller result }
     ensures sure { IsSureVerdict result }
 {
     let client = line.client;
     let port = line.talk.port;
     match line.other {
-        Peer::Thread(peer) => passes_to_thread(store, caller, side, client, peer),
+        Peer::Thread(peer) => passes_to_thread(store, caller, side, client, carried, peer),
         Peer::Service => {
             if store.is_frozen(port.space) {
                 return Verdict::Waits;
@@ -75,15 +144,52 @@ fn passes_to(store: &Store, caller: Caller, side: Turn, line: Line) -> Verdict
     }
 }
 
-/// Hands the turn to the other side, at this side's turn. Without a talk it is refused NOTLINKED, at
-/// the other turn WRONGTURN.
+/// A pointer that leads to what is frozen for the caller isn't handed on, whoever is at the other end.
+fn may_carry(store: &Store, me: Who, carried: Option<Ptr>) -> bool
+    ensures { result ≡ rows.may_carry (world store.now) (place (path store.now) me) (option_map (pointer_by (path store.now)) carried) }
+{
+    match carried {
+        None => true,
+        Some(to) => !store.leads_to_frozen(me, to),
+    }
+}
+
+/// Hands the turn to the other side, at this side's turn, and a pointer with it. Without a talk it is
+/// refused NOTLINKED, at the other turn WRONGTURN.
 #[tactic(auto, unfolding(fk_model::specs::TransferRows::over))]
-pub fn over(store: &Store, caller: Caller, side: Turn) -> Result<Verdict, u8>
+fn hands_on(store: &Store, caller: Caller, side: Turn, carried: Option<Ptr>) -> Result<Verdict, u8>
     requires user { caller.is_porter ≡ false }
     requires valid { IsValid (world store.now) }
-    ensures row { Judges store.now caller result (λ w c. rows.over w c side) }
+    requires carried { IfSome carried (OnPointer (IsLive store.now)) }
+    ensures row { Judges store.now caller result (λ w c. rows.over w c side (option_map (pointer_by (path store.now)) carried)) }
     ensures sure { IfOk result IsSureVerdict }
 {
     let line = in_turn(store, caller.who, side, side)?;
-    Ok(passes_to(store, caller, side, line))
+    if !may_carry(store, caller.who, carried) {
+        return Ok(Verdict::Waits);
+    }
+    Ok(passes_to(store, caller, side, line, carried))
+}
+
+/// Hands the turn to the other side, at this side's turn. Without a talk it is refused NOTLINKED, at
+/// the other turn WRONGTURN.
+pub fn over(store: &Store, caller: Caller, side: Turn) -> Result<Verdict, u8>
+    requires user { caller.is_porter ≡ false }
+    requires valid { IsValid (world store.now) }
+    ensures row { Judges store.now caller result (λ w c. rows.over w c side None) }
+    ensures sure { IfOk result IsSureVerdict }
+{
+    hands_on(store, caller, side, None)
+}
+
+/// The same with the pointer of a reference of the caller, which is looked at first.
+#[tactic(auto, unfolding(fk_model::specs::TransferRows::over_ref))]
+pub fn over_ref(store: &Store, caller: Caller, side: Turn, reference: u64) -> Result<Verdict, u8>
+    requires user { caller.is_porter ≡ false }
+    requires valid { IsValid (world store.now) }
+    ensures row { Judges store.now caller result (λ w c. rows.over_ref w c side reference) }
+    ensures sure { IfOk result IsSureVerdict }
+{
+    let to = reference_in(store, caller, caller.who.space, reference)?;
+    hands_on(store, caller, side, Some(to))
 }

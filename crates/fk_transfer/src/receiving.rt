@@ -6,7 +6,7 @@ ghost use Rattle.fk_store.specs.Store.World.{world};
 ghost use Rattle.fk_plans.specs.Plans.Verdicts.{IsSureVerdict, Judges};
 
 use crate::lines::{in_turn, other_side};
-use fk_changes::readers::Caller;
+use fk_changes::readers::{Caller, reference_in};
 use fk_model::Turn;
 use fk_plans::{Verdict, own_page};
 use fk_store::Store;
@@ -34,4 +34,23 @@ pub fn receive(
         Ok(_) => Ok(Verdict::Waits),
         Err(verdict) => Ok(verdict),
     }
+}
+
+/// The same with a reference of the caller that is to take a pointer, which is looked at first.
+#[tactic(auto, unfolding(fk_model::specs::TransferRows::receive_ref))]
+pub fn receive_ref(
+    store: &Store,
+    caller: Caller,
+    side: Turn,
+    into: u64,
+    room: u64,
+    reference: u64,
+) -> Result<Verdict, u8>
+    requires user { caller.is_porter ≡ false }
+    requires valid { IsValid (world store.now) }
+    ensures row { Judges store.now caller result (λ w c. rows.receive_ref w c side into room reference) }
+    ensures sure { IfOk result IsSureVerdict }
+{
+    reference_in(store, caller, caller.who.space, reference)?;
+    receive(store, caller, side, into, room)
 }

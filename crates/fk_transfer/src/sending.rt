@@ -16,7 +16,7 @@ ghost use Rattle.fk_transfer.specs.Lines.{line_by, AreEnds, IsSender};
 
 use crate::lines::{Line, in_turn, other_side};
 use fk_changes::readers::Caller;
-use fk_changes::threads::{Answers, receive_of};
+use fk_changes::threads::{Answers, receiving};
 use fk_model::status::FULL;
 use fk_model::{Peer, Turn, Who};
 use fk_plans::{Block, Deed, Moving, News, Plan, Verdict, Words, own_page};
@@ -169,7 +169,7 @@ fn sends_to_thread(
     if !store.is_free(peer) {
         return Verdict::Waits;
     }
-    let receive = receive_of(thread, other_side(side));
+    let receive = receiving(store, peer.space, thread, other_side(side));
     sends_into(store, caller, client, message, peer, receive)
 }
 
@@ -341,7 +341,7 @@ fn moves_to_thread(
     if !store.is_free(peer) {
         return None;
     }
-    let receive = receive_of(thread, other_side(side));
+    let receive = receiving(store, peer.space, thread, other_side(side));
     moves_into(store, caller, client, message, peer, receive)
 }
 

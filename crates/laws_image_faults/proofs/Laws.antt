@@ -1,5 +1,5 @@
 -- Laws: a fault that is told is the first, and what breaks the form is told.
-use Rattle.std.proofs.Common.{◌≡◌, ℕ, ◌-◌, ◌==◌, false, List, [], ◌∷◌, ◌++◌, length, Option, Some, None, Result, Ok, Err, refl, sym, ap, subst, ◌∙◌, arith}
+use Rattle.std.proofs.Common.{◌≡◌, ℕ, ◌-◌, ◌==◌, ◌&&◌, Bool, true, false, not, if◌then◌else◌, List, [], ◌∷◌, ◌++◌, length, Option, Some, None, Result, Ok, Err, refl, sym, ap, subst, ◌∙◌, arith}
 use Rattle.std.proofs.lemmas.Bool.{ne_eqb}
 use Rattle.std.proofs.lemmas.List.{length-append, append-nil}
 use Rattle.fk_image.specs.declared.image.image.Image.{Image}
@@ -7,12 +7,13 @@ use Rattle.fk_image.specs.declared.format.reasons.reason.TheConstants as reasons
 use Rattle.fk_image.specs.declared.format.stop.Stop.{Stop}
 use Rattle.fk_image.specs.Format.Fields.{◌>>=◌}
 use Rattle.fk_image.specs.Format.Offsets.{wrong_link}
+use Rattle.fk_image.specs.Format.Versions.{image_shows}
 use Rattle.fk_image.specs.Format.Reading.{linked, finished, image_reading}
 use Rattle.laws_image_faults.specs.Forms.{Holds, Breaks}
 use Rattle.laws_image_faults.specs.Forms.Form.{Whole}
 use Rattle.laws_image_faults.specs.Images.{image}
 use Rattle.laws_image_faults.specs.Faults.{Says, FaultsAreFirst, BreaksAreTold}
-use Rattle.laws_image_faults.specs.Faults.Says.{OfField, OfPointer, OfRest}
+use Rattle.laws_image_faults.specs.Faults.Says.{OfField, OfPointer, OfVersion, OfRest}
 use Rattle.laws_image_faults.proofs.Runs.{run}
 use Rattle.laws_image_faults.proofs.Breaks.{run-broken, run-held, broken-run}
 use Rattle.laws_image_faults.proofs.Wholes.{spaces_read, ended, image_is, same-image}
@@ -54,16 +55,29 @@ module _ (bytes : List ℕ) where
         broken = subst (Breaks broken.next broken.after) (same_reason _ _ _ _ is) broken.broken;
       })
 
-  of_pointer : (i : Image) (o : Option ℕ) (offset reason : ℕ) → run image bytes ≡ Ok (i, []) → wrong_link i ≡ o → linked i o ≡ Err (offset, reason) →
-      Says bytes offset reason
-  of_pointer i None offset reason whole is told = absurd (cc)
-  of_pointer i (Some at) offset reason whole is told =
-      let held = run-held image bytes [] i whole in
+  all_held : (x : Bool × Image) → run image bytes ≡ Ok (x, []) → Holds image bytes (Whole x)
+  all_held x whole =
+      let held = run-held image bytes [] x whole in
       let all : bytes ≡ held.before = held.spelled ∙ append-nil held.before in
-      subst (Says bytes offset) (same_reason at reasons.POINTER offset reason told)
-      (OfPointer offset i (subst (λ b. Holds image b (Whole i)) (sym all) held.held) (is ∙ ap Some (same_offset at reasons.POINTER offset reason told)))
+      subst (λ b. Holds image b (Whole x)) (sym all) held.held
 
-  of_rest : (i : Image) (rest : List ℕ) (offset reason : ℕ) → run image bytes ≡ Ok (i, rest) → (rest ≡ [] → ⊥) →
+  of_version : (new : Bool) (i : Image) (shows : Bool) (offset reason : ℕ) → run image bytes ≡ Ok ((new, i), []) → wrong_link i ≡ None →
+      image_shows i ≡ shows → if◌then◌else◌ {A = Result Image (ℕ × ℕ)} (new && not shows) (Err (8, reasons.NEWER)) (Ok i) ≡ Err (offset, reason) → Says bytes offset reason
+  of_version true i false offset reason whole right is told =
+      subst (λ at. Says bytes at reason) (same_offset 8 reasons.NEWER offset reason told)
+      (subst (Says bytes 8) (same_reason 8 reasons.NEWER offset reason told) (OfVersion i (all_held (true, i) whole) right is))
+  of_version true i true offset reason whole right is told = absurd (cc)
+  of_version false i true offset reason whole right is told = absurd (cc)
+  of_version false i false offset reason whole right is told = absurd (cc)
+
+  of_pointer : (new : Bool) (i : Image) (o : Option ℕ) (offset reason : ℕ) → run image bytes ≡ Ok ((new, i), []) → wrong_link i ≡ o →
+      linked new i o ≡ Err (offset, reason) → Says bytes offset reason
+  of_pointer new i None offset reason whole is told = of_version new i (image_shows i) offset reason whole is refl told
+  of_pointer new i (Some at) offset reason whole is told =
+      subst (Says bytes offset) (same_reason at reasons.POINTER offset reason told)
+      (OfPointer offset new i (all_held (new, i) whole) (is ∙ ap Some (same_offset at reasons.POINTER offset reason told)))
+
+  of_rest : (i : Bool × Image) (rest : List ℕ) (offset reason : ℕ) → run image bytes ≡ Ok (i, rest) → (rest ≡ [] → ⊥) →
       ◌≡◌ {A = Result Image (ℕ × ℕ)} (Err (length bytes - length rest, reasons.LEFT_OVER)) (Err (offset, reason)) → Says bytes offset reason
   of_rest i rest offset reason whole some is =
       let held = run-held image bytes rest i whole in
@@ -77,16 +91,16 @@ module _ (bytes : List ℕ) where
         goes_on = some;
       }))
 
-  left_over : (i : Image) (b : ℕ) (more : List ℕ) → finished bytes (ended (i, b ∷ more)) ≡ Err (length bytes - length (b ∷ more), reasons.LEFT_OVER)
+  left_over : (i : Bool × Image) (b : ℕ) (more : List ℕ) → finished bytes (ended (i, b ∷ more)) ≡ Err (length bytes - length (b ∷ more), reasons.LEFT_OVER)
   left_over i b more = let some : (length (b ∷ more) == 0) ≡ false = ne_eqb (length (b ∷ more)) 0 (λ none. absurd (omega (arith, none))) in rw some refl
 
-  first_by : (r : Result (Image × List ℕ) Stop) (offset reason : ℕ) → r ≡ run image bytes → finished bytes (r >>= ended) ≡ Err (offset, reason) →
+  first_by : (r : Result ((Bool × Image) × List ℕ) Stop) (offset reason : ℕ) → r ≡ run image bytes → finished bytes (r >>= ended) ≡ Err (offset, reason) →
       Says bytes offset reason
   first_by (Err stop) offset reason same told = of_field stop offset reason (sym same) told
   first_by (Ok x) offset reason same told = by x.1 refl told
     where
       by : (rest : List ℕ) → x.1 ≡ rest → finished bytes (ended (x.0, rest)) ≡ Err (offset, reason) → Says bytes offset reason
-      by [] none told = of_pointer x.0 (wrong_link x.0) offset reason (sym same ∙ ap (λ rest. Ok (x.0, rest)) none) refl told
+      by [] none told = of_pointer x.0.0 x.0.1 (wrong_link x.0.1) offset reason (sym same ∙ ap (λ rest. Ok (x.0, rest)) none) refl told
       by (b ∷ more) some told =
           of_rest x.0 (b ∷ more) offset reason (sym same ∙ ap (λ rest. Ok (x.0, rest)) some) (λ none. absurd (cc)) (sym (left_over x.0 b more) ∙ told)
 
@@ -98,6 +112,6 @@ pub breaks_told : BreaksAreTold
 unfolding image_reading
 breaks_told bytes offset reason breaks =
     let here = ap (run image) breaks.spelled ∙ broken-run image breaks.before breaks.after breaks.next reason breaks.held breaks.broken in
-    let told = ap (λ (r : Result (Image × List ℕ) Stop). finished bytes (r >>= ended)) (same-image bytes ∙ here) in
+    let told = ap (λ (r : Result ((Bool × Image) × List ℕ) Stop). finished bytes (r >>= ended)) (same-image bytes ∙ here) in
     let at = sym (offset_is bytes breaks.before breaks.after (length breaks.after) breaks.spelled refl) ∙ breaks.at in
     ap (finished bytes) (image_is bytes) ∙ told ∙ ap (λ o. Err (o, reason)) at

@@ -135,19 +135,19 @@ same-fault : (bytes : List ℕ) → read_fault bytes ≡ run forms.fault bytes
 unfolding read_fault forms.fault
 same-fault bytes = go (read_below 3 bytes) _ (byte (below 3)) forms.fault_of bytes (same-below 3 bytes) (λ state. same-met_fault state.0 state.1)
 
-same-mode : (regs bytes : List ℕ) → read_mode regs bytes ≡ run (byte (is_mode_byte regs)) bytes
+same-mode : (new : Bool) (regs bytes : List ℕ) → read_mode new regs bytes ≡ run (byte (forms.mode_in new regs)) bytes
 unfolding read_mode
-same-mode regs bytes = tested-byte (is_mode_byte regs) reasons.RANGE bytes
+same-mode new regs bytes = tested-byte (forms.mode_in new regs) reasons.RANGE bytes
 
 same-code : (mode : ℕ) (bytes : List ℕ) → read_code mode bytes ≡ run (byte (is_code mode)) bytes
 unfolding read_code
 same-code mode bytes = tested-byte (is_code mode) reasons.RANGE bytes
 
-same-thread : (bytes : List ℕ) → read_thread bytes ≡ run forms.thread bytes
+same-thread : (new : Bool) (bytes : List ℕ) → read_thread new bytes ≡ run (forms.thread new) bytes
 unfolding read_thread forms.thread run
-same-thread bytes = go (read_words 16 bytes) _ (forms.words 16) _ bytes (same-words 16 bytes)
+same-thread new bytes = go (read_words 16 bytes) _ (forms.words 16) _ bytes (same-words 16 bytes)
     (λ regs. go (read_number w64 regs.1) _ (number w64 any) _ regs.1 (any-number w64 regs.1)
-    (λ pc. go (read_mode regs.0 pc.1) _ (byte (is_mode_byte regs.0)) _ pc.1 (same-mode regs.0 pc.1)
+    (λ pc. go (read_mode new regs.0 pc.1) _ (byte (forms.mode_in new regs.0)) _ pc.1 (same-mode new regs.0 pc.1)
     (λ mode. go (read_code mode.0 mode.1) _ (byte (is_code mode.0)) _ mode.1 (same-code mode.0 mode.1)
     (λ code. go (read_number w16 code.1) _ (number w16 any) _ code.1 (any-number w16 code.1)
     (λ stops. go (read_talk stops.1) _ forms.talk _ stops.1 (same-talk stops.1)
@@ -188,61 +188,61 @@ same-reference : (bytes : List ℕ) → read_reference bytes ≡ run (forms.link
 unfolding read_reference run
 same-reference bytes = go (read_link bytes) _ forms.link _ bytes (same-link bytes) (λ to. refl)
 
-abbrev body_read : Bool → Bool → Bool → Bool → Bool → Bool → Bool → Bool → List ℕ → List ℕ → Result (Rec × List ℕ) Stop
-body_read a b c d e f g h bytes rest =
+abbrev body_read : Bool → Bool → Bool → Bool → Bool → Bool → Bool → Bool → Bool → List ℕ → List ℕ → Result (Rec × List ℕ) Stop
+body_read new a b c d e f g h bytes rest =
     if a then read_mutex rest
     else if b then Ok (Cond, rest)
     else if c then read_mapping rest
     else if d then read_region rest
     else if e then read_port rest
     else if f then Ok (Portset, rest)
-    else if g then read_thread rest
+    else if g then read_thread new rest
     else if h then read_reference rest
     else refuse_field bytes reasons.RANGE
 
-abbrev body_form : Bool → Bool → Bool → Bool → Bool → Bool → Bool → Form Rec
-body_form a b c d e f g =
+abbrev body_form : Bool → Bool → Bool → Bool → Bool → Bool → Bool → Bool → Form Rec
+body_form new a b c d e f g =
     if a then (byte (below 2) >>> λ locked. Whole (Mutex locked))
     else if b then Whole Cond
     else if c then forms.mapping
     else if d then forms.region
     else if e then (number w16 is_set_word >>> λ set. Whole (Port set))
     else if f then Whole Portset
-    else if g then forms.thread
+    else if g then forms.thread new
     else (forms.link >>> λ to. Whole (Reference to))
 
-body_fits : (a b c d e f g h : Bool) (bytes rest : List ℕ) → (a || (b || (c || (d || (e || (f || (g || h))))))) ≡ true →
-    body_read a b c d e f g h bytes rest ≡ run (body_form a b c d e f g) rest
+body_fits : (new a b c d e f g h : Bool) (bytes rest : List ℕ) → (a || (b || (c || (d || (e || (f || (g || h))))))) ≡ true →
+    body_read new a b c d e f g h bytes rest ≡ run (body_form new a b c d e f g) rest
 unfolding run
-body_fits true b c d e f g h bytes rest is = same-mutex rest
-body_fits false true c d e f g h bytes rest is = refl
-body_fits false false true d e f g h bytes rest is = same-mapping rest
-body_fits false false false true e f g h bytes rest is = same-region rest
-body_fits false false false false true f g h bytes rest is = same-port rest
-body_fits false false false false false true g h bytes rest is = refl
-body_fits false false false false false false true h bytes rest is = same-thread rest
-body_fits false false false false false false false true bytes rest is = same-reference rest
-body_fits false false false false false false false false bytes rest is = absurd (cc)
+body_fits new true b c d e f g h bytes rest is = same-mutex rest
+body_fits new false true c d e f g h bytes rest is = refl
+body_fits new false false true d e f g h bytes rest is = same-mapping rest
+body_fits new false false false true e f g h bytes rest is = same-region rest
+body_fits new false false false false true f g h bytes rest is = same-port rest
+body_fits new false false false false false true g h bytes rest is = refl
+body_fits new false false false false false false true h bytes rest is = same-thread new rest
+body_fits new false false false false false false false true bytes rest is = same-reference rest
+body_fits new false false false false false false false false bytes rest is = absurd (cc)
 
-body_off : (a b c d e f g h : Bool) (bytes rest : List ℕ) → (a || (b || (c || (d || (e || (f || (g || h))))))) ≡ false →
-    body_read a b c d e f g h bytes rest ≡ refuse_field bytes reasons.RANGE
-body_off true b c d e f g h bytes rest is = absurd (cc)
-body_off false true c d e f g h bytes rest is = absurd (cc)
-body_off false false true d e f g h bytes rest is = absurd (cc)
-body_off false false false true e f g h bytes rest is = absurd (cc)
-body_off false false false false true f g h bytes rest is = absurd (cc)
-body_off false false false false false true g h bytes rest is = absurd (cc)
-body_off false false false false false false true h bytes rest is = absurd (cc)
-body_off false false false false false false false true bytes rest is = absurd (cc)
-body_off false false false false false false false false bytes rest is = refl
+body_off : (new a b c d e f g h : Bool) (bytes rest : List ℕ) → (a || (b || (c || (d || (e || (f || (g || h))))))) ≡ false →
+    body_read new a b c d e f g h bytes rest ≡ refuse_field bytes reasons.RANGE
+body_off new true b c d e f g h bytes rest is = absurd (cc)
+body_off new false true c d e f g h bytes rest is = absurd (cc)
+body_off new false false true d e f g h bytes rest is = absurd (cc)
+body_off new false false false true e f g h bytes rest is = absurd (cc)
+body_off new false false false false true f g h bytes rest is = absurd (cc)
+body_off new false false false false false true g h bytes rest is = absurd (cc)
+body_off new false false false false false false true h bytes rest is = absurd (cc)
+body_off new false false false false false false false true bytes rest is = absurd (cc)
+body_off new false false false false false false false false bytes rest is = refl
 
-same-body : (bytes : List ℕ) → read_body bytes ≡ run forms.body bytes
+same-body : (new : Bool) (bytes : List ℕ) → read_body new bytes ≡ run (forms.body new) bytes
 unfolding read_body forms.body
-same-body bytes = go-byte forms.is_kind
-    (λ kind. body_read (kind.0 == 1) (kind.0 == 2) (kind.0 == 3) (kind.0 == 4) (kind.0 == 5) (kind.0 == 6) (kind.0 == 8) (kind.0 == 9) bytes kind.1)
-    forms.body_of (λ b. reasons.RANGE) bytes
-    (λ kind rest is. body_fits (kind == 1) (kind == 2) (kind == 3) (kind == 4) (kind == 5) (kind == 6) (kind == 8) (kind == 9) bytes rest is)
-    (λ kind rest is. body_off (kind == 1) (kind == 2) (kind == 3) (kind == 4) (kind == 5) (kind == 6) (kind == 8) (kind == 9) bytes rest is)
+same-body new bytes = go-byte forms.is_kind
+    (λ kind. body_read new (kind.0 == 1) (kind.0 == 2) (kind.0 == 3) (kind.0 == 4) (kind.0 == 5) (kind.0 == 6) (kind.0 == 8) (kind.0 == 9) bytes kind.1)
+    (forms.body_of new) (λ b. reasons.RANGE) bytes
+    (λ kind rest is. body_fits new (kind == 1) (kind == 2) (kind == 3) (kind == 4) (kind == 5) (kind == 6) (kind == 8) (kind == 9) bytes rest is)
+    (λ kind rest is. body_off new (kind == 1) (kind == 2) (kind == 3) (kind == 4) (kind == 5) (kind == 6) (kind == 8) (kind == 9) bytes rest is)
 
 -- a byte below a limit, of which what follows refuses some more
 pub below_then : {Y : Type 0} (limit : ℕ) (bytes : List ℕ) (k : ℕ × List ℕ → Result Y Stop) →
@@ -251,46 +251,46 @@ unfolding read_below
 below_then limit [] k = refl
 below_then limit (b ∷ rest) k = refl
 
-abbrev object_rest : ℕ → List ℕ → ℕ × List ℕ → Result (ObjectRec × List ℕ) Stop
-object_rest floor bytes slot =
-    expect (not (nat_lt slot.0 floor)) bytes reasons.ORDER >>= λ _. read_body slot.1 >>= λ body. Ok (record { slot = slot.0; body = body.0 }, body.1)
+abbrev object_rest : Bool → ℕ → List ℕ → ℕ × List ℕ → Result (ObjectRec × List ℕ) Stop
+object_rest new floor bytes slot =
+    expect (not (nat_lt slot.0 floor)) bytes reasons.ORDER >>= λ _. read_body new slot.1 >>= λ body. Ok (record { slot = slot.0; body = body.0 }, body.1)
 
-abbrev object_of : ℕ → Form ObjectRec
-object_of slot = forms.body >>> λ body. Whole (record { slot = slot; body = body })
+abbrev object_of : Bool → ℕ → Form ObjectRec
+object_of new slot = (forms.body new) >>> λ body. Whole (record { slot = slot; body = body })
 
 abbrev slot_tested : Bool → ℕ → List ℕ → List ℕ → Result (ℕ × List ℕ) Stop
 slot_tested t slot bytes rest = if t then Ok (slot, rest) else refuse_field bytes reasons.RANGE
 
-abbrev object_behind : Bool → List ℕ → ℕ × List ℕ → Result (ObjectRec × List ℕ) Stop
-object_behind u bytes slot =
-    expect (not u) bytes reasons.ORDER >>= λ _. read_body slot.1 >>= λ body. Ok (record { slot = slot.0; body = body.0 }, body.1)
+abbrev object_behind : Bool → Bool → List ℕ → ℕ × List ℕ → Result (ObjectRec × List ℕ) Stop
+object_behind new u bytes slot =
+    expect (not u) bytes reasons.ORDER >>= λ _. read_body new slot.1 >>= λ body. Ok (record { slot = slot.0; body = body.0 }, body.1)
 
-behind_fits : (u : Bool) (slot : ℕ) (bytes rest : List ℕ) → not u ≡ true → object_behind u bytes (slot, rest) ≡ run (object_of slot) rest
+behind_fits : (new u : Bool) (slot : ℕ) (bytes rest : List ℕ) → not u ≡ true → object_behind new u bytes (slot, rest) ≡ run (object_of new slot) rest
 unfolding run
-behind_fits false slot bytes rest is = go (read_body rest) _ forms.body _ rest (same-body rest) (λ body. refl)
-behind_fits true slot bytes rest is = absurd (cc)
+behind_fits new false slot bytes rest is = go (read_body new rest) _ (forms.body new) _ rest (same-body new rest) (λ body. refl)
+behind_fits new true slot bytes rest is = absurd (cc)
 
-behind_off : (u : Bool) (slot : ℕ) (bytes rest : List ℕ) → not u ≡ false → object_behind u bytes (slot, rest) ≡ refuse_field bytes reasons.ORDER
-behind_off false slot bytes rest is = absurd (cc)
-behind_off true slot bytes rest is = refl
+behind_off : (new u : Bool) (slot : ℕ) (bytes rest : List ℕ) → not u ≡ false → object_behind new u bytes (slot, rest) ≡ refuse_field bytes reasons.ORDER
+behind_off new false slot bytes rest is = absurd (cc)
+behind_off new true slot bytes rest is = refl
 
-object_fits : (t : Bool) (floor slot : ℕ) (bytes rest : List ℕ) → (t && not (nat_lt slot floor)) ≡ true →
-    (slot_tested t slot bytes rest >>= object_rest floor bytes) ≡ run (object_of slot) rest
-object_fits true floor slot bytes rest is = behind_fits (nat_lt slot floor) slot bytes rest is
-object_fits false floor slot bytes rest is = absurd (cc)
+object_fits : (new t : Bool) (floor slot : ℕ) (bytes rest : List ℕ) → (t && not (nat_lt slot floor)) ≡ true →
+    (slot_tested t slot bytes rest >>= object_rest new floor bytes) ≡ run (object_of new slot) rest
+object_fits new true floor slot bytes rest is = behind_fits new (nat_lt slot floor) slot bytes rest is
+object_fits new false floor slot bytes rest is = absurd (cc)
 
-object_off : (t : Bool) (floor slot : ℕ) (bytes rest : List ℕ) → (t && not (nat_lt slot floor)) ≡ false →
-    (slot_tested t slot bytes rest >>= object_rest floor bytes) ≡ refuse_field bytes (if t then reasons.ORDER else reasons.RANGE)
-object_off true floor slot bytes rest is = behind_off (nat_lt slot floor) slot bytes rest is
-object_off false floor slot bytes rest is = refl
+object_off : (new t : Bool) (floor slot : ℕ) (bytes rest : List ℕ) → (t && not (nat_lt slot floor)) ≡ false →
+    (slot_tested t slot bytes rest >>= object_rest new floor bytes) ≡ refuse_field bytes (if t then reasons.ORDER else reasons.RANGE)
+object_off new true floor slot bytes rest is = behind_off new (nat_lt slot floor) slot bytes rest is
+object_off new false floor slot bytes rest is = refl
 
-same-object : (floor : ℕ) (bytes : List ℕ) → read_object floor bytes ≡ run (forms.object floor) bytes
+same-object : (new : Bool) (floor : ℕ) (bytes : List ℕ) → read_object new floor bytes ≡ run (forms.object new floor) bytes
 unfolding read_object forms.object
-same-object floor bytes = below_then 240 bytes (object_rest floor bytes)
-    ∙ go-byte (forms.is_slot_from floor) (λ b. (if nat_lt b.0 240 then Ok b else refuse_field bytes reasons.RANGE) >>= object_rest floor bytes) object_of
+same-object new floor bytes = below_then 240 bytes (object_rest new floor bytes)
+    ∙ go-byte (forms.is_slot_from floor) (λ b. (if nat_lt b.0 240 then Ok b else refuse_field bytes reasons.RANGE) >>= object_rest new floor bytes) (object_of new)
     slot_reason bytes
-    (λ slot rest is. object_fits (nat_lt slot 240) floor slot bytes rest is)
-    (λ slot rest is. object_off (nat_lt slot 240) floor slot bytes rest is)
+    (λ slot rest is. object_fits new (nat_lt slot 240) floor slot bytes rest is)
+    (λ slot rest is. object_off new (nat_lt slot 240) floor slot bytes rest is)
 
 abbrev page_tested : Bool → ℕ → List ℕ → List ℕ → Result (PageRec × List ℕ) Stop
 page_tested u page bytes rest =
@@ -313,10 +313,10 @@ unfolding read_page forms.page
 same-page floor bytes = go-byte (forms.is_page_from floor) (λ page. page_tested (nat_lt page.0 floor) page.0 bytes page.1) page_of (λ b. reasons.ORDER) bytes
     (λ page rest is. page_fits (nat_lt page floor) page bytes rest is) (λ page rest is. page_off (nat_lt page floor) page bytes rest is)
 
-pub same-objects : (bytes : List ℕ) → read_objects bytes ≡ run forms.objects bytes
+pub same-objects : (new : Bool) (bytes : List ℕ) → read_objects new bytes ≡ run (forms.objects new) bytes
 unfolding read_objects forms.objects
-same-objects bytes = go (read_number w16 bytes) _ (number w16 any) _ bytes (any-number w16 bytes)
-    (λ count. same-many read_object forms.object after_object same-object count.0 0 [] count.1)
+same-objects new bytes = go (read_number w16 bytes) _ (number w16 any) _ bytes (any-number w16 bytes)
+    (λ count. same-many (read_object new) (forms.object new) after_object (same-object new) count.0 0 [] count.1)
 
 pub same-pages : (bytes : List ℕ) → read_pages bytes ≡ run forms.pages bytes
 unfolding read_pages forms.pages

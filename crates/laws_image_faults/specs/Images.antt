@@ -20,6 +20,7 @@ use Rattle.fk_image.specs.Image.Preorder.{has_room, room_under, root_path, after
 use Rattle.fk_image.specs.Image.Links.{kind_in_space}
 use Rattle.fk_image.specs.Image.Valid.{after_object, after_page}
 use Rattle.fk_image.specs.Format.Spelling.{magic}
+use Rattle.fk_image.specs.Format.Versions.{shows_new, allows}
 use Rattle.fk_image.specs.declared.format.reasons.reason.TheConstants as reasons
 use Rattle.laws_image_faults.specs.Forms.{Shape, Form}
 use Rattle.laws_image_faults.specs.Forms.Form.{Whole, Field, Pair}
@@ -120,11 +121,15 @@ fault_of state = if state == 0 then Whole None else (do
 unfoldable pub fault : Form (Option FaultRec)
 fault = byte (below 3) >>= fault_of
 
-unfoldable pub thread : Form Rec
-thread = do
+-- a mode that a thread with these registers can have in an image of the new version, or of the first
+abbrev pub mode_in : Bool → List ℕ → ℕ → Bool
+mode_in new regs mode = is_mode_byte regs mode && allows new (shows_new regs mode)
+
+unfoldable pub thread : Bool → Form Rec
+thread new = do
   regs ← words 16
   pc ← number w64 any
-  mode ← byte (is_mode_byte regs)
+  mode ← byte (mode_in new regs)
   code ← byte (is_code mode)
   stops ← number w16 any
   talk ← talk
@@ -158,18 +163,18 @@ region = do
 abbrev pub is_kind : ℕ → Bool
 is_kind kind = kind == 1 || (kind == 2 || (kind == 3 || (kind == 4 || (kind == 5 || (kind == 6 || (kind == 8 || kind == 9))))))
 
-abbrev pub body_of : ℕ → Form Rec
-body_of kind = if kind == 1 then (byte (below 2) >>= λ locked. Whole (Mutex locked))
+abbrev pub body_of : Bool → ℕ → Form Rec
+body_of new kind = if kind == 1 then (byte (below 2) >>= λ locked. Whole (Mutex locked))
     else if kind == 2 then Whole Cond
     else if kind == 3 then mapping
     else if kind == 4 then region
     else if kind == 5 then (number w16 is_set_word >>= λ set. Whole (Port set))
     else if kind == 6 then Whole Portset
-    else if kind == 8 then thread
+    else if kind == 8 then thread new
     else (link >>= λ to. Whole (Reference to))
 
-unfoldable pub body : Form Rec
-body = byte is_kind >>= body_of
+unfoldable pub body : Bool → Form Rec
+body new = byte is_kind >>= body_of new
 
 -- a slot that users may name, from a lowest one on
 abbrev pub is_slot_from : ℕ → ℕ → Bool
@@ -179,10 +184,10 @@ is_slot_from floor slot = nat_lt slot 240 && not (nat_lt slot floor)
 abbrev pub slot_reason : ℕ → ℕ
 slot_reason slot = if nat_lt slot 240 then reasons.ORDER else reasons.RANGE
 
-unfoldable pub object : ℕ → Form ObjectRec
-object floor = do
+unfoldable pub object : Bool → ℕ → Form ObjectRec
+object new floor = do
   slot ← byte_for slot_reason (is_slot_from floor)
-  body ← body
+  body ← body new
   Whole (record { slot = slot; body = body })
 
 abbrev pub is_page_from : ℕ → ℕ → Bool
@@ -194,8 +199,8 @@ page floor = do
   words ← words 64
   Whole (record { page = page; words = words })
 
-unfoldable pub objects : Form (List ObjectRec)
-objects = number w16 any >>= λ count. many object after_object count 0 []
+unfoldable pub objects : Bool → Form (List ObjectRec)
+objects new = number w16 any >>= λ count. many (object new) after_object count 0 []
 
 unfoldable pub pages : Form (List PageRec)
 pages = number w16 any >>= λ count. many page after_page count 0 []
@@ -203,12 +208,12 @@ pages = number w16 any >>= λ count. many page after_page count 0 []
 -- ---- spaces
 
 -- the subtree's root, which lies in no space of the image and is held by nobody
-unfoldable pub root : Form SpaceRec
-root = do
+unfoldable pub root : Bool → Form SpaceRec
+root new = do
   parent ← number w32 (is 4294967295)
   slot ← byte (is 0)
   tag ← byte (is 0)
-  objects ← objects
+  objects ← objects new
   pages ← pages
   Whole (record { parent = parent; slot = slot; holder = Null; objects = objects; pages = pages })
 
@@ -227,20 +232,20 @@ abbrev pub place : List SpaceRec → List Open → Form (ℕ × ℕ)
 place done path = Pair (parent_of path) slot_there (λ parent slot. is_place done path (from_le_bytes w32 parent) (byte_in slot)) reasons.ORDER
     (λ parent slot. Whole (from_le_bytes w32 parent, byte_in slot))
 
-unfoldable pub inner : List SpaceRec → List Open → Form SpaceRec
-inner done path = do
+unfoldable pub inner : Bool → List SpaceRec → List Open → Form SpaceRec
+inner new done path = do
   place ← place done path
   holder ← link
-  objects ← objects
+  objects ← objects new
   pages ← pages
   Whole (record { parent = place.0; slot = place.1; holder = holder; objects = objects; pages = pages })
 
-abbrev pub space_behind : List SpaceRec → List Open → Form SpaceRec
-space_behind [] path = root
-space_behind (d ∷ done) path = inner (d ∷ done) path
+abbrev pub space_behind : Bool → List SpaceRec → List Open → Form SpaceRec
+space_behind new [] path = root new
+space_behind new (d ∷ done) path = inner new (d ∷ done) path
 
-abbrev pub space : List SpaceRec × List Open → Form SpaceRec
-space before = space_behind before.0 before.1
+abbrev pub space : Bool → List SpaceRec × List Open → Form SpaceRec
+space new before = space_behind new before.0 before.1
 
 -- ---- images
 
@@ -250,15 +255,22 @@ is_some_number n = not (n == 0)
 abbrev pub begins : Form (List ℕ)
 begins = Field (record { size = 8; may = λ field. pointwise nat_eq field magic; why = λ field. reasons.MAGIC }) Whole
 
--- the version, and how many spaces there are
-unfoldable pub head : Form ℕ
+-- the versions are 1 and 2
+abbrev pub is_version : ℕ → Bool
+is_version n = n == 1 || n == 2
+
+abbrev pub count_of : Bool → Form (Bool × ℕ)
+count_of new = number w32 is_some_number >>= λ count. Whole (new, count)
+
+-- whether it is the new version, and how many spaces there are
+unfoldable pub head : Form (Bool × ℕ)
 head = do
   _ ← begins
-  version ← number_for reasons.VERSION w16 (is 1)
-  number w32 is_some_number
+  version ← number_for reasons.VERSION w16 is_version
+  count_of (version == 2)
 
-unfoldable pub image : Form Image
+unfoldable pub image : Form (Bool × Image)
 image = do
-  count ← head
-  spaces ← many space after_space count ([], root_path) []
-  Whole (record { spaces = spaces })
+  head ← head
+  spaces ← many (space head.0) after_space head.1 ([], root_path) []
+  Whole (head.0, record { spaces = spaces })

@@ -10,7 +10,7 @@ use Rattle.fk_model.specs.Searches.{depth}
 use Rattle.fk_model.specs.Runs.{Event, after, run as events_run}
 use Rattle.fk_model.specs.Cut.{cut, IsPlain}
 use Rattle.fk_model.specs.Further.{Onward, Told, IsFurther}
-use Rattle.fk_model.specs.Rebind.{rebound, rebound_told}
+use Rattle.fk_model.specs.Rebind.{rebound, rebound_told, rebound_move}
 use Rattle.laws_moves.specs.Whole.Runnable.{IsProper, AreProper}
 use Rattle.laws_moves.proofs.InWhole.Laws.{savable_runnable, gives_one_number}
 use Rattle.laws_moves.specs.Savable.Savable.{IsSound}
@@ -182,6 +182,6 @@ pub restored_goes_on : RestoredGoesOn
 restored_goes_on w v nester other slot place bind ms plain same =
     let law = run_rebinds bind (cut w nester slot) ms (cut_is_cut_world w nester slot plain) in
     record {
-      forth = λ told later run. subst (λ d. IsFurther d ms (map (rebound_told bind) told) (rebound bind later)) (sym same) (law.forth told later run);
-      back = λ heard after run. law.back heard after (subst (λ d. IsFurther d ms heard after) same run);
+      forth = λ told later run. subst (λ d. IsFurther d (map (rebound_move bind) ms) (map (rebound_told bind) told) (rebound bind later)) (sym same) (law.forth told later run);
+      back = λ heard after run. law.back heard after (subst (λ d. IsFurther d (map (rebound_move bind) ms) heard after) same run);
     }

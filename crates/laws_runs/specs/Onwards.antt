@@ -9,7 +9,7 @@ use Rattle.fk_model.specs.Runs.{Event}
 use Rattle.fk_model.specs.Who.{event_of}
 use Rattle.fk_model.specs.Cut.{cut, IsPlain}
 use Rattle.fk_model.specs.Further.{Onward, Told, IsFurther}
-use Rattle.fk_model.specs.Rebind.{rebound, rebound_told}
+use Rattle.fk_model.specs.Rebind.{rebound, rebound_told, rebound_move}
 use Rattle.laws_subtrees.specs.Further.Runs.{IsSeenRun}
 use Rattle.laws_runs.specs.Cores.{House, Core, Asker, asker, IsRun, world_at}
 use Rattle.laws_runs.specs.Cores.Asker.{Nobody, Others, Job}
@@ -43,8 +43,9 @@ RunGoesOn J S A V = (h : House J S A V) (first c : Core S A V) (past : List Move
 
 -- a subtree whose cut is another's with other outward ports has the further runs that the other has, with these ports, and no others
 pub record GoesOnAs (bind : ℕ → ℕ) (c d : World) (ms : List Onward) : Type 0 where
-  pub forth : (told : List Told) (later : World) → IsFurther c ms told later → IsFurther d ms (map (rebound_told bind) told) (rebound bind later)
-  pub back : (heard : List Told) (after : World) → IsFurther d ms heard after →
+  pub forth : (told : List Told) (later : World) → IsFurther c ms told later →
+      IsFurther d (map (rebound_move bind) ms) (map (rebound_told bind) told) (rebound bind later)
+  pub back : (heard : List Told) (after : World) → IsFurther d (map (rebound_move bind) ms) heard after →
       (told : List Told) × (later : World) × IsFurther c ms told later × (heard ≡ map (rebound_told bind) told) × (after ≡ rebound bind later)
 
 abbrev pub RestoredGoesOn : Type 0

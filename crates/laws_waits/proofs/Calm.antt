@@ -14,8 +14,8 @@ use Rattle.fk_model.specs.LinkRows.{portset_of}
 use Rattle.fk_model.specs.Readers.{handled}
 use Rattle.fk_model.proofs.walks.PlaceLaws.{same_path_eq}
 use Rattle.laws_waits.specs.Touching.{is_loud, IsThreadEdit, is_map_edit, has_map, stirs, repoints, regroups, LeavesMemory}
-use Rattle.laws_waits.specs.Stuck.{is_held, BringsNobody, End, LeavesEnd, LeavesPage, IsPlace, LeavesPlace, IsGone, Reason, IsStuck, IsUntouched}
-use Rattle.laws_waits.specs.Stuck.End.{Absent, Covered, Unclaimed, Closed}
+use Rattle.laws_waits.specs.Stuck.{is_held, BringsNobody, End, LeavesEnd, LeavesPage, IsPlace, LeavesPlace, IsGone, Reason, IsStuck, IsUntouched, LeavesHandle}
+use Rattle.laws_waits.specs.Stuck.End.{Absent, Covered, Unclaimed, Closed, Unnamed}
 use Rattle.laws_waits.specs.Stuck.Reason.{Resting, Beneath, Locking, Sleeping, Connecting, Receiving, Passing, Sending, Lacking, Ending, Holding, Waiting}
 use Rattle.laws_waits.specs.Stuck.Reason.{WaitingOut, Barred}
 use Rattle.laws_waits.specs.Calm.{IsCalm, IsApart, CalmTouchesNobody}
@@ -34,9 +34,18 @@ put-far w space page words s address true there = there
 
 put-end : (w : World) (space : Path) (page : ℕ) (words : List ℕ) (end : End) → LeavesEnd w (PutPage space page words) end
 put-end w space page words (Absent y) = refl
+put-end w space page words (Unnamed y k) = (refl, refl)
 put-end w space page words (Covered y held) = refl
 put-end w space page words Unclaimed = tt
 put-end w space page words (Closed port held) = refl
+
+put-handle : (space : Path) (page : ℕ) (words : List ℕ) (s : Path) (reference : Option ℕ) → LeavesHandle (PutPage space page words) s reference
+put-handle space page words s None = tt
+put-handle space page words s (Some k) = refl
+
+pub alter-handle : (x : Path) (e : Edit) (s : Path) (reference : Option ℕ) → LeavesHandle (Alter x e) s reference
+alter-handle x e s None = tt
+alter-handle x e s (Some k) = refl
 
 put-nobody : (w : World) (space : Path) (page : ℕ) (words : List ℕ) (x z : Path) → BringsNobody w (PutPage space page words) x z
 put-nobody w space page words x z = record {
@@ -53,8 +62,10 @@ put-touches w me space page words x (Beneath held) there apart = refl
 put-touches w me space page words x (Locking m) there apart = (refl, refl)
 put-touches w me space page words x (Sleeping c m) there apart = (refl, refl, refl)
 put-touches w me space page words x (Connecting h port) there apart = (refl, refl, refl)
-put-touches w me space page words x (Receiving side into room far client) there apart = (refl, refl, put-far w space page words (parent x) into far there)
-put-touches w me space page words x (Passing side client end) there apart = (refl, refl, put-end w space page words end)
+put-touches w me space page words x (Receiving side into room reference far client) there apart =
+    (refl, refl, put-far w space page words (parent x) into far there, put-handle space page words (parent x) reference)
+put-touches w me space page words x (Passing side reference client end) there apart =
+    (refl, refl, put-end w space page words end, put-handle space page words (parent x) reference)
 put-touches w me space page words x (Sending side address count far client end) there apart =
     (refl, refl, put-end w space page words end, put-far w space page words (parent x) address far there)
 put-touches w me space page words x (Lacking side address count far client y into room) there apart =
@@ -122,6 +133,7 @@ module _ (w : World) (me : Path) (e : Edit) (t : Thread) (there : thread_at w me
 
   end-left : (side : Turn) (end : End) → IsGone w side end → LeavesEnd w (Alter me e) end
   end-left side (Absent y) gone = unstirred y
+  end-left side (Unnamed y k) gone = (unstirred y, refl)
   end-left side (Covered y space) gone = held-other w me e t there space gone.1
   end-left side Unclaimed gone = tt
   end-left side (Closed port space) gone = held-other w me e t there space gone.1
@@ -146,8 +158,9 @@ module _ (w : World) (me : Path) (e : Edit) (t : Thread) (there : thread_at w me
   quiet-touches x (Locking m) stuck apart = (apart, lock-other w me e t there (parent x) m stuck.2)
   quiet-touches x (Sleeping c m) stuck apart = (apart, refl, refl)
   quiet-touches x (Connecting h port) stuck apart = (apart, unpointed (h ∷ parent x), refl)
-  quiet-touches x (Receiving side into room far client) stuck apart = (apart, unstirred _, page-left w me e t there (parent x) into far)
-  quiet-touches x (Passing side client end) stuck apart = (apart, unstirred _, end-left side end stuck.2)
+  quiet-touches x (Receiving side into room reference far client) stuck apart =
+      (apart, unstirred _, page-left w me e t there (parent x) into far, alter-handle me e (parent x) reference)
+  quiet-touches x (Passing side reference client end) stuck apart = (apart, unstirred _, end-left side end stuck.2, alter-handle me e (parent x) reference)
   quiet-touches x (Sending side address count far client end) stuck apart =
       (apart, unstirred _, end-left side end stuck.4, page-left w me e t there (parent x) address far)
   quiet-touches x (Lacking side address count far client y into room) stuck apart =

@@ -1,5 +1,5 @@
 -- While nothing is held, a thread that isn't ready has a reason.
-use Rattle.std.proofs.Common.{◌≡◌, ℕ, ◌≤◌, Bool, true, false, not, if◌then◌else◌, ◌&&◌, ◌||◌, ◌==◌, ◌%◌, nat_le, is_some, List, [], ◌∷◌, Option, Some, None}
+use Rattle.std.proofs.Common.{◌≡◌, ℕ, ◌≤◌, Bool, true, false, not, if◌then◌else◌, ◌&&◌, ◌||◌, ◌==◌, ◌%◌, nat_le, is_some, List, [], ◌∷◌, Option, Some, None, cond, eq-eqb}
 use Rattle.std.proofs.Common.{option_map, Result, Ok, Err, refl, ap, sym, subst, ◌∙◌, ◌⊎◌, inl, inr}
 use Rattle.std.specs.List.{list_any, flat_map}
 use Rattle.std.proofs.lemmas.Bool.{and_parts}
@@ -10,14 +10,14 @@ use Rattle.fk_model.specs.declared.instruction.Act.TheVariants as acts_of
 use Rattle.fk_model.specs.declared.names.Kind.{Kind}
 use Rattle.fk_model.specs.declared.names.Kind.TheVariants as kinds
 use Rattle.fk_model.specs.declared.stage.Stage.{Stage}
-use Rattle.fk_model.specs.declared.stage.Stage.TheVariants.{Create, SpaceHold, MutexLock, CondAsleep, CondSignal, Connect, ClientReceive, ClientSend}
-use Rattle.fk_model.specs.declared.stage.Stage.TheVariants.{ClientOver, Wait, ServerReceive, ServerSend, ServerOver, FaultDone}
+use Rattle.fk_model.specs.declared.stage.Stage.TheVariants.{Create, SpaceHold, MutexLock, CondAsleep, CondSignal, Connect, ClientReceive, ClientSend, ClientOverRef, ClientReceiveRef}
+use Rattle.fk_model.specs.declared.stage.Stage.TheVariants.{ClientOver, Wait, ServerReceive, ServerSend, ServerOver, FaultDone, ServerOverRef, ServerReceiveRef}
 use Rattle.fk_model.specs.declared.statuses.status.TheConstants as status
 use Rattle.fk_model.specs.declared.thread.Turn.{Turn}
 use Rattle.fk_model.specs.declared.thread.Turn.TheVariants as turns
 use Rattle.fk_model.specs.Places.{Path, parent, slot_of, Ptr}
 use Rattle.fk_model.specs.Places.Ptr.{Null, Dead, At, Out, Outside, Far}
-use Rattle.fk_model.specs.Objects.{Mode, Peer, Talk, Thread, Body, kind_of, mutex_of, thread_of, and_then, or_else, holds}
+use Rattle.fk_model.specs.Objects.{Mode, Peer, Talk, Thread, Body, kind_of, mutex_of, thread_of, and_then, or_else, holds, reference_of}
 use Rattle.fk_model.specs.Objects.Mode.{Running, Calling, Halted, Native}
 use Rattle.fk_model.specs.Objects.Peer.{Server, Service, Parked}
 use Rattle.fk_model.specs.Objects.Body.{Mutex, Cond, Port, Thread_of, Reference}
@@ -33,7 +33,7 @@ use Rattle.fk_model.specs.Readers.{and_read, seen_as, slot_for, object_in, is_ki
 use Rattle.fk_model.specs.SyncRows.{cond_of, sets_locked, mutex_lock, cond_asleep}
 use Rattle.fk_model.specs.LinkRows.{connect}
 use Rattle.fk_model.specs.Valid.{kind_there}
-use Rattle.fk_model.specs.Talks.{first_stage}
+use Rattle.fk_model.specs.Talks.{first_stage, awaited, is_handled}
 use Rattle.fk_model.specs.LinkRows.{user_at}
 use Rattle.fk_model.specs.UserRows.{performs, executes, run_row_by, run_row, halts_with, loads, stores, enters, word_at}
 use Rattle.fk_model.specs.Instructions.{act}
@@ -42,7 +42,7 @@ use Rattle.fk_model.specs.Calls.{todo_of}
 use Rattle.fk_model.specs.Moves.{chooses, with_pick, closed, is_denied, stage_row, allowed_row, call_row, GoesAllowed, goes_on, user_move, outcome, IsReady}
 use Rattle.fk_model.specs.Valid.{IsValid}
 use Rattle.laws_waits.specs.Rows.{can_wait, FreeRunnersAreReady}
-use Rattle.laws_waits.specs.Stuck.{is_resting, Reason, IsStuck, IsAtStage}
+use Rattle.laws_waits.specs.Stuck.{is_resting, Reason, IsStuck, IsAtStage, IsGone, awaits_on, is_at_hand_else}
 use Rattle.laws_waits.specs.Stuck.Reason.{Resting, Locking, Sleeping, Connecting, Receiving, Passing, Sending, Lacking, Waiting}
 use Rattle.laws_waits.specs.Complete.{is_outer, is_barred, IsWholeWorld, HasReason, UnheldThreadsHaveReasons}
 use Rattle.laws_waits.proofs.Never.{never_wait_lem, either, goes, done-moves, telling-moves}
@@ -52,8 +52,8 @@ use Rattle.fk_model.specs.Reach.{Reach, reach_word, words_at}
 use Rattle.fk_model.specs.Reach.Reach.{Home, Missing, Bad}
 use Rattle.fk_model.specs.Readers.{own_page_at}
 use Rattle.fk_model.specs.Talks.{Line, line_from, line, same_side, other_side, receiving, thread_led_to, is_service_free}
-use Rattle.fk_model.specs.TransferRows.{at_turn, in_turn, receive, passes, passes_to, passes_to_thread, over, overwritten, block, moved_words, has_sent}
-use Rattle.fk_model.specs.TransferRows.{sends_words, sends_into, sends_to_thread, sends_to_service, sends_to, sends, send}
+use Rattle.fk_model.specs.TransferRows.{at_turn, in_turn, receive, passes, passes_to, passes_to_thread, over, overwritten, block, moved_words, has_sent, may_carry, over_ref}
+use Rattle.fk_model.specs.TransferRows.{sends_words, sends_into, sends_to_thread, sends_to_service, sends_to, sends, send, passes_on, receive_ref, takes_turn}
 use Rattle.laws_waits.specs.Touching.{is_home}
 use Rattle.fk_model.specs.FaultRows.{frees, fault_done}
 use Rattle.fk_model.specs.SpaceRows.{has_porter, is_held_by_other, space_hold}
@@ -77,8 +77,10 @@ use Rattle.std.proofs.lemmas.List.Folds.{list_any-append}
 use Rattle.laws_moves.proofs.InMachine.Frame.{or_off}
 use Rattle.laws_waits.proofs.Found.{awake-free}
 use Rattle.laws_waits.specs.Stuck.{End as End_of_talk, is_at_hand, is_with, HasRoom, IsTalkingTo}
-use Rattle.laws_waits.specs.Stuck.End.{Absent, Unclaimed}
+use Rattle.laws_waits.specs.Stuck.End.{Absent, Unclaimed, Unnamed}
+use Rattle.laws_moves.proofs.InRows.Handles.{received-stage}
 use Rattle.laws_waits.specs.Stuck.{talk_place, is_talk_of, IsReached, receive_stage, send_stage, over_stage}
+use Rattle.fk_model.specs.declared.statuses.status.TheConstants.{BADHANDLE}
 
 module _ (w : World) (unheld : (q : Path) → decider w q ≡ None) (me : Path) where
   unfrozen : (x : Path) → is_frozen_for w me x ≡ false
@@ -362,17 +364,42 @@ module _ (w : World) (k : ℕ) (s : Path) where
   own-there write go (Missing t g None) h = absurd (cc)
   own-there write go Bad h = absurd (cc)
 
-  receive-at : (side : Turn) (into room : ℕ) → IsAtStage w me (receive_stage side into room) → receive w (user_at me) side into room ≡ Waits → HasReason w me
+  receive-at : (side : Turn) (into room : ℕ) (reference : Option ℕ) → IsAtStage w me (receive_stage side into room reference) →
+      is_handled w s reference ≡ true → receive w (user_at me) side into room ≡ Waits → HasReason w me
   unfolding receive
-  receive-at side into room at h =
+  receive-at side into room reference at handled h =
       let got = read (in_turn w me side (other_side side)) _ h in
       let t = talked side (other_side side) got.0 got.1 in
-      found (Receiving side into room true t.client) (at, ap (holds (is_talk_of side me (other_side side))) t.at ∙ t.is, by (room == 0) refl got.2) refl
+      found (Receiving side into room reference true t.client)
+      (at, ap (holds (is_talk_of side me (other_side side))) t.at ∙ t.is, by (room == 0) refl got.2, handled) refl
     where
       by : (b : Bool) → (room == 0) ≡ b → (if b then Waits else own_page_at me true (λ s page. Waits) (reach_word w s into true)) ≡ Waits →
           (b ≡ true) ⊎ IsReached w s into true true
       by true e h = inl refl
       by false e h = inr (own-there true (λ s page. Waits) (reach_word w s into true) h).0
+
+  -- a reference that is read is handled
+  handled-read : (k : ℕ) (p : Ptr) → object_in w (user_at me) reference_of s k ≡ Ok p → is_handled w s (Some k) ≡ true
+  unfolding object_in
+  handled-read k p read = by (nat_le k LAST_USER_SLOT) read
+    where
+      seen : (o : Option Body) → seen_as reference_of o ≡ Ok p → holds (λ b. is_some (reference_of b)) o ≡ true
+      seen None h = cc
+      seen (Some (Reference to)) h = refl
+      seen (Some (Mutex locked)) h = cc
+      seen (Some b) h = cc
+
+      by : (b : Bool) → and_read (if b then Ok k else Err status.BADHANDLE) (λ k. seen_as reference_of (w.body (k ∷ s))) ≡ Ok p →
+          (b && holds (λ b. is_some (reference_of b)) (w.body (k ∷ s))) ≡ true
+      by true h = seen (w.body (k ∷ s)) h
+      by false h = cc
+
+  receive_ref-at : (side : Turn) (into room reference : ℕ) → IsAtStage w me (receive_stage side into room (Some reference)) →
+      receive_ref w (user_at me) side into room reference ≡ Waits → HasReason w me
+  unfolding receive_ref
+  receive_ref-at side into room reference at h =
+      let got = read (object_in w (user_at me) reference_of s reference) _ h in
+      receive-at side into room (Some reference) at (handled-read reference got.0 got.1) got.2
 
   module _ (valid : IsValid w) (whole : IsWholeWorld w) (unheld : (q : Path) → decider w q ≡ None) where
     inner-at : (p : Ptr) (wanted : List Kind) → is_outer p ≡ false → leads_there (kind_there w) wanted p ≡ true → (y : Path) × (p ≡ At y)
@@ -420,25 +447,54 @@ module _ (w : World) (k : ℕ) (s : Path) where
     no-hold-free : (y : Path) (t : Thread) → is_resting t ≡ false → is_free w (parent y) t ≡ true
     no-hold-free y t awake = awake-free w s 0 y t (rw (unheld (parent y)) refl) (rw awake refl)
 
-    away : (side : Turn) (y : Path) (t : Thread) → (is_free w (parent y) t && is_some (receiving (other_side side) t.mode)) ≡ false
-        → is_at_hand (other_side side) t ≡ false
-    away side y t h = by (is_resting t) refl
+    -- who receives nothing isn't at hand, or is refused for its handle
+    abbrev Ended : Turn → Path → Type 0
+    Ended side y = IsGone w side (Absent y) ⊎ ((k : ℕ) × IsGone w side (Unnamed y k))
+
+    away : (side : Turn) (y : Path) (t : Thread) → thread_at w y ≡ Some t →
+        (is_free w (parent y) t && is_some (receiving w (parent y) (other_side side) t.mode)) ≡ false → Ended side y
+    away side y t at h = by (is_resting t) refl (awaited t.mode) refl
       where
-        by : (b : Bool) → is_resting t ≡ b → (not b && is_some (receiving (other_side side) t.mode)) ≡ false
-        by true e = refl
-        by false e = ap (λ f. f && is_some (receiving (other_side side) t.mode)) (sym (no-hold-free y t e)) ∙ h
+        gone : is_at_hand (other_side side) t ≡ false → Ended side y
+        gone e = inl (ap (holds (is_at_hand (other_side side))) at ∙ e)
+
+        and_not : (a : Bool) → (a && not true) ≡ false
+        and_not true = refl
+        and_not false = refl
+
+        eq-self : (k : ℕ) → (k == k) ≡ true
+        eq-self k = eq-eqb k k refl
+
+        met : is_resting t ≡ false → (o : Option ℕ) → awaited t.mode ≡ o → (b : Bool) → is_handled w (parent y) o ≡ b →
+            is_some (cond b (awaits_on (other_side side) t.mode) None) ≡ false → Ended side y
+        met e o at_slot true f none = gone (rw (e, none) refl)
+        met e (Some k) at_slot false f none = inr (
+          k,
+          (
+            ap (holds (is_at_hand_else (other_side side) k)) at
+                ∙ ap (λ b. is_at_hand (other_side side) t && not b) (ap (holds (λ j. j == k)) at_slot ∙ eq-self k) ∙ and_not (is_at_hand (other_side side) t),
+            f,
+          ),
+        )
+        met e None at_slot false f none = cc
+
+        by : (b : Bool) → is_resting t ≡ b → (o : Option ℕ) → awaited t.mode ≡ o → Ended side y
+        by true e o f = gone (rw e refl)
+        by false e o f = met e o f (is_handled w (parent y) o) refl
+            (ap (λ p. is_some (cond (is_handled w (parent y) p) (awaits_on (other_side side) t.mode) None)) (sym f)
+            ∙ ap (λ b. b && is_some (receiving w (parent y) (other_side side) t.mode)) (sym (no-hold-free y t e)) ∙ h)
 
     -- ---- over
 
-    over-end : (side : Turn) (client y : Path) (o : Option Thread) → passes_to_thread w (user_at me) side client (and_then (λ t. Some (y, t)) o) ≡ Waits →
-        holds (is_at_hand (other_side side)) o ≡ false
-    over-end side client y None h = refl
-    over-end side client y (Some t) h = by (is_free w (parent y) t && is_some (receiving (other_side side) t.mode)) refl h
+    over-end : (side : Turn) (client y : Path) (carried : Option Ptr) (o : Option Thread) → thread_at w y ≡ o →
+        passes_to_thread w (user_at me) side client carried (and_then (λ t. Some (y, t)) o) ≡ Waits → Ended side y
+    over-end side client y carried None at h = inl (ap (holds (is_at_hand (other_side side))) at)
+    over-end side client y carried (Some t) at h = by (is_free w (parent y) t && is_some (receiving w (parent y) (other_side side) t.mode)) refl h
       where
-        by : (b : Bool) → (is_free w (parent y) t && is_some (receiving (other_side side) t.mode)) ≡ b →
-            when b (passes (user_at me) side client (Alter y (Finish []) ∷ [])) ≡ Waits → is_at_hand (other_side side) t ≡ false
+        by : (b : Bool) → (is_free w (parent y) t && is_some (receiving w (parent y) (other_side side) t.mode)) ≡ b →
+            when b (passes (user_at me) side client (takes_turn y carried (awaited t.mode))) ≡ Waits → Ended side y
         by true e h = absurd (cc)
-        by false e h = away side y t e
+        by false e h = away side y t at e
 
     talks-to : (side : Turn) (client : Path) (talk : Talk) (end : End_of_talk) → talk_at w (talk_place side me client) ≡ Some talk
         → is_talk_of side me side talk ≡ true →
@@ -446,44 +502,67 @@ module _ (w : World) (k : ℕ) (s : Path) where
     talks-to side client talk end at is with_it =
         ap (holds (λ (talk : Talk). is_talk_of side me side talk && is_with side client end talk)) at ∙ rw (is, with_it) refl
 
-    over-client : (client : Path) (talk : Talk) (p : Peer) → IsAtStage w me ClientOver → talk_at w me ≡ Some talk
-        → is_talk_of turns.Client me turns.Client talk ≡ true →
-        talk.peer ≡ p → passes_to w (user_at me) turns.Client (line_of turns.Client me client talk) p ≡ Waits → HasReason w me
-    over-client client talk (Server q) stage at is peer h =
+    over-thread : (side : Turn) (reference : Option ℕ) (client y : Path) (talk : Talk) → IsAtStage w me (over_stage side reference) →
+        is_handled w s reference ≡ true → talk_at w (talk_place side me client) ≡ Some talk → is_talk_of side me side talk ≡ true →
+        is_with side client (Absent y) talk ≡ true → Ended side y → HasReason w me
+    over-thread side reference client y talk stage handled at is with_it (inl gone) =
+        found (Passing side reference client (Absent y)) (stage, talks-to side client talk (Absent y) at is with_it, gone, handled) refl
+    over-thread side reference client y talk stage handled at is with_it (inr gone) =
+        found (Passing side reference client (Unnamed y gone.0)) (stage, talks-to side client talk (Unnamed y gone.0) at is with_it, gone.1, handled) refl
+
+    over-client : (reference : Option ℕ) (carried : Option Ptr) (client : Path) (talk : Talk) (p : Peer) → IsAtStage w me (over_stage turns.Client reference) →
+        is_handled w s reference ≡ true → talk_at w me ≡ Some talk → is_talk_of turns.Client me turns.Client talk ≡ true →
+        talk.peer ≡ p → passes_to w (user_at me) turns.Client (line_of turns.Client me client talk) carried p ≡ Waits → HasReason w me
+    over-client reference carried client talk (Server q) stage handled at is peer h =
         let y = peer-at me talk q at peer in
         let to : talk.peer ≡ Server (At y.0) = peer ∙ ap Server y.1 in
-        let gone = over-end turns.Client me y.0 (thread_at w y.0)
-        (subst (λ q. passes_to_thread w (user_at me) turns.Client me (thread_led_to w q) ≡ Waits) y.1 h) in
-        found (Passing turns.Client client (Absent y.0))
-        (stage, talks-to turns.Client client talk (Absent y.0) at is (ap (serves y.0) to ∙ same_path_refl y.0), gone) refl
-    over-client client talk Parked stage at is peer h =
-        found (Passing turns.Client client Unclaimed) (stage, talks-to turns.Client client talk Unclaimed at is (ap (λ q. is_parked (Some q)) peer), tt) refl
-    over-client client talk Service stage at is peer h =
+        over-thread turns.Client reference client y.0 talk stage handled at is (ap (serves y.0) to ∙ same_path_refl y.0)
+        (over-end turns.Client me y.0 carried (thread_at w y.0) refl
+        (subst (λ q. passes_to_thread w (user_at me) turns.Client me carried (thread_led_to w q) ≡ Waits) y.1 h))
+    over-client reference carried client talk Parked stage handled at is peer h =
+        found (Passing turns.Client reference client Unclaimed)
+        (stage, talks-to turns.Client client talk Unclaimed at is (ap (λ q. is_parked (Some q)) peer), tt, handled) refl
+    over-client reference carried client talk Service stage handled at is peer h =
         let on = service-open me talk at in
         let goes : when true (telling (Passed talk.port) (passes (user_at me) turns.Client me []))
         ≡ Waits = subst (λ b. when b (telling (Passed talk.port) (passes (user_at me) turns.Client me [])) ≡ Waits) on h in
         absurd (cc)
 
-    over-server : (client : Path) (talk : Talk) → IsAtStage w me ServerOver → talk_at w client ≡ Some talk
-        → is_talk_of turns.Server me turns.Server talk ≡ true →
-        passes_to w (user_at me) turns.Server (line_of turns.Server me client talk) (Server (At client)) ≡ Waits → HasReason w me
-    over-server client talk stage at is h =
-        found (Passing turns.Server client (Absent client)) (
-          stage,
-          talks-to turns.Server client talk (Absent client) at is (same_path_refl client),
-          over-end turns.Server client client (thread_at w client) h,
-        ) refl
+    -- while nothing is held every pointer may be handed on
+    carries : (carried : Option Ptr) → may_carry w me carried ≡ true
+    carries None = refl
+    carries (Some (At x)) = rw (unheld x) refl
+    carries (Some Null) = refl
+    carries (Some Dead) = refl
+    carries (Some (Out slot)) = refl
+    carries (Some Outside) = refl
+    carries (Some Far) = refl
 
-    over-reason : (side : Turn) → IsAtStage w me (over_stage side) → over w (user_at me) side ≡ Waits → HasReason w me
+    passed-on : (side : Turn) (carried : Option Ptr) (l : Line) → passes_on w (user_at me) side carried l ≡ Waits →
+        passes_to w (user_at me) side l carried l.other ≡ Waits
+    passed-on side carried l h = sym (ap (λ b. when b (passes_to w (user_at me) side l carried l.other)) (carries carried)) ∙ h
+
+    over-reason : (side : Turn) (reference : Option ℕ) (carried : Option Ptr) → IsAtStage w me (over_stage side reference) → is_handled w s reference ≡ true →
+        over w (user_at me) side carried ≡ Waits → HasReason w me
     unfolding over
-    over-reason turns.Client stage h =
+    over-reason turns.Client reference carried stage handled h =
         let got = read (in_turn w me turns.Client turns.Client) _ h in
         let t = talked turns.Client turns.Client got.0 got.1 in
-        over-client t.client t.talk t.talk.peer stage t.at t.is refl (subst (λ l. passes_to w (user_at me) turns.Client l l.other ≡ Waits) t.same got.2)
-    over-reason turns.Server stage h =
+        over-client reference carried t.client t.talk t.talk.peer stage handled t.at t.is refl
+        (subst (λ l. passes_to w (user_at me) turns.Client l carried l.other ≡ Waits) t.same (passed-on turns.Client carried got.0 got.2))
+    over-reason turns.Server reference carried stage handled h =
         let got = read (in_turn w me turns.Server turns.Server) _ h in
         let t = talked turns.Server turns.Server got.0 got.1 in
-        over-server t.client t.talk stage t.at t.is (subst (λ l. passes_to w (user_at me) turns.Server l l.other ≡ Waits) t.same got.2)
+        over-thread turns.Server reference t.client t.client t.talk stage handled t.at t.is (same_path_refl t.client)
+        (over-end turns.Server t.client t.client carried (thread_at w t.client) refl
+        (subst (λ l. passes_to w (user_at me) turns.Server l carried l.other ≡ Waits) t.same (passed-on turns.Server carried got.0 got.2)))
+
+    over_ref-reason : (side : Turn) (reference : ℕ) → IsAtStage w me (over_stage side (Some reference)) → over_ref w (user_at me) side reference ≡ Waits →
+        HasReason w me
+    unfolding over_ref
+    over_ref-reason side reference stage h =
+        let got = read (object_in w (user_at me) reference_of s reference) _ h in
+        over-reason side (Some reference) (Some got.0) stage (handled-read reference got.0 got.1) got.2
 
     -- ---- send
 
@@ -510,32 +589,35 @@ module _ (w : World) (k : ℕ) (s : Path) where
         (Words port (block (moved_words address count 0 BLOCK_WORDS) address page))
 
     send-end : (side : Turn) (client y : Path) (address count : ℕ) (page : List ℕ) (o : Option Thread) → thread_at w y ≡ o →
-        sends_to_thread w (user_at me) side client address count page (and_then (λ t. Some (y, t)) o) ≡ Waits →
-        (holds (is_at_hand (other_side side)) o ≡ false) ⊎ Lack side y
-    send-end side client y address count page None at h = inl refl
-    send-end side client y address count page (Some t) at h = by (is_free w (parent y) t) refl (receiving (other_side side) t.mode) refl h
+        sends_to_thread w (user_at me) side client address count page (and_then (λ t. Some (y, t)) o) ≡ Waits → Ended side y ⊎ Lack side y
+    send-end side client y address count page None at h = inl (inl (ap (holds (is_at_hand (other_side side))) at))
+    send-end side client y address count page (Some t) at h =
+        by (is_free w (parent y) t) refl (receiving w (parent y) (other_side side) t.mode) refl h
       where
-        on : (into room : ℕ) → receiving (other_side side) t.mode ≡ Some (into, room) → (b : Bool) → (room == 0) ≡ b →
+        on : (into room : ℕ) → receiving w (parent y) (other_side side) t.mode ≡ Some (into, room) → (b : Bool) → (room == 0) ≡ b →
             (if b then Goes (Alter y (End status.FULL []) ∷ []) Nothing else their_page_at (λ t other_page.
             sends_words (user_at me) client y (moved_words address count into room) address count page into t other_page (words_at w t other_page))
-            (reach_word w (parent y) into true)) ≡ Waits →
-            (is_at_hand (other_side side) t ≡ false) ⊎ Lack side y
+            (reach_word w (parent y) into true)) ≡ Waits → Ended side y ⊎ Lack side y
         on into room there true e h = absurd (cc)
         on into room there false e h =
             inr (
               into,
               room,
-              (ap (and_then (λ (t : Thread). receiving (other_side side) t.mode)) at ∙ there, e),
+              (
+                ap (and_then (λ (t : Thread). awaits_on (other_side side) t.mode)) at
+                    ∙ received-stage w (parent y) (other_side side) t.mode (into, room) there,
+                e,
+              ),
               page-away (λ t other_page. sends_words (user_at me) client y (moved_words address count into room) address count page into t other_page
                   (words_at w t other_page))
                   (reach_word w (parent y) into true)
                   (λ t g. words-move client y (moved_words address count into room) address count page into t g (words_at w t g)) h,
             )
 
-        by : (b : Bool) → is_free w (parent y) t ≡ b → (o : Option (ℕ × ℕ)) → receiving (other_side side) t.mode ≡ o →
-            when b (sends_into w (user_at me) client y address count page o) ≡ Waits → (is_at_hand (other_side side) t ≡ false) ⊎ Lack side y
-        by false e o there h = inl (away side y t (rw e refl))
-        by true e None there h = inl (away side y t (rw (e, there) refl))
+        by : (b : Bool) → is_free w (parent y) t ≡ b → (o : Option (ℕ × ℕ)) → receiving w (parent y) (other_side side) t.mode ≡ o →
+            when b (sends_into w (user_at me) client y address count page o) ≡ Waits → Ended side y ⊎ Lack side y
+        by false e o there h = inl (away side y t at (rw e refl))
+        by true e None there h = inl (away side y t at (rw (e, there) refl))
         by true e (Some got) there h = on got.0 got.1 there (got.1 == 0) refl h
 
     -- what a Send has come to, with its own page there
@@ -543,9 +625,12 @@ module _ (w : World) (k : ℕ) (s : Path) where
       send-thread : (side : Turn) (client y : Path) (talk : Talk) → IsAtStage w me (send_stage side address count)
           → talk_at w (talk_place side me client) ≡ Some talk →
           is_talk_of side me side talk ≡ true → is_with side client (Absent y) talk ≡ true
-          → (holds (is_at_hand (other_side side)) (thread_at w y) ≡ false) ⊎ Lack side y → HasReason w me
-      send-thread side client y talk stage at is with_it (inl gone) =
+          → Ended side y ⊎ Lack side y → HasReason w me
+      send-thread side client y talk stage at is with_it (inl (inl gone)) =
           found (Sending side address count true client (Absent y)) (stage, more, home, talks-to side client talk (Absent y) at is with_it, gone) refl
+      send-thread side client y talk stage at is with_it (inl (inr gone)) =
+          found (Sending side address count true client (Unnamed y gone.0))
+          (stage, more, home, talks-to side client talk (Unnamed y gone.0) at is with_it, gone.1) refl
       send-thread side client y talk stage at is with_it (inr lack) =
           found (Lacking side address count true client y lack.0 lack.1)
           (stage, more, home, talks-to side client talk (Absent y) at is with_it, lack.2, lack.3) refl
@@ -725,14 +810,22 @@ module _ (w : World) (k : ℕ) (s : Path) where
       calling-reason (CondAsleep c m) todo rest mode = plain-reason (CondAsleep c m) todo rest mode refl (sleep-reason c m)
       calling-reason (CondSignal c) todo rest mode = absurd (signal-never c todo rest mode)
       calling-reason (Connect h) todo rest mode = plain-reason (Connect h) todo rest mode refl (connect-reason whole h)
-      calling-reason (ClientReceive into room) todo rest mode = plain-reason (ClientReceive into room) todo rest mode refl (receive-at turns.Client into room)
-      calling-reason (ServerReceive into room) todo rest mode = plain-reason (ServerReceive into room) todo rest mode refl (receive-at turns.Server into room)
+      calling-reason (ClientReceive into room) todo rest mode = plain-reason (ClientReceive into room) todo rest mode refl
+          (λ at h. receive-at turns.Client into room None at refl h)
+      calling-reason (ServerReceive into room) todo rest mode = plain-reason (ServerReceive into room) todo rest mode refl
+          (λ at h. receive-at turns.Server into room None at refl h)
       calling-reason (ClientSend address count) todo rest mode = plain-reason (ClientSend address count) todo rest mode refl
           (send-reason turns.Client address count)
       calling-reason (ServerSend address count) todo rest mode = plain-reason (ServerSend address count) todo rest mode refl
           (send-reason turns.Server address count)
-      calling-reason ClientOver todo rest mode = plain-reason ClientOver todo rest mode refl (over-reason turns.Client)
-      calling-reason ServerOver todo rest mode = plain-reason ServerOver todo rest mode refl (over-reason turns.Server)
+      calling-reason ClientOver todo rest mode = plain-reason ClientOver todo rest mode refl (λ at h. over-reason turns.Client None None at refl h)
+      calling-reason (ClientOverRef reference) todo rest mode = plain-reason (ClientOverRef reference) todo rest mode refl (over_ref-reason turns.Client reference)
+      calling-reason (ClientReceiveRef into room reference) todo rest mode = plain-reason (ClientReceiveRef into room reference) todo rest mode refl
+          (receive_ref-at turns.Client into room reference)
+      calling-reason ServerOver todo rest mode = plain-reason ServerOver todo rest mode refl (λ at h. over-reason turns.Server None None at refl h)
+      calling-reason (ServerOverRef reference) todo rest mode = plain-reason (ServerOverRef reference) todo rest mode refl (over_ref-reason turns.Server reference)
+      calling-reason (ServerReceiveRef into room reference) todo rest mode = plain-reason (ServerReceiveRef into room reference) todo rest mode refl
+          (receive_ref-at turns.Server into room reference)
       calling-reason (Wait set) todo rest mode = wait-reason set todo rest mode
       calling-reason FaultDone todo rest mode = plain-reason FaultDone todo rest mode refl (λ at h. absurd (fault_done-never h))
       calling-reason (SpaceHold h x) todo rest mode = plain-reason (SpaceHold h x) todo rest mode refl (λ at waits. absurd (hold-never h x waits))

@@ -13,12 +13,12 @@ use Rattle.laws_waits.specs.Touching.{IsThreadEdit, stirs}
 use Rattle.laws_waits.specs.Stuck.{BringsNobody, talk_place, is_talk_of, is_with, IsTalking, IsTalkingTo, HasTaken, LeavesEnd, IsGone, Reason, IsStuck}
 use Rattle.laws_waits.specs.Stuck.{IsUntouched}
 use Rattle.laws_waits.specs.Stuck.{End as End_of_talk}
-use Rattle.laws_waits.specs.Stuck.End.{Absent, Covered, Unclaimed, Closed}
+use Rattle.laws_waits.specs.Stuck.End.{Absent, Covered, Unclaimed, Closed, Unnamed}
 use Rattle.laws_waits.specs.Stuck.Reason.{Resting, Beneath, Locking, Sleeping, Connecting, Receiving, Passing, Sending, Lacking, Ending, Holding, Waiting}
 use Rattle.laws_waits.specs.Stuck.Reason.{WaitingOut, Barred}
 use Rattle.laws_waits.specs.Few.{is_peer_of, is_taker_of, IsNobodyTo, DoesntCome, IsSpared, ThreadEditsTouchFew, ClientsAreFound}
 use Rattle.laws_waits.proofs.Rows.{client-found, held-some}
-use Rattle.laws_waits.proofs.Calm.{off-right, held-other, memory-left, page-left, place-left, space-other, set-other, lock-other}
+use Rattle.laws_waits.proofs.Calm.{alter-handle, off-right, held-other, memory-left, page-left, place-left, space-other, set-other, lock-other}
 
 module _ (w : World) (y : Path) (e : Edit) (t : Thread) (there : thread_at w y ≡ Some t)
     (plain : IsThreadEdit e) (x : Path) (nobody : IsNobodyTo w x y) where
@@ -75,6 +75,7 @@ module _ (w : World) (y : Path) (e : Edit) (t : Thread) (there : thread_at w y �
 
   end-left : (side : Turn) (client : Path) (end : End_of_talk) → IsTalkingTo w x side client end → IsGone w side end → LeavesEnd w (Alter y e) end
   end-left side client (Absent z) talking gone = unstirred z (end-apart side client z talking)
+  end-left side client (Unnamed z k) talking gone = (unstirred z (end-apart side client z talking), refl)
   end-left side client (Covered z space) talking gone = held-other w y e t there space gone.1
   end-left side client Unclaimed talking gone = tt
   end-left side client (Closed port space) talking gone = held-other w y e t there space gone.1
@@ -104,10 +105,14 @@ module _ (w : World) (y : Path) (e : Edit) (t : Thread) (there : thread_at w y �
   touches (Locking m) stuck spared = (nobody.other, lock-other w y e t there (parent x) m stuck.2)
   touches (Sleeping c m) stuck spared = (nobody.other, refl, refl)
   touches (Connecting h port) stuck spared = (nobody.other, off-right (same_path (h ∷ parent x) y) _ plain.0, refl)
-  touches (Receiving side into room far client) stuck spared =
-      (nobody.other, unstirred _ (place-apart side _ client stuck.1), page-left w y e t there (parent x) into far)
-  touches (Passing side client end) stuck spared =
-      (nobody.other, unstirred _ (place-apart side side client (talking-first side client end stuck.1)), end-left side client end stuck.1 stuck.2)
+  touches (Receiving side into room reference far client) stuck spared =
+      (nobody.other, unstirred _ (place-apart side _ client stuck.1), page-left w y e t there (parent x) into far, alter-handle y e (parent x) reference)
+  touches (Passing side reference client end) stuck spared = (
+    nobody.other,
+    unstirred _ (place-apart side side client (talking-first side client end stuck.1)),
+    end-left side client end stuck.1 stuck.2,
+    alter-handle y e (parent x) reference,
+  )
   touches (Sending side address count far client end) stuck spared = (
     nobody.other,
     unstirred _ (place-apart side side client (talking-first side client end stuck.3)),

@@ -4,7 +4,7 @@ use Rattle.std.proofs.Common.{◌∙◌}
 use Rattle.fk_model.specs.declared.limits.TheConstants.{MOST_MOVED}
 use Rattle.fk_model.specs.declared.names.Kind.TheVariants as kinds
 use Rattle.fk_model.specs.declared.stage.Stage.{Stage}
-use Rattle.fk_model.specs.declared.stage.Stage.TheVariants.{Create, ClientReceive, ClientSend, ServerReceive, ServerSend, Connect}
+use Rattle.fk_model.specs.declared.stage.Stage.TheVariants.{Create, ClientReceive, ClientSend, ServerReceive, ServerSend, Connect, ClientReceiveRef, ServerReceiveRef}
 use Rattle.fk_model.specs.declared.thread.Turn.{Turn}
 use Rattle.fk_model.specs.declared.thread.Turn.TheVariants as turns
 use Rattle.fk_model.specs.Objects.{Mode, Talk, Thread, Body, kind_of, thread_of, holds}
@@ -13,11 +13,11 @@ use Rattle.fk_model.specs.Objects.Body.{Mutex, Cond, Mapping, Region, Port, Port
 use Rattle.fk_model.specs.World.{Edit, edited, at_mode, on_talk, shifted, shifted_in, ended_in}
 use Rattle.fk_model.specs.World.Edit.{SetLocked, Proceed, Shift, Finish, End, Replace, SetStops, SetTalk, CountMoved, PassTurn, SetPeer, SetFault, SetTaker}
 use Rattle.fk_model.specs.Holds.{is_user}
-use Rattle.fk_model.specs.Talks.{first_stage, receive_on, receiving}
+use Rattle.fk_model.specs.Talks.{first_stage, receive_on, receiving, awaited, reference_awaited}
 use Rattle.laws_moves.proofs.InMachine.validity.Outlines.{Outline}
 use Rattle.laws_moves.proofs.InMachine.validity.Edits.{outline-edited}
 use Rattle.laws_waits.specs.Touching.{is_loud}
-use Rattle.laws_waits.specs.Stuck.{is_resting, is_at_hand}
+use Rattle.laws_waits.specs.Stuck.{is_resting, is_at_hand, awaits_on, is_at_hand_else}
 
 -- what a quiet edit makes of a thread
 abbrev pub turned : Edit → Thread → Thread
@@ -67,16 +67,20 @@ shift-receive turns.Client k (ClientReceive into room) = refl
 shift-receive turns.Client k (ClientSend address count) = refl
 shift-receive turns.Client k (ServerReceive into room) = refl
 shift-receive turns.Client k (ServerSend address count) = refl
+shift-receive turns.Client k (ClientReceiveRef into room reference) = refl
+shift-receive turns.Client k (ServerReceiveRef into room reference) = refl
 shift-receive turns.Client k (Create s x kind) = refl
 shift-receive turns.Client k stage = refl
 shift-receive turns.Server k (ClientReceive into room) = refl
 shift-receive turns.Server k (ClientSend address count) = refl
 shift-receive turns.Server k (ServerReceive into room) = refl
 shift-receive turns.Server k (ServerSend address count) = refl
+shift-receive turns.Server k (ClientReceiveRef into room reference) = refl
+shift-receive turns.Server k (ServerReceiveRef into room reference) = refl
 shift-receive turns.Server k (Create s x kind) = refl
 shift-receive turns.Server k stage = refl
 
-shift-receiving : (side : Turn) (k : ℕ) (m : Mode) → is_some (receiving side (shifted_in k m)) ≡ is_some (receiving side m)
+shift-receiving : (side : Turn) (k : ℕ) (m : Mode) → is_some (awaits_on side (shifted_in k m)) ≡ is_some (awaits_on side m)
 shift-receiving side k (Calling (stage ∷ todo) rest) = shift-receive side k stage
 shift-receiving side k (Calling [] rest) = refl
 shift-receiving side k m = refl
@@ -105,12 +109,52 @@ proceed-away side t (Native g) n h = and_off _
 pub quiet_away : (side : Turn) (e : Edit) (t : Thread) → is_loud e t ≡ false → is_at_hand side t ≡ false → is_at_hand side (turned e t) ≡ false
 quiet_away side (Proceed mode counter) t h away = proceed-away side t mode counter h
 quiet_away side (Shift count) t h away =
-    ap (λ u. not (not (t.stops == 0) || is_some t.fault || not u) && is_some (receiving side (shifted_in count t.mode))) (shift-user count t.mode)
+    ap (λ u. not (not (t.stops == 0) || is_some t.fault || not u) && is_some (awaits_on side (shifted_in count t.mode))) (shift-user count t.mode)
     ∙ ap (λ r. not (is_resting t) && r) (shift-receiving side count t.mode) ∙ away
 quiet_away side (End status answers) t h away = end-away side status answers t t.mode refl away
 quiet_away side (CountMoved count) t h away = away
 quiet_away side (SetLocked locked) t h away = away
 quiet_away side e t h away = away
+
+-- ---- nor is one who was at hand but for its handle
+
+shift-reference : (k : ℕ) (stage : Stage) → reference_awaited (shifted k stage) ≡ reference_awaited stage
+shift-reference k (ClientReceive into room) = refl
+shift-reference k (ClientSend address count) = refl
+shift-reference k (ServerReceive into room) = refl
+shift-reference k (ServerSend address count) = refl
+shift-reference k (ClientReceiveRef into room reference) = refl
+shift-reference k (ServerReceiveRef into room reference) = refl
+shift-reference k (Create s x kind) = refl
+shift-reference k stage = refl
+
+shift-awaited : (k : ℕ) (m : Mode) → awaited (shifted_in k m) ≡ awaited m
+shift-awaited k (Calling (stage ∷ todo) rest) = shift-reference k stage
+shift-awaited k (Calling [] rest) = refl
+shift-awaited k m = refl
+
+else-off : (a b : Bool) → a ≡ false → (a && b) ≡ false
+else-off false b h = refl
+else-off true b h = cc
+
+end-else : (side : Turn) (k status : ℕ) (answers : List ℕ) (t : Thread) (m : Mode) → t.mode ≡ m → is_at_hand_else side k t ≡ false →
+    is_at_hand_else side k (ended_in status answers t m) ≡ false
+end-else side k status answers t (Calling todo rest) e h = else-off _ _ (and_off _)
+end-else side k status answers t (Running g) e h = h
+end-else side k status answers t m e h = h
+
+pub quiet_else : (side : Turn) (k : ℕ) (e : Edit) (t : Thread) → is_loud e t ≡ false → is_at_hand_else side k t ≡ false →
+    is_at_hand_else side k (turned e t) ≡ false
+quiet_else side k (Proceed mode counter) t h away = else-off _ _ (proceed-away side t mode counter h)
+quiet_else side k (Shift count) t h away =
+    ap (λ u. not (not (t.stops == 0) || is_some t.fault || not u) && is_some (awaits_on side (shifted_in count t.mode))
+    && not (holds (λ j. j == k) (awaited (shifted_in count t.mode)))) (shift-user count t.mode)
+    ∙ ap (λ r. not (is_resting t) && r && not (holds (λ j. j == k) (awaited (shifted_in count t.mode)))) (shift-receiving side count t.mode)
+    ∙ ap (λ o. is_at_hand side t && not (holds (λ j. j == k) o)) (shift-awaited count t.mode) ∙ away
+quiet_else side k (End status answers) t h away = end-else side k status answers t t.mode refl away
+quiet_else side k (CountMoved count) t h away = away
+quiet_else side k (SetLocked locked) t h away = away
+quiet_else side k e t h away = away
 
 -- ---- a talk stays, but for the words moved
 
@@ -180,6 +224,8 @@ shift-connect k h (ClientReceive into room) e = cc
 shift-connect k h (ClientSend address count) e = cc
 shift-connect k h (ServerReceive into room) e = cc
 shift-connect k h (ServerSend address count) e = cc
+shift-connect k h (ClientReceiveRef into room reference) e = cc
+shift-connect k h (ServerReceiveRef into room reference) e = cc
 shift-connect k h (Create s x kind) e = e
 shift-connect k h stage e = e
 

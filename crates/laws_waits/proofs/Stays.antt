@@ -1,36 +1,38 @@
 -- A change that leaves a reason leaves it true.
-use Rattle.std.proofs.Common.{◌≡◌, ℕ, ◌/◌, Bool, true, false, not, cond, ◌&&◌, ◌==◌, is_some, List, [], ◌∷◌, Option, Some, None, option_map, Ok, refl, ap, ◌∙◌}
-use Rattle.std.proofs.Common.{◌⊎◌, inl, inr}
-use Rattle.fk_model.specs.declared.limits.TheConstants.{PAGE_WORDS}
+use Rattle.std.proofs.Common.{◌≡◌, ℕ, ◌/◌, Bool, true, false, not, cond, ◌&&◌, ◌==◌, is_some, List, [], ◌∷◌, Option, Some, None, option_map, Ok, refl, ap, ◌∙◌, nat_le}
+use Rattle.std.proofs.Common.{◌⊎◌, inl, inr, sym}
+use Rattle.fk_model.specs.declared.limits.TheConstants.{PAGE_WORDS, LAST_USER_SLOT}
 use Rattle.fk_model.specs.declared.names.Kind.TheVariants as kinds
 use Rattle.fk_model.specs.declared.stage.Stage.{Stage}
 use Rattle.fk_model.specs.declared.thread.Turn.{Turn}
 use Rattle.fk_model.specs.declared.thread.Turn.TheVariants as turns
 use Rattle.fk_model.specs.Places.{Path, same_path, strip, is_within, parent, leads_to}
 use Rattle.fk_model.specs.Places.Ptr.{At}
-use Rattle.fk_model.specs.Objects.{Talk, Fault, Thread, mutex_of, space_of, thread_of, and_then, or_else, holds}
+use Rattle.fk_model.specs.Objects.{Talk, Fault, Thread, mutex_of, space_of, thread_of, and_then, or_else, holds, Body, kind_of, reference_of, same_kind}
 use Rattle.fk_model.specs.World.{World, Change, apply, apply_all, serves}
 use Rattle.fk_model.specs.Searches.{talk_at}
 use Rattle.fk_model.specs.Holds.{holder_of, decider}
 use Rattle.fk_model.specs.Readers.{handled}
 use Rattle.fk_model.specs.LinkRows.{portset_of}
-use Rattle.fk_model.specs.Talks.{first_stage, other_side, receiving}
+use Rattle.fk_model.specs.Talks.{first_stage, other_side, receiving, is_reference_in, is_handled}
 use Rattle.fk_model.specs.Outcomes.{Outcome, listed}
 use Rattle.fk_model.specs.Outcomes.Outcome.{Refused, Waits, Goes}
 use Rattle.fk_model.specs.Moves.{outcome, step, stepped}
 use Rattle.laws_moves.specs.Machine.Frame.{names_body}
 use Rattle.fk_model.proofs.walks.PlaceLaws.{same_path_refl}
 use Rattle.laws_waits.specs.Touching.{remakes, stirs, reholds, takes_page}
-use Rattle.laws_waits.specs.Stuck.{is_resting, IsBeneath, End, talk_place, is_talk_of, is_with, is_at_hand, IsGone, IsTalking, IsTalkingTo, IsAtHome, IsReached}
-use Rattle.laws_waits.specs.Stuck.{LeavesPage, LeavesPlace, IsPlace, HasTaken, comes_to, Reason, IsAtStage, IsStuck, LeavesEnd, AreUntouched}
-use Rattle.laws_waits.specs.Stuck.End.{Absent, Covered, Unclaimed, Closed}
+use Rattle.laws_waits.specs.Stuck.{is_resting, IsBeneath, End, talk_place, is_talk_of, is_with, is_at_hand, IsGone, IsTalking, IsTalkingTo, IsAtHome, IsReached, LeavesHandle}
+use Rattle.laws_waits.specs.Stuck.{LeavesPage, LeavesPlace, IsPlace, HasTaken, comes_to, Reason, IsAtStage, IsStuck, LeavesEnd, AreUntouched, awaits_on, is_at_hand_else}
+use Rattle.laws_waits.specs.Stuck.End.{Absent, Covered, Unclaimed, Closed, Unnamed}
 use Rattle.laws_waits.specs.Stuck.Reason.{Resting, Beneath, Locking, Sleeping, Connecting, Receiving, Passing, Sending, Lacking, Ending, Holding, Waiting}
 use Rattle.laws_waits.specs.Stuck.Reason.{WaitingOut, Barred}
 use Rattle.laws_waits.specs.Laws.{StuckStays, MovesLeaveStuck}
-use Rattle.laws_waits.proofs.Quiet.{quiet_away, quiet_talk, quiet_fault}
+use Rattle.laws_waits.proofs.Quiet.{quiet_away, quiet_talk, quiet_fault, quiet_else}
 use Rattle.laws_waits.proofs.Memory.{memory_kept, word-same}
 use Rattle.laws_waits.proofs.Kept.{kept-body, kept-holder, thread-kept, kept-kind, kept-page, kept-handle, kind_at-kept, same_handle}
 use Rattle.laws_waits.proofs.Comes.{comes_none, serves_none}
+use Rattle.fk_model.specs.Objects.Body.{Mutex, Reference}
+use Rattle.fk_model.specs.Valid.{kind_there}
 
 module _ (w : World) (c : Change) where
   beneath-kept : (space x : Path) → IsBeneath w space x → names_body w c space ≡ false → IsBeneath (apply c w) space x
@@ -52,10 +54,12 @@ module _ (w : World) (c : Change) where
   with-blind : (side : Turn) (client : Path) (end : End) (talk : Talk) (n : ℕ)
       → is_with side client end (record talk { moved = n }) ≡ is_with side client end talk
   with-blind turns.Client client (Absent y) talk n = refl
+  with-blind turns.Client client (Unnamed y k) talk n = refl
   with-blind turns.Client client (Covered y space) talk n = refl
   with-blind turns.Client client Unclaimed talk n = refl
   with-blind turns.Client client (Closed port space) talk n = refl
   with-blind turns.Server client (Absent y) talk n = refl
+  with-blind turns.Server client (Unnamed y k) talk n = refl
   with-blind turns.Server client (Covered y space) talk n = refl
   with-blind turns.Server client Unclaimed talk n = refl
   with-blind turns.Server client (Closed port space) talk n = refl
@@ -72,9 +76,29 @@ module _ (w : World) (c : Change) where
       ∙ ap (λ b. is_talk_of side me side talk && b) (with-blind side client end talk n))
       (talk_place side me client) quiet h
 
+  reference-kept : (space : Path) (k : ℕ) → remakes c (k ∷ space) ≡ false → is_reference_in (apply c w) space k ≡ is_reference_in w space k
+  unfolding kind_there
+  reference-kept space k out = ap (λ b. nat_le k LAST_USER_SLOT && b)
+      (by_kind ((apply c w).body (k ∷ space)) ∙ ap (holds (same_kind kinds.Reference)) (kept-kind w c (k ∷ space) out) ∙ sym (by_kind (w.body (k ∷ space))))
+    where
+      by_kind : (o : Option Body) → holds (λ b. is_some (reference_of b)) o ≡ holds (same_kind kinds.Reference) (option_map kind_of o)
+      by_kind None = refl
+      by_kind (Some (Reference to)) = refl
+      by_kind (Some (Mutex locked)) = refl
+      by_kind (Some b) = refl
+
+  named-kept : (space : Path) (reference : Option ℕ) → is_handled w space reference ≡ true → LeavesHandle c space reference →
+      is_handled (apply c w) space reference ≡ true
+  named-kept space None h out = refl
+  named-kept space (Some k) h out = reference-kept space k out ∙ h
+
   end-kept : (side : Turn) (end : End) → IsGone w side end → LeavesEnd w c end → IsGone (apply c w) side end
   end-kept side (Absent y) gone quiet =
       thread-kept (λ o. holds (is_at_hand (other_side side)) o ≡ false) w y (λ e t at off away. quiet_away (other_side side) e t off away) c quiet gone
+  end-kept side (Unnamed y k) gone out = (
+    thread-kept (λ o. holds (is_at_hand_else (other_side side) k) o ≡ false) w y (λ e t at off away. quiet_else (other_side side) k e t off away) c out.0 gone.0,
+    reference-kept (parent y) k out.1 ∙ gone.1,
+  )
   end-kept side (Covered y space) gone out = beneath-kept space y gone out
   end-kept side Unclaimed gone out = tt
   end-kept side (Closed port space) gone out = beneath-kept space port gone out
@@ -146,14 +170,18 @@ stuck_stays_lem w c x (Connecting h port) s out = (
       ∙ same_handle kinds.Port w (apply c w) (h ∷ parent x) (w.body (h ∷ parent x)) (At port) s.3
       (λ q led. let same : port ≡ q = cc in rw (← same) (kind_at-kept kinds.Port w c port out.2)),
 )
-stuck_stays_lem w c x (Receiving side into room far client) s out =
-    (stage-kept w c x _ s.0 out.0, talking-kept w c x side (other_side side) client s.1 out.1, by s.2)
+stuck_stays_lem w c x (Receiving side into room reference far client) s out =
+    (stage-kept w c x _ s.0 out.0, talking-kept w c x side (other_side side) client s.1 out.1, by s.2, named-kept w c (parent x) reference s.3 out.3)
   where
     by : ((room == 0) ≡ true) ⊎ IsReached w (parent x) into true far → ((room == 0) ≡ true) ⊎ IsReached (apply c w) (parent x) into true far
     by (inl e) = inl e
     by (inr h) = inr (reached-kept w c (parent x) into true far h out.2)
-stuck_stays_lem w c x (Passing side client end) s out =
-    (stage-kept w c x _ s.0 out.0, talking_to-kept w c x side client end s.1 out.1, end-kept w c side end s.2 out.2)
+stuck_stays_lem w c x (Passing side reference client end) s out = (
+  stage-kept w c x _ s.0 out.0,
+  talking_to-kept w c x side client end s.1 out.1,
+  end-kept w c side end s.2 out.2,
+  named-kept w c (parent x) reference s.3 out.3,
+)
 stuck_stays_lem w c x (Sending side address count far client end) s out = (
   stage-kept w c x _ s.0 out.0,
   s.1,
@@ -166,7 +194,7 @@ stuck_stays_lem w c x (Lacking side address count far client y into room) s out 
   s.1,
   reached-kept w c (parent x) address false far s.2 out.3,
   talking_to-kept w c x side client (Absent y) s.3 out.1,
-  (kept-body (λ o. and_then (λ (t : Thread). receiving (other_side side) t.mode) (and_then thread_of o)) w c y out.2 ∙ s.4.0, s.4.1),
+  (kept-body (λ o. and_then (λ (t : Thread). awaits_on (other_side side) t.mode) (and_then thread_of o)) w c y out.2 ∙ s.4.0, s.4.1),
   word-same w (apply c w) (memory_kept w c out.4) (parent y) into true ∙ s.5,
 )
 stuck_stays_lem w c x (Ending y space) s out = (stage-kept w c x _ s.0 out.0, taken-kept w c x y s.1 out.1, beneath-kept w c space y s.2 out.2)

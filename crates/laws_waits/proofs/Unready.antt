@@ -1,18 +1,18 @@
 -- No move of a stuck thread is ready.
 use Rattle.std.proofs.Common.{◌≡◌, ℕ, ◌≤◌, Bool, true, false, not, cond, find, if◌then◌else◌, ◌&&◌, ◌||◌, ◌==◌, nat_le, is_some, List, [], ◌∷◌, Option, Some}
 use Rattle.std.proofs.Common.{None, option_map, Ok, refl, ap, sym, subst, ◌∙◌, ◌⊎◌, inl, inr}
-use Rattle.std.proofs.lemmas.Bool.{and_parts}
+use Rattle.std.proofs.lemmas.Bool.{and_parts, eqb-true}
 use Rattle.fk_model.specs.declared.limits.TheConstants.{LAST_USER_SLOT}
 use Rattle.fk_model.specs.declared.moves.Ask.TheVariants as asks
 use Rattle.fk_model.specs.declared.names.Kind.TheVariants as kinds
 use Rattle.fk_model.specs.declared.stage.Stage.{Stage}
-use Rattle.fk_model.specs.declared.stage.Stage.TheVariants.{SpaceHold, MutexLock, CondAsleep, Connect, Wait, ClientReceive, ClientSend, ClientOver}
-use Rattle.fk_model.specs.declared.stage.Stage.TheVariants.{ServerReceive, ServerSend, ServerOver, FaultDone}
+use Rattle.fk_model.specs.declared.stage.Stage.TheVariants.{SpaceHold, MutexLock, CondAsleep, Connect, Wait, ClientReceive, ClientSend, ClientOver, ClientOverRef, ClientReceiveRef}
+use Rattle.fk_model.specs.declared.stage.Stage.TheVariants.{ServerReceive, ServerSend, ServerOver, FaultDone, ServerOverRef, ServerReceiveRef}
 use Rattle.fk_model.specs.declared.thread.Turn.{Turn}
 use Rattle.fk_model.specs.declared.thread.Turn.TheVariants as turns
 use Rattle.fk_model.specs.Places.{Path, is_within, parent, Ptr, leads_to}
 use Rattle.fk_model.specs.Places.Ptr.{Null, Dead, At, Out, Outside, Far}
-use Rattle.fk_model.specs.Objects.{Peer, Talk, Fault, Thread, Body, kind_of, mutex_of, space_of, thread_of, and_then, or_else, holds}
+use Rattle.fk_model.specs.Objects.{Peer, Talk, Fault, Thread, Body, kind_of, mutex_of, space_of, thread_of, and_then, or_else, holds, Mode, reference_of}
 use Rattle.fk_model.specs.Objects.Peer.{Server, Service, Parked}
 use Rattle.fk_model.specs.Objects.Body.{Mutex, Cond, Portset, Space, Thread_of}
 use Rattle.fk_model.specs.World.{World, serves}
@@ -25,18 +25,20 @@ use Rattle.fk_model.specs.FaultRows.{fault_done}
 use Rattle.fk_model.specs.Outcomes.{Outcome, ◌>>=◌, when, done}
 use Rattle.fk_model.specs.Outcomes.Outcome.{Waits}
 use Rattle.fk_model.specs.Readers.{seen_as, handled, handle, space_argument, own_page_at, own_page, their_page_at, object_in}
-use Rattle.fk_model.specs.Talks.{Line, first_stage, receiving, other_side, is_service_free}
+use Rattle.fk_model.specs.Talks.{Line, first_stage, receiving, other_side, is_service_free, awaited, is_handled}
 use Rattle.fk_model.specs.SyncRows.{cond_of, mutex_lock, cond_asleep}
-use Rattle.fk_model.specs.TransferRows.{awaits, receive, sends, sends_to, sends_to_thread, sends_into, send, passes_to, passes_to_thread, over}
+use Rattle.fk_model.specs.TransferRows.{awaits, receive, sends, sends_to, sends_to_thread, sends_into, send, passes_to, passes_to_thread, over, may_carry, over_ref, passes_on}
+use Rattle.fk_model.specs.TransferRows.{receive_ref}
 use Rattle.fk_model.specs.LinkRows.{user_at, connect, connecting_to, is_parked, is_open, portset_of, slot_in_set, Candidate, faulting, connecting, resuming}
 use Rattle.fk_model.specs.LinkRows.{candidate_by, candidate, takes_picked, takes_candidate, wait}
 use Rattle.fk_model.specs.LinkRows.Candidate.{Faulting, Connecting as Connects, Resuming}
 use Rattle.fk_model.specs.Moves.{with_pick, closed, GoesAllowed, call_row, IsReady}
 use Rattle.fk_model.specs.Valid.{kind_there, IsValid}
 use Rattle.fk_model.proofs.walks.PlaceLaws.{same_path_eq, leads_to_at}
-use Rattle.laws_waits.specs.Stuck.{is_resting, IsBeneath, End, talk_place, is_talk_of, is_with, is_at_hand, IsGone, IsTalking, IsTalkingTo, IsReached, IsPlace}
-use Rattle.laws_waits.specs.Stuck.{HasRoom, HasTaken, Reason, IsAtStage, IsStuck, is_served_by, IsSet, is_in, comes_to, comes_connecting, comes_resuming}
-use Rattle.laws_waits.specs.Stuck.End.{Absent, Covered, Unclaimed, Closed}
+use Rattle.laws_waits.specs.Stuck.{is_resting, IsBeneath, End, talk_place, is_talk_of, is_with, is_at_hand, IsGone, IsTalking, IsTalkingTo, IsReached, IsPlace, awaits_on}
+use Rattle.laws_waits.specs.Stuck.{HasRoom, HasTaken, Reason, IsAtStage, IsStuck, is_served_by, IsSet, is_in, comes_to, comes_connecting, comes_resuming, is_at_hand_else}
+use Rattle.laws_waits.specs.Stuck.{names_slot}
+use Rattle.laws_waits.specs.Stuck.End.{Absent, Covered, Unclaimed, Closed, Unnamed}
 use Rattle.laws_waits.specs.Stuck.Reason.{Resting, Beneath, Locking, Sleeping, Connecting, Receiving, Passing, Sending, Lacking, Ending, Holding, Waiting}
 use Rattle.laws_waits.specs.Stuck.Reason.{WaitingOut, Barred}
 use Rattle.laws_waits.specs.Touching.{is_home}
@@ -44,6 +46,7 @@ use Rattle.laws_waits.specs.Laws.{StuckIsUnready}
 use Rattle.laws_moves.proofs.InMachine.Frame.{or_off}
 use Rattle.laws_waits.proofs.Comes.{comes_by}
 use Rattle.laws_waits.proofs.Rows.{goes-on, free-resting, free-beneath, held-decider, at-stage, object-ok, serves-is, line_of, turn-ok, reached-home}
+use Rattle.laws_moves.proofs.InRows.Handles.{reference-in}
 use Rattle.laws_waits.proofs.Rows.{faulter-found, held-some}
 
 -- ---- a stage that waits is no move
@@ -82,26 +85,62 @@ sleep-waits w x c m low also cond mutex =
 
 -- nothing can be moved to who stands at the other end
 pub data Gone (w : World) (side : Turn) (talk : Talk) : Peer → Type 0 where
-  ByThread : (y : Path) → ((t : Thread) → thread_at w y ≡ Some t → (is_free w (parent y) t && is_some (receiving (other_side side) t.mode)) ≡ false) →
+  ByThread : (y : Path) → ((t : Thread) → thread_at w y ≡ Some t → (is_free w (parent y) t && is_some (receiving w (parent y) (other_side side) t.mode)) ≡ false) →
       Gone w side talk (Server (At y))
   ByNobody : Gone w side talk Parked
   ByService : is_service_free w talk.port ≡ false → Gone w side talk Service
 
+-- who isn't at a Receive receives nothing
+unawaited : (w : World) (s : Path) (side : Turn) (m : Mode) → is_some (awaits_on side m) ≡ false → is_some (receiving w s side m) ≡ false
+unawaited w s side m h = by (is_handled w s (awaited m))
+  where
+    by : (b : Bool) → is_some (cond b (awaits_on side m) None) ≡ false
+    by true = h
+    by false = refl
+
+-- nor does who is refused for its handle
+unhandled : (w : World) (s : Path) (side : Turn) (m : Mode) → is_handled w s (awaited m) ≡ false → is_some (receiving w s side m) ≡ false
+unhandled w s side m h = rw h refl
+
+named-slot : (o : Option ℕ) (k : ℕ) → holds (λ j. j == k) o ≡ true → o ≡ Some k
+named-slot None k h = cc
+named-slot (Some j) k h = ap (λ n. Some n) (eqb-true j k h)
+
 module _ (w : World) (side : Turn) where
   away-unmet : (y : Path) (t : Thread) → is_at_hand (other_side side) t ≡ false
-      → (is_free w (parent y) t && is_some (receiving (other_side side) t.mode)) ≡ false
+      → (is_free w (parent y) t && is_some (receiving w (parent y) (other_side side) t.mode)) ≡ false
   away-unmet y t away = by (is_free w (parent y) t) refl
     where
-      by : (b : Bool) → is_free w (parent y) t ≡ b → (b && is_some (receiving (other_side side) t.mode)) ≡ false
-      by true e = ap (λ r. not r && is_some (receiving (other_side side) t.mode)) (sym (free-resting w (parent y) t e)) ∙ away
+      by : (b : Bool) → is_free w (parent y) t ≡ b → (b && is_some (receiving w (parent y) (other_side side) t.mode)) ≡ false
+      by true e = unawaited w (parent y) (other_side side) t.mode
+          (ap (λ r. not r && is_some (awaits_on (other_side side) t.mode)) (sym (free-resting w (parent y) t e)) ∙ away)
       by false e = refl
 
+  unnamed-unmet : (y : Path) (k : ℕ) → IsGone w side (Unnamed y k) →
+      (t : Thread) → thread_at w y ≡ Some t → (is_free w (parent y) t && is_some (receiving w (parent y) (other_side side) t.mode)) ≡ false
+  unnamed-unmet y k gone t at = by (is_at_hand (other_side side) t) refl (ap (holds (is_at_hand_else (other_side side) k)) (sym at) ∙ gone.0)
+    where
+      off : (b : Bool) → not b ≡ false → b ≡ true
+      off true h = refl
+      off false h = cc
+
+      free-off : (b c : Bool) → c ≡ false → (b && c) ≡ false
+      free-off true c h = h
+      free-off false c h = refl
+
+      by : (b : Bool) → is_at_hand (other_side side) t ≡ b → (b && not (names_slot k t)) ≡ false →
+          (is_free w (parent y) t && is_some (receiving w (parent y) (other_side side) t.mode)) ≡ false
+      by false e h = away-unmet y t e
+      by true e h =
+          let named = named-slot (awaited t.mode) k (off (names_slot k t) h) in
+          free-off (is_free w (parent y) t) _ (unhandled w (parent y) (other_side side) t.mode (ap (is_handled w (parent y)) named ∙ gone.1))
+
   absent-unmet : (y : Path) → holds (is_at_hand (other_side side)) (thread_at w y) ≡ false →
-      (t : Thread) → thread_at w y ≡ Some t → (is_free w (parent y) t && is_some (receiving (other_side side) t.mode)) ≡ false
+      (t : Thread) → thread_at w y ≡ Some t → (is_free w (parent y) t && is_some (receiving w (parent y) (other_side side) t.mode)) ≡ false
   absent-unmet y gone t at = away-unmet y t (ap (holds (is_at_hand (other_side side))) (sym at) ∙ gone)
 
   covered-unmet : (y space : Path) → IsBeneath w space y →
-      (t : Thread) → thread_at w y ≡ Some t → (is_free w (parent y) t && is_some (receiving (other_side side) t.mode)) ≡ false
+      (t : Thread) → thread_at w y ≡ Some t → (is_free w (parent y) t && is_some (receiving w (parent y) (other_side side) t.mode)) ≡ false
   covered-unmet y space beneath t at = rw (free-beneath w space y t beneath) refl
 
   service-is : (talk : Talk) (p : Peer) → is_service p ≡ true → p ≡ Service
@@ -126,6 +165,8 @@ clients-gone w client (Absent y) talk is gone =
     rw (serves-is y talk.peer is) (ByThread y (absent-unmet w turns.Client y gone))
 clients-gone w client (Covered y space) talk is gone =
     rw (serves-is y talk.peer is) (ByThread y (covered-unmet w turns.Client y space gone))
+clients-gone w client (Unnamed y k) talk is gone =
+    rw (serves-is y talk.peer is) (ByThread y (unnamed-unmet w turns.Client y k gone))
 clients-gone w client Unclaimed talk is gone = rw (parked-is w turns.Client talk.peer is) ByNobody
 clients-gone w client (Closed port space) talk is gone =
     let both = and_parts _ _ is in
@@ -137,6 +178,8 @@ servers-gone w client (Absent y) talk is gone =
     let same = same_path_eq client y is in rw same (ByThread y (absent-unmet w turns.Server y gone))
 servers-gone w client (Covered y space) talk is gone =
     let same = same_path_eq client y is in rw same (ByThread y (covered-unmet w turns.Server y space gone))
+servers-gone w client (Unnamed y k) talk is gone =
+    let same = same_path_eq client y is in rw same (ByThread y (unnamed-unmet w turns.Server y k gone))
 servers-gone w client Unclaimed talk is gone = cc
 servers-gone w client (Closed port space) talk is gone = cc
 
@@ -157,15 +200,16 @@ module _ (w : World) (k : ℕ) (s : Path) where
       by true = refl
       by false = ap (own_page_at me true (λ s page. Waits)) (reached-home w s into true far home).2
 
-  passes-waits : (side : Turn) (l : Line) → Gone w side l.talk l.other → passes_to w (user_at me) side l l.other ≡ Waits
-  passes-waits side l gone = by l.other gone
+  passes-waits : (side : Turn) (carried : Option Ptr) (l : Line) → Gone w side l.talk l.other → passes_to w (user_at me) side l carried l.other ≡ Waits
+  passes-waits side carried l gone = by l.other gone
     where
-      met : (y : Path) (o : Option Thread) → ((t : Thread) → o ≡ Some t → (is_free w (parent y) t && is_some (receiving (other_side side) t.mode)) ≡ false) →
-          passes_to_thread w (user_at me) side l.client (and_then (λ t. Some (y, t)) o) ≡ Waits
+      met : (y : Path) (o : Option Thread) → ((t : Thread) → o ≡ Some t →
+          (is_free w (parent y) t && is_some (receiving w (parent y) (other_side side) t.mode)) ≡ false) →
+          passes_to_thread w (user_at me) side l.client carried (and_then (λ t. Some (y, t)) o) ≡ Waits
       met y None unmet = refl
       met y (Some t) unmet = rw (unmet t refl) refl
 
-      by : (p : Peer) → Gone w side l.talk p → passes_to w (user_at me) side l p ≡ Waits
+      by : (p : Peer) → Gone w side l.talk p → passes_to w (user_at me) side l carried p ≡ Waits
       by _ (ByThread y unmet) = met y (thread_at w y) unmet
       by _ ByNobody = refl
       by _ (ByService off) = rw off refl
@@ -179,12 +223,12 @@ module _ (w : World) (k : ℕ) (s : Path) where
       sends_to w (user_at me) side l address count page l.other ≡ Waits
   sends-waits side address count page l gone = by l.other gone
     where
-      free_by : (y : Path) (t : Thread) (b : Bool) → is_free w (parent y) t ≡ b → (b && is_some (receiving (other_side side) t.mode)) ≡ false →
-          when b (sends_into w (user_at me) l.client y address count page (receiving (other_side side) t.mode)) ≡ Waits
-      free_by y t true e off = into-waits side l.client y address count page (receiving (other_side side) t.mode) off
+      free_by : (y : Path) (t : Thread) (b : Bool) → is_free w (parent y) t ≡ b → (b && is_some (receiving w (parent y) (other_side side) t.mode)) ≡ false →
+          when b (sends_into w (user_at me) l.client y address count page (receiving w (parent y) (other_side side) t.mode)) ≡ Waits
+      free_by y t true e off = into-waits side l.client y address count page (receiving w (parent y) (other_side side) t.mode) off
       free_by y t false e off = refl
 
-      met : (y : Path) (o : Option Thread) → ((t : Thread) → o ≡ Some t → (is_free w (parent y) t && is_some (receiving (other_side side) t.mode)) ≡ false) →
+      met : (y : Path) (o : Option Thread) → ((t : Thread) → o ≡ Some t → (is_free w (parent y) t && is_some (receiving w (parent y) (other_side side) t.mode)) ≡ false) →
           sends_to_thread w (user_at me) side l.client address count page (and_then (λ t. Some (y, t)) o) ≡ Waits
       met y None unmet = refl
       met y (Some t) unmet = free_by y t (is_free w (parent y) t) refl (unmet t refl)
@@ -203,13 +247,34 @@ module _ (w : World) (k : ℕ) (s : Path) where
         ap (λ r. r >>= (λ l. awaits w (user_at me) into room)) (turn-ok w valid few me client side (other_side side) found.0 found.1 found.2)
         ∙ awaits-waits into room far page
 
-    over-waits : (side : Turn) (client : Path) (end : End) → IsTalkingTo w me side client end → IsGone w side end → over w (user_at me) side ≡ Waits
+    receive_ref-waits : (side : Turn) (into room reference : ℕ) (far : Bool) (client : Path) → IsTalking w me side (other_side side) client →
+        ((room == 0) ≡ true) ⊎ IsReached w s into true far → is_handled w s (Some reference) ≡ true → receive_ref w (user_at me) side into room reference ≡ Waits
+    unfolding receive_ref
+    receive_ref-waits side into room reference far client talking page handled =
+        let at = reference-in w s reference handled in
+        ap (λ r. r >>= (λ p. receive w (user_at me) side into room))
+        (object-ok w me reference_of reference at.old at.low (ap (and_then reference_of) at.there)) ∙ receive-waits side into room far client talking page
+
+    over-waits : (side : Turn) (carried : Option Ptr) (client : Path) (end : End) → IsTalkingTo w me side client end → IsGone w side end →
+        over w (user_at me) side carried ≡ Waits
     unfolding over
-    over-waits side client end talking gone =
+    over-waits side carried client end talking gone =
         let found = held-some (λ (talk : Talk). is_talk_of side me side talk && is_with side client end talk) (talk_at w (talk_place side me client)) talking in
         let both = and_parts _ _ found.2 in
-        ap (λ r. r >>= (λ l. passes_to w (user_at me) side l l.other)) (turn-ok w valid few me client side side found.0 found.1 both.0)
-        ∙ passes-waits side (line_of side me client found.0) (line-gone w me client side end found.0 both.1 gone)
+        ap (λ r. r >>= passes_on w (user_at me) side carried) (turn-ok w valid few me client side side found.0 found.1 both.0)
+        ∙ by (may_carry w me carried) (line_of side me client found.0) (line-gone w me client side end found.0 both.1 gone)
+      where
+        by : (b : Bool) (l : Line) → Gone w side l.talk l.other → when b (passes_to w (user_at me) side l carried l.other) ≡ Waits
+        by true l gone = passes-waits side carried l gone
+        by false l gone = refl
+
+    over_ref-waits : (side : Turn) (reference : ℕ) (client : Path) (end : End) → IsTalkingTo w me side client end → IsGone w side end →
+        is_handled w s (Some reference) ≡ true → over_ref w (user_at me) side reference ≡ Waits
+    unfolding over_ref
+    over_ref-waits side reference client end talking gone handled =
+        let at = reference-in w s reference handled in
+        ap (λ r. r >>= (λ p. over w (user_at me) side (Some p)))
+        (object-ok w me reference_of reference at.old at.low (ap (and_then reference_of) at.there)) ∙ over-waits side (Some at.old) client end talking gone
 
     -- a Send comes to what it comes to with the other end
     send-comes : (side : Turn) (address count : ℕ) (far : Bool) (client : Path) (end : End) → (count == 0) ≡ false → IsReached w s address false far →
@@ -251,17 +316,21 @@ module _ (w : World) (k : ℕ) (s : Path) where
         room-waits client page = rw (there.1) (page-waits (reach_word w (parent y) into true) _ away)
 
         met : (side : Turn) (client : Path) (page : List ℕ) (o : Option Thread)
-            → and_then (λ (t : Thread). receiving (other_side side) t.mode) o ≡ Some (into, room) →
+            → and_then (λ (t : Thread). awaits_on (other_side side) t.mode) o ≡ Some (into, room) →
             sends_to_thread w (user_at me) side client address count page (and_then (λ t. Some (y, t)) o) ≡ Waits
         met side client page None h = refl
         met side client page (Some t) h = free_by (is_free w (parent y) t)
           where
-            free_by : (b : Bool) → when b (sends_into w (user_at me) client y address count page (receiving (other_side side) t.mode)) ≡ Waits
-            free_by true = ap (sends_into w (user_at me) client y address count page) h ∙ room-waits client page
+            free_by : (b : Bool) → when b (sends_into w (user_at me) client y address count page (receiving w (parent y) (other_side side) t.mode)) ≡ Waits
+            free_by true = handled_by (is_handled w (parent y) (awaited t.mode))
+              where
+                handled_by : (b : Bool) → sends_into w (user_at me) client y address count page (cond b (awaits_on (other_side side) t.mode) None) ≡ Waits
+                handled_by true = ap (sends_into w (user_at me) client y address count page) h ∙ room-waits client page
+                handled_by false = refl
             free_by false = refl
 
         by : (side : Turn) (talk : Talk) (page : List ℕ) → is_with side client (Absent y) talk ≡ true →
-            and_then (λ (t : Thread). receiving (other_side side) t.mode) (thread_at w y) ≡ Some (into, room) →
+            and_then (λ (t : Thread). awaits_on (other_side side) t.mode) (thread_at w y) ≡ Some (into, room) →
             sends_to w (user_at me) side (line_of side me client talk) address count page (line_of side me client talk).other ≡ Waits
         by turns.Client talk page is h =
             let peer = serves-is y talk.peer is in
@@ -467,18 +536,30 @@ module _ (w : World) (k : ℕ) (s : Path) (valid : IsValid w) (few : w.next ≤ 
       waits-unready w (k ∷ s) false pick _ (sleep-waits w (k ∷ s) c m stuck.1 stuck.2 stuck.3 stuck.4) (at-stage w (k ∷ s) pick (CondAsleep c m) stuck.0 ready)
   unready (Connecting h port) stuck pick ready =
       waits-unready w (k ∷ s) false pick _ (connect-waits w k s h port stuck.1 stuck.2 stuck.3) (at-stage w (k ∷ s) pick (Connect h) stuck.0 ready)
-  unready (Receiving turns.Client into room far client) stuck pick ready =
+  unready (Receiving turns.Client into room None far client) stuck pick ready =
       waits-unready w (k ∷ s) false pick _ (receive-waits w k s valid few turns.Client into room far client stuck.1 stuck.2)
       (at-stage w (k ∷ s) pick (ClientReceive into room) stuck.0 ready)
-  unready (Receiving turns.Server into room far client) stuck pick ready =
+  unready (Receiving turns.Client into room (Some reference) far client) stuck pick ready =
+      waits-unready w (k ∷ s) false pick _ (receive_ref-waits w k s valid few turns.Client into room reference far client stuck.1 stuck.2 stuck.3)
+      (at-stage w (k ∷ s) pick (ClientReceiveRef into room reference) stuck.0 ready)
+  unready (Receiving turns.Server into room None far client) stuck pick ready =
       waits-unready w (k ∷ s) false pick _ (receive-waits w k s valid few turns.Server into room far client stuck.1 stuck.2)
       (at-stage w (k ∷ s) pick (ServerReceive into room) stuck.0 ready)
-  unready (Passing turns.Client client end) stuck pick ready =
-      waits-unready w (k ∷ s) false pick _ (over-waits w k s valid few turns.Client client end stuck.1 stuck.2)
+  unready (Receiving turns.Server into room (Some reference) far client) stuck pick ready =
+      waits-unready w (k ∷ s) false pick _ (receive_ref-waits w k s valid few turns.Server into room reference far client stuck.1 stuck.2 stuck.3)
+      (at-stage w (k ∷ s) pick (ServerReceiveRef into room reference) stuck.0 ready)
+  unready (Passing turns.Client None client end) stuck pick ready =
+      waits-unready w (k ∷ s) false pick _ (over-waits w k s valid few turns.Client None client end stuck.1 stuck.2)
       (at-stage w (k ∷ s) pick ClientOver stuck.0 ready)
-  unready (Passing turns.Server client end) stuck pick ready =
-      waits-unready w (k ∷ s) false pick _ (over-waits w k s valid few turns.Server client end stuck.1 stuck.2)
+  unready (Passing turns.Client (Some reference) client end) stuck pick ready =
+      waits-unready w (k ∷ s) false pick _ (over_ref-waits w k s valid few turns.Client reference client end stuck.1 stuck.2 stuck.3)
+      (at-stage w (k ∷ s) pick (ClientOverRef reference) stuck.0 ready)
+  unready (Passing turns.Server None client end) stuck pick ready =
+      waits-unready w (k ∷ s) false pick _ (over-waits w k s valid few turns.Server None client end stuck.1 stuck.2)
       (at-stage w (k ∷ s) pick ServerOver stuck.0 ready)
+  unready (Passing turns.Server (Some reference) client end) stuck pick ready =
+      waits-unready w (k ∷ s) false pick _ (over_ref-waits w k s valid few turns.Server reference client end stuck.1 stuck.2 stuck.3)
+      (at-stage w (k ∷ s) pick (ServerOverRef reference) stuck.0 ready)
   unready (Sending turns.Client address count far client end) stuck pick ready =
       waits-unready w (k ∷ s) false pick _ (send-waits w k s valid few turns.Client address count far client end stuck.1 stuck.2 stuck.3 stuck.4)
       (at-stage w (k ∷ s) pick (ClientSend address count) stuck.0 ready)
@@ -517,8 +598,8 @@ stuck_is_unready_lem w [] (Beneath space) valid few stuck pick ready = beneath-u
 stuck_is_unready_lem w [] (Locking m) valid few stuck pick ready = no-root w _ valid stuck.0
 stuck_is_unready_lem w [] (Sleeping c m) valid few stuck pick ready = no-root w _ valid stuck.0
 stuck_is_unready_lem w [] (Connecting h port) valid few stuck pick ready = no-root w _ valid stuck.0
-stuck_is_unready_lem w [] (Receiving side into room far client) valid few stuck pick ready = no-root w _ valid stuck.0
-stuck_is_unready_lem w [] (Passing side client end) valid few stuck pick ready = no-root w _ valid stuck.0
+stuck_is_unready_lem w [] (Receiving side into room reference far client) valid few stuck pick ready = no-root w _ valid stuck.0
+stuck_is_unready_lem w [] (Passing side reference client end) valid few stuck pick ready = no-root w _ valid stuck.0
 stuck_is_unready_lem w [] (Lacking side address count far client y into room) valid few stuck pick ready = no-root w _ valid stuck.0
 stuck_is_unready_lem w [] (Ending y space) valid few stuck pick ready = no-root w _ valid stuck.0
 stuck_is_unready_lem w [] (Holding h x space) valid few stuck pick ready = no-root w _ valid stuck.0

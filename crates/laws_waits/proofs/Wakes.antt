@@ -12,7 +12,7 @@ use Rattle.fk_model.proofs.walks.PlaceLaws.{same_path_eq}
 use Rattle.laws_moves.specs.Machine.Frame.{names_body}
 use Rattle.laws_waits.specs.Touching.{is_loud, stirs}
 use Rattle.laws_waits.specs.Stuck.{End, talk_place, is_talk_of, is_with, IsTalking, IsTalkingTo, HasTaken, LeavesEnd, Reason, IsStuck, IsUntouched}
-use Rattle.laws_waits.specs.Stuck.End.{Absent, Covered, Unclaimed, Closed}
+use Rattle.laws_waits.specs.Stuck.End.{Absent, Covered, Unclaimed, Closed, Unnamed}
 use Rattle.laws_waits.specs.Stuck.Reason.{Resting, Beneath, Locking, Sleeping, Connecting, Receiving, Passing, Sending, Lacking, Ending, Holding, Waiting}
 use Rattle.laws_waits.specs.Stuck.Reason.{WaitingOut, Barred}
 use Rattle.laws_waits.specs.Few.{is_peer_of}
@@ -66,6 +66,7 @@ module _ (w : World) (c : Change) (x : Path) (own : names_body w c x ≡ false) 
 
   end-left : (side : Turn) (client : Path) (end : End) → IsTalkingTo w x side client end → LeavesCover w c end → LeavesEnd w c end
   end-left side client (Absent z) talking cover = other-left side client z talking
+  end-left side client (Unnamed z k) talking cover = (other-left side client z talking, cover)
   end-left side client (Covered z space) talking cover = cover
   end-left side client Unclaimed talking cover = tt
   end-left side client (Closed port space) talking cover = cover
@@ -79,9 +80,9 @@ module _ (w : World) (c : Change) (x : Path) (own : names_body w c x ≡ false) 
   touches (Locking m) stuck rest = (own, rest)
   touches (Sleeping cond m) stuck rest = (own, rest.0, rest.1)
   touches (Connecting h port) stuck rest = (own, rest.0, rest.1)
-  touches (Receiving side into room far client) stuck rest = (own, place-left side _ client stuck.1, rest)
-  touches (Passing side client end) stuck rest =
-      (own, place-left side side client (talking-first side client end stuck.1), end-left side client end stuck.1 rest)
+  touches (Receiving side into room reference far client) stuck rest = (own, place-left side _ client stuck.1, rest.0, rest.1)
+  touches (Passing side reference client end) stuck rest =
+      (own, place-left side side client (talking-first side client end stuck.1), end-left side client end stuck.1 rest.0, rest.1)
   touches (Sending side address count far client end) stuck rest =
       (own, place-left side side client (talking-first side client end stuck.3), end-left side client end stuck.3 rest.0, rest.1)
   touches (Lacking side address count far client y into room) stuck rest =

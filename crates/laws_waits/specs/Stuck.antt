@@ -6,19 +6,19 @@ use Rattle.std.specs.Prelude.{◌≡◌, ℕ, ◌/◌, Bool, true, false, not, �
 use Rattle.fk_model.specs.declared.limits.TheConstants.{OWN_SPACE, LAST_USER_SLOT, PAGE_WORDS, SPACE_WORDS}
 use Rattle.fk_model.specs.declared.names.Kind.TheVariants as kinds
 use Rattle.fk_model.specs.declared.stage.Stage.{Stage}
-use Rattle.fk_model.specs.declared.stage.Stage.TheVariants.{SpaceHold, MutexLock, CondAsleep, Connect, Wait, ClientReceive, ClientSend, ClientOver}
-use Rattle.fk_model.specs.declared.stage.Stage.TheVariants.{ServerReceive, ServerSend, ServerOver, FaultDone}
+use Rattle.fk_model.specs.declared.stage.Stage.TheVariants.{SpaceHold, MutexLock, CondAsleep, Connect, Wait, ClientReceive, ClientReceiveRef, ClientSend, ClientOver}
+use Rattle.fk_model.specs.declared.stage.Stage.TheVariants.{ServerReceive, ServerSend, ServerOver, FaultDone, ClientOverRef, ServerOverRef, ServerReceiveRef}
 use Rattle.fk_model.specs.declared.thread.Turn.{Turn}
 use Rattle.fk_model.specs.declared.thread.Turn.TheVariants as turns
 use Rattle.fk_model.specs.Places.{Path, same_path, parent, slot_of, is_within, Ptr, leads_to}
 use Rattle.fk_model.specs.Places.Ptr.{At}
-use Rattle.fk_model.specs.Objects.{Talk, Fault, Thread, mutex_of, space_of, and_then, holds}
+use Rattle.fk_model.specs.Objects.{Talk, Fault, Thread, mutex_of, space_of, and_then, holds, Mode}
 use Rattle.fk_model.specs.World.{World, Change, apply, serves}
 use Rattle.fk_model.specs.Searches.{thread_at, talk_at, fault_at, is_service}
 use Rattle.fk_model.specs.Holds.{holder_of, is_frozen_for, is_user}
 use Rattle.fk_model.specs.SpaceRows.{is_held_by_other}
 use Rattle.fk_model.specs.Readers.{handled}
-use Rattle.fk_model.specs.Talks.{first_stage, receiving, same_side, other_side, path_to}
+use Rattle.fk_model.specs.Talks.{first_stage, receiving, same_side, other_side, path_to, awaited, is_handled, is_reference_in, receive_on}
 use Rattle.fk_model.specs.LinkRows.{connecting_to, is_member, is_open, is_parked, portset_of}
 use Rattle.fk_model.specs.Valid.{kind_there}
 use Rattle.fk_model.specs.Reach.{reach_word}
@@ -49,6 +49,8 @@ IsBeneath w space x = (is_within space (parent x) ≡ true) × (is_held w space 
 pub data End : Type 0 where
   -- a thread that rests or isn't at its Receive of the talk
   Absent : (thread : Path) → End
+  -- a thread that rests, or isn't at its Receive, or would be refused there: it awaits a pointer in a slot that holds no reference
+  Unnamed : (thread : Path) (slot : ℕ) → End
   -- a thread beneath a held space
   Covered : (thread space : Path) → End
   -- nobody yet
@@ -73,18 +75,31 @@ has_other turns.Server client y talk = same_path client y
 
 abbrev pub is_with : Turn → Path → End → Talk → Bool
 is_with side client (Absent y) talk = has_other side client y talk
+is_with side client (Unnamed y k) talk = has_other side client y talk
 is_with side client (Covered y space) talk = has_other side client y talk
 is_with turns.Client client Unclaimed talk = is_parked (Some talk.peer)
 is_with turns.Server client Unclaimed talk = false
 is_with turns.Client client (Closed port space) talk = is_service talk.peer && leads_to port talk.port
 is_with turns.Server client (Closed port space) talk = false
 
--- a thread that a Send or an Over could move, but for a hold above it
+-- the address and the room of a thread at a Receive on a side, whatever its handle
+abbrev pub awaits_on : Turn → Mode → Option (ℕ × ℕ)
+awaits_on side mode = and_then (receive_on side) (first_stage mode)
+
+-- a thread that a Send or an Over could move, but for a hold above it, and for its handle
 abbrev pub is_at_hand : Turn → Thread → Bool
-is_at_hand side t = not (is_resting t) && is_some (receiving side t.mode)
+is_at_hand side t = not (is_resting t) && is_some (awaits_on side t.mode)
+
+-- its stage is to fill the reference in this slot
+abbrev pub names_slot : ℕ → Thread → Bool
+names_slot k t = holds (λ j. j == k) (awaited t.mode)
+
+abbrev pub is_at_hand_else : Turn → ℕ → Thread → Bool
+is_at_hand_else side k t = is_at_hand side t && not (names_slot k t)
 
 abbrev pub IsGone : World → Turn → End → Type 0
 IsGone w side (Absent y) = holds (is_at_hand (other_side side)) (thread_at w y) ≡ false
+IsGone w side (Unnamed y k) = (holds (is_at_hand_else (other_side side) k) (thread_at w y) ≡ false) × (is_reference_in w (parent y) k ≡ false)
 IsGone w side (Covered y space) = IsBeneath w space y
 IsGone w side Unclaimed = Unit {0}
 IsGone w side (Closed port space) = IsBeneath w space port
@@ -143,9 +158,11 @@ pub data Reason : Type 0 where
   Locking : (mutex : ℕ) → Reason
   Sleeping : (cond mutex : ℕ) → Reason
   Connecting : (h : ℕ) (port : Path) → Reason
-  -- at a Receive: with its side, its room at an address, whether that is far, and whose client's talk it is
-  Receiving : (side : Turn) (into room : ℕ) (far : Bool) (client : Path) → Reason
-  Passing : (side : Turn) (client : Path) (end : End) → Reason
+  -- at a Receive: with its side, its room at an address, the reference that it is to fill, if any, whether the address is far, and whose
+  -- client's talk it is
+  Receiving : (side : Turn) (into room : ℕ) (reference : Option ℕ) (far : Bool) (client : Path) → Reason
+  -- at an Over, with the reference whose pointer goes with it, if one does
+  Passing : (side : Turn) (reference : Option ℕ) (client : Path) (end : End) → Reason
   Sending : (side : Turn) (address count : ℕ) (far : Bool) (client : Path) (end : End) → Reason
   -- the page at the other end isn't there: of a thread with so much room at an address
   Lacking : (side : Turn) (address count : ℕ) (far : Bool) (client y : Path) (into room : ℕ) → Reason
@@ -160,22 +177,26 @@ pub data Reason : Type 0 where
   -- any other: by the freezing rule alone, in most cases
   Barred : Reason
 
-abbrev pub receive_stage : Turn → ℕ → ℕ → Stage
-receive_stage turns.Client into room = ClientReceive into room
-receive_stage turns.Server into room = ServerReceive into room
+abbrev pub receive_stage : Turn → ℕ → ℕ → Option ℕ → Stage
+receive_stage turns.Client into room None = ClientReceive into room
+receive_stage turns.Server into room None = ServerReceive into room
+receive_stage turns.Client into room (Some k) = ClientReceiveRef into room k
+receive_stage turns.Server into room (Some k) = ServerReceiveRef into room k
 
 abbrev pub send_stage : Turn → ℕ → ℕ → Stage
 send_stage turns.Client address count = ClientSend address count
 send_stage turns.Server address count = ServerSend address count
 
-abbrev pub over_stage : Turn → Stage
-over_stage turns.Client = ClientOver
-over_stage turns.Server = ServerOver
+abbrev pub over_stage : Turn → Option ℕ → Stage
+over_stage turns.Client None = ClientOver
+over_stage turns.Server None = ServerOver
+over_stage turns.Client (Some k) = ClientOverRef k
+over_stage turns.Server (Some k) = ServerOverRef k
 
 -- a thread is at its Receive with this room at an address, which isn't 0
 abbrev pub HasRoom : World → Turn → Path → ℕ → ℕ → Type 0
 HasRoom w side y into room =
-    (and_then (λ (t : Thread). receiving (other_side side) t.mode) (thread_at w y) ≡ Some (into, room)) × ((room == 0) ≡ false)
+    (and_then (λ (t : Thread). awaits_on (other_side side) t.mode) (thread_at w y) ≡ Some (into, room)) × ((room == 0) ≡ false)
 
 -- x has taken the fault of y
 abbrev pub HasTaken : World → Path → Path → Type 0
@@ -203,11 +224,11 @@ IsStuck w x (Sleeping c m) =
 IsStuck w x (Connecting h port) =
     IsAtStage w x (Connect h) × (nat_le h LAST_USER_SLOT ≡ true) × (talk_at w x ≡ None)
     × (handled w kinds.Port (h ∷ parent x) (w.body (h ∷ parent x)) ≡ Ok (At port))
-IsStuck w x (Receiving side into room far client) =
-    IsAtStage w x (receive_stage side into room) × IsTalking w x side (other_side side) client
-    × ((room == 0) ≡ true ⊎ IsReached w (parent x) into true far)
-IsStuck w x (Passing side client end) =
-    IsAtStage w x (over_stage side) × IsTalkingTo w x side client end × IsGone w side end
+IsStuck w x (Receiving side into room reference far client) =
+    IsAtStage w x (receive_stage side into room reference) × IsTalking w x side (other_side side) client
+    × ((room == 0) ≡ true ⊎ IsReached w (parent x) into true far) × (is_handled w (parent x) reference ≡ true)
+IsStuck w x (Passing side reference client end) =
+    IsAtStage w x (over_stage side reference) × IsTalkingTo w x side client end × IsGone w side end × (is_handled w (parent x) reference ≡ true)
 IsStuck w x (Sending side address count far client end) =
     IsAtStage w x (send_stage side address count) × ((count == 0) ≡ false) × IsReached w (parent x) address false far
     × IsTalkingTo w x side client end × IsGone w side end
@@ -232,6 +253,7 @@ IsStuck w x Barred = (pick : Option Path) → IsReady w x pick asks.Run → ⊥
 -- a change leaves the other end of a talk
 abbrev pub LeavesEnd : World → Change → End → Type 0
 LeavesEnd w c (Absent y) = stirs w c y ≡ false
+LeavesEnd w c (Unnamed y k) = (stirs w c y ≡ false) × (remakes c (k ∷ parent y) ≡ false)
 LeavesEnd w c (Covered y space) = names_body w c space ≡ false
 LeavesEnd w c Unclaimed = Unit {0}
 LeavesEnd w c (Closed port space) = names_body w c space ≡ false
@@ -239,6 +261,11 @@ LeavesEnd w c (Closed port space) = names_body w c space ≡ false
 -- a change leaves where a place is
 abbrev pub LeavesPlace : World → Change → Path → ℕ → Path → Type 0
 LeavesPlace w c me s space = ((s == OWN_SPACE) ≡ true) ⊎ ((names_body w c (s ∷ parent me) ≡ false) × (remakes c space ≡ false))
+
+-- a change leaves what stands in a slot of a space that a thread names, if it names one
+abbrev pub LeavesHandle : Change → Path → Option ℕ → Type 0
+LeavesHandle c space None = Unit {0}
+LeavesHandle c space (Some k) = remakes c (k ∷ space) ≡ false
 
 -- a change leaves a page within reach
 abbrev pub LeavesPage : World → Change → Path → ℕ → Bool → Type 0
@@ -262,9 +289,10 @@ IsUntouched w c x (Beneath space) = names_body w c space ≡ false
 IsUntouched w c x (Locking m) = (names_body w c x ≡ false) × (names_body w c (m ∷ parent x) ≡ false)
 IsUntouched w c x (Sleeping cond m) = (names_body w c x ≡ false) × (remakes c (cond ∷ parent x) ≡ false) × (remakes c (m ∷ parent x) ≡ false)
 IsUntouched w c x (Connecting h port) = (names_body w c x ≡ false) × (repoints w c (h ∷ parent x) ≡ false) × (remakes c port ≡ false)
-IsUntouched w c x (Receiving side into room far client) =
-    (names_body w c x ≡ false) × (stirs w c (talk_place side x client) ≡ false) × LeavesPage w c (parent x) into far
-IsUntouched w c x (Passing side client end) = (names_body w c x ≡ false) × (stirs w c (talk_place side x client) ≡ false) × LeavesEnd w c end
+IsUntouched w c x (Receiving side into room reference far client) =
+    (names_body w c x ≡ false) × (stirs w c (talk_place side x client) ≡ false) × LeavesPage w c (parent x) into far × LeavesHandle c (parent x) reference
+IsUntouched w c x (Passing side reference client end) =
+    (names_body w c x ≡ false) × (stirs w c (talk_place side x client) ≡ false) × LeavesEnd w c end × LeavesHandle c (parent x) reference
 IsUntouched w c x (Sending side address count far client end) =
     (names_body w c x ≡ false) × (stirs w c (talk_place side x client) ≡ false) × LeavesEnd w c end × LeavesPage w c (parent x) address far
 IsUntouched w c x (Lacking side address count far client y into room) =

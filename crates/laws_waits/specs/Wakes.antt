@@ -9,8 +9,8 @@ use Rattle.fk_model.specs.Places.{Path, parent, is_within}
 use Rattle.fk_model.specs.World.{World, Change}
 use Rattle.laws_moves.specs.Machine.Frame.{names_body}
 use Rattle.laws_waits.specs.Few.{is_peer_of, is_taker_of}
-use Rattle.laws_waits.specs.Stuck.{is_held, End, LeavesPage, LeavesPlace, BringsNobody, Reason, IsStuck, IsUntouched}
-use Rattle.laws_waits.specs.Stuck.End.{Absent, Covered, Unclaimed, Closed}
+use Rattle.laws_waits.specs.Stuck.{is_held, End, LeavesPage, LeavesPlace, BringsNobody, Reason, IsStuck, IsUntouched, LeavesHandle}
+use Rattle.laws_waits.specs.Stuck.End.{Absent, Covered, Unclaimed, Closed, Unnamed}
 use Rattle.laws_waits.specs.Stuck.Reason.{Resting, Beneath, Locking, Sleeping, Connecting, Receiving, Passing, Sending, Lacking, Ending, Holding, Waiting}
 use Rattle.laws_waits.specs.Stuck.Reason.{WaitingOut, Barred}
 use Rattle.laws_waits.specs.Touching.{remakes, stirs, repoints, reholds, LeavesMemory}
@@ -24,6 +24,7 @@ pub record IsStranger (w : World) (x y : Path) : Type 0 where
 -- the space above the other end isn't changed
 abbrev pub LeavesCover : World → Change → End → Type 0
 LeavesCover w c (Absent y) = Unit {0}
+LeavesCover w c (Unnamed y k) = remakes c (k ∷ parent y) ≡ false
 LeavesCover w c (Covered y space) = names_body w c space ≡ false
 LeavesCover w c Unclaimed = Unit {0}
 LeavesCover w c (Closed port space) = names_body w c space ≡ false
@@ -35,8 +36,8 @@ LeavesRest w c x (Beneath space) = names_body w c space ≡ false
 LeavesRest w c x (Locking m) = names_body w c (m ∷ parent x) ≡ false
 LeavesRest w c x (Sleeping cond m) = (remakes c (cond ∷ parent x) ≡ false) × (remakes c (m ∷ parent x) ≡ false)
 LeavesRest w c x (Connecting h port) = (repoints w c (h ∷ parent x) ≡ false) × (remakes c port ≡ false)
-LeavesRest w c x (Receiving side into room far client) = LeavesPage w c (parent x) into far
-LeavesRest w c x (Passing side client end) = LeavesCover w c end
+LeavesRest w c x (Receiving side into room reference far client) = LeavesPage w c (parent x) into far × LeavesHandle c (parent x) reference
+LeavesRest w c x (Passing side reference client end) = LeavesCover w c end × LeavesHandle c (parent x) reference
 LeavesRest w c x (Sending side address count far client end) = LeavesCover w c end × LeavesPage w c (parent x) address far
 LeavesRest w c x (Lacking side address count far client y into room) =
     (names_body w c y ≡ false) × LeavesPage w c (parent x) address far × LeavesMemory w c

@@ -1,8 +1,9 @@
 //! Calls as text, by the registers that hold them: each stage that is left by its name, with its arguments as docs/CALLS.md names them.
 use crate::sheet::{Sheet, line_at, parted};
 use fk_model::call::{
-    CLIENT_OVER_RECEIVE, CLIENT_RECEIVE, CLIENT_SEND, CLIENT_SEND_OVER_RECEIVE,
-    SERVER_OVER_RECEIVE, SERVER_RECEIVE, SERVER_SEND, SERVER_SEND_OVER_RECEIVE, WAIT_RECEIVE,
+    CLIENT_OVER_RECEIVE, CLIENT_RECEIVE, CLIENT_RECEIVE_REF, CLIENT_SEND, CLIENT_SEND_OVER_RECEIVE,
+    SERVER_OVER_RECEIVE, SERVER_RECEIVE, SERVER_RECEIVE_REF, SERVER_SEND, SERVER_SEND_OVER_RECEIVE,
+    WAIT_RECEIVE,
 };
 use fk_model::{Stage, Todo};
 use fk_stages::{todo, words};
@@ -48,8 +49,8 @@ receive addr=@ room=@
 send addr=@ count=@
 over
 disconnect
-
-
+over_ref reference=@
+receive_ref addr=@ room=@ reference=@
 
 
 
@@ -65,8 +66,8 @@ send addr=@ count=@, over, receive addr=@ room=@
 over, receive addr=@ room=@
 end
 fault_done
-
-
+over_ref reference=@
+receive_ref addr=@ room=@ reference=@
 
 link_set s=@ x=@ port=@ server=@
 link_park s=@ x=@ port=@
@@ -96,6 +97,7 @@ pub fn push_call(sheet: &Sheet, registers: &[u64; 16], is_first_alone: bool) {
         CLIENT_OVER_RECEIVE | CLIENT_RECEIVE | SERVER_RECEIVE | SERVER_OVER_RECEIVE => {
             &registers[4..6]
         }
+        CLIENT_RECEIVE_REF | SERVER_RECEIVE_REF => &registers[4..7],
         WAIT_RECEIVE => return sheet.fill_all(form, &[registers[1], registers[4], registers[5]]),
         _ => &registers[1..6],
     };

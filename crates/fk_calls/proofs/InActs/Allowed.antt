@@ -19,6 +19,7 @@ use Rattle.fk_store.specs.Store.Paths.{path, place}
 use Rattle.fk_store.specs.Store.Threads.{is_free_at}
 use Rattle.fk_store.specs.Store.World.{world}
 use Rattle.fk_store.proofs.InStore.finding.Freedom.{IsPlain, free_space, free_thread, may_alter, unfrozen_object, unheld_thread}
+use Rattle.fk_changes.specs.Threads.Answers.{came_answers}
 use Rattle.fk_calls.specs.declared.acts.act.Act.{Act}
 use Rattle.fk_calls.specs.declared.acts.act.Act.TheVariants as acts
 use Rattle.fk_calls.specs.Acts.Acts.{changes_of, is_act_allowed, IsAct}
@@ -127,10 +128,10 @@ module _ (m : Contents) (port : Who) (words : List ℕ) where
         (λ h. refl),
       )
   allowed_iff (acts.Fills client) is = ((λ h. (plain client _ (record { changed = λ b. refl; made = refl }) is.for_whom, tt)), (λ h. refl))
-  allowed_iff (acts.Passes client) is = (
+  allowed_iff (acts.Passes client came) is = (
     (λ h. (
       plain client _ (record { changed = λ b. refl; made = refl }) is.for_whom,
-      (plain client (Finish []) (record { changed = λ b. refl; made = refl }) is.for_whom, tt),
+      (plain client (Finish (came_answers came)) (record { changed = λ b. refl; made = refl }) is.for_whom, tt),
     )),
     (λ h. refl),
   )

@@ -69,8 +69,8 @@ act-ending m port words (acts.Gives client to into count) is =
     same-ending (world m) _ (all-same (world m) (changes_of (world m) (path m) port words (acts.Gives client to into count)) (refl, (refl, (refl, tt))))
 act-ending m port words (acts.Fills client) is =
     same-ending (world m) _ (all-same (world m) (changes_of (world m) (path m) port words (acts.Fills client)) (refl, tt))
-act-ending m port words (acts.Passes client) is =
-    same-ending (world m) _ (all-same (world m) (changes_of (world m) (path m) port words (acts.Passes client)) (refl, (refl, tt)))
+act-ending m port words (acts.Passes client came) is =
+    same-ending (world m) _ (all-same (world m) (changes_of (world m) (path m) port words (acts.Passes client came)) (refl, (refl, tt)))
 
 -- ---- who hears it
 
@@ -84,4 +84,4 @@ act-heard p q port act said tells is apart who = ap (λ s. says_to s (place p wh
     by acts.GivesNothing = own p port who apart
     by (acts.Gives client to into count) = own p port who apart
     by (acts.Fills client) = own p port who apart
-    by (acts.Passes client) = own p port who apart
+    by (acts.Passes client came) = own p port who apart

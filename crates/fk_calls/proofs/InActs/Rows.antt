@@ -15,13 +15,14 @@ use Rattle.fk_model.specs.Outcomes.Said.{Taken, Given}
 use Rattle.fk_model.specs.Places.{Path, parent, Ptr, leads_to}
 use Rattle.fk_model.specs.Places.Ptr.{At}
 use Rattle.fk_model.specs.Searches.{client_at, talk_at, thread_at}
-use Rattle.fk_model.specs.Talks.{first_stage, receiving, same_side}
+use Rattle.fk_model.specs.Talks.{first_stage, receive_on, receiving, same_side}
 use Rattle.fk_model.specs.World.{World}
 use Rattle.fk_model.specs.World.Change.{Alter}
 use Rattle.fk_model.specs.World.Edit.{Finish, SetPeer, SetTalk}
-use Rattle.fk_model.specs.declared.stage.Stage.TheVariants.{ClientReceive}
+use Rattle.fk_model.specs.declared.stage.Stage.TheVariants.{ClientReceive, ClientReceiveRef}
 use Rattle.fk_store.specs.Store.Threads.{is_free_at, todo_at, todo_of_mode}
 use Rattle.fk_changes.specs.Threads.Shifted.{address_of}
+use Rattle.laws_moves.proofs.InRows.Handles.{received-stage}
 use Rattle.fk_calls.specs.Acts.Acts.{IsReceiver}
 
 pub take_min : (n : ℕ) (xs : List ℕ) → length xs ≡ 64 → take (min n 64) xs ≡ take n xs
@@ -104,27 +105,28 @@ module _ (w : World) (port : Path) (go : Path → ℕ × ℕ → Outcome) where
         unfolding is_free_at
         client_unturned off = let free_there = rw (← there) at free in rw (serving, ← found, ← there, free_there, off) refl
 
-        pub client_away : turned ≡ true → None ≡ receiving turns.Client t.mode → with_client w port go ≡ Waits
+        pub client_away : turned ≡ true → None ≡ receiving w (parent x) turns.Client t.mode → with_client w port go ≡ Waits
         unfolding is_free_at
         client_away on none = let free_there = rw (← there) at free in rw (serving, ← found, ← there, free_there, on, ← none) refl
 
-        pub client_receives : (r : ℕ × ℕ) → turned ≡ true → Some r ≡ receiving turns.Client t.mode → with_client w port go ≡ go x r
+        pub client_receives : (r : ℕ × ℕ) → turned ≡ true → Some r ≡ receiving w (parent x) turns.Client t.mode → with_client w port go ≡ go x r
         unfolding is_free_at
         client_receives r on is = let free_there = rw (← there) at free in rw (serving, ← found, ← there, free_there, on, ← is) refl
 
 -- its stage has no higher address
-receives_low : (m : Mode) (r : ℕ × ℕ) → Some r ≡ receiving turns.Client m → address_of (todo_of_mode m) ≤ r.0
+receives_low : (m : Mode) (r : ℕ × ℕ) → Some r ≡ and_then (receive_on turns.Client) (first_stage m) → address_of (todo_of_mode m) ≤ r.0
 receives_low (Running g) r is = absurd (cc)
 receives_low (Calling [] rest) r is = absurd (cc)
 receives_low (Calling (ClientReceive into room ∷ todo) rest) r is = let same : r ≡ (into, room) = cc in rw same (omega arith)
+receives_low (Calling (ClientReceiveRef into room reference ∷ todo) rest) r is = let same : r ≡ (into, room) = cc in rw same (omega arith)
 receives_low (Calling (stage ∷ todo) rest) r is = absurd (cc)
 receives_low (Halted g code) r is = absurd (cc)
 receives_low (Native g) r is = absurd (cc)
 
 pub receiver : (w : World) (x : Path) (t : Thread) (r : ℕ × ℕ) → Some t ≡ thread_at w x → is_free_at w x ≡ true →
-    Some r ≡ receiving turns.Client t.mode → IsReceiver w x r.0
+    Some r ≡ receiving w (parent x) turns.Client t.mode → IsReceiver w x r.0
 unfolding todo_at
-receiver w x t r there free is = record { free = free; low = rw (← there) (receives_low t.mode r is) }
+receiver w x t r there free is = record { free = free; low = rw (← there) (receives_low t.mode r (sym (received-stage w (parent x) turns.Client t.mode r (sym is)))) }
 
 -- ---- nothing to give
 

@@ -27,6 +27,7 @@ use Rattle.fk_store.specs.Store.Paths.{path, place}
 use Rattle.fk_store.specs.Store.Threads.{is_free_at, todo_at}
 use Rattle.fk_store.specs.Store.World.{world, IsLive}
 use Rattle.fk_changes.specs.Threads.Shifted.{address_of, IsLow}
+use Rattle.fk_changes.specs.Threads.Answers.{came_answers}
 use Rattle.fk_calls.specs.declared.acts.act.Act.{Act}
 use Rattle.fk_calls.specs.declared.acts.act.Act.TheVariants as acts
 
@@ -55,7 +56,7 @@ changes_of w p port words (acts.Gives client to into count) =
     ∷ Alter (place p client) (Shift count)
     ∷ []
 changes_of w p port words (acts.Fills client) = Alter (place p client) (End FULL []) ∷ []
-changes_of w p port words (acts.Passes client) = Alter (place p client) (PassTurn turns.Client) ∷ Alter (place p client) (Finish []) ∷ []
+changes_of w p port words (acts.Passes client came) = Alter (place p client) (PassTurn turns.Client) ∷ Alter (place p client) (Finish (came_answers came)) ∷ []
 
 -- what it tells
 abbrev pub told_of : (ℕ → Path) → Who → Act → Said
@@ -64,7 +65,7 @@ told_of p port (acts.Resumes client turn moved) = Taken (At (place p port)) (pla
 told_of p port acts.GivesNothing = Given (At (place p port)) 0
 told_of p port (acts.Gives client to into count) = Given (At (place p port)) count
 told_of p port (acts.Fills client) = Full (At (place p port))
-told_of p port (acts.Passes client) = Passed (At (place p port))
+told_of p port (acts.Passes client came) = Passed (At (place p port))
 
 -- the outcome that it stands for
 abbrev pub outcome_by : World → (ℕ → Path) → Who → List ℕ → Option Act → Outcome
@@ -89,7 +90,7 @@ IsFor w p words (acts.Resumes client turn moved) =
 IsFor w p words acts.GivesNothing = ⊤
 IsFor w p words (acts.Gives client to into count) = (is_free_at w (place p client) ≡ true) × IsGift w p words client to into count
 IsFor w p words (acts.Fills client) = is_free_at w (place p client) ≡ true
-IsFor w p words (acts.Passes client) = is_free_at w (place p client) ≡ true
+IsFor w p words (acts.Passes client came) = is_free_at w (place p client) ≡ true
 
 -- the act of a port's server that is free
 pub record IsAct (m : Contents) (port : Who) (words : List ℕ) (act : Act) : Type 0 where

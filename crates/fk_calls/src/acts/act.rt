@@ -28,8 +28,9 @@ pub enum Act {
     Fills {
         client: Who,
     },
-    /// The client has the turn.
+    /// The client has the turn. It answers whether a pointer came, where it awaited one.
     Passes {
         client: Who,
+        came: Option<bool>,
     },
 }

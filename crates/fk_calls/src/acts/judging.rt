@@ -20,7 +20,7 @@ ghost use Rattle.fk_store.specs.Store.World.{world, IsLive};
 ghost use Rattle.fk_calls.specs.Acts.Acts.{if_client, is_act, outcome_by, words_of, IsAct, IsFor, IsReceiver};
 
 use crate::acts::act::Act;
-use fk_changes::threads::receive_of;
+use fk_changes::threads::{awaited_by, receiving};
 use fk_links::{connecting_to, is_parked};
 use fk_model::{Ask, Body, Move, Talk, Thread, Turn, Who};
 use fk_store::{Reach, Store};
@@ -166,7 +166,7 @@ fn receiving_client(store: &Store, port: Who) -> Option<(Who, (u64, u64))>
     if !has_turn(thread) {
         return None;
     }
-    match receive_of(thread, Turn::Client) {
+    match receiving(store, client.space, thread, Turn::Client) {
         Some(receive) => Some((client, receive)),
         None => None,
     }
@@ -252,7 +252,17 @@ fn give(store: &Store, port: Who, words: &[u64]) -> Option<Act>
     }
 }
 
-/// A server hands its client the turn.
+/// The slot of the reference that is to take a pointer, of a thread.
+fn awaited_at(store: &Store, who: Who) -> Option<u64>
+    ensures { result ≡ rows.awaited_at (world store.now) (place (path store.now) who) }
+{
+    match store.thread(who) {
+        Some(thread) => awaited_by(thread),
+        None => None,
+    }
+}
+
+/// A server hands its client the turn, and no pointer.
 #[tactic(auto, unfolding(fk_model::specs::NativeRows::over_row))]
 fn over(store: &Store, port: Who) -> Option<Act>
     requires valid { IsValid (world store.now) }
@@ -260,7 +270,13 @@ fn over(store: &Store, port: Who) -> Option<Act>
     ensures fits { IfSome result (IsAct store.now port []) }
 {
     match receiving_client(store, port) {
-        Some((client, _)) => Some(Act::Passes { client }),
+        Some((client, _)) => {
+            let came = match awaited_at(store, client) {
+                Some(_) => Some(false),
+                None => None,
+            };
+            Some(Act::Passes { client, came })
+        }
         None => None,
     }
 }

@@ -12,7 +12,7 @@ ghost use Rattle.fk_plans.specs.Plans.Hearers.{told_port, IsPadded};
 ghost use Rattle.fk_calls.specs.Acts.Acts.{changes_of, told_of, IsAct, IsGift};
 
 use crate::acts::act::Act;
-use fk_changes::threads::{Answers, advance, count_moved, finish};
+use fk_changes::threads::{Answers, advance, answered, count_moved, finish};
 use fk_model::status::FULL;
 use fk_model::{Peer, Said, Talk, Turn, Who};
 use fk_store::Store;
@@ -130,9 +130,9 @@ pub fn make(store: &mut Store, port: Who, words: &[u64], act: &Act) -> Said
             store.end_call(client, FULL);
             Said::Full { port }
         }
-        Act::Passes { client } => {
+        Act::Passes { client, came } => {
             store.pass_turn(client, Turn::Client);
-            finish(store, client, Answers::Nothing);
+            finish(store, client, answered(came));
             Said::Over { port }
         }
     }

@@ -31,7 +31,7 @@ use fk_store::Store;
 use fk_sync::{
     cond_asleep, cond_broadcast, cond_signal, cond_wait, mutex_lock, mutex_trylock, mutex_unlock,
 };
-use fk_transfer::{over, receive, send};
+use fk_transfer::{over, over_ref, receive, receive_ref, send};
 
 /// A stage that may pick whom it acts on.
 pub fn chooses(stage: &Stage) -> bool
@@ -113,9 +113,21 @@ fn row(
         Stage::ClientReceive { addr, room } => receive(store, caller, Turn::Client, addr, room),
         Stage::ClientSend { addr, count } => send(store, caller, Turn::Client, addr, count),
         Stage::ClientOver => over(store, caller, Turn::Client),
+        Stage::ClientOverRef { reference } => over_ref(store, caller, Turn::Client, reference),
+        Stage::ClientReceiveRef {
+            addr,
+            room,
+            reference,
+        } => receive_ref(store, caller, Turn::Client, addr, room, reference),
         Stage::ServerReceive { addr, room } => receive(store, caller, Turn::Server, addr, room),
         Stage::ServerSend { addr, count } => send(store, caller, Turn::Server, addr, count),
         Stage::ServerOver => over(store, caller, Turn::Server),
+        Stage::ServerOverRef { reference } => over_ref(store, caller, Turn::Server, reference),
+        Stage::ServerReceiveRef {
+            addr,
+            room,
+            reference,
+        } => receive_ref(store, caller, Turn::Server, addr, room, reference),
         Stage::Connect { h } => connect(store, caller, h),
         Stage::Disconnect => disconnect(store, caller, Turn::Client),
         Stage::Wait { set } => wait(store, caller, set, pick),

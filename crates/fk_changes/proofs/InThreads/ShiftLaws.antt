@@ -12,7 +12,8 @@ use Rattle.fk_model.specs.Places.{Path}
 use Rattle.fk_model.specs.Calls.{calls, code_of, todo_of, rest_of}
 use Rattle.fk_model.specs.Objects.Body.{Thread_of}
 use Rattle.fk_model.specs.Objects.Mode.{Calling}
-use Rattle.fk_model.specs.Talks.{receiving}
+use Rattle.fk_model.specs.Objects.{Mode, and_then}
+use Rattle.fk_model.specs.Talks.{first_stage, receive_on, awaited}
 use Rattle.fk_model.specs.World.{World, edited, apply, shifted_in}
 use Rattle.fk_model.specs.World.Change.{Alter}
 use Rattle.fk_model.specs.World.Edit.{Shift}
@@ -20,28 +21,30 @@ use Rattle.fk_model.proofs.calls.CallLaws.{registers}
 use Rattle.fk_stages.proofs.Codes.{is_among, OfEach, OfOthers, of_registers}
 use Rattle.fk_store.specs.Store.Bodies.{calling_mode, mode_by, thread_by}
 use Rattle.fk_store.specs.Store.Threads.{todo_of_mode, todo_at}
-use Rattle.fk_changes.specs.Threads.Shifted.{moving, advanced, shifted_registers, receive_code, receive_in, address_of, address_in, IsLow}
+use Rattle.fk_changes.specs.Threads.Shifted.{moving, advanced, shifted_registers, receive_code, receive_ref_code, is_receive, receive_in, awaited_in, address_of, address_in, IsLow}
 use Rattle.fk_store.proofs.InStore.changing.ThreadLaws.{alter-nobody}
 use Rattle.fk_model.specs.Searches.{thread_at}
 
 -- ---- the calls whose first stage moves words
 
 senders_and_receivers : List ℕ
-senders_and_receivers = 34 ∷ 37 ∷ 51 ∷ 53 ∷ 36 ∷ 50 ∷ []
+senders_and_receivers = 34 ∷ 37 ∷ 51 ∷ 53 ∷ 36 ∷ 50 ∷ 41 ∷ 58 ∷ []
 
 not_moving : (n : ℕ) → is_among senders_and_receivers n ≡ false → moving n ≡ None
 unfolding senders_and_receivers
-not_moving n = by (eqb n 34) (eqb n 37) (eqb n 51) (eqb n 53) (eqb n 36) (eqb n 50)
+not_moving n = by (eqb n 34) (eqb n 37) (eqb n 51) (eqb n 53) (eqb n 36) (eqb n 50) (eqb n 41) (eqb n 58)
   where
-    by : (a b c d e f : Bool) →
-        (a || (b || (c || (d || (e || (f || false)))))) ≡ false → cond {A = Option ℕ} (((a || b) || c) || d) (Some 2) (cond (e || f) (Some 4) None) ≡ None
-    by false false false false false false other = refl
-    by true b c d e f other = absurd (cc)
-    by false true c d e f other = absurd (cc)
-    by false false true d e f other = absurd (cc)
-    by false false false true e f other = absurd (cc)
-    by false false false false true f other = absurd (cc)
-    by false false false false false true other = absurd (cc)
+    by : (a b c d e f g h : Bool) → (a || (b || (c || (d || (e || (f || (g || (h || false)))))))) ≡ false →
+        cond {A = Option ℕ} (((a || b) || c) || d) (Some 2) (cond (((e || f) || g) || h) (Some 4) None) ≡ None
+    by false false false false false false false false other = refl
+    by true b c d e f g h other = absurd (cc)
+    by false true c d e f g h other = absurd (cc)
+    by false false true d e f g h other = absurd (cc)
+    by false false false true e f g h other = absurd (cc)
+    by false false false false true f g h other = absurd (cc)
+    by false false false false false true g h other = absurd (cc)
+    by false false false false false false true h other = absurd (cc)
+    by false false false false false false false true other = absurd (cc)
 
 -- ---- the shift
 
@@ -53,7 +56,7 @@ Stays k g todo = shifted_in k (Calling todo (rest_of todo g)) ≡ Calling todo (
 
 each_shifts : (k : ℕ) (r : ℕ → ℕ) → OfEach (λ n. Shifts k (registers n r)) senders_and_receivers
 unfolding senders_and_receivers Shifts todo_of rest_of code_of
-each_shifts k r = (refl, (refl, (refl, (refl, (refl, (refl, tt))))))
+each_shifts k r = (refl, (refl, (refl, (refl, (refl, (refl, (refl, (refl, tt))))))))
 
 each_stays : (k : ℕ) → OfOthers senders_and_receivers (Stays k) calls
 unfolding senders_and_receivers Stays
@@ -74,7 +77,7 @@ Nowhere g todo = address_of todo ≡ 0
 
 each_addressed : (r : ℕ → ℕ) → OfEach (λ n. Addressed (registers n r)) senders_and_receivers
 unfolding senders_and_receivers Addressed todo_of
-each_addressed r = (refl, (refl, (refl, (refl, (refl, (refl, tt))))))
+each_addressed r = (refl, (refl, (refl, (refl, (refl, (refl, (refl, (refl, tt))))))))
 
 each_nowhere : OfOthers senders_and_receivers Nowhere calls
 unfolding senders_and_receivers Nowhere
@@ -87,36 +90,72 @@ addressed = of_registers senders_and_receivers Addressed Nowhere each_addressed 
 
 -- ---- the Receive on a side
 
+abbrev awaiting : Turn → Mode → Option (ℕ × ℕ)
+awaiting side mode = and_then (receive_on side) (first_stage mode)
+
 receivers : Turn → List ℕ
-receivers side = receive_code side ∷ []
+receivers side = receive_code side ∷ receive_ref_code side ∷ []
 
 Receives : Turn → List ℕ → Type 0
-Receives side g = receiving side (calling_mode g) ≡ receive_in side g
+Receives side g = awaiting side (calling_mode g) ≡ receive_in side g
 
 NoReceive : Turn → List ℕ → List Stage → Type 0
-NoReceive side g todo = receiving side (Calling todo (rest_of todo g)) ≡ None
+NoReceive side g todo = awaiting side (Calling todo (rest_of todo g)) ≡ None
 
 each_receives : (side : Turn) (r : ℕ → ℕ) → OfEach (λ n. Receives side (registers n r)) (receivers side)
 unfolding receivers Receives todo_of
-each_receives turns.Client r = (refl, tt)
-each_receives turns.Server r = (refl, tt)
+each_receives turns.Client r = (refl, (refl, tt))
+each_receives turns.Server r = (refl, (refl, tt))
 
 each_none : (side : Turn) → OfOthers (receivers side) (NoReceive side) calls
 unfolding receivers NoReceive
 each_none turns.Client = assumption
 each_none turns.Server = assumption
 
-receives : (side : Turn) (g : List ℕ) → length g ≡ 16 → receiving side (calling_mode g) ≡ receive_in side g
+receives : (side : Turn) (g : List ℕ) → length g ≡ 16 → awaiting side (calling_mode g) ≡ receive_in side g
 unfolding receivers Receives NoReceive
 receives side = of_registers (receivers side) (Receives side) (NoReceive side) (each_receives side) (each_none side) (λ g. refl) other
   where
     other : (n : ℕ) (r : ℕ → ℕ) → is_among (receivers side) n ≡ false →
-        receiving side (calling_mode (registers n r)) ≡ None → receiving side (calling_mode (registers n r)) ≡ receive_in side (registers n r)
-    other n r none is = by (eqb n (receive_code side)) none
+        awaiting side (calling_mode (registers n r)) ≡ None → awaiting side (calling_mode (registers n r)) ≡ receive_in side (registers n r)
+    other n r none is = by (eqb n (receive_code side)) (eqb n (receive_ref_code side)) none
       where
-        by : (b : Bool) → (b || false) ≡ false → receiving side (calling_mode (registers n r)) ≡ cond {A = Option (ℕ × ℕ)} b (Some (r 4, r 5)) None
-        by true none = absurd (cc)
-        by false none = is
+        by : (a b : Bool) → (a || (b || false)) ≡ false → awaiting side (calling_mode (registers n r)) ≡ cond {A = Option (ℕ × ℕ)} (a || b) (Some (r 4, r 5)) None
+        by true b none = absurd (cc)
+        by false true none = absurd (cc)
+        by false false none = is
+
+-- ---- the reference that is to take a pointer
+
+takers : List ℕ
+takers = 41 ∷ 58 ∷ []
+
+Awaits : List ℕ → Type 0
+Awaits g = awaited (calling_mode g) ≡ awaited_in g
+
+AwaitsNone : List ℕ → List Stage → Type 0
+AwaitsNone g todo = awaited (Calling todo (rest_of todo g)) ≡ None
+
+each_awaits : (r : ℕ → ℕ) → OfEach (λ n. Awaits (registers n r)) takers
+unfolding takers Awaits todo_of
+each_awaits r = (refl, (refl, tt))
+
+each_awaits_none : OfOthers takers AwaitsNone calls
+unfolding takers AwaitsNone
+each_awaits_none = assumption
+
+awaits : (g : List ℕ) → length g ≡ 16 → awaited (calling_mode g) ≡ awaited_in g
+unfolding takers Awaits AwaitsNone
+awaits = of_registers takers Awaits AwaitsNone each_awaits each_awaits_none (λ g. refl) other
+  where
+    other : (n : ℕ) (r : ℕ → ℕ) → is_among takers n ≡ false → awaited (calling_mode (registers n r)) ≡ None →
+        awaited (calling_mode (registers n r)) ≡ awaited_in (registers n r)
+    other n r none is = by (eqb n 41) (eqb n 58) none
+      where
+        by : (a b : Bool) → (a || (b || false)) ≡ false → awaited (calling_mode (registers n r)) ≡ cond {A = Option ℕ} (a || b) (Some (r 6)) None
+        by true b none = absurd (cc)
+        by false true none = absurd (cc)
+        by false false none = is
 
 -- ---- of a thread
 
@@ -151,22 +190,17 @@ unfolding edited
 shift_nobody w x k none = alter-nobody w x (Shift k) _ (λ b. refl) none
 
 pub receives_thread : (side : Turn) (p : ℕ → Path) (t : threads_of.Thread) →
-    length t.regs ≡ 16 → t.mode ≡ modes.Calling → receiving side (thread_by p t).mode ≡ receive_in side t.regs
+    length t.regs ≡ 16 → t.mode ≡ modes.Calling → awaiting side (thread_by p t).mode ≡ receive_in side t.regs
 receives_thread side p t long is = rw is (receives side t.regs long)
 
 pub receives_some : (side : Turn) (p : ℕ → Path) (t : threads_of.Thread) → length t.regs ≡ 16 → t.mode ≡ modes.Calling →
-    slice_index t.regs 0 ≡ receive_code side → Some (slice_index t.regs 4, slice_index t.regs 5) ≡ receiving side (thread_by p t).mode
-receives_some side p t long is at = sym (receives_thread side p t long is ∙ by side at)
-  where
-    by : (side : Turn) → slice_index t.regs 0 ≡ receive_code side → receive_in side t.regs ≡ Some (slice_index t.regs 4, slice_index t.regs 5)
-    by turns.Client at = rw at refl
-    by turns.Server at = rw at refl
+    is_receive side (slice_index t.regs 0) ≡ true →
+    Some (slice_index t.regs 4, slice_index t.regs 5) ≡ and_then (receive_on side) (first_stage (thread_by p t).mode)
+receives_some side p t long is at = sym (receives_thread side p t long is ∙ rw at refl)
 
-pub receives_none : (side : Turn) (p : ℕ → Path) (t : threads_of.Thread) →
-    length t.regs ≡ 16 → t.mode ≡ modes.Calling → (slice_index t.regs 0 ≡ receive_code side → ⊥) → None ≡ receiving side (thread_by p t).mode
-receives_none side p t long is other = sym (receives_thread side p t long is ∙ by (eqb (slice_index t.regs 0) (receive_code side)) refl)
-  where
-    by : (b : Bool) → eqb (slice_index t.regs 0) (receive_code side) ≡ b →
-        cond {A = Option (ℕ × ℕ)} b (Some (slice_index t.regs 4, slice_index t.regs 5)) None ≡ None
-    by true e = absurd (other (eqb-true _ _ e))
-    by false e = refl
+pub receives_none : (side : Turn) (p : ℕ → Path) (t : threads_of.Thread) → length t.regs ≡ 16 → t.mode ≡ modes.Calling →
+    is_receive side (slice_index t.regs 0) ≡ false → None ≡ and_then (receive_on side) (first_stage (thread_by p t).mode)
+receives_none side p t long is other = sym (receives_thread side p t long is ∙ rw other refl)
+
+pub awaits_thread : (p : ℕ → Path) (t : threads_of.Thread) → length t.regs ≡ 16 → t.mode ≡ modes.Calling → awaited (thread_by p t).mode ≡ awaited_in t.regs
+awaits_thread p t long is = rw is (awaits t.regs long)

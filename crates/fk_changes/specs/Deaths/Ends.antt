@@ -15,8 +15,8 @@ use Rattle.fk_model.specs.World.Edit.{End}
 
 -- the codes of the calls that begin with a Send, an Over or a Receive on a side
 abbrev pub begins_talking : Turn → ℕ → Bool
-begins_talking turns.Client n = n == 34 || n == 35 || n == 36 || n == 37 || n == 38
-begins_talking turns.Server n = n == 50 || n == 51 || n == 52 || n == 53 || n == 54
+begins_talking turns.Client n = n == 34 || n == 35 || n == 36 || n == 37 || n == 38 || n == 40 || n == 41
+begins_talking turns.Server n = n == 50 || n == 51 || n == 52 || n == 53 || n == 54 || n == 57 || n == 58
 
 -- a thread is at such a stage
 abbrev pub talking : Turn → Option Body → Bool

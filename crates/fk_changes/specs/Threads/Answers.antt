@@ -1,7 +1,8 @@
 -- Answers: those of a stage, and what is left of its call.
-use Rattle.std.specs.Prelude.{ℕ, ◌==◌, List, [], ◌∷◌, Option, Some, None, if◌then◌else◌, ⊤}
+use Rattle.std.specs.Prelude.{ℕ, Bool, ◌==◌, List, [], ◌∷◌, Option, Some, None, if◌then◌else◌, ⊤}
 use Rattle.fk_model.specs.declared.stage.Stage.{Stage}
 use Rattle.fk_model.specs.declared.stage.Stage.TheVariants.{Connect}
+use Rattle.fk_model.specs.Objects.{flag_of}
 use Rattle.fk_changes.specs.declared.threads.answers.Answers.{Answers}
 use Rattle.fk_changes.specs.declared.threads.answers.Four.{Four}
 use Rattle.fk_changes.specs.declared.threads.answers.Answers.TheVariants.{Nothing, One, Two, Three}
@@ -14,6 +15,11 @@ listed (Three a b c) = a ∷ b ∷ c ∷ []
 
 abbrev pub all_four : Four → List ℕ
 all_four answers = answers.first ∷ answers.second ∷ answers.third ∷ answers.fourth ∷ []
+
+-- a stage that awaits a pointer answers whether one came
+abbrev pub came_answers : Option Bool → List ℕ
+came_answers None = []
+came_answers (Some came) = flag_of came ∷ []
 
 -- the code of a call without its first stage; none where that is its last
 abbrev pub code_after : ℕ → Option ℕ

@@ -1,7 +1,7 @@
 -- Shifted: what a moved block makes of the registers of a call.
-use Rattle.std.specs.Prelude.{◌<◌, ◌^◌, ℕ, ◌+◌, ◌-◌, ◌||◌, ◌==◌, List, ◌∷◌, Option, Some, None, if◌then◌else◌, slice_index, slice_set}
+use Rattle.std.specs.Prelude.{◌<◌, ◌^◌, ℕ, Bool, ◌+◌, ◌-◌, ◌||◌, ◌==◌, List, ◌∷◌, Option, Some, None, if◌then◌else◌, slice_index, slice_set}
 use Rattle.fk_model.specs.declared.stage.Stage.{Stage}
-use Rattle.fk_model.specs.declared.stage.Stage.TheVariants.{ClientReceive, ClientSend, ServerReceive, ServerSend}
+use Rattle.fk_model.specs.declared.stage.Stage.TheVariants.{ClientReceive, ClientSend, ClientReceiveRef, ServerReceive, ServerSend, ServerReceiveRef}
 use Rattle.fk_model.specs.declared.thread.Turn.{Turn}
 use Rattle.fk_model.specs.declared.thread.Turn.TheVariants as turns
 use Rattle.fk_model.specs.Places.{Path}
@@ -10,7 +10,7 @@ use Rattle.fk_store.specs.Store.Threads.{todo_at}
 
 -- the register of the address at which the first stage of a call moves words, by the call's code
 abbrev pub moving : ℕ → Option ℕ
-moving n = if n == 34 || n == 37 || n == 51 || n == 53 then Some 2 else (if n == 36 || n == 50 then Some 4 else None)
+moving n = if n == 34 || n == 37 || n == 51 || n == 53 then Some 2 else (if n == 36 || n == 50 || n == 41 || n == 58 then Some 4 else None)
 
 abbrev pub advanced : ℕ → Option ℕ → List ℕ → List ℕ
 advanced k None g = g
@@ -24,9 +24,20 @@ abbrev pub receive_code : Turn → ℕ
 receive_code turns.Client = 36
 receive_code turns.Server = 50
 
--- address and room of a Receive on this side
+abbrev pub receive_ref_code : Turn → ℕ
+receive_ref_code turns.Client = 41
+receive_ref_code turns.Server = 58
+
+abbrev pub is_receive : Turn → ℕ → Bool
+is_receive side n = n == receive_code side || n == receive_ref_code side
+
+-- address and room of a Receive or a ReceiveRef on this side
 abbrev pub receive_in : Turn → List ℕ → Option (ℕ × ℕ)
-receive_in side g = if slice_index g 0 == receive_code side then Some (slice_index g 4, slice_index g 5) else None
+receive_in side g = if is_receive side (slice_index g 0) then Some (slice_index g 4, slice_index g 5) else None
+
+-- the slot of the reference that is to take a pointer, of a ReceiveRef
+abbrev pub awaited_in : List ℕ → Option ℕ
+awaited_in g = if slice_index g 0 == 41 || slice_index g 0 == 58 then Some (slice_index g 6) else None
 
 -- the address of a stage that moves words; 0 of every other
 abbrev pub address_of : List Stage → ℕ
@@ -34,6 +45,8 @@ address_of (ClientSend address count ∷ todo) = address
 address_of (ClientReceive into room ∷ todo) = into
 address_of (ServerSend address count ∷ todo) = address
 address_of (ServerReceive into room ∷ todo) = into
+address_of (ClientReceiveRef into room reference ∷ todo) = into
+address_of (ServerReceiveRef into room reference ∷ todo) = into
 address_of other = 0
 
 abbrev pub address_in : Option ℕ → List ℕ → ℕ

@@ -11,8 +11,9 @@ ghost use Rattle.fk_store.specs.Store.World.{world};
 ghost use Rattle.fk_changes.specs.Deaths.Ends.{begins_talking, talking, ended_where, is_in_list, ends_led};
 
 use fk_model::call::{
-    CLIENT_OVER, CLIENT_OVER_RECEIVE, CLIENT_RECEIVE, CLIENT_SEND, CLIENT_SEND_OVER_RECEIVE,
-    SERVER_OVER, SERVER_OVER_RECEIVE, SERVER_RECEIVE, SERVER_SEND, SERVER_SEND_OVER_RECEIVE,
+    CLIENT_OVER, CLIENT_OVER_RECEIVE, CLIENT_OVER_REF, CLIENT_RECEIVE, CLIENT_RECEIVE_REF,
+    CLIENT_SEND, CLIENT_SEND_OVER_RECEIVE, SERVER_OVER, SERVER_OVER_RECEIVE, SERVER_OVER_REF,
+    SERVER_RECEIVE, SERVER_RECEIVE_REF, SERVER_SEND, SERVER_SEND_OVER_RECEIVE,
 };
 use fk_model::status::ENDED;
 use fk_model::{Mode, Thread, Turn, Who};
@@ -30,6 +31,8 @@ fn begins_talking(side: Turn, code: u64) -> bool
                 | CLIENT_RECEIVE
                 | CLIENT_SEND
                 | CLIENT_OVER
+                | CLIENT_OVER_REF
+                | CLIENT_RECEIVE_REF
         ),
         Turn::Server => matches!(
             code,
@@ -38,6 +41,8 @@ fn begins_talking(side: Turn, code: u64) -> bool
                 | SERVER_OVER
                 | SERVER_SEND_OVER_RECEIVE
                 | SERVER_OVER_RECEIVE
+                | SERVER_OVER_REF
+                | SERVER_RECEIVE_REF
         ),
     }
 }

@@ -14,7 +14,7 @@ ghost use Rattle.fk_store.specs.Store.Paths.{path, place};
 ghost use Rattle.fk_store.specs.Store.Threads.{todo_of_mode, todo_at};
 ghost use Rattle.fk_store.specs.Store.WellFormed.{HasCall};
 ghost use Rattle.fk_store.specs.Store.World.{world};
-ghost use Rattle.fk_changes.specs.Threads.Answers.{all_four, listed, code_after, LeaveArguments};
+ghost use Rattle.fk_changes.specs.Threads.Answers.{all_four, came_answers, listed, code_after, LeaveArguments};
 
 use crate::threads::going::go_on;
 use fk_model::call::{
@@ -31,6 +31,16 @@ pub enum Answers {
     One(u64),
     Two(u64, u64),
     Three(u64, u64, u64),
+}
+
+/// What a stage answers that awaits a pointer: whether one came.
+pub fn answered(came: Option<bool>) -> Answers
+    ensures { listed result ≡ came_answers came }
+{
+    match came {
+        None => Answers::Nothing,
+        Some(came) => Answers::One(u64::from(came)),
+    }
 }
 
 /// The code of a call without its first stage; none where that is its last.

@@ -3,7 +3,8 @@ ghost use Rattle.std.specs.Prelude.{◌≡◌, ◌<◌, ◌+◌, ◌-◌, ◌^�
 ghost use Rattle.fk_model.specs.Calls.{todo_of};
 ghost use Rattle.fk_model.specs.Objects.Body.{Thread_of};
 ghost use Rattle.fk_model.specs.Places.{Path};
-ghost use Rattle.fk_model.specs.Talks.{receiving};
+ghost use Rattle.fk_model.specs.Objects.{and_then};
+ghost use Rattle.fk_model.specs.Talks.{first_stage, receive_on, awaited};
 ghost use Rattle.fk_model.specs.World.{apply, edited};
 ghost use Rattle.fk_model.specs.World.Change.{Alter};
 ghost use Rattle.fk_model.specs.World.Edit.{Shift, CountMoved};
@@ -13,11 +14,11 @@ ghost use Rattle.fk_store.specs.Store.Bodies.{mode_by, thread_by};
 ghost use Rattle.fk_store.specs.Store.Paths.{path, place};
 ghost use Rattle.fk_store.specs.Store.Threads.{todo_of_mode};
 ghost use Rattle.fk_store.specs.Store.World.{world};
-ghost use Rattle.fk_changes.specs.Threads.Shifted.{moving, address_in, address_of, shifted_registers, receive_code, IsLow};
+ghost use Rattle.fk_changes.specs.Threads.Shifted.{moving, address_in, address_of, awaited_in, shifted_registers, receive_code, receive_ref_code, is_receive, IsLow};
 
 use fk_model::call::{
-    CLIENT_RECEIVE, CLIENT_SEND, CLIENT_SEND_OVER_RECEIVE, SERVER_RECEIVE, SERVER_SEND,
-    SERVER_SEND_OVER_RECEIVE,
+    CLIENT_RECEIVE, CLIENT_RECEIVE_REF, CLIENT_SEND, CLIENT_SEND_OVER_RECEIVE, SERVER_RECEIVE,
+    SERVER_RECEIVE_REF, SERVER_SEND, SERVER_SEND_OVER_RECEIVE,
 };
 use fk_model::{Mode, Thread, Turn, Who};
 use fk_store::Store;
@@ -40,7 +41,7 @@ fn shift(registers: &mut [u64; 16], count: u64)
             registers[2] = registers[2] + count;
             registers[3] = less(registers[3], count);
         }
-        CLIENT_RECEIVE | SERVER_RECEIVE => {
+        CLIENT_RECEIVE | SERVER_RECEIVE | CLIENT_RECEIVE_REF | SERVER_RECEIVE_REF => {
             registers[4] = registers[4] + count;
             registers[5] = less(registers[5], count);
         }
@@ -100,14 +101,54 @@ fn receive_code(side: Turn) -> u64
     }
 }
 
-/// The address and the room of the Receive at which a thread is, on this side of a talk.
+/// The code of the call that is a ReceiveRef, on this side of a talk.
+fn receive_ref_code(side: Turn) -> u64
+    ensures { result ≡ receive_ref_code side }
+{
+    match side {
+        Turn::Client => CLIENT_RECEIVE_REF,
+        Turn::Server => SERVER_RECEIVE_REF,
+    }
+}
+
+/// The code is of a Receive alone, with a reference or without, on this side of a talk.
+fn is_receive(side: Turn, code: u64) -> bool
+    ensures { result ≡ is_receive side code }
+{
+    code == receive_code(side) || code == receive_ref_code(side)
+}
+
+/// The address and the room of the Receive at which a thread is, on this side of a talk, with a
+/// reference or without.
 pub fn receive_of(thread: &Thread, side: Turn) -> Option<(u64, u64)>
-    ensures { (p : ℕ → Path) → result ≡ receiving side (thread_by p thread.now).mode }
+    ensures { (p : ℕ → Path) → result ≡ and_then (receive_on side) (first_stage (thread_by p thread.now).mode) }
 {
     if let Mode::Calling = thread.mode {
-        if thread.regs[0] == receive_code(side) {
+        if is_receive(side, thread.regs[0]) {
             return Some((thread.regs[4], thread.regs[5]));
         }
     }
     None
+}
+
+/// The slot of the reference that is to take a pointer, of a call in registers.
+fn awaited_in(regs: &[u64; 16]) -> Option<u64>
+    ensures { result ≡ awaited_in regs.now }
+{
+    if regs[0] == CLIENT_RECEIVE_REF || regs[0] == SERVER_RECEIVE_REF {
+        Some(regs[6])
+    } else {
+        None
+    }
+}
+
+/// The slot of the reference that is to take a pointer, of a thread at a ReceiveRef.
+pub fn awaited_by(thread: &Thread) -> Option<u64>
+    ensures { (p : ℕ → Path) → result ≡ awaited (thread_by p thread.now).mode }
+{
+    if let Mode::Calling = thread.mode {
+        awaited_in(&thread.regs)
+    } else {
+        None
+    }
 }

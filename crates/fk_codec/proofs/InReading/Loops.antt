@@ -1,5 +1,5 @@
 -- Reading one item after the other, as a loop does.
-use Rattle.std.proofs.Common.{◌≡◌, ℕ, suc, ◌-◌, ◌+◌, ◌≤◌, ◌<◌, List, [], ◌∷◌, ◌++◌, length, take, set, take_all, Result, Ok, Err, refl, sym, ap, ◌∙◌, arith}
+use Rattle.std.proofs.Common.{◌≡◌, ℕ, Bool, suc, ◌-◌, ◌+◌, ◌≤◌, ◌<◌, List, [], ◌∷◌, ◌++◌, length, take, set, take_all, Result, Ok, Err, refl, sym, ap, ◌∙◌, arith}
 use Rattle.std.specs.Int.{w64}
 use Rattle.std.proofs.lemmas.List.{take_more_set}
 use Rattle.fk_image.specs.declared.image.image.ObjectRec.{ObjectRec}
@@ -42,34 +42,34 @@ module _ {S X : Type 0} (item : S → List ℕ → Result (X × List ℕ) Stop) 
 pub last_slot : (os : List ObjectRec) (o : ObjectRec) → next_slot (os ++ o ∷ []) ≡ o.slot + 1
 last_slot = next_slot-more
 
-pub objects_go : (count i : ℕ) (floor : ℕ) (done : List ObjectRec) (bytes : List ℕ) (more : List ObjectRec) (after : List ℕ) →
-    i < count → with_object done (read_object floor bytes) ≡ Ok (more, after)
-    → read_many read_object after_object (count - i) floor done bytes ≡ read_many read_object after_object (count - (i + 1)) (next_slot more) more after
-objects_go count i floor done bytes more after lt h = by (read_object floor bytes) refl h
+pub objects_go : (new : Bool) (count i : ℕ) (floor : ℕ) (done : List ObjectRec) (bytes : List ℕ) (more : List ObjectRec) (after : List ℕ) →
+    i < count → with_object done (read_object new floor bytes) ≡ Ok (more, after)
+    → read_many (read_object new) after_object (count - i) floor done bytes ≡ read_many (read_object new) after_object (count - (i + 1)) (next_slot more) more after
+objects_go new count i floor done bytes more after lt h = by (read_object new floor bytes) refl h
   where
-    by : (r : Result (ObjectRec × List ℕ) Stop) → read_object floor bytes ≡ r → with_object done r ≡ Ok (more, after)
-        → read_many read_object after_object (count - i) floor done bytes ≡ read_many read_object after_object (count - (i + 1)) (next_slot more) more after
+    by : (r : Result (ObjectRec × List ℕ) Stop) → read_object new floor bytes ≡ r → with_object done r ≡ Ok (more, after)
+        → read_many (read_object new) after_object (count - i) floor done bytes ≡ read_many (read_object new) after_object (count - (i + 1)) (next_slot more) more after
     by (Ok x) e h =
         let pair : (done ++ x.0 ∷ [], x.1) ≡ (more, after) = cc in
         let list : done ++ x.0 ∷ [] ≡ more = ap (λ (p : List ObjectRec × List ℕ). p.0) pair in
         let rest : x.1 ≡ after = ap (λ (p : List ObjectRec × List ℕ). p.1) pair in
-        rw (← list, ← rest, next_slot-more done x.0) (goes_on read_object after_object count i floor done bytes x.0 x.1 lt e)
+        rw (← list, ← rest, next_slot-more done x.0) (goes_on (read_object new) after_object count i floor done bytes x.0 x.1 lt e)
     by (Err stop) e h = absurd (cc)
 
-pub objects_fail : (e : Fail) (count i : ℕ) (floor : ℕ) (done : List ObjectRec) (bytes : List ℕ) (total : Result (List ObjectRec × List ℕ) Stop) →
-    i < count → Fails e (with_object done (read_object floor bytes))
-    → read_many read_object after_object (count - i) floor done bytes ≡ total → Fails e total
-objects_fail fails.NoMemory count i floor done bytes total lt h so_far = tt
-objects_fail (fails.At stop) count i floor done bytes total lt h so_far =
-    fails_there read_object after_object (fails.At stop) count i floor done bytes total lt (by (read_object floor bytes) h) so_far
+pub objects_fail : (new : Bool) (e : Fail) (count i : ℕ) (floor : ℕ) (done : List ObjectRec) (bytes : List ℕ) (total : Result (List ObjectRec × List ℕ) Stop) →
+    i < count → Fails e (with_object done (read_object new floor bytes))
+    → read_many (read_object new) after_object (count - i) floor done bytes ≡ total → Fails e total
+objects_fail new fails.NoMemory count i floor done bytes total lt h so_far = tt
+objects_fail new (fails.At stop) count i floor done bytes total lt h so_far =
+    fails_there (read_object new) after_object (fails.At stop) count i floor done bytes total lt (by (read_object new floor bytes) h) so_far
   where
     by : (r : Result (ObjectRec × List ℕ) Stop) → with_object done r ≡ Err stop → r ≡ Err stop
     by (Ok x) h = absurd (cc)
     by (Err e) h = let same : e ≡ stop = cc in ap (λ (s : Stop). Err s) same
 
-pub objects_end : (count i : ℕ) (floor : ℕ) (done : List ObjectRec) (bytes : List ℕ) →
-    count ≤ i → read_many read_object after_object (count - i) floor done bytes ≡ Ok (done, bytes)
-objects_end = is_done read_object after_object
+pub objects_end : (new : Bool) (count i : ℕ) (floor : ℕ) (done : List ObjectRec) (bytes : List ℕ) →
+    count ≤ i → read_many (read_object new) after_object (count - i) floor done bytes ≡ Ok (done, bytes)
+objects_end new = is_done (read_object new) after_object
 
 pub ruleset objects = (objects_go, objects_fail, objects_end)
 

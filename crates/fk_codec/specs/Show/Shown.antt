@@ -4,6 +4,7 @@ use Rattle.std.specs.List.{list_any}
 use Rattle.fk_image.specs.declared.image.image.SpaceRec.{SpaceRec}
 use Rattle.fk_image.specs.declared.image.image.Image.{Image}
 use Rattle.fk_image.specs.Image.Outs.{leads_out_at, links}
+use Rattle.fk_image.specs.Format.Versions.{version}
 
 abbrev pub object_count : List SpaceRec → ℕ
 object_count [] = 0
@@ -31,10 +32,11 @@ uses i slot = list_any (leads_out_at slot) (links i)
 abbrev pub outs_line : (ℕ → Bool) → List ℕ
 outs_line used = codes "outs" ++ (used_slots_from used 240 0 ++ codes "\n")
 
-abbrev pub count_lines : ℕ → ℕ → ℕ → List ℕ
-count_lines spaces objects pages =
-    codes "version 1\nspaces " ++ (decimal spaces ++ (codes "\nobjects " ++ (decimal objects ++ (codes "\npages " ++ (decimal pages ++ codes "\n")))))
+abbrev pub count_lines : ℕ → ℕ → ℕ → ℕ → List ℕ
+count_lines version spaces objects pages =
+    codes "version " ++ (decimal version ++ (codes "\nspaces " ++ (decimal spaces ++ (codes "\nobjects " ++ (decimal objects ++ (codes "\npages "
+    ++ (decimal pages ++ codes "\n")))))))
 
 -- the version, the numbers of spaces, of other objects and of pages, and the nester's slots that are used
 abbrev pub shown : Image → List ℕ
-shown i = count_lines (length i.spaces) (object_count i.spaces) (page_count i.spaces) ++ outs_line (uses i)
+shown i = count_lines (version i) (length i.spaces) (object_count i.spaces) (page_count i.spaces) ++ outs_line (uses i)

@@ -115,12 +115,13 @@ fn add<'a>(objects: &mut Objects, slot: u8, read: (Rec, &'a [u8])) -> Result<&'a
 #[tactic(auto, unfolding(fk_image::specs::Format::Reading::read_body))]
 fn add_body<'a>(
     alloc: Global,
+    newer: bool,
     objects: &mut Objects,
     slot: u8,
     bytes: &'a [u8],
 ) -> Result<&'a [u8], Fail>
     requires { next_slot objects.old ≤ slot }
-    ensures read { Decodes (λ rest. (objects.new, rest.now)) result (with_body objects.old slot (words.read_body bytes.now)) }
+    ensures read { Decodes (λ rest. (objects.new, rest.now)) result (with_body objects.old slot (words.read_body newer bytes.now)) }
     ensures last { OnOk result (next_slot objects.new ≡ slot + 1) }
 {
     let (number, rest) = read_byte(bytes)?;
@@ -131,7 +132,7 @@ fn add_body<'a>(
         kind::REGION => Ok(add(objects, slot, read_region(rest)?)?),
         kind::PORT => Ok(add(objects, slot, read_port(rest)?)?),
         kind::PORTSET => Ok(add(objects, slot, (Rec::Portset, rest))?),
-        kind::THREAD => Ok(add(objects, slot, read_thread(alloc, rest)?)?),
+        kind::THREAD => Ok(add(objects, slot, read_thread(alloc, newer, rest)?)?),
         kind::REFERENCE => Ok(add(objects, slot, read_reference(rest)?)?),
         _ => Err(refused(bytes, reason::RANGE)),
     }
@@ -141,25 +142,31 @@ fn add_body<'a>(
 #[tactic(auto, unfolding(fk_image::specs::Format::Reading::read_object))]
 fn add_object<'a>(
     alloc: Global,
+    newer: bool,
     objects: &mut Objects,
     floor: u16,
     bytes: &'a [u8],
 ) -> Result<(u8, &'a [u8]), Fail>
     requires { floor ≡ next_slot objects.old }
-    ensures read { Decodes (λ x. (objects.new, x.1.now)) result (with_object objects.old (words.read_object floor bytes.now)) }
+    ensures read { Decodes (λ x. (objects.new, x.1.now)) result (with_object objects.old (words.read_object newer floor bytes.now)) }
     ensures last { IfOk result (λ x. next_slot objects.new ≡ x.0 + 1) }
 {
     let (slot, rest) = read_below(240, bytes)?;
     if u16::from(slot) < floor {
         return Err(refused(bytes, reason::ORDER));
     }
-    let rest = add_body(alloc, objects, slot, rest)?;
+    let rest = add_body(alloc, newer, objects, slot, rest)?;
     Ok((slot, rest))
 }
 
 #[tactic(auto, using(crate::proofs::InReading::Loops::objects))]
-fn objects_from(alloc: Global, count: u16, bytes: &[u8]) -> Result<(Objects, &[u8]), Fail>
-    ensures { Decodes (λ x. (x.0, x.1.now)) result (read_many words.read_object after_object count 0 [] bytes.now) }
+fn objects_from(
+    alloc: Global,
+    newer: bool,
+    count: u16,
+    bytes: &[u8],
+) -> Result<(Objects, &[u8]), Fail>
+    ensures { Decodes (λ x. (x.0, x.1.now)) result (read_many (words.read_object newer) after_object count 0 [] bytes.now) }
 {
     // An object has two bytes at least, whatever the count promises.
     let room = (count as usize).min(240).min(bytes.len() / 2);
@@ -167,7 +174,7 @@ fn objects_from(alloc: Global, count: u16, bytes: &[u8]) -> Result<(Objects, &[u
     let mut rest = bytes;
     let mut floor = 0u16;
     for _ in 0..count {
-        let (slot, after) = add_object(alloc, &mut objects, floor, rest)?;
+        let (slot, after) = add_object(alloc, newer, &mut objects, floor, rest)?;
         floor = u16::from(slot) + 1;
         rest = after;
     }
@@ -176,11 +183,11 @@ fn objects_from(alloc: Global, count: u16, bytes: &[u8]) -> Result<(Objects, &[u
 
 /// A number of objects, and these.
 #[tactic(auto, unfolding(fk_image::specs::Format::Reading::read_objects))]
-pub fn read_objects(alloc: Global, bytes: &[u8]) -> Result<(Objects, &[u8]), Fail>
-    ensures { Decodes (λ x. (x.0, x.1.now)) result (words.read_objects bytes.now) }
+pub fn read_objects(alloc: Global, newer: bool, bytes: &[u8]) -> Result<(Objects, &[u8]), Fail>
+    ensures { Decodes (λ x. (x.0, x.1.now)) result (words.read_objects newer bytes.now) }
 {
     let (count, rest) = read_u16(bytes)?;
-    objects_from(alloc, count, rest)
+    objects_from(alloc, newer, count, rest)
 }
 
 /// A page with a number from `floor` on.

@@ -7,18 +7,18 @@ use crate::reading::fail::Fail;
 use crate::reading::fields::{
     read_below, read_byte, read_link, read_u16, read_u64, read_words, refused,
 };
-use fk_image::format::reason;
+use fk_image::format::{reason, shows_new};
 use fk_image::{BoxedThread, FaultRec, Link, Rec, TalkRec, ThreadRec, is_code, is_mode_byte};
 use std::alloc::Global;
 
-/// A mode, behind the registers.
+/// A mode, behind the registers. Only the newer version shows calls with a reference.
 #[tactic(auto, unfolding(fk_image::specs::Format::Reading::read_mode))]
-fn read_mode<'a>(regs: &[u64; 16], bytes: &'a [u8]) -> Result<(u8, &'a [u8]), Fail>
-    ensures read { Decodes (λ x. (x.0, x.1.now)) result (words.read_mode regs.now bytes.now) }
+fn read_mode<'a>(newer: bool, regs: &[u64; 16], bytes: &'a [u8]) -> Result<(u8, &'a [u8]), Fail>
+    ensures read { Decodes (λ x. (x.0, x.1.now)) result (words.read_mode newer regs.now bytes.now) }
     ensures fault { IfErr result (λ fail. IsFault fail) }
 {
     let (mode, rest) = read_byte(bytes)?;
-    if is_mode_byte(regs, mode) {
+    if is_mode_byte(regs, mode) && (newer || !shows_new(regs, mode)) {
         Ok((mode, rest))
     } else {
         Err(refused(bytes, reason::RANGE))
@@ -115,12 +115,12 @@ fn read_fault(bytes: &[u8]) -> Result<(Option<FaultRec>, &[u8]), Fail>
 }
 
 #[tactic(auto, unfolding(fk_image::specs::Format::Reading::read_thread))]
-pub fn read_thread(alloc: Global, bytes: &[u8]) -> Result<(Rec, &[u8]), Fail>
-    ensures { Decodes (λ x. (x.0, x.1.now)) result (words.read_thread bytes.now) }
+pub fn read_thread(alloc: Global, newer: bool, bytes: &[u8]) -> Result<(Rec, &[u8]), Fail>
+    ensures { Decodes (λ x. (x.0, x.1.now)) result (words.read_thread newer bytes.now) }
 {
     let (regs, rest) = read_words::<16>(bytes)?;
     let (pc, rest) = read_u64(rest)?;
-    let (mode, rest) = read_mode(&regs, rest)?;
+    let (mode, rest) = read_mode(newer, &regs, rest)?;
     let (code, rest) = read_code(mode, rest)?;
     let (stops, rest) = read_u16(rest)?;
     let (talk, rest) = read_talk(rest)?;

@@ -67,13 +67,14 @@ fn outs_text(alloc: Global, image: &Image) -> Result<String, AllocError>
 
 fn count_lines(
     alloc: Global,
+    version: u8,
     spaces: usize,
     objects: usize,
     pages: usize,
 ) -> Result<String, AllocError>
-    ensures { IfOk result (λ text. string_bytes text ≡ words.count_lines spaces objects pages) }
+    ensures { IfOk result (λ text. string_bytes text ≡ words.count_lines version spaces objects pages) }
 {
-    format!(in alloc; "version 1\nspaces {spaces}\nobjects {objects}\npages {pages}\n")
+    format!(in alloc; "version {version}\nspaces {spaces}\nobjects {objects}\npages {pages}\n")
 }
 
 /// The version of an image, its numbers of spaces, of other objects and of pages, and the slots of the
@@ -84,7 +85,7 @@ pub fn show_text(alloc: Global, image: &Image) -> Result<String, NoMemory>
     let spaces = image.spaces.as_slice();
     let objects = object_count(spaces)?;
     let pages = page_count(spaces)?;
-    let mut text = count_lines(alloc, spaces.len(), objects, pages)?;
+    let mut text = count_lines(alloc, image.version(), spaces.len(), objects, pages)?;
     text.push_str(outs_text(alloc, image)?.as_str())?;
     Ok(text)
 }

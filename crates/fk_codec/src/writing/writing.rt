@@ -196,7 +196,7 @@ pub fn write(alloc: Global, image: &Image) -> Result<Vec<u8>, NoMemory>
 {
     let mut out = Vec::new(alloc);
     out.extend_from_slice(b"FLUKEIMG")?;
-    put_u16(&mut out, 1)?;
+    put_u16(&mut out, u16::from(image.version()))?;
     put_u32(&mut out, image.spaces.len() as u32)?;
     for space in image.spaces.as_slice() {
         put_space(&mut out, space)?;

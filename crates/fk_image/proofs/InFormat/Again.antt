@@ -1,6 +1,6 @@
 -- What is spelled is read again, whatever follows.
 use Rattle.std.proofs.Common.{◌≡◌, ℕ, suc, ◌^◌, ◌<◌, ◌&&◌, Bool, true, false, not, eqb, ltb, List, [], ◌∷◌, ◌++◌, length, Option, Some, None, is_some, Result, Ok, refl, sym, ap, subst, ◌∙◌, append_assoc, arith}
-use Rattle.std.specs.List.{flat_map, list_all}
+use Rattle.std.specs.List.{flat_map, list_all, list_any}
 use Rattle.std.specs.Int.{w16, w32, w64, to_le_bytes}
 use Rattle.std.proofs.lemmas.Bool.{lt-ltb, le-ltb, ne_eqb, eqb-true, ltb-true}
 use Rattle.std.proofs.lemmas.List.{append-nil}
@@ -24,7 +24,9 @@ use Rattle.fk_image.specs.Image.Valid.{is_null, all_from, fits_object, fits_page
 use Rattle.fk_image.specs.declared.format.stop.Stop.{Stop}
 use Rattle.fk_image.specs.Format.Spelling.{link_bytes as link, words_bytes as words, talk_bytes as talk, taker_bytes as taker, fault_bytes as fault, fault_state, thread_bytes as thread, body_bytes as body, object_bytes as object, page_bytes as page, contents_bytes as contents, space_bytes as space, magic, spelling}
 use Rattle.fk_image.specs.Format.Fields.{read_below, read_many}
-use Rattle.fk_image.specs.Format.Reading.{read_link, read_word, same_state, read_words, read_mode, read_code, read_open_talk, read_talk, read_taker, read_met_fault, read_fault, read_thread, read_extent, read_mapping, read_region, read_port, read_mutex, read_reference, read_body, read_object, read_page, read_objects, read_pages, read_first, or_refuse_field, read_room, read_next, read_placed, read_space, read_head, read_image}
+use Rattle.fk_image.specs.Format.Reading.{read_link, read_word, same_state, read_words, read_mode, read_code, read_open_talk, read_talk, read_taker, read_met_fault, read_fault, read_thread, read_extent, read_mapping, read_region, read_port, read_mutex, read_reference, read_body, read_object, read_page, read_objects, read_pages, read_first, or_refuse_field, read_room, read_next, read_placed, read_space, read_version, read_head, read_image}
+use Rattle.fk_image.specs.Format.Versions.{shows_new, body_shows, object_shows, space_shows, image_shows, allows, version_number}
+use Rattle.fk_image.proofs.InFormat.Allowed.{all_both, allows_each, allows_itself}
 use Rattle.fk_image.proofs.InFormat.Basics.{both, and2, and3, and4, and5, and6, not_true, wide16, wide32, wide64, number_again, below_again}
 
 link_again : (l : Link) (rest : List ℕ) → fits_link l ≡ true → read_link (link l ++ rest) ≡ Ok (l, rest)
@@ -65,9 +67,10 @@ words_again count ws rest fits =
 
 -- ---- threads
 
-mode_again : (regs : List ℕ) (mode : ℕ) (rest : List ℕ) → is_mode_byte regs mode ≡ true → read_mode regs (mode ∷ rest) ≡ Ok (mode, rest)
+mode_again : (new : Bool) (regs : List ℕ) (mode : ℕ) (rest : List ℕ) → is_mode_byte regs mode ≡ true → allows new (shows_new regs mode) ≡ true →
+    read_mode new regs (mode ∷ rest) ≡ Ok (mode, rest)
 unfolding read_mode
-mode_again regs mode rest fits = rw fits refl
+mode_again new regs mode rest fits may = rw (fits, may) refl
 
 code_again : (mode code : ℕ) (rest : List ℕ) → is_code mode code ≡ true → read_code mode (code ∷ rest) ≡ Ok (code, rest)
 unfolding read_code
@@ -130,9 +133,10 @@ thread_apart : (t : ThreadRec) (rest : List ℕ) → thread t ++ rest
     ≡ words t.regs ++ (to_le_bytes w64 t.pc ++ (t.mode ∷ t.code ∷ (to_le_bytes w16 t.stops ++ (talk t.talk ++ (fault t.fault ++ rest)))))
 thread_apart t rest = simp append_assoc
 
-thread_again : (t : ThreadRec) (rest : List ℕ) → fits_thread t ≡ true → read_thread (thread t ++ rest) ≡ Ok (Thread t, rest)
+thread_again : (new : Bool) (t : ThreadRec) (rest : List ℕ) → fits_thread t ≡ true → allows new (shows_new t.regs t.mode) ≡ true →
+    read_thread new (thread t ++ rest) ≡ Ok (Thread t, rest)
 unfolding read_thread
-thread_again t rest fits =
+thread_again new t rest fits may =
     let e = and3 (are_words 16 t.regs && is_word t.pc && is_mode_byte t.regs t.mode && is_byte t.code && is_code t.mode t.code && is_half t.stops)
     (fits_talk t.talk) (fits_fault t.fault) fits in
     let f = and6 (are_words 16 t.regs) (is_word t.pc) (is_mode_byte t.regs t.mode) (is_byte t.code) (is_code t.mode t.code) (is_half t.stops) e.0 in
@@ -140,11 +144,11 @@ thread_again t rest fits =
     let behind_stops = talk t.talk ++ behind_talk in
     let behind_code = to_le_bytes w16 t.stops ++ behind_stops in
     let behind_pc = t.mode ∷ t.code ∷ behind_code in
-    ap read_thread (thread_apart t rest)
+    ap (read_thread new) (thread_apart t rest)
     ∙ rw (
       words_again 16 t.regs (to_le_bytes w64 t.pc ++ behind_pc) f.0,
       number_again w64 (2 ^ 64) wide64 t.pc behind_pc f.1,
-      mode_again t.regs t.mode (t.code ∷ behind_code) f.2,
+      mode_again new t.regs t.mode (t.code ∷ behind_code) f.2 may,
       code_again t.mode t.code behind_code f.4,
       number_again w16 (2 ^ 16) wide16 t.stops behind_stops f.5,
       talk_again t.talk behind_talk e.1,
@@ -158,28 +162,31 @@ extent_again : (first count : ℕ) (rest : List ℕ) →
 unfolding read_extent
 extent_again first count rest half fits = rw (number_again w16 (2 ^ 16) wide16 count rest half, fits) refl
 
-body_again : (b : Rec) (rest : List ℕ) → fits_body b ≡ true → read_body (body b ++ rest) ≡ Ok (b, rest)
+body_again : (new : Bool) (b : Rec) (rest : List ℕ) → fits_body b ≡ true → allows new (body_shows b) ≡ true → read_body new (body b ++ rest) ≡ Ok (b, rest)
 unfolding read_body read_mutex read_mapping read_region read_port read_reference
-body_again (Mutex locked) rest fits = rw (below_again 2 locked rest fits) refl
-body_again Cond rest fits = refl
-body_again Portset rest fits = refl
-body_again (Mapping start count offset write region) rest fits =
+body_again new (Mutex locked) rest fits may = rw (below_again 2 locked rest fits) refl
+body_again new Cond rest fits may = refl
+body_again new Portset rest fits may = refl
+body_again new (Mapping start count offset write region) rest fits may =
     let f = and6 (is_byte start) (is_half count) (is_extent start count) (is_byte offset) (is_bit write) (fits_link region) fits in
     rw (extent_again start count (offset ∷ write ∷ (link region ++ rest)) f.1 f.2, below_again 2 write (link region ++ rest) f.4, link_again region rest f.5)
     refl
-body_again (Region start count write keeper) rest fits =
+body_again new (Region start count write keeper) rest fits may =
     let f = and5 (is_byte start) (is_half count) (is_extent start count) (is_bit write) (fits_link keeper) fits in
     rw (extent_again start count (write ∷ (link keeper ++ rest)) f.1 f.2, below_again 2 write (link keeper ++ rest) f.3, link_again keeper rest f.4) refl
-body_again (Port set) rest fits = let lt = ltb-true set 241 fits in
+body_again new (Port set) rest fits may = let lt = ltb-true set 241 fits in
     rw (number_again w16 (2 ^ 16) wide16 set rest (lt-ltb set (2 ^ 16) (omega arith)), fits) refl
-body_again (Thread t) rest fits = thread_again t rest fits
-body_again (Reference to) rest fits = rw (link_again to rest fits) refl
+body_again new (Thread t) rest fits may = thread_again new t rest fits may
+body_again new (Reference to) rest fits may = rw (link_again to rest fits) refl
 
-object_again : (floor : ℕ) (o : ObjectRec) (rest : List ℕ) → fits_object floor o ≡ true → read_object floor (object o ++ rest) ≡ Ok (o, rest)
+object_again : (new : Bool) (floor : ℕ) (o : ObjectRec) (rest : List ℕ) → (fits_object floor o && allows new (object_shows o)) ≡ true →
+    read_object new floor (object o ++ rest) ≡ Ok (o, rest)
 unfolding read_object
-object_again floor o rest fits =
+object_again new floor o rest all =
+    let parts = and2 (fits_object floor o) (allows new (object_shows o)) all in
+    let fits = parts.0 in
     let f = and3 (ltb o.slot 240) (not (ltb o.slot floor)) (fits_body o.body) fits in
-    rw (below_again 240 o.slot (body o.body ++ rest) f.0, f.1, body_again o.body rest f.2) refl
+    rw (below_again 240 o.slot (body o.body ++ rest) f.0, f.1, body_again new o.body rest f.2 parts.1) refl
 
 page_again : (floor : ℕ) (p : PageRec) (rest : List ℕ) → fits_page floor p ≡ true → read_page floor (page p ++ rest) ≡ Ok (p, rest)
 unfolding read_page
@@ -187,13 +194,14 @@ page_again floor p rest fits =
     let f = and3 (is_byte p.page) (not (ltb p.page floor)) (are_words 64 p.words) fits in
     rw (f.1, words_again 64 p.words rest f.2) refl
 
-objects_again : (os : List ObjectRec) (rest : List ℕ) →
-    fits_objects os ≡ true → read_objects (to_le_bytes w16 (length os) ++ (flat_map object os ++ rest)) ≡ Ok (os, rest)
+objects_again : (new : Bool) (os : List ObjectRec) (rest : List ℕ) → fits_objects os ≡ true → allows new (list_any object_shows os) ≡ true →
+    read_objects new (to_le_bytes w16 (length os) ++ (flat_map object os ++ rest)) ≡ Ok (os, rest)
 unfolding read_objects
-objects_again os rest fits =
+objects_again new os rest fits may =
     let f = and2 (is_half (length os)) (all_from after_object fits_object 0 os) fits in
     rw (number_again w16 (2 ^ 16) wide16 (length os) (flat_map object os ++ rest) f.0)
-    (many_again read_object after_object object fits_object object_again os 0 [] rest f.1)
+    (many_again (read_object new) after_object object (λ floor o. fits_object floor o && allows new (object_shows o)) (object_again new) os 0 [] rest
+    (all_both after_object fits_object (λ o. allows new (object_shows o)) 0 os f.1 (allows_each object_shows new os may)))
 
 pages_again : (ps : List PageRec) (rest : List ℕ) → fits_pages ps ≡ true →
     read_pages (to_le_bytes w16 (length ps) ++ (flat_map page ps ++ rest)) ≡ Ok (ps, rest)
@@ -222,21 +230,21 @@ null_is (Out slot) e = absurd cc
 null_is Root e = absurd cc
 null_is Outside e = absurd cc
 
-first_again : (s : SpaceRec) (rest : List ℕ) →
-    is_first s ≡ true → fits_objects s.objects ≡ true → fits_pages s.pages ≡ true → read_first (space s ++ rest) ≡ Ok (s, rest)
+first_again : (new : Bool) (s : SpaceRec) (rest : List ℕ) → is_first s ≡ true → fits_objects s.objects ≡ true → fits_pages s.pages ≡ true →
+    allows new (space_shows s) ≡ true → read_first new (space s ++ rest) ≡ Ok (s, rest)
 unfolding read_first after_slot
-first_again s rest top objects pages =
+first_again new s rest top objects pages may =
     let f = and3 (eqb s.parent 4294967295) (eqb s.slot 0) (is_null s.holder) top in
     let null = null_is s.holder f.2 in
     let parent : s.parent ≡ 4294967295 = eqb-true _ _ f.0 in
     let after_objects = to_le_bytes w16 (length s.pages) ++ (flat_map page s.pages ++ rest) in
     let after_holder = to_le_bytes w16 (length s.objects) ++ (flat_map object s.objects ++ after_objects) in
-    ap read_first (space_apart s rest ∙ ap (λ (h : Link). to_le_bytes w32 s.parent ++ (s.slot ∷ (link h ++ after_holder))) null)
+    ap (read_first new) (space_apart s rest ∙ ap (λ (h : Link). to_le_bytes w32 s.parent ++ (s.slot ∷ (link h ++ after_holder))) null)
     ∙ rw (
       number_again w32 (2 ^ 32) wide32 s.parent (s.slot ∷ 0 ∷ after_holder) (lt-ltb s.parent (2 ^ 32) (omega arith)),
       f.0,
       f.1,
-      objects_again s.objects after_objects objects,
+      objects_again new s.objects after_objects objects may,
       pages_again s.pages rest pages,
     )
     (ap (λ (h : Link). Ok (record { parent = s.parent; slot = s.slot; holder = h; objects = s.objects; pages = s.pages }, rest)) (sym null))
@@ -245,11 +253,11 @@ room_is : (room : Option ℕ) (slot : ℕ) → has_room room slot ≡ true → (
 room_is None slot e = absurd cc
 room_is (Some floor) slot e = (floor, refl, e)
 
-next_again : (d : SpaceRec) (before : List SpaceRec) (path : List Open) (s : SpaceRec) (rest : List ℕ) →
+next_again : (new : Bool) (d : SpaceRec) (before : List SpaceRec) (path : List Open) (s : SpaceRec) (rest : List ℕ) →
     is_next (d ∷ before) path s ≡ true → fits_objects s.objects ≡ true → fits_pages s.pages ≡ true
-    → read_next (d ∷ before) path (space s ++ rest) ≡ Ok (s, rest)
+    → allows new (space_shows s) ≡ true → read_next new (d ∷ before) path (space s ++ rest) ≡ Ok (s, rest)
 unfolding read_next read_room after_slot
-next_again d before path s rest next objects pages =
+next_again new d before path s rest next objects pages may =
     let f = and5 (ltb s.parent (2 ^ 32))
     (ltb s.slot 240) (has_room (room_under path s.parent) s.slot) (not (is_some (kind_in_space (d ∷ before) s.parent s.slot))) (fits_link s.holder) next in
     let r = room_is (room_under path s.parent) s.slot f.2 in
@@ -257,7 +265,7 @@ next_again d before path s rest next objects pages =
     let after_holder = to_le_bytes w16 (length s.objects) ++ (flat_map object s.objects ++ after_objects) in
     let bytes = to_le_bytes w32 s.parent ++ (s.slot ∷ (link s.holder ++ after_holder)) in
     let room : or_refuse_field (room_under path s.parent) bytes 4 ≡ Ok r.0 = ap (λ (o : Option ℕ). or_refuse_field o bytes 4) r.1 in
-    ap (read_next (d ∷ before) path) (space_apart s rest)
+    ap (read_next new (d ∷ before) path) (space_apart s rest)
     ∙ rw (
       number_again w32 (2 ^ 32) wide32 s.parent (s.slot ∷ (link s.holder ++ after_holder)) f.0,
       room,
@@ -265,35 +273,45 @@ next_again d before path s rest next objects pages =
       r.2,
       f.3,
       link_again s.holder after_holder f.4,
-      objects_again s.objects after_objects objects,
+      objects_again new s.objects after_objects objects may,
       pages_again s.pages rest pages,
     ) refl
 
-placed_again : (before : List SpaceRec) (path : List Open) (s : SpaceRec) (rest : List ℕ) →
-    fits_space (before, path) s ≡ true → read_placed before path (space s ++ rest) ≡ Ok (s, rest)
-placed_again [] path s rest fits = let f = and3 (is_first s) (fits_objects s.objects) (fits_pages s.pages) fits in first_again s rest f.0 f.1 f.2
-placed_again (d ∷ before) path s rest fits = let f = and3 (is_next (d ∷ before) path s) (fits_objects s.objects) (fits_pages s.pages) fits in
-    next_again d before path s rest f.0 f.1 f.2
+placed_again : (new : Bool) (before : List SpaceRec) (path : List Open) (s : SpaceRec) (rest : List ℕ) →
+    fits_space (before, path) s ≡ true → allows new (space_shows s) ≡ true → read_placed new before path (space s ++ rest) ≡ Ok (s, rest)
+placed_again new [] path s rest fits may =
+    let f = and3 (is_first s) (fits_objects s.objects) (fits_pages s.pages) fits in first_again new s rest f.0 f.1 f.2 may
+placed_again new (d ∷ before) path s rest fits may = let f = and3 (is_next (d ∷ before) path s) (fits_objects s.objects) (fits_pages s.pages) fits in
+    next_again new d before path s rest f.0 f.1 f.2 may
 
-space_again : (before : List SpaceRec × List Open) (s : SpaceRec) (rest : List ℕ) →
-    fits_space before s ≡ true → read_space before (space s ++ rest) ≡ Ok (s, rest)
+space_again : (new : Bool) (before : List SpaceRec × List Open) (s : SpaceRec) (rest : List ℕ) →
+    (fits_space before s && allows new (space_shows s)) ≡ true → read_space new before (space s ++ rest) ≡ Ok (s, rest)
 unfolding read_space
-space_again before s rest fits = placed_again before.0 before.1 s rest fits
+space_again new before s rest all =
+    let parts = and2 (fits_space before s) (allows new (space_shows s)) all in placed_again new before.0 before.1 s rest parts.0 parts.1
 
-head_again : (n : ℕ) (rest : List ℕ) →
-    ltb 0 n ≡ true → ltb n (2 ^ 32) ≡ true → read_head (magic ++ (to_le_bytes w16 1 ++ (to_le_bytes w32 n ++ rest))) ≡ Ok (n, rest)
+version_again : (new : Bool) (rest : List ℕ) → read_version (to_le_bytes w16 (version_number new) ++ rest) ≡ Ok (new, rest)
+unfolding read_version
+version_again true rest = rw (number_again w16 (2 ^ 16) wide16 2 rest refl) refl
+version_again false rest = rw (number_again w16 (2 ^ 16) wide16 1 rest refl) refl
+
+head_again : (new : Bool) (n : ℕ) (rest : List ℕ) → ltb 0 n ≡ true → ltb n (2 ^ 32) ≡ true →
+    read_head (magic ++ (to_le_bytes w16 (version_number new) ++ (to_le_bytes w32 n ++ rest))) ≡ Ok ((new, n), rest)
 unfolding read_head
-head_again n rest some lt =
+head_again new n rest some lt =
     let one = ltb-true 0 n some in
-    let long : ltb (length (magic ++ (to_le_bytes w16 1 ++ (to_le_bytes w32 n ++ rest)))) 8 ≡ false = le-ltb _ _ (omega arith) in
-    let version = number_again w16 (2 ^ 16) wide16 1 (to_le_bytes w32 n ++ rest) refl in
-    rw (long, version, number_again w32 (2 ^ 32) wide32 n rest lt, ne_eqb n 0 (λ e. omega arith)) refl
+    let long : ltb (length (magic ++ (to_le_bytes w16 (version_number new) ++ (to_le_bytes w32 n ++ rest)))) 8 ≡ false = le-ltb _ _ (omega arith) in
+    rw (long, version_again new (to_le_bytes w32 n ++ rest), number_again w32 (2 ^ 32) wide32 n rest lt, ne_eqb n 0 (λ e. omega arith)) refl
 
-pub image_again : (i : Image) → fits_spaces i.spaces ≡ true → read_image (spelling i) ≡ Ok i
+pub image_again : (i : Image) → fits_spaces i.spaces ≡ true → read_image (spelling i) ≡ Ok (image_shows i, i)
 unfolding read_image
 image_again i fits =
+    let new = image_shows i in
     let f = and3 (ltb 0 (length i.spaces)) (ltb (length i.spaces) (2 ^ 32)) (all_from after_space fits_space ([], root_path) i.spaces) fits in
-    let spaces : read_many read_space after_space (length i.spaces) ([], root_path) [] (flat_map space i.spaces) ≡ Ok (i.spaces, []) =
-    ap (read_many read_space after_space (length i.spaces) ([], root_path) []) (sym (append-nil (flat_map space i.spaces)))
-    ∙ many_again read_space after_space space fits_space space_again i.spaces ([], root_path) [] [] f.2 in
-    rw (head_again (length i.spaces) (flat_map space i.spaces) f.0 f.1, spaces) refl
+    let both_fit = all_both after_space fits_space (λ s. allows new (space_shows s)) ([], root_path) i.spaces f.2
+    (allows_each space_shows new i.spaces (allows_itself new)) in
+    let spaces : read_many (read_space new) after_space (length i.spaces) ([], root_path) [] (flat_map space i.spaces) ≡ Ok (i.spaces, []) =
+    ap (read_many (read_space new) after_space (length i.spaces) ([], root_path) []) (sym (append-nil (flat_map space i.spaces)))
+    ∙ many_again (read_space new) after_space space (λ before s. fits_space before s && allows new (space_shows s)) (space_again new) i.spaces
+    ([], root_path) [] [] both_fit in
+    rw (head_again new (length i.spaces) (flat_map space i.spaces) f.0 f.1, spaces) refl

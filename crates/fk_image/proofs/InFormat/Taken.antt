@@ -1,7 +1,7 @@
 -- What is read is spelled so, and fits.
 use Rattle.std.proofs.Common.{◌≡◌, ℕ, zero, suc, ◌+◌, ◌^◌, ◌<◌, ◌&&◌, Bool, true, false, cond, eqb, ltb, not, List, [], ◌∷◌, ◌++◌, length, take, drop, Option, Some, None, is_some, Result, Ok, refl, sym, ap, subst, ◌∙◌, append_assoc, arith}
 use Rattle.std.specs.Cmp.Lexicographic.{same_text}
-use Rattle.std.specs.List.{flat_map, list_all}
+use Rattle.std.specs.List.{flat_map, list_all, list_any}
 use Rattle.std.specs.Int.{w16, w32, w64, to_le_bytes}
 use Rattle.std.proofs.lemmas.Bool.{ltb-true, lt-ltb, eqb-true, eq-eqb, eqb-false, ne_eqb}
 use Rattle.std.proofs.lemmas.List.{append-nil, nil_from_length, take-append-drop}
@@ -23,9 +23,11 @@ use Rattle.fk_image.specs.Image.Preorder.{room_under, has_room, root_path, after
 use Rattle.fk_image.specs.Image.Links.{kind_in_space}
 use Rattle.fk_image.specs.Image.Valid.{all_from, fits_object, fits_page, fits_objects, fits_pages, is_first, is_next, stands_in_order, fits_space, fits_spaces, after_object, after_page}
 use Rattle.fk_image.specs.declared.format.stop.Stop.{Stop}
-use Rattle.fk_image.specs.Format.Spelling.{link_bytes as link, words_bytes as words, talk_bytes as talk, taker_bytes as taker, fault_bytes as fault, fault_state, thread_bytes as thread, body_bytes as body, object_bytes as object, page_bytes as page, space_bytes as space, magic, spelling}
+use Rattle.fk_image.specs.Format.Spelling.{link_bytes as link, words_bytes as words, talk_bytes as talk, taker_bytes as taker, fault_bytes as fault, fault_state, thread_bytes as thread, body_bytes as body, object_bytes as object, page_bytes as page, space_bytes as space, magic, spelling_in}
 use Rattle.fk_image.specs.Format.Fields.{◌>>=◌, refuse_field, read_byte, read_number, read_below, read_many}
-use Rattle.fk_image.specs.Format.Reading.{read_link, read_word, same_state, read_words, read_mode, read_code, read_open_talk, read_talk, read_taker, read_met_fault, read_fault, read_thread, read_extent, read_mapping, read_region, read_port, read_mutex, read_reference, read_body, read_object, read_page, read_objects, read_pages, read_first, or_refuse_field, read_room, read_next, read_placed, read_space, read_head, read_image}
+use Rattle.fk_image.specs.Format.Reading.{read_link, read_word, same_state, read_words, read_mode, read_code, read_open_talk, read_talk, read_taker, read_met_fault, read_fault, read_thread, read_extent, read_mapping, read_region, read_port, read_mutex, read_reference, read_body, read_object, read_page, read_objects, read_pages, read_first, or_refuse_field, read_room, read_next, read_placed, read_space, read_version, read_head, read_image}
+use Rattle.fk_image.specs.Format.Versions.{shows_new, body_shows, object_shows, space_shows, image_shows, allows, version_number}
+use Rattle.fk_image.proofs.InFormat.Allowed.{all_left, all_right, allows_all}
 use Rattle.fk_image.proofs.InFormat.Basics.{both, and2, all3, all4, all5, all6, not_true, not_false, IsBytes, IsBytes-drop, bind_ok, expect_ok, chosen, never, ok_is, Takes, Takes-then, Took, made, one, byte_takes, below_takes, wide16, wide32, wide64, number_takes}
 
 link_takes : (bytes : List ℕ) (x : Link × List ℕ) → IsBytes bytes → read_link bytes ≡ Ok x → Took link fits_link bytes x
@@ -108,13 +110,14 @@ words_take count bytes x fits e =
 
 -- ---- threads
 
-mode_takes : (regs bytes : List ℕ) (x : ℕ × List ℕ) → IsBytes bytes → read_mode regs bytes ≡ Ok x → Took one (is_mode_byte regs) bytes x
+mode_takes : (new : Bool) (regs bytes : List ℕ) (x : ℕ × List ℕ) → IsBytes bytes → read_mode new regs bytes ≡ Ok x →
+    Took one (λ mode. is_mode_byte regs mode && allows new (shows_new regs mode)) bytes x
 unfolding read_mode
-mode_takes regs bytes x fits e =
+mode_takes new regs bytes x fits e =
     let a = bind_ok (read_byte bytes) _ x e in
     let g = chosen _ _ _ _ _ a.2 in
     let t = byte_takes bytes a.0 fits a.1 in
-    made one (is_mode_byte regs) bytes a.0 x (ap Ok g.1) (t.0, g.0)
+    made one (λ mode. is_mode_byte regs mode && allows new (shows_new regs mode)) bytes a.0 x (ap Ok g.1) (t.0, g.0)
 
 code_takes : (mode : ℕ) (bytes : List ℕ) (x : ℕ × List ℕ) → IsBytes bytes → read_code mode bytes ≡ Ok x → Took one (λ n. is_byte n && is_code mode n) bytes x
 unfolding read_code
@@ -197,24 +200,33 @@ fault_takes bytes x fits e =
     by true {n} zero_is rest t e = made fault fits_fault bytes (None, rest) x e (subst (λ (k : ℕ). Takes bytes (k ∷ []) rest) (eqb-true n 0 zero_is) t.0, refl)
     by false {n} other rest t e = met_fault_takes n rest x t.0.rest_fits other t.1 e bytes t.0
 
-thread_takes : (bytes : List ℕ) (x : Rec × List ℕ) →
-    IsBytes bytes → read_thread bytes ≡ Ok x → (before : List ℕ) → Takes before (8 ∷ []) bytes → Took body fits_body before x
+may_none : (new : Bool) → allows new false ≡ true
+may_none true = refl
+may_none false = refl
+
+-- it fits, and may stand in an image of the version
+abbrev fits_in : Bool → Rec → Bool
+fits_in new b = fits_body b && allows new (body_shows b)
+
+thread_takes : (new : Bool) (bytes : List ℕ) (x : Rec × List ℕ) →
+    IsBytes bytes → read_thread new bytes ≡ Ok x → (before : List ℕ) → Takes before (8 ∷ []) bytes → Took body (fits_in new) before x
 unfolding read_thread
-thread_takes bytes x fits e before t =
+thread_takes new bytes x fits e before t =
     let a = bind_ok (read_words 16 bytes) _ x e in
     let b = bind_ok (read_number w64 a.0.1) _ x a.2 in
-    let c = bind_ok (read_mode a.0.0 b.0.1) _ x b.2 in
+    let c = bind_ok (read_mode new a.0.0 b.0.1) _ x b.2 in
     let d = bind_ok (read_code c.0.0 c.0.1) _ x c.2 in
     let f = bind_ok (read_number w16 d.0.1) _ x d.2 in
     let g = bind_ok (read_talk f.0.1) _ x f.2 in
     let h = bind_ok (read_fault g.0.1) _ x g.2 in
     let t0 = words_take 16 bytes a.0 fits a.1 in
     let t1 = number_takes w64 (2 ^ 64) wide64 a.0.1 b.0 t0.0.rest_fits b.1 in
-    let t2 = mode_takes a.0.0 b.0.1 c.0 t1.0.rest_fits c.1 in
+    let t2 = mode_takes new a.0.0 b.0.1 c.0 t1.0.rest_fits c.1 in
     let t3 = code_takes c.0.0 c.0.1 d.0 t2.0.rest_fits d.1 in
     let t4 = number_takes w16 (2 ^ 16) wide16 d.0.1 f.0 t3.0.rest_fits f.1 in
     let t5 = talk_takes f.0.1 g.0 t4.0.rest_fits g.1 in
     let t6 = fault_takes g.0.1 h.0 t5.0.rest_fits h.1 in
+    let mode = and2 (is_mode_byte a.0.0 c.0.0) (allows new (shows_new a.0.0 c.0.0)) t2.1 in
     let code = and2 (is_byte d.0.0) (is_code c.0.0 d.0.0) t3.1 in
     let u5 = Takes-then f.0.1 (talk g.0.0) g.0.1 (fault h.0.0) h.0.1 t5.0 t6.0 in
     let u4 = Takes-then d.0.1 (to_le_bytes w16 f.0.0) f.0.1 (talk g.0.0 ++ fault h.0.0) h.0.1 t4.0 u5 in
@@ -225,8 +237,8 @@ thread_takes bytes x fits e before t =
     let r1 = to_le_bytes w64 b.0.0 ++ (c.0.0 ∷ d.0.0 ∷ r4) in
     let u0 = Takes-then bytes (words a.0.0) a.0.1 r1 h.0.1 t0.0 u1 in
     made body
-    fits_body before (Thread (record { regs = a.0.0; pc = b.0.0; mode = c.0.0; code = d.0.0; stops = f.0.0; talk = g.0.0; fault = h.0.0 }), h.0.1) x h.2
-    (Takes-then before (8 ∷ []) bytes (words a.0.0 ++ r1) h.0.1 t u0, both _ _ (both _ _ (all6 t0.1 t1.1 t2.1 code.0 code.1 t4.1) t5.1) t6.1)
+    (fits_in new) before (Thread (record { regs = a.0.0; pc = b.0.0; mode = c.0.0; code = d.0.0; stops = f.0.0; talk = g.0.0; fault = h.0.0 }), h.0.1) x h.2
+    (Takes-then before (8 ∷ []) bytes (words a.0.0 ++ r1) h.0.1 t u0, both _ _ (both _ _ (both _ _ (all6 t0.1 t1.1 mode.0 code.0 code.1 t4.1) t5.1) t6.1) mode.1)
 
 -- ---- objects and pages
 
@@ -245,10 +257,10 @@ extent_takes bytes x fits e =
     made extent (λ p. is_byte p.0 && is_half p.1 && is_extent p.0 p.1) bytes ((a.0.0, b.0.0), b.0.1) x (ap Ok g.1)
     (Takes-then bytes (a.0.0 ∷ []) a.0.1 (to_le_bytes w16 b.0.0) b.0.1 t0.0 t1.0, all3 t0.1 t1.1 g.0)
 
-mapping_takes : (bytes : List ℕ) (x : Rec × List ℕ) →
-    IsBytes bytes → read_mapping bytes ≡ Ok x → (before : List ℕ) → Takes before (3 ∷ []) bytes → Took body fits_body before x
+mapping_takes : (new : Bool) (bytes : List ℕ) (x : Rec × List ℕ) →
+    IsBytes bytes → read_mapping bytes ≡ Ok x → (before : List ℕ) → Takes before (3 ∷ []) bytes → Took body (fits_in new) before x
 unfolding read_mapping
-mapping_takes bytes x fits e before t =
+mapping_takes new bytes x fits e before t =
     let a = bind_ok (read_extent bytes) _ x e in
     let b = bind_ok (read_byte a.0.1) _ x a.2 in
     let c = bind_ok (read_below 2 b.0.1) _ x b.2 in
@@ -260,13 +272,13 @@ mapping_takes bytes x fits e before t =
     let u2 = Takes-then b.0.1 (c.0.0 ∷ []) c.0.1 (link d.0.0) d.0.1 t2.0 t3.0 in
     let u1 = Takes-then a.0.1 (b.0.0 ∷ []) b.0.1 (c.0.0 ∷ link d.0.0) d.0.1 t1.0 u2 in
     let u0 = Takes-then bytes (extent a.0.0) a.0.1 (b.0.0 ∷ c.0.0 ∷ link d.0.0) d.0.1 t0.0 u1 in
-    made body fits_body before (Mapping a.0.0.0 a.0.0.1 b.0.0 c.0.0 d.0.0, d.0.1) x d.2
-    (Takes-then before (3 ∷ []) bytes (extent a.0.0 ++ (b.0.0 ∷ c.0.0 ∷ link d.0.0)) d.0.1 t u0, all4 t0.1 t1.1 t2.1 t3.1)
+    made body (fits_in new) before (Mapping a.0.0.0 a.0.0.1 b.0.0 c.0.0 d.0.0, d.0.1) x d.2
+    (Takes-then before (3 ∷ []) bytes (extent a.0.0 ++ (b.0.0 ∷ c.0.0 ∷ link d.0.0)) d.0.1 t u0, both _ _ (all4 t0.1 t1.1 t2.1 t3.1) (may_none new))
 
-region_takes : (bytes : List ℕ) (x : Rec × List ℕ) →
-    IsBytes bytes → read_region bytes ≡ Ok x → (before : List ℕ) → Takes before (4 ∷ []) bytes → Took body fits_body before x
+region_takes : (new : Bool) (bytes : List ℕ) (x : Rec × List ℕ) →
+    IsBytes bytes → read_region bytes ≡ Ok x → (before : List ℕ) → Takes before (4 ∷ []) bytes → Took body (fits_in new) before x
 unfolding read_region
-region_takes bytes x fits e before t =
+region_takes new bytes x fits e before t =
     let a = bind_ok (read_extent bytes) _ x e in
     let c = bind_ok (read_below 2 a.0.1) _ x a.2 in
     let d = bind_ok (read_link c.0.1) _ x c.2 in
@@ -275,37 +287,37 @@ region_takes bytes x fits e before t =
     let t3 = link_takes c.0.1 d.0 t2.0.rest_fits d.1 in
     let u2 = Takes-then a.0.1 (c.0.0 ∷ []) c.0.1 (link d.0.0) d.0.1 t2.0 t3.0 in
     let u0 = Takes-then bytes (extent a.0.0) a.0.1 (c.0.0 ∷ link d.0.0) d.0.1 t0.0 u2 in
-    made body fits_body before (Region a.0.0.0 a.0.0.1 c.0.0 d.0.0, d.0.1) x d.2
-    (Takes-then before (4 ∷ []) bytes (extent a.0.0 ++ (c.0.0 ∷ link d.0.0)) d.0.1 t u0, all3 t0.1 t2.1 t3.1)
+    made body (fits_in new) before (Region a.0.0.0 a.0.0.1 c.0.0 d.0.0, d.0.1) x d.2
+    (Takes-then before (4 ∷ []) bytes (extent a.0.0 ++ (c.0.0 ∷ link d.0.0)) d.0.1 t u0, both _ _ (all3 t0.1 t2.1 t3.1) (may_none new))
 
-port_takes : (bytes : List ℕ) (x : Rec × List ℕ) →
-    IsBytes bytes → read_port bytes ≡ Ok x → (before : List ℕ) → Takes before (5 ∷ []) bytes → Took body fits_body before x
+port_takes : (new : Bool) (bytes : List ℕ) (x : Rec × List ℕ) →
+    IsBytes bytes → read_port bytes ≡ Ok x → (before : List ℕ) → Takes before (5 ∷ []) bytes → Took body (fits_in new) before x
 unfolding read_port
-port_takes bytes x fits e before t =
+port_takes new bytes x fits e before t =
     let a = bind_ok (read_number w16 bytes) _ x e in
     let g = chosen (is_set_word a.0.0) (Port a.0.0, a.0.1) bytes 5 x a.2 in
     let t0 = number_takes w16 (2 ^ 16) wide16 bytes a.0 fits a.1 in
-    made body fits_body before (Port a.0.0, a.0.1) x (ap Ok g.1) (Takes-then before (5 ∷ []) bytes (to_le_bytes w16 a.0.0) a.0.1 t t0.0, g.0)
+    made body (fits_in new) before (Port a.0.0, a.0.1) x (ap Ok g.1) (Takes-then before (5 ∷ []) bytes (to_le_bytes w16 a.0.0) a.0.1 t t0.0, both _ _ (g.0) (may_none new))
 
-mutex_takes : (bytes : List ℕ) (x : Rec × List ℕ) →
-    IsBytes bytes → read_mutex bytes ≡ Ok x → (before : List ℕ) → Takes before (1 ∷ []) bytes → Took body fits_body before x
+mutex_takes : (new : Bool) (bytes : List ℕ) (x : Rec × List ℕ) →
+    IsBytes bytes → read_mutex bytes ≡ Ok x → (before : List ℕ) → Takes before (1 ∷ []) bytes → Took body (fits_in new) before x
 unfolding read_mutex
-mutex_takes bytes x fits e before t =
+mutex_takes new bytes x fits e before t =
     let a = bind_ok (read_below 2 bytes) _ x e in
     let t0 = below_takes 2 bytes a.0 fits a.1 in
-    made body fits_body before (Mutex a.0.0, a.0.1) x a.2 (Takes-then before (1 ∷ []) bytes (a.0.0 ∷ []) a.0.1 t t0.0, t0.1)
+    made body (fits_in new) before (Mutex a.0.0, a.0.1) x a.2 (Takes-then before (1 ∷ []) bytes (a.0.0 ∷ []) a.0.1 t t0.0, both _ _ (t0.1) (may_none new))
 
-reference_takes : (bytes : List ℕ) (x : Rec × List ℕ) →
-    IsBytes bytes → read_reference bytes ≡ Ok x → (before : List ℕ) → Takes before (9 ∷ []) bytes → Took body fits_body before x
+reference_takes : (new : Bool) (bytes : List ℕ) (x : Rec × List ℕ) →
+    IsBytes bytes → read_reference bytes ≡ Ok x → (before : List ℕ) → Takes before (9 ∷ []) bytes → Took body (fits_in new) before x
 unfolding read_reference
-reference_takes bytes x fits e before t =
+reference_takes new bytes x fits e before t =
     let a = bind_ok (read_link bytes) _ x e in
     let t0 = link_takes bytes a.0 fits a.1 in
-    made body fits_body before (Reference a.0.0, a.0.1) x a.2 (Takes-then before (9 ∷ []) bytes (link a.0.0) a.0.1 t t0.0, t0.1)
+    made body (fits_in new) before (Reference a.0.0, a.0.1) x a.2 (Takes-then before (9 ∷ []) bytes (link a.0.0) a.0.1 t t0.0, both _ _ (t0.1) (may_none new))
 
-body_takes : (bytes : List ℕ) (x : Rec × List ℕ) → IsBytes bytes → read_body bytes ≡ Ok x → Took body fits_body bytes x
+body_takes : (new : Bool) (bytes : List ℕ) (x : Rec × List ℕ) → IsBytes bytes → read_body new bytes ≡ Ok x → Took body (fits_in new) bytes x
 unfolding read_body
-body_takes bytes x fits e =
+body_takes new bytes x fits e =
     let a = bind_ok (read_byte bytes) _ x e in
     let t = byte_takes bytes a.0 fits a.1 in
     by a.0.0 a.0.1 t.0 a.2
@@ -314,18 +326,18 @@ body_takes bytes x fits e =
         → cond (eqb kind 1) (read_mutex rest) (cond (eqb kind 2) (Ok (Cond, rest)) (cond (eqb kind 3) (read_mapping rest) (cond (eqb kind 4) (read_region rest)
         (cond (eqb kind 5) (read_port rest)
         (cond (eqb kind 6) (Ok (Portset, rest))
-        (cond (eqb kind 8) (read_thread rest) (cond (eqb kind 9) (read_reference rest) (refuse_field bytes 5)))))))) ≡ Ok x
-        → Took body fits_body bytes x
+        (cond (eqb kind 8) (read_thread new rest) (cond (eqb kind 9) (read_reference rest) (refuse_field bytes 5)))))))) ≡ Ok x
+        → Took body (fits_in new) bytes x
     by zero rest t e = absurd (never bytes 5 x e)
-    by (suc zero) rest t e = mutex_takes rest x t.rest_fits e bytes t
-    by (suc (suc zero)) rest t e = made body fits_body bytes (Cond, rest) x e (t, refl)
-    by (suc (suc (suc zero))) rest t e = mapping_takes rest x t.rest_fits e bytes t
-    by (suc (suc (suc (suc zero)))) rest t e = region_takes rest x t.rest_fits e bytes t
-    by (suc (suc (suc (suc (suc zero))))) rest t e = port_takes rest x t.rest_fits e bytes t
-    by (suc (suc (suc (suc (suc (suc zero)))))) rest t e = made body fits_body bytes (Portset, rest) x e (t, refl)
+    by (suc zero) rest t e = mutex_takes new rest x t.rest_fits e bytes t
+    by (suc (suc zero)) rest t e = made body (fits_in new) bytes (Cond, rest) x e (t, may_none new)
+    by (suc (suc (suc zero))) rest t e = mapping_takes new rest x t.rest_fits e bytes t
+    by (suc (suc (suc (suc zero)))) rest t e = region_takes new rest x t.rest_fits e bytes t
+    by (suc (suc (suc (suc (suc zero))))) rest t e = port_takes new rest x t.rest_fits e bytes t
+    by (suc (suc (suc (suc (suc (suc zero)))))) rest t e = made body (fits_in new) bytes (Portset, rest) x e (t, may_none new)
     by (suc (suc (suc (suc (suc (suc (suc zero))))))) rest t e = absurd (never bytes 5 x e)
-    by (suc (suc (suc (suc (suc (suc (suc (suc zero)))))))) rest t e = thread_takes rest x t.rest_fits e bytes t
-    by (suc (suc (suc (suc (suc (suc (suc (suc (suc zero))))))))) rest t e = reference_takes rest x t.rest_fits e bytes t
+    by (suc (suc (suc (suc (suc (suc (suc (suc zero)))))))) rest t e = thread_takes new rest x t.rest_fits e bytes t
+    by (suc (suc (suc (suc (suc (suc (suc (suc (suc zero))))))))) rest t e = reference_takes new rest x t.rest_fits e bytes t
     by (suc (suc (suc (suc (suc (suc (suc (suc (suc (suc k)))))))))) rest t e =
         let n = suc (suc (suc (suc (suc (suc (suc (suc (suc (suc k))))))))) in
         absurd (never bytes 5 x (rw (
@@ -339,16 +351,21 @@ body_takes bytes x fits e =
           ne_eqb n 9 (λ h. omega arith),
         ) at e))
 
-object_takes : (floor : ℕ) (bytes : List ℕ) (x : ObjectRec × List ℕ) → IsBytes bytes → read_object floor bytes ≡ Ok x → Took object (fits_object floor) bytes x
+abbrev object_fits_in : Bool → ℕ → ObjectRec → Bool
+object_fits_in new floor o = fits_object floor o && allows new (object_shows o)
+
+object_takes : (new : Bool) (floor : ℕ) (bytes : List ℕ) (x : ObjectRec × List ℕ) → IsBytes bytes → read_object new floor bytes ≡ Ok x →
+    Took object (object_fits_in new floor) bytes x
 unfolding read_object
-object_takes floor bytes x fits e =
+object_takes new floor bytes x fits e =
     let a = bind_ok (read_below 240 bytes) _ x e in
     let g = expect_ok _ _ _ _ _ a.2 in
-    let b = bind_ok (read_body a.0.1) _ x g.1 in
+    let b = bind_ok (read_body new a.0.1) _ x g.1 in
     let t0 = below_takes 240 bytes a.0 fits a.1 in
-    let t1 = body_takes a.0.1 b.0 t0.0.rest_fits b.1 in
-    made object (fits_object floor) bytes (record { slot = a.0.0; body = b.0.0 }, b.0.1) x b.2
-    (Takes-then bytes (a.0.0 ∷ []) a.0.1 (body b.0.0) b.0.1 t0.0 t1.0, all3 t0.1 g.0 t1.1)
+    let t1 = body_takes new a.0.1 b.0 t0.0.rest_fits b.1 in
+    let parts = and2 (fits_body b.0.0) (allows new (body_shows b.0.0)) t1.1 in
+    made object (object_fits_in new floor) bytes (record { slot = a.0.0; body = b.0.0 }, b.0.1) x b.2
+    (Takes-then bytes (a.0.0 ∷ []) a.0.1 (body b.0.0) b.0.1 t0.0 t1.0, both _ _ (all3 t0.1 g.0 parts.0) parts.1)
 
 page_takes : (floor : ℕ) (bytes : List ℕ) (x : PageRec × List ℕ) → IsBytes bytes → read_page floor bytes ≡ Ok x → Took page (fits_page floor) bytes x
 unfolding read_page
@@ -367,15 +384,21 @@ objects_part os = to_le_bytes w16 (length os) ++ flat_map object os
 abbrev pages_part : List PageRec → List ℕ
 pages_part ps = to_le_bytes w16 (length ps) ++ flat_map page ps
 
-objects_take : (bytes : List ℕ) (x : List ObjectRec × List ℕ) → IsBytes bytes → read_objects bytes ≡ Ok x → Took objects_part fits_objects bytes x
+abbrev objects_fit_in : Bool → List ObjectRec → Bool
+objects_fit_in new os = fits_objects os && allows new (list_any object_shows os)
+
+objects_take : (new : Bool) (bytes : List ℕ) (x : List ObjectRec × List ℕ) → IsBytes bytes → read_objects new bytes ≡ Ok x →
+    Took objects_part (objects_fit_in new) bytes x
 unfolding read_objects
-objects_take bytes x fits e =
+objects_take new bytes x fits e =
     let a = bind_ok (read_number w16 bytes) _ x e in
     let t0 = number_takes w16 (2 ^ 16) wide16 bytes a.0 fits a.1 in
-    let t1 = all_takes read_object after_object object fits_object object_takes a.0.0 0 a.0.1 x t0.0.rest_fits a.2 in
+    let t1 = all_takes (read_object new) after_object object (object_fits_in new) (object_takes new) a.0.0 0 a.0.1 x t0.0.rest_fits a.2 in
+    let fit = all_left after_object fits_object (λ o. allows new (object_shows o)) 0 x.0 t1.2 in
+    let may = allows_all object_shows new x.0 (all_right after_object fits_object (λ o. allows new (object_shows o)) 0 x.0 t1.2) in
     let whole = Takes-then bytes (to_le_bytes w16 a.0.0) a.0.1 (flat_map object x.0) x.1 t0.0 t1.1 in (
       subst (λ (n : ℕ). Takes bytes (to_le_bytes w16 n ++ flat_map object x.0) x.1) (sym t1.0) whole,
-      both _ _ (subst (λ (n : ℕ). is_half n ≡ true) (sym t1.0) t0.1) t1.2,
+      both _ _ (both _ _ (subst (λ (n : ℕ). is_half n ≡ true) (sym t1.0) t0.1) fit) may,
     )
 
 pages_take : (bytes : List ℕ) (x : List PageRec × List ℕ) → IsBytes bytes → read_pages bytes ≡ Ok x → Took pages_part fits_pages bytes x
@@ -392,11 +415,14 @@ pages_take bytes x fits e =
 -- ---- spaces
 
 -- a space from what was taken for each of its fields
-joined : (before : List SpaceRec) (path : List Open) (bytes r0 r1 r2 r3 : List ℕ) (s : SpaceRec) (rest : List ℕ)
+abbrev space_fits_in : Bool → List SpaceRec × List Open → SpaceRec → Bool
+space_fits_in new before s = fits_space before s && allows new (space_shows s)
+
+joined : (new : Bool) (before : List SpaceRec) (path : List Open) (bytes r0 r1 r2 r3 : List ℕ) (s : SpaceRec) (rest : List ℕ)
     → Takes bytes (to_le_bytes w32 s.parent) r0 → Takes r0 (s.slot ∷ []) r1 → Takes r1 (link s.holder) r2
-    → Took objects_part fits_objects r2 (s.objects, r3) → Took pages_part fits_pages r3 (s.pages, rest)
-    → stands_in_order before path s ≡ true → Took space (fits_space (before, path)) bytes (s, rest)
-joined before path bytes r0 r1 r2 r3 s rest t0 t1 t2 t3 t4 placed =
+    → Took objects_part (objects_fit_in new) r2 (s.objects, r3) → Took pages_part fits_pages r3 (s.pages, rest)
+    → stands_in_order before path s ≡ true → Took space (space_fits_in new (before, path)) bytes (s, rest)
+joined new before path bytes r0 r1 r2 r3 s rest t0 t1 t2 t3 t4 placed =
     let os = objects_part s.objects in
     let ps = pages_part s.pages in
     let e34 = Takes-then r2 os r3 ps rest t3.0 t4.0 in
@@ -405,28 +431,32 @@ joined before path bytes r0 r1 r2 r3 s rest t0 t1 t2 t3 t4 placed =
     let e04 = Takes-then bytes (to_le_bytes w32 s.parent) r0 (s.slot ∷ (link s.holder ++ (os ++ ps))) rest t0 e14 in
     let regroup : os ++ ps ≡ to_le_bytes w16 (length s.objects)
     ++ (flat_map object s.objects ++ ps) = append_assoc (to_le_bytes w16 (length s.objects)) (flat_map object s.objects) ps in
-    (subst (λ (c : List ℕ). Takes bytes (to_le_bytes w32 s.parent ++ (s.slot ∷ (link s.holder ++ c))) rest) regroup e04, all3 placed t3.1 t4.1)
+    let parts = and2 (fits_objects s.objects) (allows new (space_shows s)) t3.1 in (
+      subst (λ (c : List ℕ). Takes bytes (to_le_bytes w32 s.parent ++ (s.slot ∷ (link s.holder ++ c))) rest) regroup e04,
+      both _ _ (all3 placed parts.0 t4.1) parts.1,
+    )
 
-first_takes : (path : List Open) (bytes : List ℕ) (x : SpaceRec × List ℕ) → IsBytes bytes → read_first bytes ≡ Ok x → Took space (fits_space ([], path)) bytes x
+first_takes : (new : Bool) (path : List Open) (bytes : List ℕ) (x : SpaceRec × List ℕ) → IsBytes bytes → read_first new bytes ≡ Ok x →
+    Took space (space_fits_in new ([], path)) bytes x
 unfolding read_first
-first_takes path bytes x fits e =
+first_takes new path bytes x fits e =
     let a = bind_ok (read_number w32 bytes) _ x e in
     let g0 = expect_ok (eqb a.0.0 4294967295) bytes 5 _ x a.2 in
     let b = bind_ok (read_byte a.0.1) _ x g0.1 in
     let g1 = expect_ok (eqb b.0.0 0) a.0.1 5 _ x b.2 in
     let c = bind_ok (read_byte b.0.1) _ x g1.1 in
     let g2 = expect_ok (eqb c.0.0 0) b.0.1 5 _ x c.2 in
-    let os = bind_ok (read_objects c.0.1) _ x g2.1 in
+    let os = bind_ok (read_objects new c.0.1) _ x g2.1 in
     let ps = bind_ok (read_pages os.0.1) _ x os.2 in
     let t0 = number_takes w32 (2 ^ 32) wide32 bytes a.0 fits a.1 in
     let t1 = byte_takes a.0.1 b.0 t0.0.rest_fits b.1 in
     let t2 = byte_takes b.0.1 c.0 t1.0.rest_fits c.1 in
-    let t3 = objects_take c.0.1 os.0 t2.0.rest_fits os.1 in
+    let t3 = objects_take new c.0.1 os.0 t2.0.rest_fits os.1 in
     let t4 = pages_take os.0.1 ps.0 t3.0.rest_fits ps.1 in
     let null : Takes b.0.1 (0 ∷ []) c.0.1 = subst (λ (n : ℕ). Takes b.0.1 (n ∷ []) c.0.1) (eqb-true _ _ g2.0) t2.0 in
     let s : SpaceRec = record { parent = a.0.0; slot = b.0.0; holder = Null; objects = os.0.0; pages = ps.0.0 } in
     made space
-    (fits_space ([], path)) bytes (s, ps.0.1) x ps.2 (joined [] path bytes a.0.1 b.0.1 c.0.1 os.0.1 s ps.0.1 t0.0 t1.0 null t3 t4 (all3 g0.0 g1.0 refl))
+    (space_fits_in new ([], path)) bytes (s, ps.0.1) x ps.2 (joined new [] path bytes a.0.1 b.0.1 c.0.1 os.0.1 s ps.0.1 t0.0 t1.0 null t3 t4 (all3 g0.0 g1.0 refl))
 
 room_is : (room : Option ℕ) (bytes : List ℕ) (x : ℕ) → or_refuse_field room bytes 4 ≡ Ok x → room ≡ Some x
 room_is None bytes x e = absurd (never bytes 4 x e)
@@ -435,77 +465,103 @@ room_is (Some n) bytes x e = ap Some (ok_is n x e)
 has_it : (room : Option ℕ) (floor slot : ℕ) → room ≡ Some floor → not (ltb slot floor) ≡ true → has_room room slot ≡ true
 has_it room floor slot is e = rw is e
 
-next_takes : (d : SpaceRec) (before : List SpaceRec) (path : List Open) (bytes : List ℕ) (x : SpaceRec × List ℕ) →
-    IsBytes bytes → read_next (d ∷ before) path bytes ≡ Ok x → Took space (fits_space (d ∷ before, path)) bytes x
+next_takes : (new : Bool) (d : SpaceRec) (before : List SpaceRec) (path : List Open) (bytes : List ℕ) (x : SpaceRec × List ℕ) →
+    IsBytes bytes → read_next new (d ∷ before) path bytes ≡ Ok x → Took space (space_fits_in new (d ∷ before, path)) bytes x
 unfolding read_next read_room
-next_takes d before path bytes x fits e =
+next_takes new d before path bytes x fits e =
     let a = bind_ok (read_number w32 bytes) _ x e in
     let f = bind_ok (read_room path a.0.0 bytes) _ x a.2 in
     let b = bind_ok (read_below 240 a.0.1) _ x f.2 in
     let g0 = expect_ok _ _ _ _ _ b.2 in
     let g1 = expect_ok _ _ _ _ _ g0.1 in
     let c = bind_ok (read_link b.0.1) _ x g1.1 in
-    let os = bind_ok (read_objects c.0.1) _ x c.2 in
+    let os = bind_ok (read_objects new c.0.1) _ x c.2 in
     let ps = bind_ok (read_pages os.0.1) _ x os.2 in
     let t0 = number_takes w32 (2 ^ 32) wide32 bytes a.0 fits a.1 in
     let t1 = below_takes 240 a.0.1 b.0 t0.0.rest_fits b.1 in
     let t2 = link_takes b.0.1 c.0 t1.0.rest_fits c.1 in
-    let t3 = objects_take c.0.1 os.0 t2.0.rest_fits os.1 in
+    let t3 = objects_take new c.0.1 os.0 t2.0.rest_fits os.1 in
     let t4 = pages_take os.0.1 ps.0 t3.0.rest_fits ps.1 in
     let s : SpaceRec = record { parent = a.0.0; slot = b.0.0; holder = c.0.0; objects = os.0.0; pages = ps.0.0 } in
-    made space (fits_space (d ∷ before, path)) bytes (s, ps.0.1) x ps.2
-    (joined (d ∷ before) path bytes a.0.1 b.0.1 c.0.1 os.0.1 s ps.0.1 t0.0 t1.0 t2.0 t3 t4
+    made space (space_fits_in new (d ∷ before, path)) bytes (s, ps.0.1) x ps.2
+    (joined new (d ∷ before) path bytes a.0.1 b.0.1 c.0.1 os.0.1 s ps.0.1 t0.0 t1.0 t2.0 t3 t4
     (all5 t0.1 t1.1 (has_it (room_under path a.0.0) f.0 b.0.0 (room_is _ bytes f.0 f.1) g0.0) g1.0 t2.1))
 
-placed_takes : (before : List SpaceRec) (path : List Open) (bytes : List ℕ) (x : SpaceRec × List ℕ) →
-    IsBytes bytes → read_placed before path bytes ≡ Ok x → Took space (fits_space (before, path)) bytes x
-placed_takes [] path bytes x fits e = first_takes path bytes x fits e
-placed_takes (d ∷ before) path bytes x fits e = next_takes d before path bytes x fits e
+placed_takes : (new : Bool) (before : List SpaceRec) (path : List Open) (bytes : List ℕ) (x : SpaceRec × List ℕ) →
+    IsBytes bytes → read_placed new before path bytes ≡ Ok x → Took space (space_fits_in new (before, path)) bytes x
+placed_takes new [] path bytes x fits e = first_takes new path bytes x fits e
+placed_takes new (d ∷ before) path bytes x fits e = next_takes new d before path bytes x fits e
 
-space_takes : (before : List SpaceRec × List Open) (bytes : List ℕ) (x : SpaceRec × List ℕ) →
-    IsBytes bytes → read_space before bytes ≡ Ok x → Took space (fits_space before) bytes x
+space_takes : (new : Bool) (before : List SpaceRec × List Open) (bytes : List ℕ) (x : SpaceRec × List ℕ) →
+    IsBytes bytes → read_space new before bytes ≡ Ok x → Took space (space_fits_in new before) bytes x
 unfolding read_space
-space_takes before bytes x fits e = placed_takes before.0 before.1 bytes x fits e
+space_takes new before bytes x fits e = placed_takes new before.0 before.1 bytes x fits e
 
 -- ---- images
 
-abbrev head : ℕ → List ℕ
-head n = magic ++ (to_le_bytes w16 1 ++ to_le_bytes w32 n)
+version_takes : (bytes : List ℕ) (x : Bool × List ℕ) → IsBytes bytes → read_version bytes ≡ Ok x → Takes bytes (to_le_bytes w16 (version_number x.0)) x.1
+unfolding read_version
+version_takes bytes x fits e =
+    let a = bind_ok (read_number w16 bytes) _ x e in
+    let t = number_takes w16 (2 ^ 16) wide16 bytes a.0 fits a.1 in
+    by a.0.0 (eqb a.0.0 1) refl (eqb a.0.0 2) refl a.0.1 t.0 a.2
+  where
+    by : (n : ℕ) (one : Bool) → eqb n 1 ≡ one → (two : Bool) → eqb n 2 ≡ two → (rest : List ℕ) → Takes bytes (to_le_bytes w16 n) rest →
+        cond one (Ok (false, rest)) (cond two (Ok (true, rest)) (refuse_field bytes 2)) ≡ Ok x → Takes bytes (to_le_bytes w16 (version_number x.0)) x.1
+    by n true is two second rest t e =
+        let same : (false, rest) ≡ x = ok_is (false, rest) x e in
+        subst (λ (y : Bool × List ℕ). Takes bytes (to_le_bytes w16 (version_number y.0)) y.1) same
+        (subst (λ (k : ℕ). Takes bytes (to_le_bytes w16 k) rest) (eqb-true n 1 is) t)
+    by n false other true second rest t e =
+        let same : (true, rest) ≡ x = ok_is (true, rest) x e in
+        subst (λ (y : Bool × List ℕ). Takes bytes (to_le_bytes w16 (version_number y.0)) y.1) same
+        (subst (λ (k : ℕ). Takes bytes (to_le_bytes w16 k) rest) (eqb-true n 2 second) t)
+    by n false other false second rest t e = absurd (never bytes 2 x e)
 
-head_takes : (bytes : List ℕ) (x : ℕ × List ℕ) → IsBytes bytes → read_head bytes ≡ Ok x → Took head (λ n. ltb 0 n && ltb n (2 ^ 32)) bytes x
+abbrev head : Bool × ℕ → List ℕ
+head h = magic ++ (to_le_bytes w16 (version_number h.0) ++ to_le_bytes w32 h.1)
+
+abbrev head_fits : Bool × ℕ → Bool
+head_fits h = ltb 0 h.1 && ltb h.1 (2 ^ 32)
+
+head_takes : (bytes : List ℕ) (x : (Bool × ℕ) × List ℕ) → IsBytes bytes → read_head bytes ≡ Ok x → Took head head_fits bytes x
 unfolding read_head
 head_takes bytes x fits e =
     let g0 = expect_ok (not (ltb (length bytes) 8)) bytes 3 _ x e in
     let g1 = expect_ok _ _ _ _ _ g0.1 in
-    let a = bind_ok (read_number w16 (drop 8 bytes)) _ x g1.1 in
-    let g2 = expect_ok _ _ _ _ _ a.2 in
-    let b = bind_ok (read_number w32 a.0.1) _ x g2.1 in
+    let a = bind_ok (read_version (drop 8 bytes)) _ x g1.1 in
+    let b = bind_ok (read_number w32 a.0.1) _ x a.2 in
     let g3 = expect_ok _ _ _ _ _ b.2 in
     let front : take 8 bytes ≡ magic = same_text (take 8 bytes) magic (sym g1.0) in
     let t0 : Takes bytes magic (drop 8 bytes) =
     record { parts = sym (take-append-drop 8 bytes) ∙ ap (λ (f : List ℕ). f ++ drop 8 bytes) front; rest_fits = IsBytes-drop 8 bytes fits } in
-    let t1 = number_takes w16 (2 ^ 16) wide16 (drop 8 bytes) a.0 t0.rest_fits a.1 in
-    let version : a.0.0 ≡ 1 = eqb-true _ _ g2.0 in
-    let t1one : Takes (drop 8 bytes) (to_le_bytes w16 1) a.0.1 = subst (λ (n : ℕ). Takes (drop 8 bytes) (to_le_bytes w16 n) a.0.1) version t1.0 in
-    let t2 = number_takes w32 (2 ^ 32) wide32 a.0.1 b.0 t1.0.rest_fits b.1 in
+    let t1 = version_takes (drop 8 bytes) a.0 t0.rest_fits a.1 in
+    let t2 = number_takes w32 (2 ^ 32) wide32 a.0.1 b.0 t1.rest_fits b.1 in
     let some : b.0.0 ≡ 0 → ⊥ = eqb-false _ _ (not_true _ g3.0) in
+    let number = to_le_bytes w16 (version_number a.0.0) in
     let whole = Takes-then bytes magic (drop 8 bytes)
-    (to_le_bytes w16 1 ++ to_le_bytes w32 b.0.0) b.0.1 t0 (Takes-then (drop 8 bytes) (to_le_bytes w16 1) a.0.1 (to_le_bytes w32 b.0.0) b.0.1 t1one t2.0) in
-    made head (λ n. ltb 0 n && ltb n (2 ^ 32)) bytes b.0 x g3.1 (whole, both _ _ (lt-ltb 0 b.0.0 (omega arith)) t2.1)
+    (number ++ to_le_bytes w32 b.0.0) b.0.1 t0 (Takes-then (drop 8 bytes) number a.0.1 (to_le_bytes w32 b.0.0) b.0.1 t1 t2.0) in
+    made head head_fits bytes ((a.0.0, b.0.0), b.0.1) x g3.1 (whole, both _ _ (lt-ltb 0 b.0.0 (omega arith)) t2.1)
 
-pub image_takes : (bytes : List ℕ) (i : Image) → IsBytes bytes → read_image bytes ≡ Ok i → (fits_spaces i.spaces ≡ true) × (bytes ≡ spelling i)
+pub image_takes : (bytes : List ℕ) (x : Bool × Image) → IsBytes bytes → read_image bytes ≡ Ok x →
+    (fits_spaces x.1.spaces ≡ true) × (allows x.0 (image_shows x.1) ≡ true) × (bytes ≡ spelling_in x.0 x.1)
 unfolding read_image
-image_takes bytes i fits e =
-    let a = bind_ok (read_head bytes) _ i e in
-    let b = bind_ok (read_many read_space after_space a.0.0 ([], root_path) [] a.0.1) _ i a.2 in
+image_takes bytes x fits e =
+    let a = bind_ok (read_head bytes) _ x e in
+    let new = a.0.0.0 in
+    let n = a.0.0.1 in
+    let b = bind_ok (read_many (read_space new) after_space n ([], root_path) [] a.0.1) _ x a.2 in
     let g = expect_ok _ _ _ _ _ b.2 in
     let t0 = head_takes bytes a.0 fits a.1 in
-    let t1 = all_takes read_space after_space space fits_space space_takes a.0.0 ([], root_path) a.0.1 b.0 t0.0.rest_fits b.1 in
+    let t1 = all_takes (read_space new) after_space space (space_fits_in new) (space_takes new) n ([], root_path) a.0.1 b.0 t0.0.rest_fits b.1 in
+    let fit = all_left after_space fits_space (λ s. allows new (space_shows s)) ([], root_path) b.0.0 t1.2 in
+    let may = allows_all space_shows new b.0.0 (all_right after_space fits_space (λ s. allows new (space_shows s)) ([], root_path) b.0.0 t1.2) in
     let nothing : b.0.1 ≡ [] = nil_from_length b.0.1 (eqb-true _ _ g.0) in
-    let whole = (Takes-then bytes (head a.0.0) a.0.1 (flat_map space b.0.0) b.0.1 t0.0 t1.1).parts in
-    let spelled : bytes ≡ spelling (record { spaces = b.0.0 }) = whole ∙ ap (λ (r : List ℕ). (head a.0.0 ++ flat_map space b.0.0) ++ r) nothing
-    ∙ append-nil _ ∙ ap (λ (k : ℕ). head k ++ flat_map space b.0.0) (sym t1.0) in
-    let counts = and2 (ltb 0 a.0.0) (ltb a.0.0 (2 ^ 32)) t0.1 in
+    let whole = (Takes-then bytes (head (new, n)) a.0.1 (flat_map space b.0.0) b.0.1 t0.0 t1.1).parts in
+    let spelled : bytes ≡ spelling_in new (record { spaces = b.0.0 }) = whole ∙ ap (λ (r : List ℕ). (head (new, n) ++ flat_map space b.0.0) ++ r) nothing
+    ∙ append-nil _ ∙ ap (λ (k : ℕ). head (new, k) ++ flat_map space b.0.0) (sym t1.0) in
+    let counts = and2 (ltb 0 n) (ltb n (2 ^ 32)) t0.1 in
     let some : ltb 0 (length b.0.0) ≡ true = subst (λ (n : ℕ). ltb 0 n ≡ true) (sym t1.0) counts.0 in
     let few : ltb (length b.0.0) (2 ^ 32) ≡ true = subst (λ (n : ℕ). ltb n (2 ^ 32) ≡ true) (sym t1.0) counts.1 in
-    subst (λ (j : Image). (fits_spaces j.spaces ≡ true) × (bytes ≡ spelling j)) (ok_is (record { spaces = b.0.0 }) i g.1) (all3 some few t1.2, spelled)
+    subst (λ (y : Bool × Image). (fits_spaces y.1.spaces ≡ true) × (allows y.0 (image_shows y.1) ≡ true) × (bytes ≡ spelling_in y.0 y.1))
+    (ok_is (new, record { spaces = b.0.0 }) x g.1) (all3 some few fit, may, spelled)

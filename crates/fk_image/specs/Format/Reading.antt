@@ -1,5 +1,5 @@
 -- Which image the bytes spell, or their first fault.
-use Rattle.std.specs.Prelude.{ℕ, ◌-◌, not, ◌==◌, nat_lt, nat_eq, List, [], ◌∷◌, length, take, drop, Option, Some, None, is_some, Result, Ok, Err, if◌then◌else◌}
+use Rattle.std.specs.Prelude.{ℕ, ◌-◌, Bool, true, false, not, ◌&&◌, ◌==◌, nat_lt, nat_eq, List, [], ◌∷◌, length, take, drop, Option, Some, None, is_some, Result, Ok, Err, if◌then◌else◌}
 use Rattle.std.specs.Cmp.Lexicographic.{pointwise}
 use Rattle.std.specs.Int.{w16, w32, w64}
 use Rattle.fk_image.specs.declared.image.image.Link.{Link}
@@ -21,6 +21,7 @@ use Rattle.fk_image.specs.Image.Valid.{after_object, after_page}
 use Rattle.fk_image.specs.declared.format.reasons.reason.TheConstants as reasons
 use Rattle.fk_image.specs.declared.format.stop.Stop.{Stop}
 use Rattle.fk_image.specs.Format.Spelling.{magic}
+use Rattle.fk_image.specs.Format.Versions.{shows_new, image_shows, allows}
 use Rattle.fk_image.specs.Format.Fields.{◌>>=◌, refuse_field, expect, read_byte, read_number, read_below, read_many}
 use Rattle.fk_image.specs.Format.Offsets.{wrong_link}
 
@@ -51,11 +52,11 @@ same_state s x = s
 abbrev pub read_words : ℕ → List ℕ → Result (List ℕ × List ℕ) Stop
 read_words count bytes = read_many read_word same_state count 0 [] bytes
 
--- a mode, behind the registers
-unfoldable pub read_mode : List ℕ → List ℕ → Result (ℕ × List ℕ) Stop
-read_mode regs bytes = do
+-- a mode, behind the registers. Only an image of the new version shows calls with a reference
+unfoldable pub read_mode : Bool → List ℕ → List ℕ → Result (ℕ × List ℕ) Stop
+read_mode new regs bytes = do
   mode ← read_byte bytes
-  if is_mode_byte regs mode.0 then Ok mode else refuse_field bytes reasons.RANGE
+  if is_mode_byte regs mode.0 && allows new (shows_new regs mode.0) then Ok mode else refuse_field bytes reasons.RANGE
 
 -- a halt code, behind the mode
 unfoldable pub read_code : ℕ → List ℕ → Result (ℕ × List ℕ) Stop
@@ -93,11 +94,11 @@ read_fault bytes = do
   state ← read_below 3 bytes
   if state.0 == 0 then Ok (None, state.1) else read_met_fault state.0 state.1
 
-unfoldable pub read_thread : List ℕ → Result (Rec × List ℕ) Stop
-read_thread bytes = do
+unfoldable pub read_thread : Bool → List ℕ → Result (Rec × List ℕ) Stop
+read_thread new bytes = do
   regs ← read_words 16 bytes
   pc ← read_number w64 regs.1
-  mode ← read_mode regs.0 pc.1
+  mode ← read_mode new regs.0 pc.1
   code ← read_code mode.0 mode.1
   stops ← read_number w16 code.1
   talk ← read_talk stops.1
@@ -143,8 +144,8 @@ read_reference bytes = do
   to ← read_link bytes
   Ok (Reference to.0, to.1)
 
-unfoldable pub read_body : List ℕ → Result (Rec × List ℕ) Stop
-read_body bytes = do
+unfoldable pub read_body : Bool → List ℕ → Result (Rec × List ℕ) Stop
+read_body new bytes = do
   kind ← read_byte bytes
   if kind.0 == 1 then read_mutex kind.1
       else if kind.0 == 2 then Ok (Cond, kind.1)
@@ -152,15 +153,15 @@ read_body bytes = do
       else if kind.0 == 4 then read_region kind.1
       else if kind.0 == 5 then read_port kind.1
       else if kind.0 == 6 then Ok (Portset, kind.1)
-      else if kind.0 == 8 then read_thread kind.1
+      else if kind.0 == 8 then read_thread new kind.1
       else if kind.0 == 9 then read_reference kind.1
       else refuse_field bytes reasons.RANGE
 
-unfoldable pub read_object : ℕ → List ℕ → Result (ObjectRec × List ℕ) Stop
-read_object floor bytes = do
+unfoldable pub read_object : Bool → ℕ → List ℕ → Result (ObjectRec × List ℕ) Stop
+read_object new floor bytes = do
   slot ← read_below 240 bytes
   _ ← expect (not (nat_lt slot.0 floor)) bytes reasons.ORDER
-  body ← read_body slot.1
+  body ← read_body new slot.1
   Ok (record { slot = slot.0; body = body.0 }, body.1)
 
 unfoldable pub read_page : ℕ → List ℕ → Result (PageRec × List ℕ) Stop
@@ -170,10 +171,10 @@ read_page floor bytes = do
   words ← read_words 64 page.1
   Ok (record { page = page.0; words = words.0 }, words.1)
 
-unfoldable pub read_objects : List ℕ → Result (List ObjectRec × List ℕ) Stop
-read_objects bytes = do
+unfoldable pub read_objects : Bool → List ℕ → Result (List ObjectRec × List ℕ) Stop
+read_objects new bytes = do
   count ← read_number w16 bytes
-  read_many read_object after_object count.0 0 [] count.1
+  read_many (read_object new) after_object count.0 0 [] count.1
 
 unfoldable pub read_pages : List ℕ → Result (List PageRec × List ℕ) Stop
 read_pages bytes = do
@@ -182,15 +183,15 @@ read_pages bytes = do
 
 -- ---- spaces
 
-unfoldable pub read_first : List ℕ → Result (SpaceRec × List ℕ) Stop
-read_first bytes = do
+unfoldable pub read_first : Bool → List ℕ → Result (SpaceRec × List ℕ) Stop
+read_first new bytes = do
   parent ← read_number w32 bytes
   _ ← expect (parent.0 == 4294967295) bytes reasons.RANGE
   slot ← read_byte parent.1
   _ ← expect (slot.0 == 0) parent.1 reasons.RANGE
   tag ← read_byte slot.1
   _ ← expect (tag.0 == 0) slot.1 reasons.RANGE
-  objects ← read_objects tag.1
+  objects ← read_objects new tag.1
   pages ← read_pages objects.1
   Ok (record { parent = parent.0; slot = slot.0; holder = Null; objects = objects.0; pages = pages.0 }, pages.1)
 
@@ -202,53 +203,65 @@ or_refuse_field (Some n) bytes reason = Ok n
 unfoldable pub read_room : List Open → ℕ → List ℕ → Result ℕ Stop
 read_room path parent bytes = or_refuse_field (room_under path parent) bytes reasons.ORDER
 
-unfoldable pub read_next : List SpaceRec → List Open → List ℕ → Result (SpaceRec × List ℕ) Stop
-read_next done path bytes = do
+unfoldable pub read_next : Bool → List SpaceRec → List Open → List ℕ → Result (SpaceRec × List ℕ) Stop
+read_next new done path bytes = do
   parent ← read_number w32 bytes
   floor ← read_room path parent.0 bytes
   slot ← read_below 240 parent.1
   _ ← expect (not (nat_lt slot.0 floor)) bytes reasons.ORDER
   _ ← expect (not (is_some (kind_in_space done parent.0 slot.0))) bytes reasons.ORDER
   holder ← read_link slot.1
-  objects ← read_objects holder.1
+  objects ← read_objects new holder.1
   pages ← read_pages objects.1
   Ok (record { parent = parent.0; slot = slot.0; holder = holder.0; objects = objects.0; pages = pages.0 }, pages.1)
 
-abbrev pub read_placed : List SpaceRec → List Open → List ℕ → Result (SpaceRec × List ℕ) Stop
-read_placed [] path bytes = read_first bytes
-read_placed (d ∷ done) path bytes = read_next (d ∷ done) path bytes
+abbrev pub read_placed : Bool → List SpaceRec → List Open → List ℕ → Result (SpaceRec × List ℕ) Stop
+read_placed new [] path bytes = read_first new bytes
+read_placed new (d ∷ done) path bytes = read_next new (d ∷ done) path bytes
 
-unfoldable pub read_space : List SpaceRec × List Open → List ℕ → Result (SpaceRec × List ℕ) Stop
-read_space before bytes = read_placed before.0 before.1 bytes
+unfoldable pub read_space : Bool → List SpaceRec × List Open → List ℕ → Result (SpaceRec × List ℕ) Stop
+read_space new before bytes = read_placed new before.0 before.1 bytes
 
 -- ---- images
 
-unfoldable pub read_head : List ℕ → Result (ℕ × List ℕ) Stop
+-- whether it is the new version
+unfoldable pub read_version : List ℕ → Result (Bool × List ℕ) Stop
+read_version bytes = do
+  version ← read_number w16 bytes
+  if version.0 == 1 then Ok (false, version.1)
+      else if version.0 == 2 then Ok (true, version.1)
+      else refuse_field bytes reasons.VERSION
+
+-- the version, and how many spaces there are
+unfoldable pub read_head : List ℕ → Result ((Bool × ℕ) × List ℕ) Stop
 read_head bytes = do
   _ ← expect (not (nat_lt (length bytes) 8)) bytes reasons.CUT
   _ ← expect (pointwise nat_eq (take 8 bytes) magic) bytes reasons.MAGIC
-  version ← read_number w16 (drop 8 bytes)
-  _ ← expect (version.0 == 1) (drop 8 bytes) reasons.VERSION
-  count ← read_number w32 version.1
-  _ ← expect (not (count.0 == 0)) version.1 reasons.RANGE
-  Ok count
+  new ← read_version (drop 8 bytes)
+  count ← read_number w32 new.1
+  _ ← expect (not (count.0 == 0)) new.1 reasons.RANGE
+  Ok ((new.0, count.0), count.1)
 
--- with every reason but that of a wrong pointer
-unfoldable pub read_image : List ℕ → Result Image Stop
+-- with every reason but that of a wrong pointer, and of a version that isn't needed
+unfoldable pub read_image : List ℕ → Result (Bool × Image) Stop
 read_image bytes = do
-  count ← read_head bytes
-  spaces ← read_many read_space after_space count.0 ([], root_path) [] count.1
+  head ← read_head bytes
+  spaces ← read_many (read_space head.0.0) after_space head.0.1 ([], root_path) [] head.1
   _ ← expect (length spaces.1 == 0) spaces.1 reasons.LEFT_OVER
-  Ok (record { spaces = spaces.0 })
+  Ok (head.0.0, record { spaces = spaces.0 })
+
+-- the new version where no thread shows a call of it, sought last
+abbrev pub needed : Bool → Image → Result Image (ℕ × ℕ)
+needed new i = if new && not (image_shows i) then Err (8, reasons.NEWER) else Ok i
 
 -- a wrong pointer, sought after the rest
-abbrev pub linked : Image → Option ℕ → Result Image (ℕ × ℕ)
-linked i None = Ok i
-linked i (Some at) = Err (at, reasons.POINTER)
+abbrev pub linked : Bool → Image → Option ℕ → Result Image (ℕ × ℕ)
+linked new i None = needed new i
+linked new i (Some at) = Err (at, reasons.POINTER)
 
 -- an offset from the front
-abbrev pub finished : List ℕ → Result Image Stop → Result Image (ℕ × ℕ)
-finished bytes (Ok i) = linked i (wrong_link i)
+abbrev pub finished : List ℕ → Result (Bool × Image) Stop → Result Image (ℕ × ℕ)
+finished bytes (Ok i) = linked i.0 i.1 (wrong_link i.1)
 finished bytes (Err stop) = Err (length bytes - stop.left, stop.reason)
 
 -- the image, or the offset and the reason of the first fault

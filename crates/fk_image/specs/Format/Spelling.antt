@@ -1,5 +1,5 @@
 -- The one spelling of each image: numbers are little-endian, and each number, tag, register and page word is a field.
-use Rattle.std.specs.Prelude.{ℕ, List, [], ◌∷◌, ◌++◌, length, Option, Some, None}
+use Rattle.std.specs.Prelude.{ℕ, Bool, List, [], ◌∷◌, ◌++◌, length, Option, Some, None}
 use Rattle.std.specs.List.{flat_map}
 use Rattle.std.specs.Int.{w16, w32, w64, to_le_bytes}
 use Rattle.fk_image.specs.declared.image.image.Link.{Link}
@@ -13,6 +13,7 @@ use Rattle.fk_image.specs.declared.image.image.ObjectRec.{ObjectRec}
 use Rattle.fk_image.specs.declared.image.image.PageRec.{PageRec}
 use Rattle.fk_image.specs.declared.image.image.SpaceRec.{SpaceRec}
 use Rattle.fk_image.specs.declared.image.image.Image.{Image}
+use Rattle.fk_image.specs.Format.Versions.{image_shows, version_number}
 
 -- a tag, and what is behind it
 abbrev pub link_bytes : Link → List ℕ
@@ -75,5 +76,9 @@ space_bytes s = to_le_bytes w32 s.parent ++ (s.slot ∷ (link_bytes s.holder ++ 
 abbrev pub magic : List ℕ
 magic = 70 ∷ 76 ∷ 85 ∷ 75 ∷ 69 ∷ 73 ∷ 77 ∷ 71 ∷ []
 
+-- with this version
+abbrev pub spelling_in : Bool → Image → List ℕ
+spelling_in new i = magic ++ (to_le_bytes w16 (version_number new) ++ (to_le_bytes w32 (length i.spaces) ++ flat_map space_bytes i.spaces))
+
 abbrev pub spelling : Image → List ℕ
-spelling i = magic ++ (to_le_bytes w16 1 ++ (to_le_bytes w32 (length i.spaces) ++ flat_map space_bytes i.spaces))
+spelling i = spelling_in (image_shows i) i

@@ -41,7 +41,7 @@ is_extent first count = nat_lt 0 count && nat_le (first + count) 256
 
 -- the codes of calls
 abbrev pub is_call_code : ℕ → Bool
-is_call_code n = nat_le 1 n && nat_le n 27 || nat_le 32 n && nat_le n 39 || nat_le 48 n && nat_le n 56 || nat_le 60 n && nat_le n 65
+is_call_code n = nat_le 1 n && nat_le n 27 || nat_le 32 n && nat_le n 41 || nat_le 48 n && nat_le n 58 || nat_le 60 n && nat_le n 65
 
 -- running, calling or halted; a calling thread's first register has the code of a call
 abbrev pub is_mode_byte : List ℕ → ℕ → Bool

@@ -22,4 +22,7 @@ pub mod reason {
 
     /// Bytes are left over.
     pub const LEFT_OVER: u8 = 7;
+
+    /// The version is 2, and no calling thread shows a call that only this version has.
+    pub const NEWER: u8 = 8;
 }

@@ -19,7 +19,7 @@ pub fn is_extent(first: u8, count: u16) -> bool
 fn is_call_code(code: u64) -> bool
     ensures { result ≡ words.is_call_code code }
 {
-    matches!(code, 1..=27 | 32..=39 | 48..=56 | 60..=65)
+    matches!(code, 1..=27 | 32..=41 | 48..=58 | 60..=65)
 }
 
 /// Whether a number is a mode that a thread with these registers can have.

@@ -4,7 +4,7 @@ use Rattle.std.proofs.lemmas.Bool.{false≢true, eqb-true}
 use Rattle.std.proofs.lemmas.List.{length-set}
 use Rattle.std.proofs.lemmas.Option.{same_Some}
 use Rattle.fk_model.specs.declared.stage.Stage.{Stage}
-use Rattle.fk_model.specs.declared.stage.Stage.TheVariants.{Create, Destroy, Rename, Search, Point, Clear, Locate, CountIn, GetState, SetState, GetPtr, SetPtr, SpaceHold, SpaceRelease, ThreadStop, ThreadGo, PageGive, PageTake, PageRead, PageNext, MutexLock, MutexTrylock, MutexUnlock, CondWait, CondAsleep, CondSignal, CondBroadcast, Connect, ClientReceive, ClientSend, ClientOver, Disconnect, Wait, ServerReceive, ServerSend, ServerOver, ServerEnd, FaultDone, LinkSet, LinkPark, FaultSet, FaultPark, HoldSet, SpaceMakeHeld}
+use Rattle.fk_model.specs.declared.stage.Stage.TheVariants.{Create, Destroy, Rename, Search, Point, Clear, Locate, CountIn, GetState, SetState, GetPtr, SetPtr, SpaceHold, SpaceRelease, ThreadStop, ThreadGo, PageGive, PageTake, PageRead, PageNext, MutexLock, MutexTrylock, MutexUnlock, CondWait, CondAsleep, CondSignal, CondBroadcast, Connect, ClientReceive, ClientSend, ClientOver, Disconnect, ClientOverRef, ClientReceiveRef, Wait, ServerReceive, ServerSend, ServerOver, ServerEnd, FaultDone, ServerOverRef, ServerReceiveRef, LinkSet, LinkPark, FaultSet, FaultPark, HoldSet, SpaceMakeHeld}
 use Rattle.fk_model.specs.Calls.{Call, calls, code_of, argument_registers, with_values, without_values, words, todo_of, named_by, rest_of, IsTodo, IsRest}
 
 -- ---- 16 registers, the first apart from the others
@@ -75,6 +75,8 @@ reads (ClientReceive into room ∷ []) is r = (refl, refl)
 reads (ClientSend address count ∷ []) is r = (refl, refl)
 reads (ClientOver ∷ []) is r = (refl, refl)
 reads (Disconnect ∷ []) is r = (refl, refl)
+reads (ClientOverRef reference ∷ []) is r = (refl, refl)
+reads (ClientReceiveRef into room reference ∷ []) is r = (refl, refl)
 reads (Wait set ∷ []) is r = (refl, refl)
 reads (Wait set ∷ ServerReceive into room ∷ []) is r = (refl, refl)
 reads (ServerReceive into room ∷ []) is r = (refl, refl)
@@ -84,6 +86,8 @@ reads (ServerSend address count ∷ ServerOver ∷ ServerReceive into room ∷ [
 reads (ServerOver ∷ ServerReceive into room ∷ []) is r = (refl, refl)
 reads (ServerEnd ∷ []) is r = (refl, refl)
 reads (FaultDone ∷ []) is r = (refl, refl)
+reads (ServerOverRef reference ∷ []) is r = (refl, refl)
+reads (ServerReceiveRef into room reference ∷ []) is r = (refl, refl)
 reads (LinkSet s x port server ∷ []) is r = (refl, refl)
 reads (LinkPark s x port ∷ []) is r = (refl, refl)
 reads (FaultSet s x port taker ∷ []) is r = (refl, refl)

@@ -200,6 +200,8 @@ plan-ending w p given alone (plans.Two a b) fits = by (moves_talk a) refl (moves
         same-then w (after p a w) _ (left_by w p b) same (deed-ending w (after p a w) p alone same b)
 plan-ending w p given alone (plans.Moves block client receiver sender) fits =
     same-ending w _ (all-same w (changes_by p given (plans.Moves block client receiver sender) w) (refl, (refl, (refl, (refl, tt)))))
+plan-ending w p given alone (plans.HandsOver reference to receiver client turn) fits =
+    same-ending w _ (all-same w (changes_by p given (plans.HandsOver reference to receiver client turn) w) (refl, (refl, (refl, tt))))
 plan-ending w p given alone (plans.Makes object kind) fits = if_made w (new_object (place p object) kind) (new-object w (place p object) kind fits.1)
 plan-ending w p given alone (plans.MakesHeld object holder) fits = make_space-ending w (place p object) fits.1 _
 plan-ending w p given alone (plans.Gives space page source) fits =

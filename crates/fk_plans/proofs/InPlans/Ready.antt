@@ -43,6 +43,7 @@ use Rattle.fk_plans.specs.declared.plans.plan.Verdict.TheVariants as verdicts
 use Rattle.fk_plans.specs.declared.plans.plan.Effect.{Effect}
 use Rattle.fk_plans.specs.declared.plans.plan.Effect.TheVariants as effects
 use Rattle.fk_plans.specs.Plans.Effects.{effect_by, in_running, of_running, is_running, is_running_mode}
+use Rattle.fk_changes.specs.Threads.Answers.{came_answers}
 use Rattle.fk_plans.specs.Plans.Plans.{caller_by, change_by, holder_by, changes_by, made, IsPlan}
 use Rattle.fk_plans.specs.Plans.Renames.{renames}
 use Rattle.fk_plans.specs.Plans.Destroys.{destroyed}
@@ -72,7 +73,7 @@ deed_iff w v me p (deeds.Locks mutex locked) = plain_iff w me (place p mutex) (S
 deed_iff w v me p (deeds.Points object to) = pointed_iff w me (place p object) (pointer_by p to)
 deed_iff w v me p (deeds.Records object to at) = not_iff (is_frozen_for w me (p to.0))
 deed_iff w v me p (deeds.Sends block) = not_iff (is_frozen_for w me (p block.to.0))
-deed_iff w v me p (deeds.Finishes thread) = plain_iff w me (place p thread) (Finish []) (record { changed = λ b. refl; made = refl })
+deed_iff w v me p (deeds.Finishes thread came) = plain_iff w me (place p thread) (Finish (came_answers came)) (record { changed = λ b. refl; made = refl })
 deed_iff w v me p (deeds.Passes client turn) = plain_iff w me (place p client) (PassTurn turn) (record { changed = λ b. refl; made = refl })
 deed_iff w v me p (deeds.Unlinks client) = removed_iff w me (place p client) (SetTalk None) refl
 deed_iff w v me p (deeds.Frees thread) = removed_iff w me (place p thread) (SetFault None) refl
@@ -157,6 +158,9 @@ plan_iff w me p given (plans.Two a b) fits = both_iff _ _ (deed_iff w _ me p a) 
 plan_iff w me p given (plans.Moves block client receiver sender) fits =
     both_iff _ _ (deed_iff w w me p (deeds.Sends block)) (both_iff _ _ (deed_iff w w me p (deeds.Counts client block.count))
     (both_iff _ _ (deed_iff w w me p (deeds.Shifts receiver block.count)) (one_iff _ (deed_iff w w me p (deeds.Shifts sender block.count)))))
+plan_iff w me p given (plans.HandsOver reference to receiver client turn) fits =
+    both_iff _ _ (deed_iff w w me p (deeds.Points reference to)) (both_iff _ _ (deed_iff w w me p (deeds.Finishes receiver (Some true)))
+    (one_iff _ (deed_iff w w me p (deeds.Passes client turn))))
 plan_iff w me p given (plans.Makes object kind) fits = making_iff w me (place p object) kind fits.2
 plan_iff w me p given (plans.MakesHeld object holder) fits = held_space_iff w me (place p object) (place p holder)
 plan_iff w me p given (plans.Gives space page source) fits = one_iff _ (not_iff (is_frozen_for w me (p space)))

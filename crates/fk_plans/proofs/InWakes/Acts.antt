@@ -91,7 +91,7 @@ module _ (p : ℕ → Path) (t : Touched) (w : World) where
       Touch p t w (Some x) (if_receiving w x go u)
   received x go u going = elim (cases_Bool (is_free w (parent x) u && holds (λ (talk : Talk). same_side talk.turn turns.Server) u.talk)) [
     | inr off ↦ rw off waits
-    | inl on ↦ rw on (elim (is (receiving turns.Client u.mode)) [ Absent e ↦ rw e waits | Present space e ↦ rw e (going x space) ])
+    | inl on ↦ rw on (elim (is (receiving w (parent x) turns.Client u.mode)) [ Absent e ↦ rw e waits | Present space e ↦ rw e (going x space) ])
   ]
 
   of_client : (port : Path) (go : Path → ℕ × ℕ → Outcome) → ((x : Path) (space : ℕ × ℕ) → Touch p t w (Some x) (go x space)) →
@@ -124,7 +124,7 @@ module _ (p : ℕ → Path) (t : Touched) (w : World) where
   over_touches : (port : Path) → Touch p t w (client_at w port) (over_row w port)
   unfolding over_row
   over_touches port =
-      of_client port (passes_client port) (λ x receive. record { one = record { names = λ y named. twice (same_path y x) named; leaves = refl } })
+      of_client port (passes_client w port) (λ x receive. record { one = record { names = λ y named. twice (same_path y x) named; leaves = refl } })
 
 pub acts_touch : (p : ℕ → Path) (t : Touched) (w : World) (port : Path) (pick : Option Path) → ActsTouch p t w port pick
 unfolding outcome

@@ -56,7 +56,7 @@ deed_leaves p t (deeds.Records object to at) w = refl
 deed_leaves p t (deeds.Counts client count) w = refl
 deed_leaves p t (deeds.Shifts thread count) w = refl
 deed_leaves p t (deeds.Ends thread status) w = refl
-deed_leaves p t (deeds.Finishes thread) w = refl
+deed_leaves p t (deeds.Finishes thread came) w = refl
 deed_leaves p t (deeds.Passes client turn) w = refl
 deed_leaves p t (deeds.Unlinks client) w = refl
 deed_leaves p t (deeds.Links client talk) w = refl
@@ -96,6 +96,7 @@ plan_leaves p given (plans.Two a b) w =
     both (leaves p t (change_by p a w)) (leaves p t (change_by p b (after p a w)) && true) (deed_leaves p t a w)
     (both (leaves p t (change_by p b (after p a w))) true (deed_leaves p t b (after p a w)) refl)
 plan_leaves p given (plans.Moves block client receiver sender) w = refl
+plan_leaves p given (plans.HandsOver reference to receiver client turn) w = refl
 plan_leaves p given (plans.Makes object kind) w = (made_leaves p (Makes object) (place p object) kind (same_path_refl (place p object))).told
 plan_leaves p given (plans.MakesHeld object holder) w = both (makes p (Makes object) (place p object)) true (same_path_refl (place p object)) refl
 plan_leaves p given (plans.Gives space page source) w = refl

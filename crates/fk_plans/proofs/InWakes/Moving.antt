@@ -29,6 +29,7 @@ plan_first p plans.Nothing cs = refl
 plan_first p (plans.One a) cs = refl
 plan_first p (plans.Two a b) cs = refl
 plan_first p (plans.Moves block client receiver sender) cs = refl
+plan_first p (plans.HandsOver reference to receiver client turn) cs = refl
 plan_first p (plans.Makes object kind) cs = refl
 plan_first p (plans.MakesHeld object holder) cs = refl
 plan_first p (plans.Gives space page source) cs = refl

@@ -50,7 +50,7 @@ deed_names p (deeds.Records object to at) w v x = refl
 deed_names p (deeds.Counts client count) w v x = refl
 deed_names p (deeds.Shifts thread count) w v x = refl
 deed_names p (deeds.Ends thread status) w v x = refl
-deed_names p (deeds.Finishes thread) w v x = refl
+deed_names p (deeds.Finishes thread came) w v x = refl
 deed_names p (deeds.Passes client turn) w v x = refl
 deed_names p (deeds.Unlinks client) w v x = refl
 deed_names p (deeds.Links client talk) w v x = refl
@@ -86,6 +86,15 @@ three_names p a b c w v u t n x none names =
     let second = deed_names p b u (apply (change_by p a v) (apply n w)) x in
     let third = deed_names p c t (apply (change_by p b u) (apply (change_by p a v) (apply n w))) x in
     (λ i. sym none i || (sym first i || (sym second i || (sym (or_none (is_at p (changed_by c) x)) ∙ ap (λ (s : Bool). s || false) (sym third)) i))) ∙ names
+
+pub three_listed : (p : ℕ → Path) (a b c : Deed) (w v u : World) (x : Path) →
+    name_body w (change_by p a w ∷ change_by p b v ∷ change_by p c u ∷ []) x ≡ true →
+    is_touched p (Few (changed_by a) (changed_by b) (changed_by c)) x ≡ true
+three_listed p a b c w v u x names =
+    let first = deed_names p a w w x in
+    let second = deed_names p b v (apply (change_by p a w) w) x in
+    let third = deed_names p c u (apply (change_by p b v) (apply (change_by p a w) w)) x in
+    (λ i. sym first i || (sym second i || (sym (or_none (is_at p (changed_by c) x)) ∙ ap (λ (s : Bool). s || false) (sym third)) i)) ∙ names
 
 -- what is made at a path names no other
 record NamesOnly (w : World) (y x : Path) (o : Option Change) : Type 0 where
@@ -258,6 +267,10 @@ plan_names p given (plans.Moves block client receiver sender) w x names =
     let counted = after p (deeds.Counts client block.count) sent in
     three_names p (deeds.Counts client block.count) (deeds.Shifts receiver block.count) (deeds.Shifts sender block.count) w sent counted
     (after p (deeds.Shifts receiver block.count) counted) (change_by p (deeds.Sends block) w) x refl names
+plan_names p given (plans.HandsOver reference to receiver client turn) w x names =
+    let filled = after p (deeds.Points reference to) w in
+    three_listed p (deeds.Points reference to) (deeds.Finishes receiver (Some true)) (deeds.Passes client turn) w filled
+    (after p (deeds.Finishes receiver (Some true)) filled) x names
 plan_names p given (plans.Makes object kind) w x names = made_names p object kind w x names
 plan_names p given (plans.MakesHeld object holder) w x names = sym (or_none (same_path x (place p object))) ∙ names
 plan_names p given (plans.Gives space page source) w x names = none_names names

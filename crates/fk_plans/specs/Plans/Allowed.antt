@@ -30,7 +30,7 @@ is_deed_allowed w me p (deeds.Sends block) = not (is_frozen_for w me (p block.to
 is_deed_allowed w me p (deeds.Counts client count) = not (is_frozen_for w me (place p client))
 is_deed_allowed w me p (deeds.Shifts thread count) = not (is_frozen_for w me (place p thread))
 is_deed_allowed w me p (deeds.Ends thread status) = not (is_frozen_for w me (place p thread))
-is_deed_allowed w me p (deeds.Finishes thread) = not (is_frozen_for w me (place p thread))
+is_deed_allowed w me p (deeds.Finishes thread came) = not (is_frozen_for w me (place p thread))
 is_deed_allowed w me p (deeds.Passes client turn) = not (is_frozen_for w me (place p client))
 is_deed_allowed w me p (deeds.Unlinks client) =
     not (is_frozen_for w me (place p client)) && are_unfrozen w me (option_list (of_talk talk_pointers) (w.body (place p client)))
@@ -58,6 +58,8 @@ is_plan_allowed w me p (plans.One a) = is_deed_allowed w me p a
 is_plan_allowed w me p (plans.Two a b) = is_deed_allowed w me p a && is_deed_allowed w me p b
 is_plan_allowed w me p (plans.Moves block client receiver sender) = not (is_frozen_for w me (p block.to.0))
     && (not (is_frozen_for w me (place p client)) && (not (is_frozen_for w me (place p receiver)) && not (is_frozen_for w me (place p sender))))
+is_plan_allowed w me p (plans.HandsOver reference to receiver client turn) =
+    is_deed_allowed w me p (deeds.Points reference to) && (not (is_frozen_for w me (place p receiver)) && not (is_frozen_for w me (place p client)))
 is_plan_allowed w me p (plans.Makes object kind) = not (is_frozen_for w me (place p object))
 is_plan_allowed w me p (plans.MakesHeld object holder) = not (is_frozen_for w me (place p object)) && not (is_frozen_for w me (place p holder))
 is_plan_allowed w me p (plans.Gives space page source) = not (is_frozen_for w me (p space))

@@ -16,6 +16,7 @@ use Rattle.fk_store.specs.Store.Named.{Each, OnFault, OnPeer, OnPointer, OnTalk}
 use Rattle.fk_changes.specs.Records.Settings.{record_there}
 use Rattle.fk_store.specs.Store.Paths.{place}
 use Rattle.fk_store.specs.Store.Threads.{todo_at}
+use Rattle.fk_changes.specs.Threads.Answers.{came_answers}
 use Rattle.fk_changes.specs.Threads.Firsts.{IsFirst}
 use Rattle.fk_changes.specs.Threads.Shifted.{IsLow}
 use Rattle.fk_changes.specs.Threads.Sleepers.{IsAsleep}
@@ -45,7 +46,7 @@ change_by p (deeds.Sends block) w = PutPage (p block.to.0) block.to.1 (block_pag
 change_by p (deeds.Counts client count) w = Alter (place p client) (CountMoved count)
 change_by p (deeds.Shifts thread count) w = Alter (place p thread) (Shift count)
 change_by p (deeds.Ends thread status) w = Alter (place p thread) (End status [])
-change_by p (deeds.Finishes thread) w = Alter (place p thread) (Finish [])
+change_by p (deeds.Finishes thread came) w = Alter (place p thread) (Finish (came_answers came))
 change_by p (deeds.Passes client turn) w = Alter (place p client) (PassTurn turn)
 change_by p (deeds.Unlinks client) w = Alter (place p client) (SetTalk None)
 change_by p (deeds.Links client talk) w = Alter (place p client) (SetTalk (Some (talk_by p talk)))
@@ -79,6 +80,8 @@ changes_by p given (plans.One a) w = and_next p a no_more w
 changes_by p given (plans.Two a b) w = and_next p a (and_next p b no_more) w
 changes_by p given (plans.Moves block client receiver sender) w = and_next p (deeds.Sends block) (and_next p (deeds.Counts client block.count)
     (and_next p (deeds.Shifts receiver block.count) (and_next p (deeds.Shifts sender block.count) no_more))) w
+changes_by p given (plans.HandsOver reference to receiver client turn) w = and_next p (deeds.Points reference to)
+    (and_next p (deeds.Finishes receiver (Some true)) (and_next p (deeds.Passes client turn) no_more)) w
 changes_by p given (plans.Makes object kind) w = made (new_object (place p object) kind)
 changes_by p given (plans.MakesHeld object holder) w = MakeSpace (place p object) (Some (At (place p holder))) ∷ []
 changes_by p given (plans.Gives space page source) w = PutPage (p space) page (source_words p given source w) ∷ []
@@ -95,7 +98,7 @@ IsDeed p w (deeds.Sends block) = IsBlock p w block
 IsDeed p w (deeds.Counts client count) = ⊤
 IsDeed p w (deeds.Shifts thread count) = IsLow w (place p thread) count
 IsDeed p w (deeds.Ends thread status) = ⊤
-IsDeed p w (deeds.Finishes thread) = ⊤
+IsDeed p w (deeds.Finishes thread came) = ⊤
 IsDeed p w (deeds.Passes client turn) = ⊤
 IsDeed p w (deeds.Unlinks client) = ⊤
 IsDeed p w (deeds.Links client talk) = OnTalk (λ other. IsSome (kind_there w (place p other))) talk
@@ -133,6 +136,7 @@ IsPlan p w (plans.Moves block client receiver sender) =
     let counted = after p (deeds.Counts client block.count) (after p (deeds.Sends block) w) in
     IsBlock p w block × IsLow counted (place p receiver) block.count
     × IsLow (after p (deeds.Shifts receiver block.count) counted) (place p sender) block.count
+IsPlan p w (plans.HandsOver reference to receiver client turn) = OnPointer (λ other. IsSome (kind_there w (place p other))) to
 IsPlan p w (plans.Makes object kind) = IsMaking p w object kind
 IsPlan p w (plans.MakesHeld object holder) = IsMakingHeld p w object holder
 IsPlan p w (plans.Gives space page source) = (birth_at w (p space) ≡ Some space) × IsSource p w source

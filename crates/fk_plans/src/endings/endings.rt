@@ -119,6 +119,7 @@ fn left_by_plan(store: &Store, plan: &Plan) -> Option<Who>
         }
         Plan::Nothing
         | Plan::Moves { .. }
+        | Plan::HandsOver { .. }
         | Plan::Makes { .. }
         | Plan::MakesHeld { .. }
         | Plan::Gives { .. } => None,

@@ -16,7 +16,7 @@ use crate::plans::blocks::{copy_page, send_block};
 use crate::plans::destroying::destroy;
 use crate::plans::instructions::run;
 use crate::plans::making::{make, make_held};
-use crate::plans::moving::send_words;
+use crate::plans::moving::{hand_over, send_words};
 use crate::plans::plan::{Deed, News, Plan, Verdict};
 use crate::plans::recording::{Record, set_record, told_record, write_record};
 use crate::plans::renaming::rename;
@@ -25,7 +25,7 @@ use crate::plans::telling::{said_of, told, told_four, told_page};
 use crate::plans::waking::wake_sleepers;
 use fk_changes::readers::Caller;
 use fk_changes::threads::{
-    Answers, Four, advance, count_moved, end_well, fall_asleep, finish, wake,
+    Answers, Four, advance, answered, count_moved, end_well, fall_asleep, finish, wake,
 };
 use fk_model::status::OK;
 use fk_model::{NoMemory, Said, Who};
@@ -51,7 +51,7 @@ fn carry(store: &mut Store, deed: &Deed)
         Deed::Counts { client, count } => count_moved(store, client, count),
         Deed::Shifts { thread, count } => advance(store, thread, u64::from(count)),
         Deed::Ends { thread, status } => store.end_call(thread, status),
-        Deed::Finishes { thread } => finish(store, thread, Answers::Nothing),
+        Deed::Finishes { thread, came } => finish(store, thread, answered(came)),
         Deed::Passes { client, turn } => store.pass_turn(client, turn),
         Deed::Unlinks { client } => store.set_talk(client, None),
         Deed::Links { client, talk } => store.set_talk(client, Some(talk)),
@@ -94,6 +94,13 @@ pub fn carry_all(
             receiver,
             sender,
         } => send_words(store, *block, *client, *receiver, *sender),
+        Plan::HandsOver {
+            reference,
+            to,
+            receiver,
+            client,
+            turn,
+        } => hand_over(store, *reference, *to, *receiver, *client, *turn),
         Plan::Makes { object, kind } => return make(store, *object, *kind),
         Plan::MakesHeld { object, holder } => return make_held(store, *object, *holder),
         Plan::Gives {

@@ -12,8 +12,8 @@ ghost use Rattle.fk_plans.specs.Plans.Verdicts.{outcome_by};
 use crate::plans::blocks::{Block, send_block};
 use crate::plans::plan::{Moving, Plan};
 use fk_changes::readers::Caller;
-use fk_changes::threads::{Answers, advance, count_moved, finish};
-use fk_model::Who;
+use fk_changes::threads::{Answers, advance, answered, count_moved, finish};
+use fk_model::{Ptr, Turn, Who};
 use fk_store::Store;
 
 /// Words of a page go to a page of a receiver, and its talk and both ends have moved so many more.
@@ -29,6 +29,20 @@ pub fn send_words(store: &mut Store, block: Block, client: Who, receiver: Who, s
     count_moved(store, client, block.count);
     advance(store, receiver, count);
     advance(store, sender, count);
+}
+
+/// A reference takes a pointer, the receive of the thread that awaited it is done, and the turn is this
+/// side's.
+#[tactic(auto, unfolding(fk_model::specs::World::apply_all))]
+pub fn hand_over(store: &mut Store, reference: Who, to: Ptr, receiver: Who, client: Who, turn: Turn)
+    requires fits { IsPlan (path store.old) (world store.old) (Plan.HandsOver reference to receiver client turn) }
+    ensures world { (given : List ℕ) → world store.new
+        ≡ apply_all (changes_by (path store.old) given (Plan.HandsOver reference to receiver client turn) (world store.old)) (world store.old) }
+    ensures paths { path store.new ≡ path store.old }
+{
+    store.point(reference, to);
+    finish(store, receiver, answered(Some(true)));
+    store.pass_turn(client, turn);
 }
 
 /// Makes what words that move come to: they go to the receiver, and with the last of them the sender's

@@ -29,8 +29,9 @@ pub enum Deed {
     Shifts { thread: Who, count: u8 },
     /// The whole call of a thread ends with a status.
     Ends { thread: Who, status: u8 },
-    /// The first stage of a thread's call is done.
-    Finishes { thread: Who },
+    /// The first stage of a thread's call is done. It answers whether a pointer came, where it awaited
+    /// one.
+    Finishes { thread: Who, came: Option<bool> },
     /// It is the turn of a side of a client's talk.
     Passes { client: Who, turn: Turn },
     /// A client's talk ends.
@@ -69,6 +70,15 @@ pub enum Plan {
         client: Who,
         receiver: Who,
         sender: Who,
+    },
+    /// A reference takes a pointer, the receive of the thread that awaited it is done, and it is the
+    /// turn of this side of a client's talk.
+    HandsOver {
+        reference: Who,
+        to: Ptr,
+        receiver: Who,
+        client: Who,
+        turn: Turn,
     },
     /// A new object of the kind with this number.
     Makes {

@@ -109,7 +109,7 @@ fn is_deed_allowed(store: &Store, me: Who, deed: &Deed) -> bool
         | Deed::Shifts { thread, .. }
         | Deed::Ends { thread, .. }
         | Deed::Stops { thread, .. }
-        | Deed::Finishes { thread } => !store.frozen_for(me, thread),
+        | Deed::Finishes { thread, .. } => !store.frozen_for(me, thread),
         Deed::Records { to, .. } | Deed::Copies { to, .. } => !store.space_frozen_for(me, to.0),
         Deed::Sends(block) => !store.space_frozen_for(me, block.to.0),
         Deed::Drops { space, .. } => !store.space_frozen_for(me, space),
@@ -149,6 +149,17 @@ fn is_plan_allowed(store: &Store, me: Who, plan: &Plan) -> bool
                 && !store.frozen_for(me, *client)
                 && !store.frozen_for(me, *receiver)
                 && !store.frozen_for(me, *sender)
+        }
+        Plan::HandsOver {
+            reference,
+            to,
+            receiver,
+            client,
+            ..
+        } => {
+            may_point(store, me, *reference, *to)
+                && !store.frozen_for(me, *receiver)
+                && !store.frozen_for(me, *client)
         }
         Plan::Makes { object, .. } => !store.frozen_for(me, *object),
         Plan::MakesHeld { object, holder } => {

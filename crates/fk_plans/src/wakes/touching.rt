@@ -56,7 +56,7 @@ pub fn changed(deed: &Deed) -> Option<Who>
         Deed::Sleeps { thread, .. } => Some(thread),
         Deed::Shifts { thread, .. } => Some(thread),
         Deed::Ends { thread, .. } => Some(thread),
-        Deed::Finishes { thread } => Some(thread),
+        Deed::Finishes { thread, .. } => Some(thread),
         Deed::Frees { thread } => Some(thread),
         Deed::Raises { thread, .. } => Some(thread),
         Deed::Takes { thread, .. } => Some(thread),
@@ -98,6 +98,12 @@ fn planned(plan: &Plan) -> Touched
             sender,
             ..
         } => few(Some(*client), Some(*receiver), Some(*sender)),
+        Plan::HandsOver {
+            reference,
+            receiver,
+            client,
+            ..
+        } => few(Some(*reference), Some(*receiver), Some(*client)),
         Plan::Makes { object, .. } | Plan::MakesHeld { object, .. } => Touched::Makes {
             object: *object,
         },

@@ -17,7 +17,7 @@ use Rattle.fk_model.specs.Places.{Path, Ptr, parent, same_path}
 use Rattle.fk_model.specs.Places.Ptr.{At, Dead, Far, Null, Out, Outside}
 use Rattle.fk_model.specs.Readers.{handled, is_kind, kind_at, led_to}
 use Rattle.fk_model.specs.Searches.{depth, thread_at}
-use Rattle.fk_model.specs.Talks.{other_side, receiving}
+use Rattle.fk_model.specs.Talks.{other_side}
 use Rattle.fk_model.specs.Valid.{kind_there, IsValid}
 use Rattle.fk_model.specs.World.{World, Change, apply}
 use Rattle.fk_model.specs.World.Change.{Alter, DropPage, Kill, Make, MakeSpace, Move, PutPage}
@@ -26,7 +26,7 @@ use Rattle.fk_store.specs.Store.Paths.{place}
 use Rattle.laws_moves.specs.Machine.Frame.{name_body, names_body}
 use Rattle.laws_waits.specs.Calm.{AreCalm, IsApart}
 use Rattle.laws_waits.specs.Complete.{is_barred}
-use Rattle.laws_waits.specs.Stuck.{AreUntouched, HasRoom, IsStuck, IsUntouched, Reason}
+use Rattle.laws_waits.specs.Stuck.{awaits_on, AreUntouched, HasRoom, IsStuck, IsUntouched, Reason}
 use Rattle.laws_waits.specs.Stuck.Reason.{Barred, Beneath, Connecting, Ending, Holding, Lacking, Locking, Passing, Receiving, Resting, Sending, Sleeping}
 use Rattle.laws_waits.specs.Stuck.Reason.{Waiting, WaitingOut}
 use Rattle.laws_waits.specs.Touching.{is_pointing, remakes, repoints}
@@ -161,8 +161,8 @@ key_is w x key (Connecting h port) stuck read =
     subst (λ (y : Path). (is_some (w.body y) ≡ true) × (thread_at w y ≡ None)) (sym read) (handle.own, handle.lone)
 key_is w x key Resting stuck read = absurd read
 key_is w x key (Sleeping cond mutex) stuck read = absurd read
-key_is w x key (Receiving side into room far client) stuck read = absurd read
-key_is w x key (Passing side client end) stuck read = absurd read
+key_is w x key (Receiving side into room reference far client) stuck read = absurd read
+key_is w x key (Passing side reference client end) stuck read = absurd read
 key_is w x key (Sending side address count far client end) stuck read = absurd read
 key_is w x key (Lacking side address count far client y into room) stuck read = absurd read
 key_is w x key (Ending faulter space) stuck read = absurd read
@@ -279,7 +279,7 @@ module _ (w : World) (me : Path) (t : Thread) (g : List ℕ) (there : thread_at 
       by true e =
           let here : thread_at w y ≡ Some t = ap (thread_at w) (same_path_eq y me e) ∙ there in
           none_some (into, room)
-          (sym (ap (and_then (λ (u : Thread). receiving (other_side side) u.mode)) here ∙ ap (receiving (other_side side)) mode) ∙ has.0)
+          (sym (ap (and_then (λ (u : Thread). awaits_on (other_side side) u.mode)) here ∙ ap (awaits_on (other_side side)) mode) ∙ has.0)
 
   apart_by : (r : Reason) → IsStuck w x r → is_barred r ≡ false → IsApart me x r
   apart_by (Lacking side address count far client y into room) stuck named = (other, no_room side y into room stuck.4)
@@ -289,8 +289,8 @@ module _ (w : World) (me : Path) (t : Thread) (g : List ℕ) (there : thread_at 
   apart_by (Locking m) stuck named = other
   apart_by (Sleeping c m) stuck named = other
   apart_by (Connecting h port) stuck named = other
-  apart_by (Receiving side into room far client) stuck named = other
-  apart_by (Passing side client end) stuck named = other
+  apart_by (Receiving side into room reference far client) stuck named = other
+  apart_by (Passing side reference client end) stuck named = other
   apart_by (Sending side address count far client end) stuck named = other
   apart_by (Ending y space) stuck named = other
   apart_by (Holding s y space) stuck named = other

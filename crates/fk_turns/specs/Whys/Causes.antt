@@ -2,8 +2,8 @@
 use Rattle.std.specs.Prelude.{ℕ, Bool, not, ◌||◌, ◌==◌, nat_le, [], ◌∷◌, Option, Some, None, if◌then◌else◌}
 use Rattle.fk_model.specs.declared.limits.TheConstants.{LAST_USER_SLOT}
 use Rattle.fk_model.specs.declared.stage.Stage.{Stage}
-use Rattle.fk_model.specs.declared.stage.Stage.TheVariants.{ClientOver, ClientReceive, ClientSend, CondAsleep, Connect, FaultDone, MutexLock}
-use Rattle.fk_model.specs.declared.stage.Stage.TheVariants.{ServerOver, ServerReceive, ServerSend, SpaceHold, Wait}
+use Rattle.fk_model.specs.declared.stage.Stage.TheVariants.{ClientOver, ClientOverRef, ClientReceive, ClientReceiveRef, ClientSend, CondAsleep, Connect, FaultDone, MutexLock}
+use Rattle.fk_model.specs.declared.stage.Stage.TheVariants.{ServerOver, ServerOverRef, ServerReceive, ServerReceiveRef, ServerSend, SpaceHold, Wait}
 use Rattle.fk_model.specs.Holds.{is_user}
 use Rattle.fk_model.specs.LinkRows.{connecting_to, if_read, user_at}
 use Rattle.fk_model.specs.Objects.{Fault, Talk, Thread, and_then, or_else}
@@ -42,9 +42,13 @@ stage_cause w x t FaultDone = faulter_of w x
 stage_cause w x t (ClientSend address count) = port_of t.talk
 stage_cause w x t (ClientReceive address room) = port_of t.talk
 stage_cause w x t ClientOver = port_of t.talk
+stage_cause w x t (ClientOverRef reference) = port_of t.talk
+stage_cause w x t (ClientReceiveRef address room reference) = port_of t.talk
 stage_cause w x t (ServerSend address count) = served_port w x
 stage_cause w x t (ServerReceive address room) = served_port w x
 stage_cause w x t ServerOver = served_port w x
+stage_cause w x t (ServerOverRef reference) = served_port w x
+stage_cause w x t (ServerReceiveRef address room reference) = served_port w x
 stage_cause w x t other = None
 
 -- with a fault its port

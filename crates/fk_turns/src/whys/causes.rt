@@ -160,12 +160,16 @@ fn stage_cause(store: &Store, who: Who, thread: &Thread, stage: Stage) -> Option
         Stage::Connect { .. } => connecting_to(store, who, thread),
         Stage::SpaceHold { s, x } => space_named(store, who, s, x),
         Stage::FaultDone => store.faulter_of(who),
-        Stage::ClientSend { .. } | Stage::ClientReceive { .. } | Stage::ClientOver => {
-            port_of(thread.talk)
-        }
-        Stage::ServerSend { .. } | Stage::ServerReceive { .. } | Stage::ServerOver => {
-            served_port(store, who)
-        }
+        Stage::ClientSend { .. }
+        | Stage::ClientReceive { .. }
+        | Stage::ClientOver
+        | Stage::ClientOverRef { .. }
+        | Stage::ClientReceiveRef { .. } => port_of(thread.talk),
+        Stage::ServerSend { .. }
+        | Stage::ServerReceive { .. }
+        | Stage::ServerOver
+        | Stage::ServerOverRef { .. }
+        | Stage::ServerReceiveRef { .. } => served_port(store, who),
         _ => None,
     }
 }

@@ -28,13 +28,14 @@ use Rattle.laws_moves.proofs.InMachine.safety.Reads.{object-there}
 use Rattle.laws_moves.specs.Rows.Stages.{Sets, Work, Step}
 use Rattle.laws_moves.specs.Rows.Stages.Sets.{Points, Clears, Gets_pointer, Sets_pointer, Holds, Restores_hold}
 use Rattle.laws_moves.specs.Rows.Stages.Work.{Looks, Edits, Makes, Makes_held, Kills, Renames, Sets_record, Copies, Sleeps, Wakes_all}
-use Rattle.laws_moves.specs.Rows.Stages.Work.{Takes_client, Hangs_up, Sends, Sends_service, Passes}
+use Rattle.laws_moves.specs.Rows.Stages.Work.{Takes_client, Hangs_up, Sends, Sends_service, Passes, Hands_over, Hands_over}
 use Rattle.laws_moves.specs.Rows.Stages.Step.{Is_refused, Is_waiting, Raises, Answers, Stays, Finishes, Ends}
 use Rattle.laws_moves.specs.Rows.Moves.{Goes_to, Instructs, Serves, Lists}
 use Rattle.laws_moves.specs.Rows.Moves.Goes_to.{Halts}
 use Rattle.laws_moves.specs.Rows.Moves.Instructs.{Goes_on, Stores, Faults}
 use Rattle.laws_moves.specs.Rows.Moves.Serves.{Waits_for_client, Accepts, Takes_up, Gives_nothing, Finds_no_room, Gives_words, Passes_client}
 use Rattle.laws_moves.specs.Rows.Moves.Lists.{Moves_not, Runs, Calls, Is_told_no, Asks, Is_answered_no, Acts}
+use Rattle.laws_moves.proofs.InRows.Handles.{reference-in}
 use Rattle.laws_moves.proofs.InRows.Walk.{new_all, drops-all, ends-all, ends-then, sleepers-all}
 use Rattle.laws_moves.proofs.InRows.Moves.{moves-listed}
 use Rattle.laws_moves.proofs.InFrozen.once.Moves.{rootless}
@@ -116,7 +117,8 @@ module _ (c : Caller) (user : c.is_porter ≡ false) where
     work off (Sends stage side l address count receive thread e s own t other here at led free is home theirs) = (tt, (tt, (tt, (tt, tt))))
     work off (Sleeps at m) = (tt, (tt, tt))
     work off (Sends_service stage side l address count here at) = (tt, (tt, tt))
-    work off (Passes stage side l thread e here at led free) = (tt, (tt, tt))
+    work off (Passes stage side l thread e to carried here at led free awaits) = (tt, (tt, tt))
+    work off (Hands_over stage side l thread e k reference p here at led free awaits there read may) = ((reference-in w (parent e.0) k there).low, (tt, (tt, tt)))
     work off other = (tt, tt)
 
     step : {stage : Stage} {o : Outcome} → is_for_porters stage ≡ false → Step w c pick stage o → AreUsers w (listed o)
@@ -159,7 +161,7 @@ serves (Takes_up x t talk service there free at) = (tt, tt)
 serves (Gives_nothing words len) = tt
 serves (Finds_no_room words len x t receive there is full) = (tt, tt)
 serves (Gives_words words len x t receive s page there is home) = (tt, (tt, (tt, tt)))
-serves (Passes_client x at) = (tt, (tt, tt))
+serves (Passes_client x to at awaits) = (tt, (tt, tt))
 
 -- ---- a move
 

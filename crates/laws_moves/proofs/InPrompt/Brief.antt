@@ -16,7 +16,7 @@ use Rattle.fk_model.specs.TransferRows.{to_page_end, moved_words}
 use Rattle.laws_moves.specs.Rows.Stages.{Sets, Work, Step}
 use Rattle.laws_moves.specs.Rows.Stages.Sets.{Locks}
 use Rattle.laws_moves.specs.Rows.Stages.Work.{Looks, Edits, Makes, Kills, Sets_record, Copies, Sleeps, Wakes_all}
-use Rattle.laws_moves.specs.Rows.Stages.Work.{Takes_client, Hangs_up, Sends, Sends_service, Passes}
+use Rattle.laws_moves.specs.Rows.Stages.Work.{Takes_client, Hangs_up, Sends, Sends_service, Passes, Hands_over, Hands_over}
 use Rattle.laws_moves.specs.Rows.Stages.Step.{Is_refused, Is_waiting, Raises, Answers, Stays, Finishes, Ends}
 use Rattle.laws_moves.specs.Rows.Moves.{Instructs, Serves, Lists}
 use Rattle.laws_moves.specs.Rows.Moves.Instructs.{Stores}
@@ -76,7 +76,8 @@ module _ {w : World} {c : Caller} {pick : Option Path} where
   work (Sends_service stage side l address count here at) = let k = few address count 0 BLOCK_WORDS in (k, (k, tt))
   work (Sleeps cond m) = (tt, (tt, tt))
   work (Takes_client set slot x idle at) = (tt, (tt, tt))
-  work (Passes stage side l thread e here at led free) = (tt, (tt, tt))
+  work (Passes stage side l thread e to carried here at led free awaits) = (tt, (tt, tt))
+  work (Hands_over stage side l thread e k reference p here at led free awaits there read may) = (tt, (tt, (tt, tt)))
   work other = tt
 
   step : {stage : Stage} {o : Outcome} → Step w c pick stage o → AreBrief (listed o)
@@ -100,7 +101,7 @@ serves w port pick _ _ (Gives_nothing words len) = tt
 serves w port pick _ _ (Finds_no_room words len x t receive there is full) = (tt, tt)
 serves w port pick _ _ (Gives_words words len x t receive s page there is home) =
     let k = few 0 (length (take len words)) receive.0 receive.1 in (k, (k, tt))
-serves w port pick _ _ (Passes_client x at) = (tt, (tt, tt))
+serves w port pick _ _ (Passes_client x to at awaits) = (tt, (tt, tt))
 
 lists : (w : World) (x : Path) (pick : Option Path) (ask : Ask) (o : Outcome) → Lists w x pick ask o → AreBrief (listed o)
 lists w x pick _ _ (Moves_not ask) = tt

@@ -137,14 +137,14 @@ module _ (w : World) (port : Path) (pick : Option Path) where
   -- the client of a server whose turn it is, where it is at its Receive
   Going : Ask → (Path → ℕ × ℕ → Outcome) → Type 0
   Going ask go = (x : Path) (t : Thread) (receive : ℕ × ℕ) → client_at w port ≡ Some x → thread_at w x ≡ Some t →
-      receiving turns.Client t.mode ≡ Some receive → Serves w port pick ask (go x receive)
+      receiving w (parent x) turns.Client t.mode ≡ Some receive → Serves w port pick ask (go x receive)
 
   if_receiving-is : {ask : Ask} (x : Path) (go : Path → ℕ × ℕ → Outcome) (t : Thread) → client_at w port ≡ Some x → thread_at w x ≡ Some t →
       Going ask go → Serves w port pick ask (if_receiving w x go t)
   unfolding Going
   if_receiving-is x go t at there going = elim (cases_Bool (is_free w (parent x) t && holds (λ (talk : Talk). same_side talk.turn turns.Server) t.talk)) [
     | inr off ↦ rw off waits
-    | inl on ↦ rw on (elim (is (receiving turns.Client t.mode)) [ Absent e ↦ rw e waits | Present receive e ↦ rw e (going x t receive at there e) ])
+    | inl on ↦ rw on (elim (is (receiving w (parent x) turns.Client t.mode)) [ Absent e ↦ rw e waits | Present receive e ↦ rw e (going x t receive at there e) ])
   ]
 
   with_client-is : {ask : Ask} (go : Path → ℕ × ℕ → Outcome) → Going ask go → Serves w port pick ask (with_client w port go)
@@ -179,7 +179,7 @@ module _ (w : World) (port : Path) (pick : Option Path) where
 
   over_row-is : Serves w port pick asks.Over (over_row w port)
   unfolding over_row Going
-  over_row-is = with_client-is (passes_client port) (λ x t receive at there e. Passes_client x at)
+  over_row-is = with_client-is (passes_client w port) (λ x t receive at there e. Passes_client x _ at refl)
 
 -- ---- who moves
 

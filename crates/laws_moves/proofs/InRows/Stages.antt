@@ -1,18 +1,19 @@
 -- Every stage comes to one of the lists: the one walk through all rows.
 use Rattle.std.proofs.Common.{◌≡◌, ℕ, ◌%◌, Bool, true, false, if◌then◌else◌, not, ◌||◌, ◌==◌, List, [], ◌∷◌, ◌++◌, Option, Some, None}
-use Rattle.std.proofs.Common.{Ok, refl}
+use Rattle.std.proofs.Common.{Ok, refl, ◌&&◌, is_some}
+use Rattle.std.proofs.lemmas.Bool.{and_parts}
 use Rattle.fk_model.specs.declared.limits.TheConstants.{PAGE_WORDS, BLOCK_WORDS, ZEROS}
 use Rattle.fk_model.specs.declared.stage.Stage.{Stage}
 use Rattle.fk_model.specs.declared.stage.Stage.TheVariants.{Create, Destroy, Rename, Search, Point, Clear, Locate, CountIn, GetState, SetState, GetPtr, SetPtr}
 use Rattle.fk_model.specs.declared.stage.Stage.TheVariants.{SpaceHold, SpaceRelease, ThreadStop, ThreadGo, PageGive, PageTake, PageRead, PageNext, MutexLock}
 use Rattle.fk_model.specs.declared.stage.Stage.TheVariants.{MutexTrylock, MutexUnlock, CondWait, CondAsleep, CondSignal, CondBroadcast, Connect, ClientReceive}
-use Rattle.fk_model.specs.declared.stage.Stage.TheVariants.{ClientSend, ClientOver, Disconnect, Wait, ServerReceive, ServerSend, ServerOver, ServerEnd}
-use Rattle.fk_model.specs.declared.stage.Stage.TheVariants.{FaultDone, LinkSet, LinkPark, FaultSet, FaultPark, HoldSet, SpaceMakeHeld}
+use Rattle.fk_model.specs.declared.stage.Stage.TheVariants.{ClientSend, ClientOver, Disconnect, ClientOverRef, ClientReceiveRef, Wait, ServerReceive, ServerSend, ServerOver, ServerEnd}
+use Rattle.fk_model.specs.declared.stage.Stage.TheVariants.{FaultDone, ServerOverRef, ServerReceiveRef, LinkSet, LinkPark, FaultSet, FaultPark, HoldSet, SpaceMakeHeld}
 use Rattle.fk_model.specs.declared.statuses.status.TheConstants.{OK, FULL}
 use Rattle.fk_model.specs.declared.thread.Turn.{Turn}
 use Rattle.fk_model.specs.declared.thread.Turn.TheVariants as turns
 use Rattle.fk_model.specs.Places.{Path, same_path, parent, Ptr}
-use Rattle.fk_model.specs.Objects.{Peer, Thread, Body}
+use Rattle.fk_model.specs.Objects.{Peer, Thread, Body, reference_of}
 use Rattle.fk_model.specs.Objects.Peer.{Server, Service, Parked}
 use Rattle.fk_model.specs.World.{World, Change}
 use Rattle.fk_model.specs.World.Change.{Alter, PutPage}
@@ -25,13 +26,13 @@ use Rattle.fk_model.specs.Outcomes.{Said, Outcome, Caller, path_of, done, stays,
 use Rattle.fk_model.specs.Outcomes.Said.{Nothing, Answered, Words, Passed}
 use Rattle.fk_model.specs.Outcomes.Outcome.{Waits, Goes}
 use Rattle.fk_model.specs.Readers.{object_in, anything, space_argument}
-use Rattle.fk_model.specs.Talks.{Line, receiving, other_side, thread_led_to, is_service_free}
+use Rattle.fk_model.specs.Talks.{Line, receiving, awaited, is_reference_in, other_side, thread_led_to, is_service_free}
 use Rattle.fk_model.specs.SyncRows.{mutex_lock, mutex_trylock, mutex_unlock, cond_wait, cond_asleep, woken, asleep_on, sleepers, signals, unless_slept_on}
 use Rattle.fk_model.specs.SyncRows.{picks_sleeper, cond_signal, cond_broadcast}
 use Rattle.fk_model.specs.LinkRows.{connect, Candidate, candidate, takes_candidate, takes_picked, wait, told_end, disconnect, link_set, link_park}
 use Rattle.fk_model.specs.LinkRows.Candidate.{Faulting, Connecting, Resuming}
 use Rattle.fk_model.specs.TransferRows.{overwritten, block, moved_words, in_turn, has_sent, sends_words, sends_into, sends_to_thread, sends_to_service}
-use Rattle.fk_model.specs.TransferRows.{sends_to, sends, send, receive, passes, passes_to_thread, passes_to, over}
+use Rattle.fk_model.specs.TransferRows.{sends_to, sends, send, receive, receive_ref, passes, takes_turn, passes_to_thread, passes_to, may_carry, over, over_ref}
 use Rattle.fk_model.specs.FaultRows.{fault_done, fault_set, fault_park}
 use Rattle.fk_model.specs.SpaceRows.{space_hold, space_release, thread_stop, thread_go, is_page, is_bad_source, gives_page, gives_from, page_give, copies_home}
 use Rattle.fk_model.specs.SpaceRows.{answers_home, copies_to, page_take, page_read, page_next, hold_set, space_make_held}
@@ -45,11 +46,17 @@ use Rattle.laws_moves.specs.Rows.Stages.Sets.{Passes_service, Takes_fault, Resum
 use Rattle.laws_moves.specs.Rows.Stages.Source.{Own_words, Zeros, Of_page}
 use Rattle.laws_moves.specs.Rows.Stages.RecordSource.{Own_record, Of_memory}
 use Rattle.laws_moves.specs.Rows.Stages.Work.{Edits, Makes, Makes_held, Kills, Renames, Writes_record, Sets_record, Gives, Copies, Drops, Sleeps, Wakes_all}
-use Rattle.laws_moves.specs.Rows.Stages.Work.{Takes_client, Hangs_up, Sends, Sends_service, Passes}
+use Rattle.laws_moves.specs.Rows.Stages.Work.{Takes_client, Hangs_up, Sends, Sends_service, Passes, Hands_over}
 use Rattle.laws_moves.specs.Rows.Stages.Own.{Renamed}
 use Rattle.laws_moves.specs.Rows.Stages.Step.{Is_waiting, Stays}
+use Rattle.laws_moves.proofs.InRows.Handles.{receives-handled}
 use Rattle.laws_moves.proofs.InRows.Walk.{step->>=, step-or_refuse, step-when, step-if, step-done_at, step-done, step-sets, step-reads, step-ended, step-told}
 use Rattle.laws_moves.proofs.InRows.Walk.{step-own_page, step-their_page, step_row}
+
+-- what goes with a turn that is handed over
+data Goes_along (w : World) (c : Caller) : Option Ptr → Type 0 where
+  No_pointer : Goes_along w c None
+  Of_reference : (reference : ℕ) (p : Ptr) → object_in w c reference_of c.space reference ≡ Ok p → may_carry w (path_of c) (Some p) ≡ true → Goes_along w c (Some p)
 
 module _ (w : World) (c : Caller) (pick : Option Path) where
   -- ---- objects
@@ -268,7 +275,7 @@ module _ (w : World) (c : Caller) (pick : Option Path) where
     module _ (side : Turn) (l : Line) (here : in_turn w (path_of c) side side ≡ Ok l) where
       sends_into-step : (address count : ℕ) (s : Path) (own : ℕ) (thread : Ptr) (e : Path × Thread) → reach_word w c.space address false ≡ Home s own →
           l.other ≡ Server thread → thread_led_to w thread ≡ Some e → is_free w (parent e.0) e.1 ≡ true → (o : Option (ℕ × ℕ)) →
-          receiving (other_side side) e.1.mode ≡ o → Step w c pick stage (sends_into w c l.client e.0 address count (words_at w s own) o)
+          receiving w (parent e.0) (other_side side) e.1.mode ≡ o → Step w c pick stage (sends_into w c l.client e.0 address count (words_at w s own) o)
       sends_into-step address count s own thread e home at led free None is = Is_waiting
       sends_into-step address count s own thread e home at led free (Some receive) is = step-if (receive.1 == 0) _ _
           (λ full. Stays _ Nothing (Edits stage e.0 (End FULL []) [] (Fills stage side l thread e receive here at led free is full)))
@@ -309,16 +316,25 @@ module _ (w : World) (c : Caller) (pick : Option Path) where
           (λ e. step-own_page address false (λ s page. sends_to w c side l address count (words_at w s page) l.other)
           (λ s own home. sends_to-step address count s own home l.other refl))
 
-      passes_to-step : (peer : Peer) → l.other ≡ peer → Step w c pick stage (passes_to w c side l peer)
-      passes_to-step (Server thread) at = to (thread_led_to w thread) refl
+      hands-step : (thread : Ptr) (e : Path × Thread) → l.other ≡ Server thread → thread_led_to w thread ≡ Some e →
+          (is_free w (parent e.0) e.1 && is_some (receiving w (parent e.0) (other_side side) e.1.mode)) ≡ true → (to : Option ℕ) → awaited e.1.mode ≡ to →
+          (carried : Option Ptr) → Goes_along w c carried → Step w c pick stage (passes c side l.client (takes_turn e.0 carried to))
+      hands-step thread e at led free to awaits None _ = step-done _ [] (Passes stage side l thread e to None here at led free awaits)
+      hands-step thread e at led free None awaits (Some p) _ = step-done _ [] (Passes stage side l thread e None (Some p) here at led free awaits)
+      hands-step thread e at led free (Some k) awaits (Some p) (Of_reference reference _ read may) =
+          let handled = receives-handled w (parent e.0) (other_side side) e.1.mode (and_parts (is_free w (parent e.0) e.1) _ free).1 in
+          step-done _ [] (Hands_over stage side l thread e k reference p here at led free awaits (rw awaits at handled) read may)
+
+      passes_to-step : (carried : Option Ptr) → Goes_along w c carried → (peer : Peer) → l.other ≡ peer → Step w c pick stage (passes_to w c side l carried peer)
+      passes_to-step carried carries (Server thread) at = to (thread_led_to w thread) refl
         where
-          to : (o : Option (Path × Thread)) → thread_led_to w thread ≡ o → Step w c pick stage (passes_to_thread w c side l.client o)
+          to : (o : Option (Path × Thread)) → thread_led_to w thread ≡ o → Step w c pick stage (passes_to_thread w c side l.client carried o)
           to None led = Is_waiting
-          to (Some e) led = step-when _ _ (λ free. step-done _ [] (Passes stage side l thread e here at led free))
-      passes_to-step Service at =
+          to (Some e) led = step-when _ _ (λ free. hands-step thread e at led free (awaited e.1.mode) refl carried carries)
+      passes_to-step carried carries Service at =
           step-when (is_service_free w l.talk.port) (telling (Passed l.talk.port) (passes c side l.client []))
           (λ free. step-told (Passed l.talk.port) _ [] (Edits stage _ _ [] (Passes_service stage side l here at)))
-      passes_to-step Parked at = Is_waiting
+      passes_to-step carried carries Parked at = Is_waiting
 
     send-step : (side : Turn) (address count : ℕ) → Step w c pick stage (send w c side address count)
     unfolding send
@@ -329,9 +345,18 @@ module _ (w : World) (c : Caller) (pick : Option Path) where
     receive-step side into room = step->>= _ _ (λ l here. step-if (room == 0) _ _ (λ e. Is_waiting)
         (λ e. step-own_page into true (λ s page. Waits) (λ s page home. Is_waiting)))
 
-    over-step : (side : Turn) → Step w c pick stage (over w c side)
+    receive_ref-step : (side : Turn) (into room reference : ℕ) → Step w c pick stage (receive_ref w c side into room reference)
+    unfolding receive_ref
+    receive_ref-step side into room reference = step->>= _ _ (λ old read. receive-step side into room)
+
+    over-step : (side : Turn) → Step w c pick stage (over w c side None)
     unfolding over
-    over-step side = step->>= _ _ (λ l here. passes_to-step side l here l.other refl)
+    over-step side = step->>= _ _ (λ l here. passes_to-step side l here None No_pointer l.other refl)
+
+    over_ref-step : (side : Turn) (reference : ℕ) → Step w c pick stage (over_ref w c side reference)
+    unfolding over_ref over
+    over_ref-step side reference = step->>= _ _ (λ p read. step->>= _ _ (λ l here. step-when _ _
+        (λ may. passes_to-step side l here (Some p) (Of_reference reference p read may) l.other refl)))
 
     disconnect-step : (side : Turn) → Step w c pick stage (disconnect w c side)
     unfolding disconnect
@@ -413,12 +438,16 @@ module _ (w : World) (c : Caller) (pick : Option Path) where
   stage-step (ClientSend address count) = send-step (ClientSend address count) turns.Client address count
   stage-step ClientOver = over-step ClientOver turns.Client
   stage-step Disconnect = disconnect-step Disconnect turns.Client
+  stage-step (ClientOverRef reference) = over_ref-step (ClientOverRef reference) turns.Client reference
+  stage-step (ClientReceiveRef into room reference) = receive_ref-step (ClientReceiveRef into room reference) turns.Client into room reference
   stage-step (Wait set) = wait-step set
   stage-step (ServerReceive into room) = receive-step (ServerReceive into room) turns.Server into room
   stage-step (ServerSend address count) = send-step (ServerSend address count) turns.Server address count
   stage-step ServerOver = over-step ServerOver turns.Server
   stage-step ServerEnd = disconnect-step ServerEnd turns.Server
   stage-step FaultDone = fault_done-step
+  stage-step (ServerOverRef reference) = over_ref-step (ServerOverRef reference) turns.Server reference
+  stage-step (ServerReceiveRef into room reference) = receive_ref-step (ServerReceiveRef into room reference) turns.Server into room reference
   stage-step (LinkSet s x port server) = link_set-step s x port server
   stage-step (LinkPark s x port) = link_park-step s x port
   stage-step (FaultSet s x port taker) = fault_set-step s x port taker

@@ -7,7 +7,7 @@ use Rattle.std.proofs.lemmas.List.{length-set}
 use Rattle.fk_model.specs.declared.limits.TheConstants.{MOST_STOPS, MOST_MOVED}
 use Rattle.fk_model.specs.declared.names.Kind.TheVariants as kinds
 use Rattle.fk_model.specs.declared.stage.Stage.{Stage}
-use Rattle.fk_model.specs.declared.stage.Stage.TheVariants.{ClientReceive, ClientSend, ServerReceive, ServerSend}
+use Rattle.fk_model.specs.declared.stage.Stage.TheVariants.{ClientReceive, ClientSend, ServerReceive, ServerSend, ClientReceiveRef, ServerReceiveRef}
 use Rattle.fk_model.specs.Places.{Path, same_path, parent, leads_to}
 use Rattle.fk_model.specs.Instructions as instructions
 use Rattle.fk_model.specs.Objects.{Mode, Peer, Talk, Fault, Thread, Body, kind_of, thread_of, and_then}
@@ -51,6 +51,8 @@ values-shifted k (ClientSend address count) todo rest way values = (way, (less-w
 values-shifted k (ClientReceive address count) todo rest way values = (way, (less-word count k values.1.0, tt))
 values-shifted k (ServerSend address count) todo rest way values = (way, (less-word count k values.1.0, tt))
 values-shifted k (ServerReceive address count) todo rest way values = (way, (less-word count k values.1.0, tt))
+values-shifted k (ClientReceiveRef address count reference) todo rest way values = (way, (less-word count k values.1.0, (values.1.1.0, tt)))
+values-shifted k (ServerReceiveRef address count reference) todo rest way values = (way, (less-word count k values.1.0, (values.1.1.0, tt)))
 values-shifted k stage todo rest way values = values
 
 good-shifted : (k : ℕ) (m : Mode) → has_way k m ≡ true → IsGoodMode m → IsGoodMode (shifted_in k m)

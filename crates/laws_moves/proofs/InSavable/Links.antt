@@ -13,31 +13,31 @@ use Rattle.fk_model.specs.Objects.Peer.{Server, Service, Parked}
 use Rattle.fk_model.specs.World.{World, apply, apply_all}
 use Rattle.fk_model.specs.World.Change.{Alter}
 use Rattle.fk_model.specs.Reach.{words_at}
-use Rattle.fk_model.specs.TransferRows.{moved_words}
-use Rattle.fk_model.specs.World.Edit.{SetTalk, SetFault, Finish}
+use Rattle.fk_model.specs.TransferRows.{moved_words, taken_answers}
+use Rattle.fk_model.specs.World.Edit.{SetTalk, SetFault, Finish, PassTurn}
 use Rattle.fk_model.specs.Searches.{talk_at, client_at}
 use Rattle.fk_model.specs.Holds.{is_free}
 use Rattle.fk_model.specs.Outcomes.{Outcome, Caller, path_of, done}
 use Rattle.fk_model.specs.Readers.{and_read, referred}
-use Rattle.fk_model.specs.Talks.{Line, ends_beyond, receiving, same_side}
+use Rattle.fk_model.specs.Talks.{Line, ends_beyond, receiving, same_side, awaited}
 use Rattle.fk_model.specs.LinkRows.{Candidate, candidate, new_talk, is_parked, turn_number, takes_candidate, takes_picked, wait, connect, end_all, removes}
 use Rattle.fk_model.specs.LinkRows.{disconnect, given_talk, link_set, link_park}
 use Rattle.fk_model.specs.LinkRows.Candidate.{Faulting, Connecting, Resuming}
 use Rattle.fk_model.specs.FaultRows.{frees, fault_done, given_fault, named_taker, fault_set, fault_park}
-use Rattle.fk_model.specs.NativeRows.{takes_up, parked_here, connects_here, accepts_thread, accepts_found, takes_client, accept_row, is_serving_port}
+use Rattle.fk_model.specs.NativeRows.{takes_up, parked_here, connects_here, accepts_thread, accepts_found, takes_client, accept_row, is_serving_port, awaited_at}
 use Rattle.fk_model.specs.NativeRows.{if_receiving, gives_words, gives_to, give_row, over_row, with_client, passes_client}
 use Rattle.fk_model.specs.StateRows.{is_native}
 use Rattle.fk_model.specs.Valid.{IsConsistent, IsRooted, all_in, is_served_port, is_turn_word, are_talk_words, are_fault_words}
 use Rattle.fk_model.specs.Whole.{is_placed}
 use Rattle.fk_model.proofs.walks.PlaceLaws.{leads_to_at}
 use Rattle.laws_moves.proofs.InSavable.Refusals.{kept_row}
-use Rattle.laws_moves.proofs.InSavable.Kept.{AreTidy, leaves_room, of_thread, KeptOutcome, waits, goes, kept-then, kept-end_all, kept-when, if-kept, kept-done}
+use Rattle.laws_moves.proofs.InSavable.Kept.{AreTidy, leaves_room, of_thread, KeptOutcome, waits, goes, kept-then, kept-end_all, kept-when, if-kept, kept-done, IsKept}
 use Rattle.laws_moves.proofs.InSavable.Kept.{kept-answers, kept-ended, kept-telling}
 use Rattle.laws_moves.proofs.InSavable.Words.{IsWord, AreWords, words-take, has_way}
 use Rattle.laws_moves.proofs.InSavable.Reached.{Memory}
 use Rattle.laws_moves.proofs.InSavable.Answers.{small-word, flag-word, turn-word, IsFewCandidate, candidate-few}
-use Rattle.laws_moves.proofs.InSavable.Persisting.{room-talked, way-counted}
-use Rattle.laws_moves.proofs.InSavable.Rows.{their_page-kept, overwritten-words, received-way, moved-few}
+use Rattle.laws_moves.proofs.InSavable.Persisting.{room-talked, way-counted, fits-single, single-turned}
+use Rattle.laws_moves.proofs.InSavable.Rows.{their_page-kept, overwritten-words, received-way, moved-few, awaiting-single}
 
 -- ---- wait
 
@@ -226,13 +226,13 @@ is (Some a) = Present a refl
 
 -- a client at its Receive
 abbrev IsAt : World → Path → ℕ × ℕ → Type 0
-IsAt w x space = (t : Thread) × (and_then thread_of (w.body x) ≡ Some t) × (receiving turns.Client t.mode ≡ Some space)
+IsAt w x space = (t : Thread) × (and_then thread_of (w.body x) ≡ Some t) × (receiving w (parent x) turns.Client t.mode ≡ Some space)
 
 if_receiving-kept : (w : World) (x : Path) (go : Path → ℕ × ℕ → Outcome) (t : Thread) → and_then thread_of (w.body x) ≡ Some t →
     ((x : Path) (space : ℕ × ℕ) → IsAt w x space → KeptOutcome w (go x space)) → KeptOutcome w (if_receiving w x go t)
 if_receiving-kept w x go t there going = elim (cases_Bool (is_free w (parent x) t && holds (λ (talk : Talk). same_side talk.turn turns.Server) t.talk)) [
   | inr off ↦ rw off waits
-  | inl on ↦ rw on (elim (is (receiving turns.Client t.mode)) [ Absent e ↦ rw e waits | Present space e ↦ rw e (going x space (t, there, e)) ])
+  | inl on ↦ rw on (elim (is (receiving w (parent x) turns.Client t.mode)) [ Absent e ↦ rw e waits | Present space e ↦ rw e (going x space (t, there, e)) ])
 ]
 
 with_client-kept : (w : World) (port : Path) (go : Path → ℕ × ℕ → Outcome) → ((x : Path) (space : ℕ × ℕ) → IsAt w x space → KeptOutcome w (go x space)) →
@@ -258,7 +258,7 @@ gives_to-kept w memory port words all x receive at = if-kept w (receive.1 == 0) 
     way : (o : Option Thread) → o ≡ Some at.0 → receive.0 < SPACE_WORDS →
         all_in (λ (t : Thread). has_way (moved_words 0 (length words) receive.0 receive.1) t.mode) o ≡ true
     way (Some t) e low = let same : t ≡ at.0 = cc in
-        rw same (received-way _ (moved-few 0 (length words) receive.0 receive.1) turns.Client at.0.mode receive at.2 low)
+        rw same (received-way w (parent x) _ (moved-few 0 (length words) receive.0 receive.1) turns.Client at.0.mode receive at.2 low)
     way None e low = refl
 
 pub give_row-kept : (w : World) → Memory w → (port : Path) (words : List ℕ) → AreWords words → KeptOutcome w (give_row w port words)
@@ -267,6 +267,15 @@ give_row-kept w memory port [] all = search (kept-when, goes)
 give_row-kept w memory port (word ∷ words) all =
     with_client-kept w port (gives_to w port (word ∷ words)) (gives_to-kept w memory port (word ∷ words) all)
 
-pub over_row-kept : (w : World) (port : Path) → KeptOutcome w (over_row w port)
+-- whatever was awaited, the thread has one stage alone then
+passes_client-kept : (w : World) → AreTidy w → (port x : Path) (receive : ℕ × ℕ) → IsAt w x receive → KeptOutcome w (passes_client w port x receive)
+passes_client-kept w tidy port x receive at = goes (tt, (by (awaited at.0.mode) refl, tt))
+  where
+    by : (to : Option ℕ) → awaited at.0.mode ≡ to →
+        IsKept (apply (Alter x (PassTurn turns.Client)) w) (Alter x (Finish (taken_answers (awaited_at w x) None)))
+    by None e = rw (at.1, e) (tt, tt)
+    by (Some k) e = rw (at.1, e) (fits-single (0 ∷ []) _ (single-turned x turns.Client w x (awaiting-single w tidy x at.0 at.1 k e)), (refl, tt))
+
+pub over_row-kept : (w : World) → AreTidy w → (port : Path) → KeptOutcome w (over_row w port)
 unfolding over_row
-over_row-kept w port = with_client-kept w port (passes_client port) (λ x receive at. goes (tt, ((tt, tt), tt)))
+over_row-kept w tidy port = with_client-kept w port (passes_client w port) (λ x receive at. passes_client-kept w tidy port x receive at)

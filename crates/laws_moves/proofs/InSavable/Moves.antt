@@ -6,10 +6,10 @@ use Rattle.fk_model.specs.declared.limits.TheConstants.{LAST_PORTER_SLOT, PAGE_W
 use Rattle.fk_model.specs.declared.moves.Ask.{Ask}
 use Rattle.fk_model.specs.declared.moves.Ask.TheVariants as asks
 use Rattle.fk_model.specs.declared.stage.Stage.{Stage}
-use Rattle.fk_model.specs.declared.stage.Stage.TheVariants.{Create, Destroy, Rename, Search, Point, Clear, Locate, CountIn, GetState, SetState, GetPtr, SetPtr}
-use Rattle.fk_model.specs.declared.stage.Stage.TheVariants.{SpaceHold, SpaceRelease, ThreadStop, ThreadGo, PageGive, PageTake, PageRead, PageNext, MutexLock}
-use Rattle.fk_model.specs.declared.stage.Stage.TheVariants.{MutexTrylock, MutexUnlock, CondWait, CondAsleep, CondSignal, CondBroadcast, Connect, ClientReceive}
-use Rattle.fk_model.specs.declared.stage.Stage.TheVariants.{ClientSend, ClientOver, Disconnect, Wait, ServerReceive, ServerSend, ServerOver, ServerEnd}
+use Rattle.fk_model.specs.declared.stage.Stage.TheVariants.{Create, Destroy, Rename, Search, Point, Clear, Locate, CountIn, GetState, SetState, GetPtr, SetPtr, ClientOverRef}
+use Rattle.fk_model.specs.declared.stage.Stage.TheVariants.{SpaceHold, SpaceRelease, ThreadStop, ThreadGo, PageGive, PageTake, PageRead, PageNext, MutexLock, ClientReceiveRef}
+use Rattle.fk_model.specs.declared.stage.Stage.TheVariants.{MutexTrylock, MutexUnlock, CondWait, CondAsleep, CondSignal, CondBroadcast, Connect, ClientReceive, ServerOverRef}
+use Rattle.fk_model.specs.declared.stage.Stage.TheVariants.{ClientSend, ClientOver, Disconnect, Wait, ServerReceive, ServerSend, ServerOver, ServerEnd, ServerReceiveRef}
 use Rattle.fk_model.specs.declared.stage.Stage.TheVariants.{FaultDone, LinkSet, LinkPark, FaultSet, FaultPark, HoldSet, SpaceMakeHeld}
 use Rattle.fk_model.specs.declared.statuses.status.TheConstants.{DENIED}
 use Rattle.fk_model.specs.declared.thread.Turn.TheVariants as turns
@@ -40,7 +40,7 @@ use Rattle.laws_moves.proofs.InSavable.Kept.{AreTidy, is_single, leaves_room, of
 use Rattle.laws_moves.proofs.InSavable.Todos.{is_last_receive, opens, is_wait, opens_first, GoesOn, has_rest}
 use Rattle.laws_moves.proofs.InSavable.Standing.{native-last}
 use Rattle.laws_moves.proofs.InSavable.Rows.{run_row-kept, mutex_lock-kept, mutex_trylock-kept, mutex_unlock-kept, cond_wait-kept, cond_asleep-kept, cond_signal-kept}
-use Rattle.laws_moves.proofs.InSavable.Rows.{cond_broadcast-kept, send-kept, receive-kept, over-kept, thread_stop-kept, thread_go-kept, page_give-kept, page_take-kept}
+use Rattle.laws_moves.proofs.InSavable.Rows.{cond_broadcast-kept, send-kept, receive-kept, over-kept, receive_ref-kept, over_ref-kept, thread_stop-kept, thread_go-kept, page_give-kept, page_take-kept}
 use Rattle.laws_moves.proofs.InSavable.Rows.{page_read-kept, page_next-kept}
 use Rattle.laws_moves.proofs.InSavable.Objects.{IsUsersHold, create-kept, destroy-kept, rename-kept, point-kept, clear-kept, search_row-kept, locate-kept}
 use Rattle.laws_moves.proofs.InSavable.Objects.{count_in-kept, space_hold-kept, space_release-kept, hold_set-kept, space_make_held-kept, get_state-kept, set_state-kept}
@@ -134,14 +134,18 @@ module _ (w : World) (premise : Premise w) where
   stage_row-kept c pick (Connect h) m = connect-kept w c h
   stage_row-kept c pick (ClientReceive into room) m = receive-kept w memory c turns.Client into room
   stage_row-kept c pick (ClientSend address count) m = send-kept w memory c turns.Client address count (m.way address refl)
-  stage_row-kept c pick ClientOver m = over-kept w c turns.Client
+  stage_row-kept c pick ClientOver m = over-kept w premise.tidy c turns.Client None
   stage_row-kept c pick Disconnect m = disconnect-kept w c turns.Client
+  stage_row-kept c pick (ClientOverRef reference) m = over_ref-kept w premise.tidy c turns.Client reference
+  stage_row-kept c pick (ClientReceiveRef into room reference) m = receive_ref-kept w memory c turns.Client into room reference
   stage_row-kept c pick (Wait set) m = wait-kept w premise.valid premise.rooted premise.tidy c (λ user. m.room user refl) pick set
   stage_row-kept c pick (ServerReceive into room) m = receive-kept w memory c turns.Server into room
   stage_row-kept c pick (ServerSend address count) m = send-kept w memory c turns.Server address count (m.way address refl)
-  stage_row-kept c pick ServerOver m = over-kept w c turns.Server
+  stage_row-kept c pick ServerOver m = over-kept w premise.tidy c turns.Server None
   stage_row-kept c pick ServerEnd m = disconnect-kept w c turns.Server
   stage_row-kept c pick FaultDone m = fault_done-kept w c
+  stage_row-kept c pick (ServerOverRef reference) m = over_ref-kept w premise.tidy c turns.Server reference
+  stage_row-kept c pick (ServerReceiveRef into room reference) m = receive_ref-kept w memory c turns.Server into room reference
   stage_row-kept c pick (LinkSet s x port server) m =
       link_set-kept w c (and_parts (are_talk_words c.words) _ (m.giving (for-porters c (LinkSet s x port server) m.allowed refl)).fit).0 s x port server
   stage_row-kept c pick (LinkPark s x port) m =
@@ -211,6 +215,8 @@ module _ (w : World) (premise : Premise w) where
           let same : from ≡ address = cc in below-word (from + 128) (rw same (omega (arith, low)))
       way (ClientReceive into room) e address is low = cc
       way (ServerReceive into room) e address is low = cc
+      way (ClientReceiveRef into room reference) e address is low = cc
+      way (ServerReceiveRef into room reference) e address is low = cc
       way at e address is low = refl
 
       goes : GoesOn (stage ∷ todo)
@@ -293,4 +299,4 @@ module _ (w : World) (premise : Premise w) where
   outcome-kept x pick asks.Accept fit all owes = accept_row-kept w x pick
   outcome-kept x pick (asks.Give words len) fit all owes =
       with_pick-kept false pick _ (give_row-kept w memory x (take len words) (words-take len words (all-words words all)))
-  outcome-kept x pick asks.Over fit all owes = with_pick-kept false pick _ (over_row-kept w x)
+  outcome-kept x pick asks.Over fit all owes = with_pick-kept false pick _ (over_row-kept w premise.tidy x)

@@ -1,18 +1,19 @@
 -- What a row knows of a thread that is at a call still holds after the row's earlier changes.
 use Rattle.std.proofs.Common.{◌≡◌, ℕ, ◌+◌, ◌≤◌, Bool, true, false, if◌then◌else◌, ◌&&◌, nat_le, List, [], ◌∷◌, Option, Some, None, option_map, refl, arith}
 use Rattle.fk_model.specs.declared.stage.Stage.{Stage}
-use Rattle.fk_model.specs.declared.stage.Stage.TheVariants.{ClientReceive, ClientSend, ServerReceive, ServerSend}
+use Rattle.fk_model.specs.declared.stage.Stage.TheVariants.{ClientReceive, ClientSend, ServerReceive, ServerSend, ClientReceiveRef, ServerReceiveRef}
 use Rattle.fk_model.specs.Places.{Path, same_path, Ptr}
 use Rattle.fk_model.specs.Objects.{Mode, Talk, Thread, Body, thread_of, and_then}
 use Rattle.fk_model.specs.Objects.Mode.{Running, Calling}
 use Rattle.fk_model.specs.Objects.Body.{Mutex, Thread_of}
 use Rattle.fk_model.specs.World.{World, Edit, edited, apply, shifted_in, replaced_in, finished_in}
 use Rattle.fk_model.specs.World.Change.{Alter}
-use Rattle.fk_model.specs.World.Edit.{SetLocked, SetPointer, Shift, Replace, Finish, SetTalk, CountMoved}
+use Rattle.fk_model.specs.World.Edit.{SetLocked, SetPointer, Shift, Replace, Finish, SetTalk, CountMoved, PassTurn}
 use Rattle.fk_model.specs.Valid.{all_in}
 use Rattle.laws_moves.proofs.InSavable.Todos.{is_last_receive}
 use Rattle.laws_moves.proofs.InSavable.Words.{below-word, word-below, has_way}
 use Rattle.laws_moves.proofs.InSavable.Kept.{is_single, leaves_room, of_thread, FitsAnswers}
+use Rattle.fk_model.specs.declared.thread.Turn.{Turn}
 
 -- ---- tests of modes
 
@@ -127,6 +128,10 @@ way-less k n few (Calling (ServerSend address count ∷ todo) rest) way =
     let far = word-below (address + n) way in below-word (address + k) (omega (arith, few, far))
 way-less k n few (Calling (ServerReceive address count ∷ todo) rest) way =
     let far = word-below (address + n) way in below-word (address + k) (omega (arith, few, far))
+way-less k n few (Calling (ClientReceiveRef address count reference ∷ todo) rest) way =
+    let far = word-below (address + n) way in below-word (address + k) (omega (arith, few, far))
+way-less k n few (Calling (ServerReceiveRef address count reference ∷ todo) rest) way =
+    let far = word-below (address + n) way in below-word (address + k) (omega (arith, few, far))
 way-less k n few (Calling (stage ∷ todo) rest) way = refl
 way-less k n few (Calling [] rest) way = refl
 way-less k n few (Running g) way = refl
@@ -141,6 +146,10 @@ way-after k few (Calling (ClientReceive address count ∷ todo) rest) way =
 way-after k few (Calling (ServerSend address count ∷ todo) rest) way =
     let far = word-below (address + 128) way in below-word (address + k + k) (omega (arith, few, far))
 way-after k few (Calling (ServerReceive address count ∷ todo) rest) way =
+    let far = word-below (address + 128) way in below-word (address + k + k) (omega (arith, few, far))
+way-after k few (Calling (ClientReceiveRef address count reference ∷ todo) rest) way =
+    let far = word-below (address + 128) way in below-word (address + k + k) (omega (arith, few, far))
+way-after k few (Calling (ServerReceiveRef address count reference ∷ todo) rest) way =
     let far = word-below (address + 128) way in below-word (address + k + k) (omega (arith, few, far))
 way-after k few (Calling (stage ∷ todo) rest) way = refl
 way-after k few (Calling [] rest) way = refl
@@ -173,3 +182,16 @@ way-shifted y k few v x h = by (same_path x y)
     by : (t : Bool) → of_thread (has_way k) (if t then option_map (edited (Shift k)) (v.body x) else v.body x) ≡ true
     by true = of (v.body x) h
     by false = of_thread-mono (has_way 128) (has_way k) (way-less k 128 (omega (arith, few))) (v.body x) h
+
+-- ---- a turn that passes
+
+turn-leaves : (turn : Turn) (f : Mode → Bool) → Leaves (PassTurn turn) f
+unfolding Leaves edited
+turn-leaves turn f None h = refl
+turn-leaves turn f (Some (Thread_of t)) h = h
+turn-leaves turn f (Some (Mutex locked)) h = h
+turn-leaves turn f (Some b) h = h
+
+pub single-turned : (y : Path) (turn : Turn) (v : World) (x : Path) → of_thread is_single (v.body x) ≡ true →
+    of_thread is_single ((apply (Alter y (PassTurn turn)) v).body x) ≡ true
+single-turned y turn v x h = altered y (PassTurn turn) is_single (turn-leaves turn is_single) v x h

@@ -1,6 +1,6 @@
 -- The rows of instructions, mutexes, conditions, messages, stop counts and pages keep what can be saved.
-use Rattle.std.proofs.Common.{◌≡◌, ℕ, ◌+◌, ◌-◌, ◌^◌, ◌%◌, ◌<◌, ◌≤◌, Bool, true, false, if◌then◌else◌, ◌==◌, nat_le, List, [], ◌∷◌, ◌++◌, take, drop, replicate}
-use Rattle.std.proofs.Common.{length, Option, Some, None, Result, Ok, Err, refl, ap, ◌∙◌, arith}
+use Rattle.std.proofs.Common.{◌≡◌, ℕ, ◌+◌, ◌-◌, ◌^◌, ◌%◌, ◌<◌, ◌≤◌, Bool, true, false, if◌then◌else◌, ◌==◌, nat_le, List, [], ◌∷◌, ◌++◌, take, drop, replicate, is_some}
+use Rattle.std.proofs.Common.{length, Option, Some, None, Result, Ok, Err, refl, ap, ◌∙◌, arith, ◌&&◌}
 use Rattle.std.proofs.Math.Nat.{mod-lt, min-le_left}
 use Rattle.std.specs.List.{flat_map}
 use Rattle.std.proofs.lemmas.Bool.{leb-false}
@@ -10,7 +10,7 @@ use Rattle.fk_model.specs.declared.instruction.Act.TheVariants.{Put, Jump, Load,
 use Rattle.fk_model.specs.declared.names.Kind.TheVariants as kinds
 use Rattle.fk_model.specs.declared.limits.TheConstants.{SLOTS, PAGES, MOST_STOPS, ZEROS, PAGE_WORDS, SPACE_WORDS, BLOCK_WORDS}
 use Rattle.fk_model.specs.declared.stage.Stage.{Stage}
-use Rattle.fk_model.specs.declared.stage.Stage.TheVariants.{CondAsleep, MutexLock, ClientReceive, ClientSend, ServerReceive, ServerSend}
+use Rattle.fk_model.specs.declared.stage.Stage.TheVariants.{CondAsleep, MutexLock, ClientReceive, ClientSend, ServerReceive, ServerSend, ClientReceiveRef, ServerReceiveRef}
 use Rattle.fk_model.specs.declared.statuses.status.TheConstants.{BADCALL, WRONGKIND}
 use Rattle.fk_model.specs.declared.thread.Turn.{Turn}
 use Rattle.fk_model.specs.declared.thread.Turn.TheVariants as turns
@@ -22,7 +22,7 @@ use Rattle.fk_model.specs.Calls.{code_of, todo_of, rest_of}
 use Rattle.fk_model.specs.Instructions.{act, next}
 use Rattle.fk_model.specs.World.{World, Change, apply, apply_all}
 use Rattle.fk_model.specs.World.Change.{Alter, PutPage, DropPage}
-use Rattle.fk_model.specs.World.Edit.{SetLocked, Replace, Shift, CountMoved, SetStops}
+use Rattle.fk_model.specs.World.Edit.{SetLocked, Replace, Shift, CountMoved, SetStops, PassTurn}
 use Rattle.fk_model.specs.Searches.{slots}
 use Rattle.fk_model.specs.Reach.{Reach, reach_word, words_at}
 use Rattle.fk_model.specs.Reach.Reach.{Home, Missing, Bad}
@@ -31,12 +31,12 @@ use Rattle.fk_model.specs.Outcomes.Said.{Nothing}
 use Rattle.fk_model.specs.Outcomes.Outcome.{Waits, Goes}
 use Rattle.fk_model.specs.Readers.{and_read, handle, missed, accessed, own_page_at, own_page, their_page_at, their_page}
 use Rattle.fk_model.specs.Holds.{is_free}
-use Rattle.fk_model.specs.Talks.{Line, other_side, path_to, first_stage, receiving, thread_led_to, is_service_free}
+use Rattle.fk_model.specs.Talks.{Line, other_side, path_to, first_stage, receiving, thread_led_to, is_service_free, awaited, receive_on}
 use Rattle.fk_model.specs.UserRows.{word_at, halts_with, loads, stores, enters, performs, executes, run_row, run_row_by}
 use Rattle.fk_model.specs.SyncRows.{mutex_lock, mutex_trylock, mutex_unlock, cond_wait, cond_asleep, woken, mutex_after, asleep_on, sleepers, signals}
 use Rattle.fk_model.specs.SyncRows.{unless_slept_on, picks_sleeper, cond_signal, cond_broadcast}
-use Rattle.fk_model.specs.TransferRows.{overwritten, block, moved_words, has_sent, sends_words, sends_into, sends_to_thread, sends_to, sends, send, awaits}
-use Rattle.fk_model.specs.TransferRows.{receive, passes_to_thread, passes_to, over}
+use Rattle.fk_model.specs.TransferRows.{overwritten, block, moved_words, has_sent, sends_words, sends_into, sends_to_thread, sends_to, sends, send, awaits, over_ref}
+use Rattle.fk_model.specs.TransferRows.{receive, passes_to_thread, passes_to, over, receive_ref, takes_turn}
 use Rattle.fk_model.specs.SpaceRows.{thread_by_handle, thread_stop, thread_go, gives_page, gives_from, page_give, copies, copies_home, answers_home, copies_to}
 use Rattle.fk_model.specs.SpaceRows.{page_take, page_read, page_next}
 use Rattle.fk_model.specs.StateRows.{is_native}
@@ -52,7 +52,8 @@ use Rattle.laws_moves.proofs.InSavable.Answers.{page-words}
 use Rattle.laws_moves.proofs.InSavable.Kept.{is_single, of_thread, IsUsersMode, AreKept, KeptOutcome, refused, waits, goes, kept-then, kept-when, if-kept, kept-done}
 use Rattle.laws_moves.proofs.InSavable.Kept.{kept-answers, kept-telling, AreTidy}
 use Rattle.laws_moves.proofs.InSavable.Todos.{has_rest}
-use Rattle.laws_moves.proofs.InSavable.Persisting.{of_thread-mono, fits-single, single-replaced, single-locked, way-less, way-counted, way-shifted}
+use Rattle.laws_moves.proofs.InSavable.Persisting.{of_thread-mono, fits-single, single-replaced, single-locked, way-less, way-counted, way-shifted, single-pointed}
+use Rattle.laws_moves.proofs.InRows.Handles.{received-stage}
 
 -- ---- memory
 
@@ -282,21 +283,32 @@ led-there w p e h = by (path_to p) h
     by (Some x) h = of x _ refl h
 
 -- a Receive at an address that is one of a space
-pub received-way : (n : ℕ) → n ≤ 64 → (side : Turn) (m : Mode) (space : ℕ × ℕ) → receiving side m ≡ Some space → space.0 < SPACE_WORDS → has_way n m ≡ true
-received-way n few turns.Client (Calling (ClientReceive into room ∷ todo) rest) space h low =
+received-on : (n : ℕ) → n ≤ 64 → (side : Turn) (m : Mode) (space : ℕ × ℕ) → and_then (receive_on side) (first_stage m) ≡ Some space →
+    space.0 < SPACE_WORDS → has_way n m ≡ true
+received-on n few turns.Client (Calling (ClientReceive into room ∷ todo) rest) space h low =
     let same : space ≡ (into, room) = cc in let below : into < SPACE_WORDS = rw same at low in below-word (into + n) (omega (arith, few, below))
-received-way n few turns.Server (Calling (ServerReceive into room ∷ todo) rest) space h low =
+received-on n few turns.Server (Calling (ServerReceive into room ∷ todo) rest) space h low =
     let same : space ≡ (into, room) = cc in let below : into < SPACE_WORDS = rw same at low in below-word (into + n) (omega (arith, few, below))
-received-way n few turns.Client (Calling (ClientSend address count ∷ todo) rest) space h low = cc
-received-way n few turns.Client (Calling (ServerSend address count ∷ todo) rest) space h low = cc
-received-way n few turns.Client (Calling (ServerReceive address count ∷ todo) rest) space h low = cc
-received-way n few turns.Server (Calling (ClientSend address count ∷ todo) rest) space h low = cc
-received-way n few turns.Server (Calling (ServerSend address count ∷ todo) rest) space h low = cc
-received-way n few turns.Server (Calling (ClientReceive address count ∷ todo) rest) space h low = cc
-received-way n few side (Calling (stage ∷ todo) rest) space h low = refl
-received-way n few side (Calling [] rest) space h low = refl
-received-way n few side (Running g) space h low = refl
-received-way n few side m space h low = refl
+received-on n few turns.Client (Calling (ClientReceiveRef into room reference ∷ todo) rest) space h low =
+    let same : space ≡ (into, room) = cc in let below : into < SPACE_WORDS = rw same at low in below-word (into + n) (omega (arith, few, below))
+received-on n few turns.Server (Calling (ServerReceiveRef into room reference ∷ todo) rest) space h low =
+    let same : space ≡ (into, room) = cc in let below : into < SPACE_WORDS = rw same at low in below-word (into + n) (omega (arith, few, below))
+received-on n few turns.Client (Calling (ClientSend address count ∷ todo) rest) space h low = cc
+received-on n few turns.Client (Calling (ServerSend address count ∷ todo) rest) space h low = cc
+received-on n few turns.Client (Calling (ServerReceive address count ∷ todo) rest) space h low = cc
+received-on n few turns.Client (Calling (ServerReceiveRef address count reference ∷ todo) rest) space h low = cc
+received-on n few turns.Server (Calling (ClientSend address count ∷ todo) rest) space h low = cc
+received-on n few turns.Server (Calling (ServerSend address count ∷ todo) rest) space h low = cc
+received-on n few turns.Server (Calling (ClientReceive address count ∷ todo) rest) space h low = cc
+received-on n few turns.Server (Calling (ClientReceiveRef address count reference ∷ todo) rest) space h low = cc
+received-on n few side (Calling (stage ∷ todo) rest) space h low = refl
+received-on n few side (Calling [] rest) space h low = refl
+received-on n few side (Running g) space h low = refl
+received-on n few side m space h low = refl
+
+pub received-way : (w : World) (s : Path) (n : ℕ) → n ≤ 64 → (side : Turn) (m : Mode) (space : ℕ × ℕ) → receiving w s side m ≡ Some space →
+    space.0 < SPACE_WORDS → has_way n m ≡ true
+received-way w s n few side m space h low = received-on n few side m space (received-stage w s side m space h) low
 
 pub moved-few : (address count into room : ℕ) → moved_words address count into room ≤ 64
 moved-few address count into room = min-le_left BLOCK_WORDS _
@@ -318,7 +330,7 @@ module _ (w : World) (memory : Memory w) where
       (path_of c) (way-counted client k 128 w (path_of c) way))
 
   sends_into-kept : (c : Caller) (side : Turn) (client y : Path) (mode : Mode) (address count : ℕ) (page : List ℕ) (space : Option (ℕ × ℕ)) →
-      HasWay w c 128 → AreWords page → and_then (λ (t : Thread). Some t.mode) (and_then thread_of (w.body y)) ≡ Some mode → receiving side mode ≡ space →
+      HasWay w c 128 → AreWords page → and_then (λ (t : Thread). Some t.mode) (and_then thread_of (w.body y)) ≡ Some mode → receiving w (parent y) side mode ≡ space →
       KeptOutcome w (sends_into w c client y address count page space)
   sends_into-kept c side client y mode address count page None way all there is = waits
   sends_into-kept c side client y mode address count page (Some space) way all there is = if-kept w (space.1 == 0) _ _ (goes ((refl, tt), tt))
@@ -333,13 +345,13 @@ module _ (w : World) (memory : Memory w) where
           all_in (λ (t : Thread). has_way (moved_words address count space.0 space.1) t.mode) o ≡ true
       way-at None e low = refl
       way-at (Some t) e low =
-          let same : t.mode ≡ mode = cc in rw same (received-way _ (moved-few address count space.0 space.1) side mode space is low)
+          let same : t.mode ≡ mode = cc in rw same (received-way w (parent y) _ (moved-few address count space.0 space.1) side mode space is low)
 
   sends_to_thread-kept : (c : Caller) (side : Turn) (client : Path) (address count : ℕ) (page : List ℕ) (p : Ptr) (e : Option (Path × Thread)) →
       HasWay w c 128 → AreWords page → thread_led_to w p ≡ e → KeptOutcome w (sends_to_thread w c side client address count page e)
   sends_to_thread-kept c side client address count page p None way all led = waits
   sends_to_thread-kept c side client address count page p (Some e) way all led = kept-when w (is_free w (parent e.0) e.1) _ (λ free.
-      sends_into-kept c (other_side side) client e.0 e.1.mode address count page (receiving (other_side side) e.1.mode) way all
+      sends_into-kept c (other_side side) client e.0 e.1.mode address count page (receiving w (parent e.0) (other_side side) e.1.mode) way all
       (ap (and_then (λ (t : Thread). Some t.mode)) (led-there w p e led)) refl)
 
   less-way : (k : ℕ) → k ≤ 64 → (m : Mode) → has_way 128 m ≡ true → has_way k m ≡ true
@@ -378,19 +390,55 @@ module _ (w : World) (memory : Memory w) where
   unfolding receive
   receive-kept c side into room = search (kept_row, awaits-kept)
 
-passes_to_thread-kept : (w : World) (c : Caller) (side : Turn) (client : Path) (e : Option (Path × Thread)) →
-    KeptOutcome w (passes_to_thread w c side client e)
-passes_to_thread-kept w c side client None = waits
-passes_to_thread-kept w c side client (Some e) = search (kept-when, kept-done)
+pub receive_ref-kept : (w : World) (memory : Memory w) (c : Caller) (side : Turn) (into room reference : ℕ) → KeptOutcome w (receive_ref w c side into room reference)
+unfolding receive_ref
+receive_ref-kept w memory c side into room reference = search (kept_row, receive-kept)
 
-passes_to-kept : (w : World) (c : Caller) (side : Turn) (l : Line) (peer : Peer) → KeptOutcome w (passes_to w c side l peer)
-passes_to-kept w c side l (Server thread) = passes_to_thread-kept w c side l.client (thread_led_to w thread)
-passes_to-kept w c side l Service = search (kept-when, kept-telling, kept-done)
-passes_to-kept w c side l Parked = waits
+-- a thread that awaits a pointer has one stage alone
+awaits-single : (m : Mode) → IsShapedMode m → (k : ℕ) → awaited m ≡ Some k → is_single m ≡ true
+awaits-single (Calling (ClientReceiveRef into room reference ∷ next ∷ todo) rest) shaped k h =
+    let first = (has_rest (ClientReceiveRef into room reference ∷ next ∷ todo) shaped.0).first in cc
+awaits-single (Calling (ServerReceiveRef into room reference ∷ next ∷ todo) rest) shaped k h =
+    let first = (has_rest (ServerReceiveRef into room reference ∷ next ∷ todo) shaped.0).first in cc
+awaits-single (Calling (stage ∷ next ∷ todo) rest) shaped k h = cc
+awaits-single (Calling (stage ∷ []) rest) shaped k h = refl
+awaits-single (Calling [] rest) shaped k h = refl
+awaits-single (Running g) shaped k h = refl
+awaits-single m shaped k h = refl
 
-pub over-kept : (w : World) (c : Caller) (side : Turn) → KeptOutcome w (over w c side)
+pub awaiting-single : (w : World) → AreTidy w → (y : Path) (t : Thread) → and_then thread_of (w.body y) ≡ Some t → (k : ℕ) → awaited t.mode ≡ Some k →
+    of_thread is_single (w.body y) ≡ true
+awaiting-single w tidy y t there k h = rw there (awaits-single t.mode (tidy y t there).shaped k h)
+
+takes_turn-kept : (w : World) (y client : Path) (turn : Turn) (carried : Option Ptr) (to : Option ℕ) →
+    ((k : ℕ) → to ≡ Some k → of_thread is_single (w.body y) ≡ true) → AreKept w (takes_turn y carried to ++ Alter client (PassTurn turn) ∷ [])
+takes_turn-kept w y client turn None None single = ((tt, tt), (tt, tt))
+takes_turn-kept w y client turn None (Some k) single = ((fits-single (0 ∷ []) (w.body y) (single k refl), (refl, tt)), (tt, tt))
+takes_turn-kept w y client turn (Some p) None single = ((tt, tt), (tt, tt))
+takes_turn-kept w y client turn (Some p) (Some k) single =
+    (tt, ((fits-single (1 ∷ []) _ (single-pointed (k ∷ parent y) p w y (single k refl)), (refl, tt)), (tt, tt)))
+
+passes_to_thread-kept : (w : World) → AreTidy w → (c : Caller) (side : Turn) (client : Path) (carried : Option Ptr) (p : Ptr) (e : Option (Path × Thread)) →
+    thread_led_to w p ≡ e → KeptOutcome w (passes_to_thread w c side client carried e)
+passes_to_thread-kept w tidy c side client carried p None led = waits
+passes_to_thread-kept w tidy c side client carried p (Some e) led =
+    kept-when w (is_free w (parent e.0) e.1 && is_some (receiving w (parent e.0) (other_side side) e.1.mode)) _ (λ on.
+    kept-done w c (takes_turn e.0 carried (awaited e.1.mode) ++ Alter client (PassTurn (other_side side)) ∷ [])
+    (takes_turn-kept w e.0 client (other_side side) carried (awaited e.1.mode) (λ k h. awaiting-single w tidy e.0 e.1 (led-there w p e led) k h)))
+
+passes_to-kept : (w : World) → AreTidy w → (c : Caller) (side : Turn) (l : Line) (carried : Option Ptr) (peer : Peer) →
+    KeptOutcome w (passes_to w c side l carried peer)
+passes_to-kept w tidy c side l carried (Server thread) = passes_to_thread-kept w tidy c side l.client carried thread (thread_led_to w thread) refl
+passes_to-kept w tidy c side l carried Service = search (kept-when, kept-telling, kept-done)
+passes_to-kept w tidy c side l carried Parked = waits
+
+pub over-kept : (w : World) → AreTidy w → (c : Caller) (side : Turn) (carried : Option Ptr) → KeptOutcome w (over w c side carried)
 unfolding over
-over-kept w c side = search (kept_row, passes_to-kept)
+over-kept w tidy c side carried = search (kept_row, passes_to-kept)
+
+pub over_ref-kept : (w : World) → AreTidy w → (c : Caller) (side : Turn) (reference : ℕ) → KeptOutcome w (over_ref w c side reference)
+unfolding over_ref
+over_ref-kept w tidy c side reference = search (kept_row, over-kept)
 
 -- ---- stop counts
 

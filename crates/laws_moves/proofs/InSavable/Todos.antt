@@ -4,10 +4,10 @@ use Rattle.std.proofs.Common.{subst, ◌∙◌, arith}
 use Rattle.std.proofs.lemmas.Bool.{false≢true}
 use Rattle.std.proofs.lemmas.List.{length-set}
 use Rattle.fk_model.specs.declared.stage.Stage.{Stage}
-use Rattle.fk_model.specs.declared.stage.Stage.TheVariants.{Create, Destroy, Rename, Search, Point, Clear, Locate, CountIn, GetState, SetState, GetPtr, SetPtr}
-use Rattle.fk_model.specs.declared.stage.Stage.TheVariants.{SpaceHold, SpaceRelease, ThreadStop, ThreadGo, PageGive, PageTake, PageRead, PageNext, MutexLock}
-use Rattle.fk_model.specs.declared.stage.Stage.TheVariants.{MutexTrylock, MutexUnlock, CondWait, CondAsleep, CondSignal, CondBroadcast, Connect, ClientReceive}
-use Rattle.fk_model.specs.declared.stage.Stage.TheVariants.{ClientSend, ClientOver, Disconnect, Wait, ServerReceive, ServerSend, ServerOver, ServerEnd}
+use Rattle.fk_model.specs.declared.stage.Stage.TheVariants.{Create, Destroy, Rename, Search, Point, Clear, Locate, CountIn, GetState, SetState, GetPtr, SetPtr, ClientOverRef}
+use Rattle.fk_model.specs.declared.stage.Stage.TheVariants.{SpaceHold, SpaceRelease, ThreadStop, ThreadGo, PageGive, PageTake, PageRead, PageNext, MutexLock, ClientReceiveRef}
+use Rattle.fk_model.specs.declared.stage.Stage.TheVariants.{MutexTrylock, MutexUnlock, CondWait, CondAsleep, CondSignal, CondBroadcast, Connect, ClientReceive, ServerOverRef}
+use Rattle.fk_model.specs.declared.stage.Stage.TheVariants.{ClientSend, ClientOver, Disconnect, Wait, ServerReceive, ServerSend, ServerOver, ServerEnd, ServerReceiveRef}
 use Rattle.fk_model.specs.declared.stage.Stage.TheVariants.{FaultDone, LinkSet, LinkPark, FaultSet, FaultPark, HoldSet, SpaceMakeHeld}
 use Rattle.fk_model.specs.Calls.{code_of, arguments, argument_registers, with_values, without_values, with_answers, left_by, IsTodo, IsRest}
 use Rattle.fk_model.specs.World.{shifted}
@@ -96,6 +96,8 @@ has_rest (ClientReceive into room ∷ []) is = record { tail = refl; first = ref
 has_rest (ClientSend address count ∷ []) is = record { tail = refl; first = refl; shift = λ k. refl; code = refl }
 has_rest (ClientOver ∷ []) is = record { tail = refl; first = refl; shift = λ k. refl; code = refl }
 has_rest (Disconnect ∷ []) is = record { tail = refl; first = refl; shift = λ k. refl; code = refl }
+has_rest (ClientOverRef reference ∷ []) is = record { tail = refl; first = refl; shift = λ k. refl; code = refl }
+has_rest (ClientReceiveRef into room reference ∷ []) is = record { tail = refl; first = refl; shift = λ k. refl; code = refl }
 has_rest (Wait set ∷ []) is = record { tail = refl; first = refl; shift = λ k. refl; code = refl }
 has_rest (Wait set ∷ ServerReceive into room ∷ []) is = record { tail = refl; first = refl; shift = λ k. refl; code = refl }
 has_rest (ServerReceive into room ∷ []) is = record { tail = refl; first = refl; shift = λ k. refl; code = refl }
@@ -105,6 +107,8 @@ has_rest (ServerSend address count ∷ ServerOver ∷ ServerReceive into room �
 has_rest (ServerOver ∷ ServerReceive into room ∷ []) is = record { tail = refl; first = refl; shift = λ k. refl; code = refl }
 has_rest (ServerEnd ∷ []) is = record { tail = refl; first = refl; shift = λ k. refl; code = refl }
 has_rest (FaultDone ∷ []) is = record { tail = refl; first = refl; shift = λ k. refl; code = refl }
+has_rest (ServerOverRef reference ∷ []) is = record { tail = refl; first = refl; shift = λ k. refl; code = refl }
+has_rest (ServerReceiveRef into room reference ∷ []) is = record { tail = refl; first = refl; shift = λ k. refl; code = refl }
 has_rest (LinkSet s x port server ∷ []) is = record { tail = refl; first = refl; shift = λ k. refl; code = refl }
 has_rest (LinkPark s x port ∷ []) is = record { tail = refl; first = refl; shift = λ k. refl; code = refl }
 has_rest (FaultSet s x port taker ∷ []) is = record { tail = refl; first = refl; shift = λ k. refl; code = refl }
@@ -156,6 +160,8 @@ shifted-registers k (ClientSend address count) todo g = refl
 shifted-registers k (ClientReceive into room) todo g = refl
 shifted-registers k (ServerSend address count) todo g = refl
 shifted-registers k (ServerReceive into room) todo g = refl
+shifted-registers k (ClientReceiveRef into room reference) todo g = refl
+shifted-registers k (ServerReceiveRef into room reference) todo g = refl
 shifted-registers k stage todo g = refl
 
 pub rest-shifted : (k : ℕ) (stage : Stage) (todo : List Stage) (rest : List ℕ) → IsRest (stage ∷ todo) rest → IsRest (shifted k stage ∷ todo) rest

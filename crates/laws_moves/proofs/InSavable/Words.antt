@@ -5,7 +5,7 @@ use Rattle.std.specs.List.{flat_map}
 use Rattle.std.proofs.lemmas.Bool.{and_parts, and_from, lt-ltb, ltb-true}
 use Rattle.std.proofs.lemmas.Option.{same_Some}
 use Rattle.fk_model.specs.declared.stage.Stage.{Stage}
-use Rattle.fk_model.specs.declared.stage.Stage.TheVariants.{ClientReceive, ClientSend, ServerReceive, ServerSend}
+use Rattle.fk_model.specs.declared.stage.Stage.TheVariants.{ClientReceive, ClientSend, ServerReceive, ServerSend, ClientReceiveRef, ServerReceiveRef}
 use Rattle.fk_model.specs.Objects.{Mode, registers_of}
 use Rattle.fk_model.specs.Objects.Mode.{Running, Calling, Halted, Native}
 use Rattle.fk_model.specs.Calls.{Call, calls, arguments, argument_registers, from_register, with_values, without_values, with_answers, left_by, words, named_by}
@@ -163,4 +163,6 @@ has_way n (Calling (ClientSend address count ∷ todo) rest) = is_word (address 
 has_way n (Calling (ClientReceive address count ∷ todo) rest) = is_word (address + n)
 has_way n (Calling (ServerSend address count ∷ todo) rest) = is_word (address + n)
 has_way n (Calling (ServerReceive address count ∷ todo) rest) = is_word (address + n)
+has_way n (Calling (ClientReceiveRef address count reference ∷ todo) rest) = is_word (address + n)
+has_way n (Calling (ServerReceiveRef address count reference ∷ todo) rest) = is_word (address + n)
 has_way n other = true

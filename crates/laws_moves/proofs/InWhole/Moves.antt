@@ -25,7 +25,7 @@ use Rattle.laws_moves.specs.Rows.Stages.Sets.{Locks}
 use Rattle.laws_moves.specs.Rows.Stages.Source.{Own_words, Zeros, Of_page}
 use Rattle.laws_moves.specs.Rows.Stages.RecordSource.{Own_record, Of_memory}
 use Rattle.laws_moves.specs.Rows.Stages.Work.{Looks, Edits, Makes, Makes_held, Kills, Writes_record, Sets_record, Gives, Copies, Sleeps, Wakes_all}
-use Rattle.laws_moves.specs.Rows.Stages.Work.{Takes_client, Hangs_up, Sends, Sends_service, Passes}
+use Rattle.laws_moves.specs.Rows.Stages.Work.{Takes_client, Hangs_up, Sends, Sends_service, Passes, Hands_over, Hands_over}
 use Rattle.laws_moves.specs.Rows.Stages.Step.{Is_refused, Is_waiting, Raises, Answers, Stays, Finishes, Ends}
 use Rattle.laws_moves.specs.Rows.Moves.{Goes_to, Instructs, Serves, Lists}
 use Rattle.laws_moves.specs.Rows.Moves.Goes_to.{Halts, Puts, Jumps, Loads, Enters, Names_none}
@@ -100,7 +100,8 @@ module _ (w : World) (pages : HasFullPages w) (registers : HasRegisters w) where
     work (Sleeps cond m) = (tt, (tt, tt))
     work (Takes_client set slot x idle at) = (tt, (tt, tt))
     work (Sends_service stage side l address count here at) = (tt, (tt, tt))
-    work (Passes stage side l thread e here at led free) = (tt, (tt, tt))
+    work (Passes stage side l thread e to carried here at led free awaits) = (tt, (tt, tt))
+    work (Hands_over stage side l thread e k reference p here at led free awaits there read may) = (tt, (tt, (tt, tt)))
     work other = (tt, tt)
 
     step : {stage : Stage} {o : Outcome} → Step w c pick stage o → FullIn o
@@ -139,7 +140,7 @@ module _ (w : World) (pages : HasFullPages w) (registers : HasRegisters w) where
         (moved-fit 0 (length (take len words)) receive.0 receive.1),
     (tt, (tt, tt)),
   )
-  serves (Passes_client x at) = (tt, (tt, tt))
+  serves (Passes_client x to at awaits) = (tt, (tt, tt))
 
   -- ---- a move
 

@@ -26,8 +26,8 @@ use Rattle.fk_model.specs.Outcomes.Outcome.{Waits, Goes}
 use Rattle.fk_model.specs.Readers.{fault_on}
 use Rattle.fk_model.specs.Talks.{receiving}
 use Rattle.fk_model.specs.LinkRows.{new_talk, user_at}
-use Rattle.fk_model.specs.TransferRows.{overwritten, moved_words}
-use Rattle.fk_model.specs.NativeRows.{is_serving_port, parked_here, connects_here}
+use Rattle.fk_model.specs.TransferRows.{overwritten, moved_words, taken_answers}
+use Rattle.fk_model.specs.NativeRows.{is_serving_port, parked_here, connects_here, awaited_at}
 use Rattle.fk_model.specs.UserRows.{word_at}
 use Rattle.fk_model.specs.Moves.{is_for_porters, is_for_users, porter_at, outcome}
 use Rattle.laws_moves.specs.Rows.Stages.{Step}
@@ -66,17 +66,17 @@ pub data Serves (w : World) (port : Path) (pick : Option Path) : Ask → Outcome
       Serves w port pick asks.Accept (Goes (Alter x (SetPeer Service) ∷ []) (Said.Taken (At port) x true talk.turn talk.moved))
   Gives_nothing : (words : List ℕ) (len : ℕ) → Serves w port pick (asks.Give words len) (Goes [] (Said.Given (At port) 0))
   Finds_no_room : (words : List ℕ) (len : ℕ) (x : Path) (t : Thread) (receive : ℕ × ℕ) → thread_at w x ≡ Some t →
-      receiving turns.Client t.mode ≡ Some receive → (receive.1 == 0) ≡ true →
+      receiving w (parent x) turns.Client t.mode ≡ Some receive → (receive.1 == 0) ≡ true →
       Serves w port pick (asks.Give words len) (Goes (Alter x (End FULL []) ∷ []) (Said.Full (At port)))
   Gives_words : (words : List ℕ) (len : ℕ) (x : Path) (t : Thread) (receive : ℕ × ℕ) (s : Path) (page : ℕ) → thread_at w x ≡ Some t →
-      receiving turns.Client t.mode ≡ Some receive → reach_word w (parent x) receive.0 true ≡ Home s page →
+      receiving w (parent x) turns.Client t.mode ≡ Some receive → reach_word w (parent x) receive.0 true ≡ Home s page →
       Serves w port pick (asks.Give words len) (Goes (
       PutPage s page (overwritten (words_at w s page) (receive.0 % PAGE_WORDS) (take (moved_words 0 (length (take len words)) receive.0 receive.1) (take len words)))
       ∷ Alter x (CountMoved (moved_words 0 (length (take len words)) receive.0 receive.1))
       ∷ Alter x (Shift (moved_words 0 (length (take len words)) receive.0 receive.1))
       ∷ []) (Said.Given (At port) (moved_words 0 (length (take len words)) receive.0 receive.1)))
-  Passes_client : (x : Path) → client_at w port ≡ Some x →
-      Serves w port pick asks.Over (Goes (Alter x (PassTurn turns.Client) ∷ Alter x (Finish []) ∷ []) (Said.Passed (At port)))
+  Passes_client : (x : Path) (to : Option ℕ) → client_at w port ≡ Some x → awaited_at w x ≡ to →
+      Serves w port pick asks.Over (Goes (Alter x (PassTurn turns.Client) ∷ Alter x (Finish (taken_answers to None)) ∷ []) (Said.Passed (At port)))
 
 -- ---- a move
 

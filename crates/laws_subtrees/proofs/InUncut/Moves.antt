@@ -23,7 +23,7 @@ use Rattle.laws_moves.specs.Rows.Stages.{Sets, Work, Step}
 use Rattle.laws_moves.specs.Rows.Stages.Sets.{Points, Clears, Gets_pointer, Sets_pointer, Holds, Releases, Restores_hold, Takes_fault, Resumes, Frees}
 use Rattle.laws_moves.specs.Rows.Stages.Sets.{Restores_talk, Parks_talk, Restores_fault, Parks_fault}
 use Rattle.laws_moves.specs.Rows.Stages.Work.{Looks, Edits, Makes, Makes_held, Kills, Renames, Sets_record, Copies, Sleeps, Wakes_all}
-use Rattle.laws_moves.specs.Rows.Stages.Work.{Takes_client, Hangs_up, Sends, Sends_service, Passes}
+use Rattle.laws_moves.specs.Rows.Stages.Work.{Takes_client, Hangs_up, Sends, Sends_service, Passes, Hands_over, Hands_over}
 use Rattle.laws_moves.specs.Rows.Stages.Step.{Is_refused, Is_waiting, Raises, Answers, Stays, Finishes, Ends}
 use Rattle.laws_moves.specs.Rows.Moves.{Instructs, Serves, Lists}
 use Rattle.laws_moves.specs.Rows.Moves.Instructs.{Goes_on, Stores, Faults}
@@ -95,7 +95,8 @@ module _ (w : World) (uncut : IsUncut w) where
     work (Sends stage side l address count receive thread e s own t other here at led free is home theirs) = (tt, (tt, (tt, (tt, tt))))
     work (Sleeps cond m) = (tt, (tt, tt))
     work (Sends_service stage side l address count here at) = (tt, (tt, tt))
-    work (Passes stage side l thread e here at led free) = (tt, (tt, tt))
+    work (Passes stage side l thread e to carried here at led free awaits) = (tt, (tt, tt))
+    work (Hands_over stage side l thread e k reference p here at led free awaits there read may) = (reference-ours w uncut c c.space reference p read, (tt, (tt, tt)))
     work other = (tt, tt)
 
     step : {stage : Stage} {o : Outcome} → Step w c pick stage o → OursIn w o
@@ -121,7 +122,7 @@ module _ (w : World) (uncut : IsUncut w) where
   serves (Gives_nothing words len) = tt
   serves (Finds_no_room words len x t receive there is full) = (tt, tt)
   serves (Gives_words words len x t receive s page there is home) = (tt, (tt, (tt, tt)))
-  serves (Passes_client x at) = (tt, (tt, tt))
+  serves (Passes_client x to at awaits) = (tt, (tt, tt))
 
   lists : {x : Path} {pick : Option Path} {ask : Ask} {o : Outcome} → Lists w x pick ask o → OursIn w o
   lists (Moves_not ask) = tt

@@ -3,10 +3,10 @@
 use Rattle.std.specs.Prelude.{◌≡◌, ℕ, Bool, true, false, not, ◌&&◌, ◌||◌, ◌==◌, List, [], ◌∷◌, Option, Some}
 use Rattle.fk_model.specs.declared.moves.Ask.TheVariants as asks
 use Rattle.fk_model.specs.declared.stage.Stage.{Stage}
-use Rattle.fk_model.specs.declared.stage.Stage.TheVariants.{Create, Destroy, Rename, Search, Point, Clear, Locate, CountIn, GetState, SetState, GetPtr, SetPtr}
-use Rattle.fk_model.specs.declared.stage.Stage.TheVariants.{SpaceHold, SpaceRelease, ThreadStop, ThreadGo, PageGive, PageTake, PageRead, PageNext, MutexLock}
-use Rattle.fk_model.specs.declared.stage.Stage.TheVariants.{MutexTrylock, MutexUnlock, CondWait, CondAsleep, CondSignal, CondBroadcast, Connect, ClientReceive}
-use Rattle.fk_model.specs.declared.stage.Stage.TheVariants.{ClientSend, ClientOver, Disconnect, Wait, ServerReceive, ServerSend, ServerOver, ServerEnd}
+use Rattle.fk_model.specs.declared.stage.Stage.TheVariants.{Create, Destroy, Rename, Search, Point, Clear, Locate, CountIn, GetState, SetState, GetPtr, SetPtr, ClientOverRef}
+use Rattle.fk_model.specs.declared.stage.Stage.TheVariants.{SpaceHold, SpaceRelease, ThreadStop, ThreadGo, PageGive, PageTake, PageRead, PageNext, MutexLock, ClientReceiveRef}
+use Rattle.fk_model.specs.declared.stage.Stage.TheVariants.{MutexTrylock, MutexUnlock, CondWait, CondAsleep, CondSignal, CondBroadcast, Connect, ClientReceive, ServerOverRef}
+use Rattle.fk_model.specs.declared.stage.Stage.TheVariants.{ClientSend, ClientOver, Disconnect, Wait, ServerReceive, ServerSend, ServerOver, ServerEnd, ServerReceiveRef}
 use Rattle.fk_model.specs.declared.stage.Stage.TheVariants.{FaultDone, LinkSet, LinkPark, FaultSet, FaultPark, HoldSet, SpaceMakeHeld}
 use Rattle.fk_model.specs.Places.{Path, is_within}
 use Rattle.fk_model.specs.Calls.{code_of_stage}
@@ -94,12 +94,16 @@ is_plain_stage (ClientReceive into room) = true
 is_plain_stage (ClientSend address count) = false
 is_plain_stage ClientOver = false
 is_plain_stage Disconnect = false
+is_plain_stage (ClientOverRef reference) = false
+is_plain_stage (ClientReceiveRef into room reference) = true
 is_plain_stage (Wait set) = false
 is_plain_stage (ServerReceive into room) = false
 is_plain_stage (ServerSend address count) = false
 is_plain_stage ServerOver = false
 is_plain_stage ServerEnd = false
 is_plain_stage FaultDone = false
+is_plain_stage (ServerOverRef reference) = false
+is_plain_stage (ServerReceiveRef into room reference) = false
 is_plain_stage (LinkSet s x port server) = false
 is_plain_stage (LinkPark s x port) = false
 is_plain_stage (FaultSet s x port taker) = false
@@ -129,6 +133,9 @@ IsServerless stage = (is_for_porters stage && not (names_server stage)) ≡ true
 
 abbrev pub IsServerReceive : Stage → Type 0
 IsServerReceive stage = (into : ℕ) × (room : ℕ) × (stage ≡ ServerReceive into room)
+
+abbrev pub IsServerReceiveRef : Stage → Type 0
+IsServerReceiveRef stage = (into : ℕ) × (room : ℕ) × (reference : ℕ) × (stage ≡ ServerReceiveRef into room reference)
 
 abbrev pub IsPageTake : Stage → Type 0
 IsPageTake stage = (s : ℕ) × (page : ℕ) × (address : ℕ) × (stage ≡ PageTake s page address)
@@ -178,6 +185,12 @@ IsServerOver stage = stage ≡ ServerOver
 
 abbrev pub IsClientOver : Stage → Type 0
 IsClientOver stage = stage ≡ ClientOver
+
+abbrev pub IsServerOverRef : Stage → Type 0
+IsServerOverRef stage = (reference : ℕ) × (stage ≡ ServerOverRef reference)
+
+abbrev pub IsClientOverRef : Stage → Type 0
+IsClientOverRef stage = (reference : ℕ) × (stage ≡ ClientOverRef reference)
 
 -- the law for every give of a native server
 abbrev pub GiveKeepsCut : Type 0

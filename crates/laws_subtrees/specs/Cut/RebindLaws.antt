@@ -6,16 +6,18 @@ use Rattle.fk_model.specs.Places.{Path}
 use Rattle.fk_model.specs.World.{World}
 use Rattle.fk_model.specs.Further.{Touch, Onward, Told, IsOnward, IsFurther}
 use Rattle.fk_model.specs.Further.Onward.{Own, ByOthers}
-use Rattle.fk_model.specs.Rebind.{rebound, rebound_told}
+use Rattle.fk_model.specs.Rebind.{rebound, rebound_told, rebound_move}
 use Rattle.laws_subtrees.specs.Cut.CutLaws.{IsAtStage, IsRunning}
 use Rattle.laws_subtrees.specs.Cut.Likeness.{IsCutWorld}
+use Rattle.fk_model.specs.Runs.{after}
 
 -- a move of the subtree, and the same move of it with other outward ports
 pub record RebindsTo (bind : ℕ → ℕ) (c : World) (m : Onward) : Type 0 where
   -- where it is ready it is ready with these, tells the same at these, and leaves the same
-  pub forth : (told : List Told) (later : World) → IsOnward c m told later → IsOnward (rebound bind c) m (map (rebound_told bind) told) (rebound bind later)
+  pub forth : (told : List Told) (later : World) → IsOnward c m told later →
+      IsOnward (rebound bind c) (rebound_move bind m) (map (rebound_told bind) told) (rebound bind later)
   -- and it is ready with these only where it is ready
-  pub back : (heard : List Told) (after : World) → IsOnward (rebound bind c) m heard after →
+  pub back : (heard : List Told) (after : World) → IsOnward (rebound bind c) (rebound_move bind m) heard after →
       (told : List Told) × (later : World) × IsOnward c m told later × (heard ≡ map (rebound_told bind) told) × (after ≡ rebound bind later)
   -- what it leaves is seen alone as well
   pub stays : (told : List Told) (later : World) → IsOnward c m told later → IsCutWorld later
@@ -45,8 +47,8 @@ MoveRebinds = (c : World) (m : Onward) → Rebinds c m
 -- a list of moves, and the same list with other outward ports
 pub record RunRebindsTo (bind : ℕ → ℕ) (c : World) (ms : List Onward) : Type 0 where
   pub forth : (told : List Told) (later : World) →
-      IsFurther c ms told later → IsFurther (rebound bind c) ms (map (rebound_told bind) told) (rebound bind later)
-  pub back : (heard : List Told) (after : World) → IsFurther (rebound bind c) ms heard after →
+      IsFurther c ms told later → IsFurther (rebound bind c) (map (rebound_move bind) ms) (map (rebound_told bind) told) (rebound bind later)
+  pub back : (heard : List Told) (after : World) → IsFurther (rebound bind c) (map (rebound_move bind) ms) heard after →
       (told : List Told) × (later : World) × IsFurther c ms told later × (heard ≡ map (rebound_told bind) told) × (after ≡ rebound bind later)
 
 -- the further runs of a subtree that is seen alone are, with other outward ports, the same runs

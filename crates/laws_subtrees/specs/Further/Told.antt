@@ -9,7 +9,7 @@ use Rattle.fk_model.specs.Searches.{talk_at, fault_at}
 use Rattle.fk_model.specs.Outcomes.{listed}
 use Rattle.fk_model.specs.Outcomes.Said.{Words, Passed}
 use Rattle.fk_model.specs.Cut.{is_out}
-use Rattle.fk_model.specs.Further.{Touch, Onward, Told, onward_row, IsOnward}
+use Rattle.fk_model.specs.Further.{Touch, Onward, Told, onward_row, IsOnward, carried_by}
 use Rattle.fk_model.specs.Further.Onward.{Own, ByOthers}
 use Rattle.fk_model.specs.Further.Told.{ToldWords, ToldOver, ToldEnd, ToldFault}
 use Rattle.fk_model.specs.Seen.{outcome_said}
@@ -63,7 +63,7 @@ RenamesTellNoEnds = (c d : World) (x : Path) (pick : Option Path) (taken : ℕ) 
 
 -- ---- words and overs, and what the outside does itself
 
--- it is told of the mover's words, and of its Over, as the move says them
+-- it is told of the mover's words, and of its Over with the pointer that goes with it, as the move says them
 abbrev pub WordsAreTold : Type 0
 WordsAreTold = (c d : World) (x : Path) (pick : Option Path) (taken : ℕ) (told : List Told) → IsOnward c (Own x pick taken) told d →
     (q : Path) (port : Ptr) (words : List ℕ) →
@@ -72,9 +72,9 @@ WordsAreTold = (c d : World) (x : Path) (pick : Option Path) (taken : ℕ) (told
 
 abbrev pub OversAreTold : Type 0
 OversAreTold = (c d : World) (x : Path) (pick : Option Path) (taken : ℕ) (told : List Told) → IsOnward c (Own x pick taken) told d →
-    (q : Path) (port : Ptr) →
-    (IsTold (ToldOver q port) told → (q ≡ x) × (outcome_said (onward_row c (Own x pick taken)) ≡ Passed port))
-    × ((q ≡ x) × (outcome_said (onward_row c (Own x pick taken)) ≡ Passed port) → IsTold (ToldOver q port) told)
+    (q : Path) (port : Ptr) (carried : Option Ptr) →
+    (IsTold (ToldOver q port carried) told → (q ≡ x) × (outcome_said (onward_row c (Own x pick taken)) ≡ Passed port) × (carried ≡ carried_by c x))
+    × ((q ≡ x) × (outcome_said (onward_row c (Own x pick taken)) ≡ Passed port) × (carried ≡ carried_by c x) → IsTold (ToldOver q port carried) told)
 
 abbrev pub TouchesTellNothing : Type 0
 TouchesTellNothing = (c d : World) (touch : Touch) (told : List Told) → IsOnward c (ByOthers touch) told d → told ≡ []

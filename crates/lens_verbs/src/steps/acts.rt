@@ -33,6 +33,8 @@ fn push_stage(sheet: &Sheet, store: &Store, one: &Move, thread: &Thread) {
         match stage {
             Stage::ClientSend { .. }
             | Stage::ClientOver
+            | Stage::ClientOverRef { .. }
+            | Stage::ServerOverRef { .. }
             | Stage::ServerSend { .. }
             | Stage::ServerOver => push_named(sheet, store, b" to ", other),
             Stage::Disconnect | Stage::ServerEnd | Stage::FaultDone => {

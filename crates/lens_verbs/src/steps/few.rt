@@ -19,6 +19,8 @@ fn changed_by(store: &Store, who: Who, stage: &Stage) -> Option<Who> {
         | Stage::PageNext { .. }
         | Stage::Wait { .. } => Some(who),
         Stage::ClientReceive { .. }
+        | Stage::ClientReceiveRef { .. }
+        | Stage::ServerReceiveRef { .. }
         | Stage::ClientSend { .. }
         | Stage::ClientOver
         | Stage::ServerReceive { .. }

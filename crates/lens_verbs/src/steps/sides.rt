@@ -24,10 +24,14 @@ pub fn other_side(store: &Store, who: Who, stage: &Stage) -> Option<Who> {
         Stage::ClientReceive { .. }
         | Stage::ClientSend { .. }
         | Stage::ClientOver
+        | Stage::ClientOverRef { .. }
+        | Stage::ClientReceiveRef { .. }
         | Stage::Disconnect => server_of(store, who),
         Stage::ServerReceive { .. }
         | Stage::ServerSend { .. }
         | Stage::ServerOver
+        | Stage::ServerOverRef { .. }
+        | Stage::ServerReceiveRef { .. }
         | Stage::ServerEnd => store.client_of(who),
         Stage::FaultDone => store.faulter_of(who),
         _ => None,

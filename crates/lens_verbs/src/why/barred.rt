@@ -16,9 +16,10 @@ fn page_home(store: &Store, space: u32, address: u64) -> Option<Who> {
 fn received_in(store: &Store, who: Option<Who>) -> Option<Who> {
     let who = who?;
     match next_stage(store, who)? {
-        Stage::ClientReceive { addr, .. } | Stage::ServerReceive { addr, .. } => {
-            page_home(store, who.space, addr)
-        }
+        Stage::ClientReceive { addr, .. }
+        | Stage::ServerReceive { addr, .. }
+        | Stage::ClientReceiveRef { addr, .. }
+        | Stage::ServerReceiveRef { addr, .. } => page_home(store, who.space, addr),
         _ => None,
     }
 }
@@ -72,7 +73,10 @@ fn reached_beyond(store: &Store, who: Who, stage: &Stage) -> [Option<Who>; 2] {
     let other = other_side(store, who, stage);
     match stage {
         // The other side's moves end a receive.
-        Stage::ClientReceive { .. } | Stage::ServerReceive { .. } => [None, None],
+        Stage::ClientReceive { .. }
+        | Stage::ServerReceive { .. }
+        | Stage::ClientReceiveRef { .. }
+        | Stage::ServerReceiveRef { .. } => [None, None],
         Stage::ClientSend { .. } | Stage::ServerSend { .. } => [other, received_in(store, other)],
         _ => [other, ended_port(store, who, stage)],
     }

@@ -88,10 +88,18 @@ pub fn push_blocked(sheet: &Sheet, store: &Store, lockers: &Lockers, who: Who, s
         return push_hold(sheet, store, b", which the hold of ", object, b" bars");
     }
     match stage {
-        Stage::ClientReceive { .. } | Stage::ClientSend { .. } | Stage::ClientOver => {
+        Stage::ClientReceive { .. }
+        | Stage::ClientSend { .. }
+        | Stage::ClientOver
+        | Stage::ClientOverRef { .. }
+        | Stage::ClientReceiveRef { .. } => {
             push_talk(sheet, store, who);
         }
-        Stage::ServerReceive { .. } | Stage::ServerSend { .. } | Stage::ServerOver => {
+        Stage::ServerReceive { .. }
+        | Stage::ServerSend { .. }
+        | Stage::ServerOver
+        | Stage::ServerOverRef { .. }
+        | Stage::ServerReceiveRef { .. } => {
             match store.client_of(who) {
                 Some(client) => push_whereabouts(sheet, store, b"waits for its client ", client),
                 None => sheet.put(b"has no client"),

@@ -12,19 +12,19 @@ use Rattle.fk_transfer.proofs.sending.moves_to_thread.Goals as goal
 pub moves_into-requires-clause-ends : goal.moves_into-requires-clause-ends
 moves_into-requires-clause-ends c =
     let p = path c.args.store.now in
-    let at : c.receive_of-receive.result ≡ receiving (other_side c.args.side) (thread_by p c.in-Some.thread.now).mode
-    = rw (← c.other_side.ensures) (c.receive_of-receive.ensures p) in
+    let at : c.receiving-receive.result ≡ receiving (world c.args.store.now) (p c.args.peer.space) (other_side c.args.side) (thread_by p c.in-Some.thread.now).mode
+    = rw (← c.other_side.ensures) c.receiving-receive.ensures.receive in
     ends_if (world c.args.store.now) (place p c.args.caller.who) (place p c.args.peer) c.args.side c.args.message.address c.args.message.count
-    (thread_by p c.in-Some.thread.now) c.receive_of-receive.result c.requires.calling c.in-Some.ensures.thread at
+    (thread_by p c.in-Some.thread.now) c.receiving-receive.result c.requires.calling c.in-Some.ensures.thread at
 
 pub returns-clause-outcome : goal.returns-clause-outcome
 returns-clause-outcome c words =
     let p = path c.args.store.now in
     let w = world c.args.store.now in
     let free : is_free_at w (place p c.args.peer) ≡ true = cc in
-    let at : c.receive_of-receive.result ≡ receiving (other_side c.args.side) (thread_by p c.in-Some.thread.now).mode
-    = rw (← c.other_side.ensures) (c.receive_of-receive.ensures p) in
+    let at : c.receiving-receive.result ≡ receiving (world c.args.store.now) (p c.args.peer.space) (other_side c.args.side) (thread_by p c.in-Some.thread.now).mode
+    = rw (← c.other_side.ensures) c.receiving-receive.ensures.receive in
     if_moving c.moves_into.result (λ m goes.
     to_thread w (caller_by p c.args.caller words) c.args.side (place p c.args.client) (place p c.args.peer) c.args.message.address c.args.message.count
-    (words_at w (p c.args.message.page.0) c.args.message.page.1) (thread_by p c.in-Some.thread.now) c.receive_of-receive.result _
+    (words_at w (p c.args.message.page.0) c.args.message.page.1) (thread_by p c.in-Some.thread.now) c.receiving-receive.result _
     c.in-Some.ensures.thread free at goes) (c.moves_into.ensures.outcome words)

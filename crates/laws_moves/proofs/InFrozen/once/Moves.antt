@@ -4,10 +4,10 @@ use Rattle.std.proofs.lemmas.Bool.{and_parts}
 use Rattle.fk_model.specs.declared.moves.Ask.{Ask}
 use Rattle.fk_model.specs.declared.moves.Ask.TheVariants as asks
 use Rattle.fk_model.specs.declared.stage.Stage.{Stage}
-use Rattle.fk_model.specs.declared.stage.Stage.TheVariants.{Create, Destroy, Rename, Search, Point, Clear, Locate, CountIn, GetState, SetState, GetPtr, SetPtr}
-use Rattle.fk_model.specs.declared.stage.Stage.TheVariants.{SpaceHold, SpaceRelease, ThreadStop, ThreadGo, PageGive, PageTake, PageRead, PageNext, MutexLock}
-use Rattle.fk_model.specs.declared.stage.Stage.TheVariants.{MutexTrylock, MutexUnlock, CondWait, CondAsleep, CondSignal, CondBroadcast, Connect, ClientReceive}
-use Rattle.fk_model.specs.declared.stage.Stage.TheVariants.{ClientSend, ClientOver, Disconnect, Wait, ServerReceive, ServerSend, ServerOver, ServerEnd}
+use Rattle.fk_model.specs.declared.stage.Stage.TheVariants.{Create, Destroy, Rename, Search, Point, Clear, Locate, CountIn, GetState, SetState, GetPtr, SetPtr, ClientOverRef}
+use Rattle.fk_model.specs.declared.stage.Stage.TheVariants.{SpaceHold, SpaceRelease, ThreadStop, ThreadGo, PageGive, PageTake, PageRead, PageNext, MutexLock, ClientReceiveRef}
+use Rattle.fk_model.specs.declared.stage.Stage.TheVariants.{MutexTrylock, MutexUnlock, CondWait, CondAsleep, CondSignal, CondBroadcast, Connect, ClientReceive, ServerOverRef}
+use Rattle.fk_model.specs.declared.stage.Stage.TheVariants.{ClientSend, ClientOver, Disconnect, Wait, ServerReceive, ServerSend, ServerOver, ServerEnd, ServerReceiveRef}
 use Rattle.fk_model.specs.declared.stage.Stage.TheVariants.{FaultDone, LinkSet, LinkPark, FaultSet, FaultPark, HoldSet, SpaceMakeHeld}
 use Rattle.fk_model.specs.declared.statuses.status.TheConstants.{DENIED}
 use Rattle.fk_model.specs.declared.thread.Turn.TheVariants as turns
@@ -27,11 +27,12 @@ use Rattle.laws_moves.specs.Frozen.Users.{is_users}
 use Rattle.laws_moves.specs.Frozen.Once.{IsFaultless, TouchOnce, UsersTouchOnce}
 use Rattle.laws_moves.proofs.InFrozen.once.Outcomes.{OnceOutcome, refused, waits, goes, once-when}
 use Rattle.laws_moves.proofs.InFrozen.once.Rows.{run_row-once, mutex_lock-once, mutex_trylock-once, mutex_unlock-once, cond_wait-once, cond_asleep-once}
-use Rattle.laws_moves.proofs.InFrozen.once.Rows.{cond_signal-once, cond_broadcast-once, send-once, receive-once, over-once, thread_stop-once, thread_go-once}
+use Rattle.laws_moves.proofs.InFrozen.once.Rows.{cond_signal-once, cond_broadcast-once, send-once, receive-once, over-once, receive_ref-once, over_ref-once, thread_stop-once, thread_go-once}
 use Rattle.laws_moves.proofs.InFrozen.once.Rows.{page_give-once, page_take-once, page_read-once, page_next-once}
 use Rattle.laws_moves.proofs.InFrozen.once.Objects.{create-once, destroy-once, rename-once, point-once, clear-once, search_row-once, locate-once, space_hold-once}
 use Rattle.laws_moves.proofs.InFrozen.once.Objects.{space_release-once, get_state-once, set_state-once, get_ptr-once, set_ptr-once, wait-once, connect-once}
 use Rattle.laws_moves.proofs.InFrozen.once.Objects.{disconnect-once, fault_done-once, accept_row-once, give_row-once, over_row-once}
+use Rattle.fk_model.specs.Objects.Peer.{Server}
 
 -- ---- one stage of a user's call
 
@@ -67,14 +68,18 @@ stage_row-once w c pick (CondBroadcast cond) clean off = cond_broadcast-once w c
 stage_row-once w c pick (Connect h) clean off = connect-once w c h
 stage_row-once w c pick (ClientReceive into room) clean off = receive-once w c turns.Client into room clean
 stage_row-once w c pick (ClientSend address count) clean off = send-once w c turns.Client address count clean
-stage_row-once w c pick ClientOver clean off = over-once w c turns.Client
+stage_row-once w c pick ClientOver clean off = over-once w c turns.Client None
 stage_row-once w c pick Disconnect clean off = disconnect-once w c turns.Client
+stage_row-once w c pick (ClientOverRef reference) clean off = over_ref-once w c turns.Client reference
+stage_row-once w c pick (ClientReceiveRef into room reference) clean off = receive_ref-once w c turns.Client into room reference clean
 stage_row-once w c pick (Wait set) clean off = wait-once w c pick set
 stage_row-once w c pick (ServerReceive into room) clean off = receive-once w c turns.Server into room clean
 stage_row-once w c pick (ServerSend address count) clean off = send-once w c turns.Server address count clean
-stage_row-once w c pick ServerOver clean off = over-once w c turns.Server
+stage_row-once w c pick ServerOver clean off = over-once w c turns.Server None
 stage_row-once w c pick ServerEnd clean off = disconnect-once w c turns.Server
 stage_row-once w c pick FaultDone clean off = fault_done-once w c
+stage_row-once w c pick (ServerOverRef reference) clean off = over_ref-once w c turns.Server reference
+stage_row-once w c pick (ServerReceiveRef into room reference) clean off = receive_ref-once w c turns.Server into room reference clean
 stage_row-once w c pick (LinkSet s x port server) clean off = cc
 stage_row-once w c pick (LinkPark s x port) clean off = cc
 stage_row-once w c pick (FaultSet s x port taker) clean off = cc

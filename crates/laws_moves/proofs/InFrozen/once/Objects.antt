@@ -211,7 +211,7 @@ if_receiving-once : (w : World) (x : Path) (go : Path → ℕ × ℕ → Outcome
     ((x : Path) (space : ℕ × ℕ) → OnceOutcome w (go x space)) → OnceOutcome w (if_receiving w x go t)
 if_receiving-once w x go t going = elim (cases_Bool (is_free w (parent x) t && holds (λ (talk : Talk). same_side talk.turn turns.Server) t.talk)) [
   | inr off ↦ rw off waits
-  | inl on ↦ rw on (elim (is (receiving turns.Client t.mode)) [ Absent e ↦ rw e waits | Present space e ↦ rw e (going x space) ])
+  | inl on ↦ rw on (elim (is (receiving w (parent x) turns.Client t.mode)) [ Absent e ↦ rw e waits | Present space e ↦ rw e (going x space) ])
 ]
 
 with_client-once : (w : World) (port : Path) (go : Path → ℕ × ℕ → Outcome) →
@@ -235,4 +235,4 @@ give_row-once w port (word ∷ words) = with_client-once w port (gives_to w port
 
 pub over_row-once : (w : World) (port : Path) → OnceOutcome w (over_row w port)
 unfolding over_row
-over_row-once w port = with_client-once w port (passes_client port) (λ x receive. goes tt)
+over_row-once w port = with_client-once w port (passes_client w port) (λ x receive. goes tt)

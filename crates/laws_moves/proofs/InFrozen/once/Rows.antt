@@ -6,28 +6,28 @@ use Rattle.fk_model.specs.declared.instruction.Act.TheVariants.{Load, Store, Cal
 use Rattle.fk_model.specs.declared.limits.TheConstants.{SLOTS, PAGE_WORDS, ZEROS}
 use Rattle.fk_model.specs.declared.stage.Stage.{Stage}
 use Rattle.fk_model.specs.declared.thread.Turn.{Turn}
-use Rattle.fk_model.specs.Places.{Path, parent}
+use Rattle.fk_model.specs.Places.{Path, parent, Ptr}
 use Rattle.fk_model.specs.Objects.{Peer, Thread}
 use Rattle.fk_model.specs.Objects.Peer.{Server, Service, Parked}
 use Rattle.fk_model.specs.Calls.{todo_of}
 use Rattle.fk_model.specs.Instructions.{act}
 use Rattle.fk_model.specs.World.{World, Change}
 use Rattle.fk_model.specs.World.Change.{Alter, PutPage, DropPage}
-use Rattle.fk_model.specs.World.Edit.{CountMoved, Shift}
+use Rattle.fk_model.specs.World.Edit.{CountMoved, Shift, PassTurn}
 use Rattle.fk_model.specs.Searches.{slots}
 use Rattle.fk_model.specs.Reach.{reach_word, words_at}
 use Rattle.fk_model.specs.Outcomes.{Said, Outcome, Caller, path_of, done}
 use Rattle.fk_model.specs.Outcomes.Said.{Nothing}
 use Rattle.fk_model.specs.Outcomes.Outcome.{Waits}
-use Rattle.fk_model.specs.Talks.{Line, thread_led_to}
+use Rattle.fk_model.specs.Talks.{Line, thread_led_to, awaited, other_side}
 use Rattle.fk_model.specs.UserRows.{word_at, halts_with, loads, stores, enters, performs, executes, run_row, run_row_by}
 use Rattle.fk_model.specs.SyncRows.{mutex_lock, mutex_trylock, mutex_unlock, cond_wait, cond_asleep, woken, asleep_on, sleepers, signals, unless_slept_on}
 use Rattle.fk_model.specs.SyncRows.{picks_sleeper, cond_signal, cond_broadcast}
-use Rattle.fk_model.specs.TransferRows.{overwritten, block, moved_words, has_sent, sends_words, sends_into, sends_to_thread, sends_to, sends, send, awaits}
-use Rattle.fk_model.specs.TransferRows.{receive, passes_to_thread, passes_to, over}
+use Rattle.fk_model.specs.TransferRows.{overwritten, block, moved_words, has_sent, sends_words, sends_into, sends_to_thread, sends_to, sends, send, awaits, over_ref}
+use Rattle.fk_model.specs.TransferRows.{receive, passes_to_thread, passes_to, over, receive_ref, takes_turn}
 use Rattle.fk_model.specs.SpaceRows.{thread_stop, thread_go, gives_page, gives_from, page_give, copies, copies_home, answers_home, copies_to, page_take}
 use Rattle.fk_model.specs.SpaceRows.{page_read, page_next}
-use Rattle.laws_moves.specs.Frozen.Once.{AreMild, IsFaultless}
+use Rattle.laws_moves.specs.Frozen.Once.{AreMild, IsFaultless, TouchOnce}
 use Rattle.laws_moves.proofs.InFrozen.once.Outcomes.{OnceOutcome, waits, goes, mild-then, mild-once, once-when, once-if, once-done, once-telling, once_row}
 use Rattle.laws_moves.proofs.InFrozen.once.Outcomes.{accessed-once, own_page-once, their_page-once}
 
@@ -166,18 +166,35 @@ pub receive-once : (w : World) (c : Caller) (side : Turn) (into room : ℕ) → 
 unfolding receive
 receive-once w c side into room clean = search (once_row, awaits-once)
 
-passes_to_thread-once : (w : World) (c : Caller) (side : Turn) (client : Path) (e : Option (Path × Thread)) → OnceOutcome w (passes_to_thread w c side client e)
-passes_to_thread-once w c side client None = waits
-passes_to_thread-once w c side client (Some e) = search (once-when, once-done)
+pub receive_ref-once : (w : World) (c : Caller) (side : Turn) (into room reference : ℕ) → IsFaultless w (path_of c) →
+    OnceOutcome w (receive_ref w c side into room reference)
+unfolding receive_ref
+receive_ref-once w c side into room reference clean = search (once_row, receive-once)
 
-passes_to-once : (w : World) (c : Caller) (side : Turn) (l : Line) (peer : Peer) → OnceOutcome w (passes_to w c side l peer)
-passes_to-once w c side l (Server thread) = passes_to_thread-once w c side l.client (thread_led_to w thread)
-passes_to-once w c side l Service = search (once-when, once-telling, once-done)
-passes_to-once w c side l Parked = waits
+-- the pointer that goes with a turn is the one that is set
+takes_turn-once : (w : World) (y client : Path) (turn : Turn) (carried : Option Ptr) (to : Option ℕ) →
+    TouchOnce w (takes_turn y carried to ++ Alter client (PassTurn turn) ∷ [])
+takes_turn-once w y client turn None to = tt
+takes_turn-once w y client turn (Some p) None = tt
+takes_turn-once w y client turn (Some p) (Some k) = (tt, (refl, (refl, tt)))
 
-pub over-once : (w : World) (c : Caller) (side : Turn) → OnceOutcome w (over w c side)
+passes_to_thread-once : (w : World) (c : Caller) (side : Turn) (client : Path) (carried : Option Ptr) (e : Option (Path × Thread)) →
+    OnceOutcome w (passes_to_thread w c side client carried e)
+passes_to_thread-once w c side client carried None = waits
+passes_to_thread-once w c side client carried (Some e) = search (once-when, once-done, takes_turn-once)
+
+passes_to-once : (w : World) (c : Caller) (side : Turn) (l : Line) (carried : Option Ptr) (peer : Peer) → OnceOutcome w (passes_to w c side l carried peer)
+passes_to-once w c side l carried (Server thread) = passes_to_thread-once w c side l.client carried (thread_led_to w thread)
+passes_to-once w c side l carried Service = search (once-when, once-telling, once-done)
+passes_to-once w c side l carried Parked = waits
+
+pub over-once : (w : World) (c : Caller) (side : Turn) (carried : Option Ptr) → OnceOutcome w (over w c side carried)
 unfolding over
-over-once w c side = search (once_row, passes_to-once)
+over-once w c side carried = search (once_row, passes_to-once)
+
+pub over_ref-once : (w : World) (c : Caller) (side : Turn) (reference : ℕ) → OnceOutcome w (over_ref w c side reference)
+unfolding over_ref
+over_ref-once w c side reference = search (once_row, over-once)
 
 -- ---- stop counts and pages
 

@@ -7,7 +7,7 @@ use Rattle.fk_model.specs.declared.moves.Ask.{Ask}
 use Rattle.fk_model.specs.declared.names.Kind.TheVariants as kinds
 use Rattle.fk_model.specs.declared.stage.Stage.{Stage}
 use Rattle.fk_model.specs.declared.stage.Stage.TheVariants.{LinkSet, LinkPark, FaultSet, FaultPark}
-use Rattle.fk_model.specs.Places.{Path, Ptr, leads_to}
+use Rattle.fk_model.specs.Places.{Path, parent, Ptr, leads_to}
 use Rattle.fk_model.specs.Places.Ptr.{At}
 use Rattle.fk_model.specs.Objects.{Talk, Thread, Body, thread_of, reference_of, and_then}
 use Rattle.fk_model.specs.Objects.Body.{Thread_of}
@@ -32,12 +32,13 @@ use Rattle.laws_moves.specs.Rows.Stages.{Sets, Work, Step}
 use Rattle.laws_moves.specs.Rows.Stages.Sets.{Points, Clears, Gets_pointer, Sets_pointer, Holds, Releases, Restores_hold, Takes_fault, Resumes, Frees}
 use Rattle.laws_moves.specs.Rows.Stages.Sets.{Restores_talk, Parks_talk, Restores_fault, Parks_fault}
 use Rattle.laws_moves.specs.Rows.Stages.Work.{Looks, Edits, Makes, Makes_held, Kills, Renames, Writes_record, Sets_record, Gives, Copies, Drops, Sleeps, Wakes_all}
-use Rattle.laws_moves.specs.Rows.Stages.Work.{Takes_client, Hangs_up, Sends, Sends_service, Passes}
+use Rattle.laws_moves.specs.Rows.Stages.Work.{Takes_client, Hangs_up, Sends, Sends_service, Passes, Hands_over, Hands_over}
 use Rattle.laws_moves.specs.Rows.Stages.Step.{Is_refused, Is_waiting, Raises, Answers, Stays, Finishes, Ends}
 use Rattle.laws_moves.specs.Rows.Moves.{Instructs, Serves, Lists}
 use Rattle.laws_moves.specs.Rows.Moves.Instructs.{Goes_on, Stores, Faults}
 use Rattle.laws_moves.specs.Rows.Moves.Serves.{Waits_for_client, Accepts, Takes_up, Gives_nothing, Finds_no_room, Gives_words, Passes_client}
 use Rattle.laws_moves.specs.Rows.Moves.Lists.{Moves_not, Runs, Calls, Is_told_no, Asks, Is_answered_no, Acts}
+use Rattle.laws_moves.proofs.InRows.Handles.{reference-in}
 use Rattle.laws_moves.proofs.InRows.Walk.{new_all, drops-all, ends-all, ends-then, sleepers-all}
 use Rattle.laws_moves.proofs.InRows.Moves.{moves-listed}
 use Rattle.laws_moves.proofs.InMachine.safety.Safe.{IsSafeEdit, IsSafePeer, AreSafe}
@@ -159,7 +160,10 @@ module _ (w : World) (facts : Facts w) where
         (home _ receive.0 true t other to, (tt, (tt, (tt, tt))))
     work fit (Sleeps cond m) = (tt, (tt, tt))
     work fit (Sends_service stage side l address count here at) = (tt, (tt, tt))
-    work fit (Passes stage side l thread e here at led free) = (tt, (tt, tt))
+    work fit (Passes stage side l thread e to carried here at led free awaits) = (tt, (tt, tt))
+    work fit (Hands_over stage side l thread e k slot p here at led free awaits there read may) =
+        let waits = reference-in w (parent e.0) k there in
+        (takes-at w (k ∷ parent e.0) p waits.old waits.there (reference-leads w _ p facts.valid (reference c.space slot p read)), (tt, (tt, tt)))
     work fit (Drops s page address space words place there porter) = (tt, tt)
 
     step : {stage : Stage} {o : Outcome} → is_fit_stage w c stage ≡ true → Step w c pick stage o → SafeIn w o
@@ -211,7 +215,7 @@ module _ (w : World) (facts : Facts w) where
   serves (Gives_nothing words len) = tt
   serves (Finds_no_room words len x t receive there is full) = (tt, tt)
   serves (Gives_words words len x t receive s page there is at) = (home _ receive.0 true s page at, (tt, (tt, tt)))
-  serves (Passes_client x at) = (tt, (tt, tt))
+  serves (Passes_client x to at awaits) = (tt, (tt, tt))
 
 -- ---- who moves
 

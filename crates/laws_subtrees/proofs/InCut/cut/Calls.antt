@@ -5,8 +5,8 @@ use Rattle.std.proofs.lemmas.Bool.{and_parts}
 use Rattle.fk_model.specs.declared.names.Kind.TheVariants as kinds
 use Rattle.fk_model.specs.declared.moves.Ask.TheVariants as asks
 use Rattle.fk_model.specs.declared.stage.Stage.{Stage}
-use Rattle.fk_model.specs.declared.stage.Stage.TheVariants.{ClientSend, ClientOver, Wait, ServerSend, ServerOver, ServerEnd, FaultDone, PageGive, PageTake}
-use Rattle.fk_model.specs.declared.stage.Stage.TheVariants.{CountIn, LinkSet, LinkPark, FaultSet, FaultPark, HoldSet, SpaceMakeHeld}
+use Rattle.fk_model.specs.declared.stage.Stage.TheVariants.{ClientSend, ClientOver, Wait, ServerSend, ServerOver, ServerEnd, FaultDone, PageGive, PageTake, ClientOverRef}
+use Rattle.fk_model.specs.declared.stage.Stage.TheVariants.{CountIn, LinkSet, LinkPark, FaultSet, FaultPark, HoldSet, SpaceMakeHeld, ServerOverRef}
 use Rattle.fk_model.specs.declared.statuses.status.TheConstants.{DENIED, HELD}
 use Rattle.fk_model.specs.Readers.{space_argument, object_in, referred}
 use Rattle.fk_model.specs.Seen.Seen.{Onwards, Unseen, Other}
@@ -79,7 +79,7 @@ porter_is w x pick stage words (Some t) ready = by (is_porter t.mode) (is_unheld
 -- ---- a stage that touches nothing and whose changes are quiet
 
 answered : (root x : Path) (words : List ℕ) (o : Outcome) → Quiet root o → Quiet root (closed (porter_at x words) o)
-answered root x words (Refused status) h = record { quiet = tt; mute = λ y. refl }
+answered root x words (Refused status) h = record { quiet = tt; mute = λ v y. refl }
 answered root x words Waits h = h
 answered root x words (Goes cs said) h = h
 
@@ -172,6 +172,7 @@ quiet-denied root w x pick stage porters = rw (denied_stage w x pick stage porte
 pub silent-denied : (w : World) (n : ℕ) (c : Caller) (o : Outcome) (stage : Stage) → is_for_porters stage ≡ true → outside_row w c n stage o ≡ o
 silent-denied w n c o (ClientSend address count) porters = cc
 silent-denied w n c o ClientOver porters = cc
+silent-denied w n c o (ClientOverRef reference) porters = cc
 silent-denied w n c o stage porters = refl
 
 untouching-denied : (w : World) (root : Path) (c : Caller) (pick : Option Path) (cs : List Change) (stage : Stage) →
@@ -179,6 +180,7 @@ untouching-denied : (w : World) (root : Path) (c : Caller) (pick : Option Path) 
 untouching-denied w root c pick cs (Wait set) porters = cc
 untouching-denied w root c pick cs (ServerSend address count) porters = cc
 untouching-denied w root c pick cs ServerOver porters = cc
+untouching-denied w root c pick cs (ServerOverRef reference) porters = cc
 untouching-denied w root c pick cs ServerEnd porters = cc
 untouching-denied w root c pick cs FaultDone porters = cc
 untouching-denied w root c pick cs (PageGive s page address) porters = cc
@@ -283,7 +285,7 @@ quietly-talk : (root : Path) (c : Caller) (x : Path) (port : Ptr) (peer : Peer) 
 quietly-talk root c x port peer = by c.is_porter
   where
     by : (porter : Bool) → QuietIf root (done_at (path_of c) (record c { is_porter = porter }) (Alter x (SetTalk (given_talk c port peer)) ∷ []) [])
-    by true off = record { quiet = ((λ out. if_outside (is_within root x) (is_inner_peer root peer) _ off out), tt); mute = λ y. refl }
+    by true off = record { quiet = ((λ out. if_outside (is_within root x) (is_inner_peer root peer) _ off out), tt); mute = λ v y. refl }
     by false off = quiet-goes ((λ out. if_outside (is_within root x) (is_inner_peer root peer) _ off out), (tt, tt))
 
 quietly-fault : (root : Path) (c : Caller) (x : Path) (port : Ptr) (taker : Option Peer) →
@@ -291,7 +293,7 @@ quietly-fault : (root : Path) (c : Caller) (x : Path) (port : Ptr) (taker : Opti
 quietly-fault root c x port taker = by c.is_porter
   where
     by : (porter : Bool) → QuietIf root (done_at (path_of c) (record c { is_porter = porter }) (Alter x (SetFault (given_fault c port taker)) ∷ []) [])
-    by true off = record { quiet = ((λ out. if_outside (is_within root x) (holds (is_inner_peer root) taker) _ off out), tt); mute = λ y. refl }
+    by true off = record { quiet = ((λ out. if_outside (is_within root x) (holds (is_inner_peer root) taker) _ off out), tt); mute = λ v y. refl }
     by false off = quiet-goes ((λ out. if_outside (is_within root x) (holds (is_inner_peer root) taker) _ off out), (tt, tt))
 
 quietly-link_set : (root : Path) (w : World) (c : Caller) (s x port server : ℕ) → QuietIf root (link_set w c s x port server)
@@ -324,7 +326,7 @@ unfolding call_row
 quietly-porter root w x words pick stage users h = rw users (by (chooses stage) pick (stage_row w (porter_at x words) pick stage) h)
   where
     by : (chosen : Bool) (pick : Option Path) (o : Outcome) → QuietIf root o → QuietIf root (closed (porter_at x words) (with_pick chosen pick o))
-    by chosen None (Refused status) h off = record { quiet = tt; mute = λ y. refl }
+    by chosen None (Refused status) h off = record { quiet = tt; mute = λ v y. refl }
     by chosen (Some y) (Refused status) h off = quiet-waits
     by chosen pick Waits h off = quiet-waits
     by true pick (Goes cs said) h off = h off

@@ -41,19 +41,19 @@ use Rattle.fk_model.specs.Searches.{thread_at}
 -- the outside hears nothing of it but by its changes
 pub record Quiet (root : Path) (o : Outcome) : Type 0 where
   pub quiet : AreQuiet root (listed o)
-  pub mute : (x : Path) → told_by_said x (outcome_said o) ≡ []
+  pub mute : (v : World) (x : Path) → told_by_said v x (outcome_said o) ≡ []
 
 pub quiet-refused : {root : Path} {status : ℕ} → Quiet root (Refused status)
-quiet-refused = record { quiet = tt; mute = λ x. refl }
+quiet-refused = record { quiet = tt; mute = λ v x. refl }
 
 pub quiet-waits : {root : Path} → Quiet root Waits
-quiet-waits = record { quiet = tt; mute = λ x. refl }
+quiet-waits = record { quiet = tt; mute = λ v x. refl }
 
 pub quiet-goes : {root : Path} {cs : List Change} → AreQuiet root cs → Quiet root (Goes cs Nothing)
-quiet-goes quiet = record { quiet = quiet; mute = λ x. refl }
+quiet-goes quiet = record { quiet = quiet; mute = λ v x. refl }
 
 quiet-answers : {root : Path} {cs : List Change} {status : ℕ} {words : List ℕ} → AreQuiet root cs → Quiet root (Goes cs (Answered status words))
-quiet-answers quiet = record { quiet = quiet; mute = λ x. refl }
+quiet-answers quiet = record { quiet = quiet; mute = λ v x. refl }
 
 pub quiet-then : (root : Path) (cs ds : List Change) → AreQuiet root cs → AreQuiet root ds → AreQuiet root (cs ++ ds)
 quiet-then root [] ds h g = g
@@ -71,7 +71,7 @@ pub quiet-bind : {A : Type 0} (root : Path) (r : Result A ℕ) (go : A → Outco
 quiet-bind root (Ok a) go quiet = quiet a refl
 quiet-bind root (Err status) go quiet = quiet-refused
 
-pub quiet-telling : (root : Path) (said : Said) (o : Outcome) → ((x : Path) → told_by_said x said ≡ []) → Quiet root o → Quiet root (telling said o)
+pub quiet-telling : (root : Path) (said : Said) (o : Outcome) → ((v : World) (x : Path) → told_by_said v x said ≡ []) → Quiet root o → Quiet root (telling said o)
 quiet-telling root said (Goes cs Nothing) hush h = record { quiet = h.quiet; mute = hush }
 quiet-telling root said o hush h = h
 

@@ -30,6 +30,7 @@ use Rattle.laws_subtrees.proofs.InCut.cut.Outside.{stage_outside}
 use Rattle.laws_subtrees.specs.Cut.RebindLaws.{StageRebinds}
 use Rattle.laws_subtrees.proofs.InCut.rebinding.Rebound.{own_rebinds}
 use Rattle.laws_subtrees.proofs.InCut.likeness.ObjectRows.{rename-like}
+use Rattle.fk_model.specs.Records.{set}
 
 -- ---- a rename, inside
 
@@ -89,24 +90,24 @@ quiet-ends : (root : Path) (ends : List Path) → AreQuiet root (end_all ends)
 quiet-ends root [] = tt
 quiet-ends root (x ∷ ends) = (tt, quiet-ends root ends)
 
-hush_client : (y : Path) (o : Option Talk) → told_by_said y (told_client o) ≡ []
-hush_client y None = refl
-hush_client y (Some talk) = by talk.peer
+hush_client : (v : World) (y : Path) (o : Option Talk) → told_by_said v y (told_client o) ≡ []
+hush_client v y None = refl
+hush_client v y (Some talk) = by talk.peer
   where
-    by : (peer : Peer) → told_by_said y (told_client (Some (record talk { peer = peer }))) ≡ []
+    by : (peer : Peer) → told_by_said v y (told_client (Some (record talk { peer = peer }))) ≡ []
     by (Server thread) = refl
     by Service = refl
     by Parked = refl
 
-hush_port : (y x : Path) (o : Option Path) → told_by_said y (told_port x o) ≡ []
-hush_port y x None = refl
-hush_port y x (Some client) = refl
+hush_port : (v : World) (y x : Path) (o : Option Path) → told_by_said v y (told_port x o) ≡ []
+hush_port v y x None = refl
+hush_port v y x (Some client) = refl
 
-hush : (w : World) (x : Path) (v : Option Body) (y : Path) → told_by_said y (told_with w x v) ≡ []
-hush w x (Some (Thread_of t)) y = hush_client y t.talk
-hush w x (Some (Port set served)) y = hush_port y x (client_at w x)
-hush w x (Some b) y = refl
-hush w x None y = refl
+hush : (w : World) (x : Path) (o : Option Body) (v : World) (y : Path) → told_by_said v y (told_with w x o) ≡ []
+hush w x (Some (Thread_of t)) v y = hush_client v y t.talk
+hush w x (Some (Port set served)) v y = hush_port v y x (client_at w x)
+hush w x (Some b) v y = refl
+hush w x None v y = refl
 
 quiet-destroys : (root : Path) (w : World) (c : Caller) (x gone : Path) → Quiet root (destroys w c x gone)
 quiet-destroys root w c x gone = quiet-telling root (told_with w gone (w.body gone)) _ (hush w gone (w.body gone)) (by (same_path gone x))

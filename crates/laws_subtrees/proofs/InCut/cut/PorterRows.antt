@@ -55,7 +55,7 @@ module _ (root : Path) (w : World) (x : Path) (words : List ℕ) (a b : ℕ) whe
   view-with_pick pick (Goes cs said) h = view-when (is_none pick) (Goes cs said) h
 
   view-closed : (o : Outcome) → View o → View (closed c o)
-  view-closed (Refused status) h = inl (record { quiet = tt; mute = λ y. refl })
+  view-closed (Refused status) h = inl (record { quiet = tt; mute = λ v y. refl })
   view-closed Waits h = h
   view-closed (Goes cs said) h = h
 
@@ -105,7 +105,7 @@ module _ (w : World) (nester : Path) (slot : ℕ) (plain : IsPlain w nester slot
       by true e = absurd (gone w nester slot plain _ (left a b v.0 (full w nester slot plain (b ∷ v.0) v.2) (same_path_eq (a ∷ v.0) top e)) here)
       by false e = stepped-plain w nester slot plain o (rw v.3 (record {
         quiet = (within_slot top v.0 b (full w nester slot plain (b ∷ v.0) v.2) ∙ sym (within_slot top v.0 a e), tt);
-        mute = λ y. refl;
+        mute = λ v y. refl;
       })) same
 
   abbrev renaming : Path → Option Path → List ℕ → ℕ → ℕ → ℕ → Event

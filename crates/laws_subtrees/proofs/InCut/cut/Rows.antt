@@ -2,16 +2,16 @@
 use Rattle.std.proofs.Common.{ℕ, eqb, Bool, true, false, cond, not, [], ◌∷◌, Option, Some, None, IfSome, refl, ◌≡◌, List, map, flat_map, ◌++◌}
 use Rattle.fk_model.specs.declared.thread.Turn.TheVariants as turns
 use Rattle.fk_model.specs.declared.thread.Turn.{Turn}
-use Rattle.fk_model.specs.declared.stage.Stage.TheVariants.{Create, Search, Point, Clear, Locate, GetState, SetState, GetPtr, SetPtr, SpaceHold, SpaceRelease}
-use Rattle.fk_model.specs.declared.stage.Stage.TheVariants.{ThreadStop, ThreadGo, PageGive, PageTake, PageRead, PageNext, MutexLock, MutexTrylock, MutexUnlock}
-use Rattle.fk_model.specs.declared.stage.Stage.TheVariants.{CondWait, CondAsleep, CondBroadcast, Connect, ClientReceive, ClientSend, ClientOver, Wait}
+use Rattle.fk_model.specs.declared.stage.Stage.TheVariants.{Create, Search, Point, Clear, Locate, GetState, SetState, GetPtr, SetPtr, SpaceHold, SpaceRelease, ClientOverRef}
+use Rattle.fk_model.specs.declared.stage.Stage.TheVariants.{ThreadStop, ThreadGo, PageGive, PageTake, PageRead, PageNext, MutexLock, MutexTrylock, MutexUnlock, ClientReceiveRef}
+use Rattle.fk_model.specs.declared.stage.Stage.TheVariants.{CondWait, CondAsleep, CondBroadcast, Connect, ClientReceive, ClientSend, ClientOver, Wait, ServerOverRef}
 use Rattle.fk_model.specs.declared.stage.Stage.TheVariants.{ServerSend, ServerOver, ServerEnd, FaultDone}
 use Rattle.fk_model.specs.declared.limits.TheConstants.{SLOTS}
 use Rattle.fk_model.specs.declared.stage.Stage.{Stage}
 use Rattle.fk_model.specs.Seen.{stage_touch}
 use Rattle.fk_model.specs.Further.{outside_row}
 use Rattle.fk_model.specs.Moves.{stage_row}
-use Rattle.fk_model.specs.TransferRows.{awaits, receive}
+use Rattle.fk_model.specs.TransferRows.{awaits, receive, receive_ref}
 use Rattle.fk_model.specs.Outcomes.Outcome.{Waits}
 use Rattle.fk_model.specs.Holds.{is_frozen}
 use Rattle.fk_model.specs.Searches.{slots}
@@ -34,7 +34,7 @@ use Rattle.laws_subtrees.specs.Cut.LikeChanges.{IsLikeOutcome}
 use Rattle.laws_subtrees.specs.Cut.Likeness.{IsLikeness}
 use Rattle.laws_subtrees.specs.Cut.RebindLaws.{StageRebinds}
 use Rattle.laws_subtrees.specs.Cut.CutLaws.{IsPlainStage, StageKeepsCut}
-use Rattle.laws_subtrees.proofs.InCut.likeness.PlainRows.{mutex_trylock-like, mutex_unlock-like, cond_wait-like, cond_asleep-like, cond_broadcast-like, space_release-like}
+use Rattle.laws_subtrees.proofs.InCut.likeness.PlainRows.{mutex_trylock-like, mutex_unlock-like, cond_wait-like, cond_asleep-like, cond_broadcast-like, space_release-like, receive_ref-like}
 use Rattle.laws_subtrees.proofs.InCut.likeness.PlainRows.{thread_go-like, page_read-like, page_next-like, search-like, locate-like, clear-like, get_ptr-like, set_ptr-like}
 use Rattle.laws_subtrees.proofs.InCut.likeness.PlainRows.{no_porter, set_state-like, connect-like, client_turns, receive-like}
 use Rattle.laws_subtrees.proofs.InCut.likeness.Rows.{mutex_lock-like, thread_stop-like}
@@ -232,6 +232,10 @@ pub quiet-receive : (root : Path) (w : World) (c : Caller) (side : Turn) (into r
 unfolding receive
 quiet-receive root w c side into room = search (quiet_row, quiet-awaits) depth 9
 
+pub quiet-receive_ref : (root : Path) (w : World) (c : Caller) (side : Turn) (into room reference : ℕ) → Quiet root (receive_ref w c side into room reference)
+unfolding receive_ref
+quiet-receive_ref root w c side into room reference = search (quiet_row, quiet-receive) depth 9
+
 -- ---- which changes the plain stages make
 
 quiet-plain : (root : Path) (w : World) (c : Caller) (pick : Option Path) (stage : Stage) → IsPlainStage stage → Quiet root (stage_row w c pick stage)
@@ -258,6 +262,7 @@ quiet-plain root w c pick (CondAsleep slot m) such = quiet-cond_asleep root w c 
 quiet-plain root w c pick (CondBroadcast slot) such = quiet-cond_broadcast root w c slot
 quiet-plain root w c pick (Connect h) such = quiet-connect root w c h
 quiet-plain root w c pick (ClientReceive into room) such = quiet-receive root w c turns.Client into room
+quiet-plain root w c pick (ClientReceiveRef into room reference) such = quiet-receive_ref root w c turns.Client into room reference
 quiet-plain root w c pick stage such = cc
 
 -- ---- they act alike
@@ -289,6 +294,8 @@ alike-plain root see small big like free k q p pick (CondBroadcast slot) such = 
 alike-plain root see small big like free k q p pick (Connect h) such = connect-like like (user_at (k ∷ q)) h
 alike-plain root see small big like free k q p pick (ClientReceive into room) such =
     receive-like like (user_at (k ∷ q)) turns.Client into room (client_turns like k q)
+alike-plain root see small big like free k q p pick (ClientReceiveRef into room reference) such =
+    receive_ref-like like (user_at (k ∷ q)) turns.Client into room reference (client_turns like k q)
 alike-plain root see small big like free k q p pick stage such = cc
 
 -- ---- a peer outside makes nothing else of them, and they touch nothing
@@ -296,6 +303,7 @@ alike-plain root see small big like free k q p pick stage such = cc
 silent-plain : (w : World) (n : ℕ) (c : Caller) (o : Outcome) (stage : Stage) → IsPlainStage stage → outside_row w c n stage o ≡ o
 silent-plain w n c o (ClientSend address count) such = cc
 silent-plain w n c o ClientOver such = cc
+silent-plain w n c o (ClientOverRef reference) such = cc
 silent-plain w n c o stage such = refl
 
 untouching-plain : (w : World) (root : Path) (c : Caller) (pick : Option Path) (cs : List Change) (stage : Stage) →
@@ -303,6 +311,7 @@ untouching-plain : (w : World) (root : Path) (c : Caller) (pick : Option Path) (
 untouching-plain w root c pick cs (Wait set) such = cc
 untouching-plain w root c pick cs (ServerSend address count) such = cc
 untouching-plain w root c pick cs ServerOver such = cc
+untouching-plain w root c pick cs (ServerOverRef reference) such = cc
 untouching-plain w root c pick cs ServerEnd such = cc
 untouching-plain w root c pick cs FaultDone such = cc
 untouching-plain w root c pick cs (PageGive s page address) such = cc

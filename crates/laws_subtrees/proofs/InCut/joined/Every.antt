@@ -3,10 +3,10 @@ use Rattle.std.proofs.Common.{◌≡◌, ℕ, Bool, true, false, List, ◌∷◌
 use Rattle.fk_model.specs.declared.moves.Ask.{Ask}
 use Rattle.fk_model.specs.declared.moves.Ask.TheVariants as asks
 use Rattle.fk_model.specs.declared.stage.Stage.{Stage}
-use Rattle.fk_model.specs.declared.stage.Stage.TheVariants.{Create, Destroy, Rename, Search, Point, Clear, Locate, CountIn, GetState, SetState, GetPtr, SetPtr}
-use Rattle.fk_model.specs.declared.stage.Stage.TheVariants.{SpaceHold, SpaceRelease, ThreadStop, ThreadGo, PageGive, PageTake, PageRead, PageNext, MutexLock}
-use Rattle.fk_model.specs.declared.stage.Stage.TheVariants.{MutexTrylock, MutexUnlock, CondWait, CondAsleep, CondSignal, CondBroadcast, Connect, ClientReceive}
-use Rattle.fk_model.specs.declared.stage.Stage.TheVariants.{ClientSend, ClientOver, Disconnect, Wait, ServerReceive, ServerSend, ServerOver, ServerEnd}
+use Rattle.fk_model.specs.declared.stage.Stage.TheVariants.{Create, Destroy, Rename, Search, Point, Clear, Locate, CountIn, GetState, SetState, GetPtr, SetPtr, ClientOverRef}
+use Rattle.fk_model.specs.declared.stage.Stage.TheVariants.{SpaceHold, SpaceRelease, ThreadStop, ThreadGo, PageGive, PageTake, PageRead, PageNext, MutexLock, ClientReceiveRef}
+use Rattle.fk_model.specs.declared.stage.Stage.TheVariants.{MutexTrylock, MutexUnlock, CondWait, CondAsleep, CondSignal, CondBroadcast, Connect, ClientReceive, ServerOverRef}
+use Rattle.fk_model.specs.declared.stage.Stage.TheVariants.{ClientSend, ClientOver, Disconnect, Wait, ServerReceive, ServerSend, ServerOver, ServerEnd, ServerReceiveRef}
 use Rattle.fk_model.specs.declared.stage.Stage.TheVariants.{FaultDone, LinkSet, LinkPark, FaultSet, FaultPark, HoldSet, SpaceMakeHeld}
 use Rattle.fk_model.specs.Places.{Path, is_within}
 use Rattle.fk_model.specs.World.{World}
@@ -19,7 +19,7 @@ use Rattle.laws_subtrees.proofs.InCut.cut.PorterTakes.{page_take_call}
 use Rattle.laws_subtrees.proofs.InCut.cut.GivenPages.{page_give_user, page_give_call}
 use Rattle.laws_subtrees.proofs.InCut.talks.Accepts.{accept_keeps}
 use Rattle.laws_subtrees.proofs.InCut.talks.Given.{server_words_keep}
-use Rattle.laws_subtrees.proofs.InCut.talks.Handed.{server_turn_keeps}
+use Rattle.laws_subtrees.proofs.InCut.talks.Handed.{server_turn_keeps, server_turn_ref_keeps}
 use Rattle.laws_subtrees.proofs.InCut.talks.Left.{left_keeps}
 use Rattle.laws_subtrees.proofs.InCut.talks.Natives.{give_keeps, over_keeps}
 use Rattle.laws_subtrees.proofs.InCut.waits.Outside.{wait_outside_keeps}
@@ -38,6 +38,7 @@ module _ (w : World) (nester : Path) (slot : ℕ) (x : Path) (outside : is_withi
   by_stage ServerOver at = server_turn_keeps w nester slot x pick ServerOver refl at
   by_stage ServerEnd at = left_keeps w nester slot x pick ServerEnd refl outside at
   by_stage FaultDone at = fault_done_user w nester slot x pick FaultDone refl at
+  by_stage (ServerOverRef reference) at = server_turn_ref_keeps w nester slot x pick (ServerOverRef reference) (reference, refl) at
   by_stage other at = either_side w nester slot x pick other refl at
 
   calls : (stage : Stage) (words : List ℕ) → KeepsCut w nester slot (record { mover = x; pick = pick; ask = asks.Call stage words })
@@ -73,12 +74,16 @@ module _ (w : World) (nester : Path) (slot : ℕ) (x : Path) (outside : is_withi
   calls (ClientSend address count) words = denied_calls_keep w nester slot x pick (ClientSend address count) words refl
   calls ClientOver words = denied_calls_keep w nester slot x pick ClientOver words refl
   calls Disconnect words = denied_calls_keep w nester slot x pick Disconnect words refl
+  calls (ClientOverRef reference) words = denied_calls_keep w nester slot x pick (ClientOverRef reference) words refl
+  calls (ClientReceiveRef into room reference) words = denied_calls_keep w nester slot x pick (ClientReceiveRef into room reference) words refl
   calls (Wait set) words = wait_call_keeps w nester slot x pick (Wait set) words (set, refl)
   calls (ServerReceive into room) words = denied_calls_keep w nester slot x pick (ServerReceive into room) words refl
   calls (ServerSend address count) words = denied_calls_keep w nester slot x pick (ServerSend address count) words refl
   calls ServerOver words = denied_calls_keep w nester slot x pick ServerOver words refl
   calls ServerEnd words = denied_calls_keep w nester slot x pick ServerEnd words refl
   calls FaultDone words = fault_done_call w nester slot x pick FaultDone words refl
+  calls (ServerOverRef reference) words = denied_calls_keep w nester slot x pick (ServerOverRef reference) words refl
+  calls (ServerReceiveRef into room reference) words = denied_calls_keep w nester slot x pick (ServerReceiveRef into room reference) words refl
   calls (LinkSet s y port server) words = named_calls_keep w nester slot x pick (LinkSet s y port server) words refl
   calls (LinkPark s y port) words = serverless_calls_keep w nester slot x pick (LinkPark s y port) words refl
   calls (FaultSet s y port taker) words = named_calls_keep w nester slot x pick (FaultSet s y port taker) words refl

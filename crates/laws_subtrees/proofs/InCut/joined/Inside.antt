@@ -3,7 +3,7 @@ use Rattle.std.proofs.Common.{◌≡◌, ℕ, true, false, List, ◌∷◌, Opti
 use Rattle.fk_model.specs.declared.moves.Ask.{Ask}
 use Rattle.fk_model.specs.declared.moves.Ask.TheVariants as asks
 use Rattle.fk_model.specs.declared.stage.Stage.{Stage}
-use Rattle.fk_model.specs.declared.stage.Stage.TheVariants.{Destroy, Rename, PageGive, Wait, ServerSend, ServerOver, ServerEnd, FaultDone}
+use Rattle.fk_model.specs.declared.stage.Stage.TheVariants.{Destroy, Rename, PageGive, Wait, ServerSend, ServerOver, ServerEnd, FaultDone, ServerOverRef}
 use Rattle.fk_model.specs.Places.{Path, is_within}
 use Rattle.fk_model.specs.Objects.{thread_of, and_then}
 use Rattle.fk_model.specs.World.{World}
@@ -16,7 +16,7 @@ use Rattle.laws_subtrees.proofs.InCut.cut.Gifts.{page_give_keeps}
 use Rattle.laws_subtrees.proofs.InCut.talks.Accepts.{accept_keeps}
 use Rattle.laws_subtrees.proofs.InCut.talks.Ends.{end_keeps}
 use Rattle.laws_subtrees.proofs.InCut.talks.Natives.{give_keeps, over_keeps}
-use Rattle.laws_subtrees.proofs.InCut.talks.Sends.{server_send_keeps, server_over_keeps}
+use Rattle.laws_subtrees.proofs.InCut.talks.Sends.{server_send_keeps, server_over_keeps, server_over_ref_keeps}
 use Rattle.laws_subtrees.proofs.InCut.waits.Inside.{wait_inside_keeps}
 use Rattle.laws_subtrees.proofs.InCut.waits.FaultEnds.{fault_done_keeps}
 use Rattle.laws_subtrees.proofs.InCut.joined.Stages.{either_side, runs}
@@ -31,6 +31,7 @@ module _ (w : World) (nester : Path) (slot : ℕ) (x : Path) (within : is_within
   by_stage ServerOver at = server_over_keeps w nester slot x pick ServerOver refl within at
   by_stage ServerEnd at = end_keeps w nester slot x pick ServerEnd refl within at
   by_stage FaultDone at = fault_done_keeps w nester slot x pick FaultDone refl within at
+  by_stage (ServerOverRef reference) at = server_over_ref_keeps w nester slot x pick (ServerOverRef reference) (reference, refl) within at
   by_stage other at = either_side w nester slot x pick other refl at
 
   -- there is no porter inside

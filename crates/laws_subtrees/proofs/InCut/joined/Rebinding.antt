@@ -1,12 +1,12 @@
 -- The law of rebinding for every move, and for every list of moves.
-use Rattle.std.proofs.Common.{◌≡◌, ℕ, Bool, true, false, cond, ◌&&◌, ◌||◌, ◌==◌, List, [], ◌∷◌, ◌++◌, map, Option, Some, None, is_none, refl, sym, ap, ◌∙◌}
+use Rattle.std.proofs.Common.{◌≡◌, ℕ, Bool, true, false, cond, ◌&&◌, ◌||◌, ◌==◌, List, [], ◌∷◌, ◌++◌, map, Option, Some, None, is_none, refl, sym, ap, ◌∙◌, subst}
 use Rattle.std.proofs.Common.{append-nil}
 use Rattle.std.proofs.lemmas.List.{map-append}
 use Rattle.fk_model.specs.declared.stage.Stage.{Stage}
-use Rattle.fk_model.specs.declared.stage.Stage.TheVariants.{Create, Destroy, Rename, Search, Point, Clear, Locate, CountIn, GetState, SetState, GetPtr, SetPtr}
-use Rattle.fk_model.specs.declared.stage.Stage.TheVariants.{SpaceHold, SpaceRelease, ThreadStop, ThreadGo, PageGive, PageTake, PageRead, PageNext, MutexLock}
-use Rattle.fk_model.specs.declared.stage.Stage.TheVariants.{MutexTrylock, MutexUnlock, CondWait, CondAsleep, CondSignal, CondBroadcast, Connect, ClientReceive}
-use Rattle.fk_model.specs.declared.stage.Stage.TheVariants.{ClientSend, ClientOver, Disconnect, Wait, ServerReceive, ServerSend, ServerOver, ServerEnd}
+use Rattle.fk_model.specs.declared.stage.Stage.TheVariants.{Create, Destroy, Rename, Search, Point, Clear, Locate, CountIn, GetState, SetState, GetPtr, SetPtr, ClientOverRef}
+use Rattle.fk_model.specs.declared.stage.Stage.TheVariants.{SpaceHold, SpaceRelease, ThreadStop, ThreadGo, PageGive, PageTake, PageRead, PageNext, MutexLock, ClientReceiveRef}
+use Rattle.fk_model.specs.declared.stage.Stage.TheVariants.{MutexTrylock, MutexUnlock, CondWait, CondAsleep, CondSignal, CondBroadcast, Connect, ClientReceive, ServerOverRef}
+use Rattle.fk_model.specs.declared.stage.Stage.TheVariants.{ClientSend, ClientOver, Disconnect, Wait, ServerReceive, ServerSend, ServerOver, ServerEnd, ServerReceiveRef}
 use Rattle.fk_model.specs.declared.stage.Stage.TheVariants.{FaultDone, LinkSet, LinkPark, FaultSet, FaultPark, HoldSet, SpaceMakeHeld}
 use Rattle.fk_model.specs.Places.{Path, Ptr}
 use Rattle.fk_model.specs.Objects.{Mode, Thread}
@@ -14,13 +14,13 @@ use Rattle.fk_model.specs.Objects.Mode.{Running, Calling, Halted, Native}
 use Rattle.fk_model.specs.World.{World}
 use Rattle.fk_model.specs.Searches.{thread_at}
 use Rattle.fk_model.specs.Holds.{is_free}
-use Rattle.fk_model.specs.Outcomes.{when}
+use Rattle.fk_model.specs.Outcomes.{when, stays}
 use Rattle.fk_model.specs.Outcomes.Outcome.{Waits}
 use Rattle.fk_model.specs.Moves.{goes_on}
-use Rattle.fk_model.specs.Further.{Onward, Told, IsFurther, talks_outside, own_stage, counted, onward_row, OnwardTo}
+use Rattle.fk_model.specs.Further.{Onward, Told, IsFurther, talks_outside, own_stage, counted, onward_row, OnwardTo, IsOnward}
 use Rattle.fk_model.specs.Further.Onward.{Own, ByOthers}
 use Rattle.fk_model.specs.Further.IsFurther.{Still, Then}
-use Rattle.fk_model.specs.Rebind.{rebound_ptr, rebound, rebound_told}
+use Rattle.fk_model.specs.Rebind.{rebound_ptr, rebound, rebound_told, rebound_move}
 use Rattle.laws_subtrees.specs.Cut.CutLaws.{IsAtStage}
 use Rattle.laws_subtrees.specs.Cut.Likeness.{seen_thread, IsLikeness, IsCutWorld, AlikeOptions, IsSeenThread}
 use Rattle.laws_subtrees.specs.Cut.RebindLaws.{Rebinds, MoveRebinds, RunRebinds}
@@ -35,14 +35,15 @@ use Rattle.laws_subtrees.proofs.InCut.cut.Deaths.{destroy_rebinds}
 use Rattle.laws_subtrees.proofs.InCut.cut.Gifts.{page_give_rebinds}
 use Rattle.laws_subtrees.proofs.InCut.cut.Pages.{page_take_rebinds}
 use Rattle.laws_subtrees.proofs.InCut.talks.Ends.{disconnect_rebinds, end_rebinds}
-use Rattle.laws_subtrees.proofs.InCut.talks.Receives.{server_receive_rebinds}
+use Rattle.laws_subtrees.proofs.InCut.talks.Receives.{server_receive_rebinds, server_receive_ref_rebinds}
 use Rattle.laws_subtrees.proofs.InCut.waits.Signals.{signal_rebinds}
 use Rattle.laws_subtrees.proofs.InCut.waits.FaultEnds.{fault_done_rebinds}
 use Rattle.laws_subtrees.proofs.InCut.rebinding.Denied.{denied_rebinds}
-use Rattle.laws_subtrees.proofs.InCut.rebinding.Messages.{client_send_rebinds, client_over_rebinds, server_send_rebinds, server_over_rebinds}
+use Rattle.laws_subtrees.proofs.InCut.rebinding.Messages.{client_send_rebinds, client_over_rebinds, server_send_rebinds, server_over_rebinds, client_over_ref_rebinds, server_over_ref_rebinds}
 use Rattle.laws_subtrees.proofs.InCut.rebinding.Rebound.{rebinds_from, row_anew}
 use Rattle.laws_subtrees.proofs.InCut.rebinding.Touches.{touch_rebinds}
 use Rattle.laws_subtrees.proofs.InCut.rebinding.Waits.{wait_rebinds}
+use Rattle.fk_model.specs.Instructions.{next}
 
 -- ---- who makes no move
 
@@ -142,12 +143,16 @@ module _ (c : World) (x : Path) (pick : Option Path) (n : ℕ) where
   by_stage (ClientSend address count) at = client_send_rebinds c x pick n (ClientSend address count) (address, count, refl) at
   by_stage ClientOver at = client_over_rebinds c x pick n ClientOver refl at
   by_stage Disconnect at = disconnect_rebinds c x pick n Disconnect refl at
+  by_stage (ClientOverRef reference) at = client_over_ref_rebinds c x pick n (ClientOverRef reference) (reference, refl) at
+  by_stage (ClientReceiveRef into room reference) at = plain_rebinds c x pick n (ClientReceiveRef into room reference) refl at
   by_stage (Wait set) at = wait_rebinds c x pick n (Wait set) (set, refl) at
   by_stage (ServerReceive into room) at = server_receive_rebinds c x pick n (ServerReceive into room) (into, room, refl) at
   by_stage (ServerSend address count) at = server_send_rebinds c x pick n (ServerSend address count) (address, count, refl) at
   by_stage ServerOver at = server_over_rebinds c x pick n ServerOver refl at
   by_stage ServerEnd at = end_rebinds c x pick n ServerEnd refl at
   by_stage FaultDone at = fault_done_rebinds c x pick n FaultDone refl at
+  by_stage (ServerOverRef reference) at = server_over_ref_rebinds c x pick n (ServerOverRef reference) (reference, refl) at
+  by_stage (ServerReceiveRef into room reference) at = server_receive_ref_rebinds c x pick n (ServerReceiveRef into room reference) (into, room, reference, refl) at
   by_stage (LinkSet s y port server) at = denied_rebinds c x pick n (LinkSet s y port server) refl at
   by_stage (LinkPark s y port) at = denied_rebinds c x pick n (LinkPark s y port) refl at
   by_stage (FaultSet s y port taker) at = denied_rebinds c x pick n (FaultSet s y port taker) refl at
@@ -182,21 +187,27 @@ move_rebinds c (ByOthers touch) = touch_rebinds c touch
 -- ---- every list of moves
 
 module _ (bind : ℕ → ℕ) where
-  anew : (c later : World) (ms : List Onward) (told : List Told) →
-      IsFurther c ms told later → IsCutWorld c → IsFurther (rebound bind c) ms (map (rebound_told bind) told) (rebound bind later)
+  anew : (c later : World) (ms : List Onward) (told : List Told) → IsFurther c ms told later → IsCutWorld c →
+      IsFurther (rebound bind c) (map (rebound_move bind) ms) (map (rebound_told bind) told) (rebound bind later)
   anew c _ _ _ (Still _) world = Still (rebound bind c)
   anew c later _ _ (Then _ d _ m ms told more one rest) world =
       let its = move_rebinds c m bind world in
-      rw (map-append (rebound_told bind) told more) (Then (rebound bind c) (rebound bind d) (rebound bind later) m
-      ms (map (rebound_told bind) told) (map (rebound_told bind) more) (its.forth told d one) (anew d later ms more rest (its.stays told d one)))
+      rw (map-append (rebound_told bind) told more) (Then (rebound bind c) (rebound bind d) (rebound bind later) (rebound_move bind m)
+      (map (rebound_move bind) ms) (map (rebound_told bind) told) (map (rebound_told bind) more) (its.forth told d one)
+      (anew d later ms more rest (its.stays told d one)))
 
-  again : (b after : World) (ms : List Onward) (heard : List Told) → IsFurther b ms heard after → (c : World) → b ≡ rebound bind c → IsCutWorld c →
+  again : (b after : World) (ns : List Onward) (heard : List Told) → IsFurther b ns heard after →
+      (ms : List Onward) → ns ≡ map (rebound_move bind) ms → (c : World) → b ≡ rebound bind c → IsCutWorld c →
       (told : List Told) × (later : World) × IsFurther c ms told later × (heard ≡ map (rebound_told bind) told) × (after ≡ rebound bind later)
-  again b _ _ _ (Still _) c e world = ([], c, Still c, refl, e)
-  again b after _ _ (Then _ d _ m ms heard more one rest) c e world =
+  again b _ _ _ (Still _) [] f c e world = ([], c, Still c, refl, e)
+  again b _ _ _ (Still _) (m ∷ ms) f c e world = cc
+  again b after _ _ (Then _ d _ n ns heard more one rest) [] f c e world = cc
+  again b after _ _ (Then _ d _ n ns heard more one rest) (m ∷ ms) f c e world =
+      let head : n ≡ rebound_move bind m = cc in
+      let tail : ns ≡ map (rebound_move bind) ms = cc in
       let its = move_rebinds c m bind world in
-      let was = its.back heard d (rw e at one) in
-      let next = again d after ms more rest was.1 was.4 (its.stays was.0 was.1 was.2) in (
+      let was = its.back heard d (subst (λ (n : Onward). IsOnward (rebound bind c) n heard d) head (rw e at one)) in
+      let next = again d after ns more rest ms tail was.1 was.4 (its.stays was.0 was.1 was.2) in (
         was.0 ++ next.0,
         next.1,
         Then c was.1 next.1 m ms was.0 next.0 was.2 next.2,
@@ -207,5 +218,5 @@ module _ (bind : ℕ → ℕ) where
 pub run_rebinds : RunRebinds
 run_rebinds bind c ms world = record {
   forth = λ told later further. anew bind c later ms told further world;
-  back = λ heard after further. again bind (rebound bind c) after ms heard further c refl world;
+  back = λ heard after further. again bind (rebound bind c) after (map (rebound_move bind) ms) heard further ms refl c refl world;
 }

@@ -2,10 +2,10 @@
 use Rattle.std.proofs.Common.{◌≡◌, ℕ, Bool, true, false, [], ◌∷◌, Option, Some, None, refl}
 use Rattle.fk_model.specs.declared.moves.Ask.TheVariants as asks
 use Rattle.fk_model.specs.declared.stage.Stage.{Stage}
-use Rattle.fk_model.specs.declared.stage.Stage.TheVariants.{Create, Destroy, Rename, Search, Point, Clear, Locate, CountIn, GetState, SetState, GetPtr, SetPtr}
-use Rattle.fk_model.specs.declared.stage.Stage.TheVariants.{SpaceHold, SpaceRelease, ThreadStop, ThreadGo, PageGive, PageTake, PageRead, PageNext, MutexLock}
-use Rattle.fk_model.specs.declared.stage.Stage.TheVariants.{MutexTrylock, MutexUnlock, CondWait, CondAsleep, CondSignal, CondBroadcast, Connect, ClientReceive}
-use Rattle.fk_model.specs.declared.stage.Stage.TheVariants.{ClientSend, ClientOver, Disconnect, Wait, ServerReceive, ServerSend, ServerOver, ServerEnd}
+use Rattle.fk_model.specs.declared.stage.Stage.TheVariants.{Create, Destroy, Rename, Search, Point, Clear, Locate, CountIn, GetState, SetState, GetPtr, SetPtr, ClientOverRef}
+use Rattle.fk_model.specs.declared.stage.Stage.TheVariants.{SpaceHold, SpaceRelease, ThreadStop, ThreadGo, PageGive, PageTake, PageRead, PageNext, MutexLock, ClientReceiveRef}
+use Rattle.fk_model.specs.declared.stage.Stage.TheVariants.{MutexTrylock, MutexUnlock, CondWait, CondAsleep, CondSignal, CondBroadcast, Connect, ClientReceive, ServerOverRef}
+use Rattle.fk_model.specs.declared.stage.Stage.TheVariants.{ClientSend, ClientOver, Disconnect, Wait, ServerReceive, ServerSend, ServerOver, ServerEnd, ServerReceiveRef}
 use Rattle.fk_model.specs.declared.stage.Stage.TheVariants.{FaultDone, LinkSet, LinkPark, FaultSet, FaultPark, HoldSet, SpaceMakeHeld}
 use Rattle.fk_model.specs.Places.{Path, parent}
 use Rattle.fk_model.specs.Objects.{Mode, Thread, thread_of, and_then}
@@ -21,8 +21,8 @@ use Rattle.laws_subtrees.proofs.InCut.cut.Rows.{plain_keeps}
 use Rattle.laws_subtrees.proofs.InCut.cut.Instructions.{instruction_keeps}
 use Rattle.laws_subtrees.proofs.InCut.cut.Pages.{page_take_keeps}
 use Rattle.laws_subtrees.proofs.InCut.talks.Ends.{disconnect_keeps}
-use Rattle.laws_subtrees.proofs.InCut.talks.Messages.{client_send_keeps, client_over_keeps}
-use Rattle.laws_subtrees.proofs.InCut.talks.Receives.{server_receive_keeps}
+use Rattle.laws_subtrees.proofs.InCut.talks.Messages.{client_send_keeps, client_over_keeps, client_over_ref_keeps}
+use Rattle.laws_subtrees.proofs.InCut.talks.Receives.{server_receive_keeps, server_receive_ref_keeps}
 use Rattle.laws_subtrees.proofs.InCut.waits.Signals.{signal_keeps}
 
 module _ (w : World) (x : Path) (pick : Option Path) where
@@ -52,6 +52,7 @@ differs (ServerSend address count) = true
 differs ServerOver = true
 differs ServerEnd = true
 differs FaultDone = true
+differs (ServerOverRef reference) = true
 differs other = false
 
 module _ (w : World) (nester : Path) (slot : ℕ) (x : Path) (pick : Option Path) where
@@ -89,12 +90,17 @@ module _ (w : World) (nester : Path) (slot : ℕ) (x : Path) (pick : Option Path
   either_side (ClientSend address count) alike at = client_send_keeps w nester slot x pick (ClientSend address count) (address, count, refl) at
   either_side ClientOver alike at = client_over_keeps w nester slot x pick ClientOver refl at
   either_side Disconnect alike at = disconnect_keeps w nester slot x pick Disconnect refl at
+  either_side (ClientOverRef reference) alike at = client_over_ref_keeps w nester slot x pick (ClientOverRef reference) (reference, refl) at
+  either_side (ClientReceiveRef into room reference) alike at = plain_keeps w nester slot x pick (ClientReceiveRef into room reference) refl at
   either_side (Wait set) alike at = absurd (cc)
   either_side (ServerReceive into room) alike at = server_receive_keeps w nester slot x pick (ServerReceive into room) (into, room, refl) at
   either_side (ServerSend address count) alike at = absurd (cc)
   either_side ServerOver alike at = absurd (cc)
   either_side ServerEnd alike at = absurd (cc)
   either_side FaultDone alike at = absurd (cc)
+  either_side (ServerOverRef reference) alike at = absurd (cc)
+  either_side (ServerReceiveRef into room reference) alike at =
+      server_receive_ref_keeps w nester slot x pick (ServerReceiveRef into room reference) (into, room, reference, refl) at
   either_side (LinkSet s y port server) alike at = denied_stages_keep w nester slot x pick (LinkSet s y port server) refl at
   either_side (LinkPark s y port) alike at = denied_stages_keep w nester slot x pick (LinkPark s y port) refl at
   either_side (FaultSet s y port taker) alike at = denied_stages_keep w nester slot x pick (FaultSet s y port taker) refl at

@@ -40,7 +40,7 @@ ports_port : (w : World) (nester : Path) (slot i : ℕ) →
     ports_of w nester slot i ≡ true → and_then (λ b. Some (kind_of b)) (w.body (i ∷ nester)) ≡ Some kinds.Port
 ports_port w nester slot i h = port_kind (w.body (i ∷ nester)) (and_parts (not (eqb i slot)) _ h).1
 
-cut_ptr-like : (w : World) (nester : Path) (slot : ℕ) (p : Ptr) →
+pub cut_ptr-like : (w : World) (nester : Path) (slot : ℕ) (p : Ptr) →
     is_far (cut_ptr (ports_of w nester slot) nester slot p) ≡ false → PtrLikeness (slot ∷ nester) w p (cut_ptr (ports_of w nester slot) nester slot p)
 cut_ptr-like w nester slot Null near = Nulls
 cut_ptr-like w nester slot Dead near = Deads

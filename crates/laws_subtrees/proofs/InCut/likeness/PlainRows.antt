@@ -25,7 +25,7 @@ use Rattle.fk_model.specs.Outcomes.{Outcome, or_refuse, Caller, path_of, last_sl
 use Rattle.fk_model.specs.Outcomes.Outcome.{Waits}
 use Rattle.fk_model.specs.Readers.{object_in, handle, own_page, kind_at}
 use Rattle.fk_model.specs.Talks.{Line, line_from, line, same_side, other_side}
-use Rattle.fk_model.specs.TransferRows.{at_turn, receive}
+use Rattle.fk_model.specs.TransferRows.{at_turn, receive, receive_ref}
 use Rattle.fk_model.specs.LinkRows.{connect, user_at}
 use Rattle.fk_model.specs.SyncRows.{cond_of, mutex_trylock, mutex_unlock, cond_wait, cond_asleep, woken, asleep_on, sleepers, cond_broadcast}
 use Rattle.fk_model.specs.SpaceRows.{space_release, thread_go, is_page, is_bad_target, next_page, page_read, page_next}
@@ -397,3 +397,11 @@ module _ {root : Path} {see : Ptr → Ptr} {small big : World} (like : IsLikenes
           Alike (cond b Waits (own_page small c into true (λ s page. Waits))) (cond b Waits (own_page big (under root c) into true (λ s page. Waits)))
       by true = tt
       by false = own_page-like like c into true _ _ (λ s page. tt)
+
+  pub receive_ref-like : (c : Caller) (side : Turn) (into room reference : ℕ) →
+      AlikeOptions AtTurn (line small (path_of c) side) (line big (path_of (under root c)) side) →
+      Alike (receive_ref small c side into room reference) (receive_ref big (under root c) side into room reference)
+  unfolding receive_ref
+  receive_ref-like c side into room reference lines =
+      bind_any like (IsSeenAs root see big) (object_in small c reference_of c.space reference) (object_in big (under root c) reference_of (c.space ++ root) reference)
+      _ _ (reference_in-like like c c.space reference) (λ near far. receive-like c side into room lines)

@@ -105,7 +105,7 @@ module _ {root : Path} {see : Ptr → Ptr} {small big : World} (like : IsLikenes
 
   -- ---- kinds
 
-  kind-there : (q : Path) → and_then (λ b. Some (kind_of b)) (small.body q) ≡ and_then (λ b. Some (kind_of b)) (big.body (q ++ root))
+  pub kind-there : (q : Path) → and_then (λ b. Some (kind_of b)) (small.body q) ≡ and_then (λ b. Some (kind_of b)) (big.body (q ++ root))
   kind-there q = rw (like.bodies q) (by (big.body (q ++ root)))
     where
       by : (v : Option Body) → and_then (λ b. Some (kind_of b)) (option_map (λ b. unheld q (seen_by (seeing see) b)) v) ≡ and_then (λ b. Some (kind_of b)) v

@@ -1,50 +1,53 @@
 -- A Send and an Over go alike in a likeness where their other end is seen, and the outside hears of them alike.
-use Rattle.std.proofs.Common.{◌≡◌, ℕ, ◌%◌, eqb, Bool, true, false, cond, not, ◌&&◌, List, [], ◌∷◌, ◌++◌, Option, Some, None, is_some, Result, Ok, Err, refl}
-use Rattle.std.proofs.Common.{sym, ap, ◌∙◌}
-use Rattle.fk_model.specs.declared.limits.TheConstants.{PAGE_WORDS, BLOCK_WORDS}
+use Rattle.std.proofs.Common.{◌≡◌, ℕ, ◌%◌, eqb, Bool, true, false, cond, not, ◌&&◌, List, [], ◌∷◌, ◌++◌, Option, Some, None, is_some, Result, Ok, Err, refl, nat_le, option_map}
+use Rattle.std.proofs.Common.{sym, ap, ◌∙◌, subst}
+use Rattle.fk_model.specs.declared.limits.TheConstants.{PAGE_WORDS, BLOCK_WORDS, LAST_USER_SLOT}
 use Rattle.fk_model.specs.declared.statuses.status.TheConstants.{FULL, WRONGTURN}
 use Rattle.fk_model.specs.declared.thread.Turn.{Turn}
 use Rattle.fk_model.specs.declared.thread.Turn.TheVariants as turns
 use Rattle.fk_model.specs.Places.{Path, parent, Ptr}
 use Rattle.fk_model.specs.Places.Ptr.{Null, Dead, At, Out, Outside, Far}
-use Rattle.fk_model.specs.Objects.{Peer, Talk, Fault, Thread}
+use Rattle.fk_model.specs.Objects.{Peer, Talk, Fault, Thread, Body, Mode, and_then, holds, reference_of}
 use Rattle.fk_model.specs.Objects.Peer.{Server, Service, Parked}
 use Rattle.fk_model.specs.World.{World, Change}
 use Rattle.fk_model.specs.World.Change.{Alter}
-use Rattle.fk_model.specs.World.Edit.{Shift, Finish, End, CountMoved, PassTurn, SetFault}
+use Rattle.fk_model.specs.World.Edit.{Shift, Finish, End, CountMoved, PassTurn, SetFault, SetPointer}
 use Rattle.fk_model.specs.Searches.{talk_at, client_of}
 use Rattle.fk_model.specs.Reach.{Reach, words_at}
-use Rattle.fk_model.specs.Holds.{is_frozen, is_free, is_unheld}
+use Rattle.fk_model.specs.Holds.{is_frozen, is_free, is_unheld, leads_to_frozen}
 use Rattle.fk_model.specs.Outcomes.{Said, Outcome, ◌>>=◌, when, done}
 use Rattle.fk_model.specs.Outcomes.Outcome.{Refused, Waits, Goes}
 use Rattle.fk_model.specs.Outcomes.Said.{Nothing, Words, Passed}
-use Rattle.fk_model.specs.Readers.{own_page_at, own_page, their_page_at, their_page}
-use Rattle.fk_model.specs.Talks.{Line, line_from, line, other_side, same_side, receiving, path_to, is_service_free}
-use Rattle.fk_model.specs.TransferRows.{overwritten, block, moved_words, at_turn, has_sent, sends_words, sends_into, sends_to_thread, sends_to, sends, send}
-use Rattle.fk_model.specs.TransferRows.{passes, passes_to_thread, passes_to, over}
+use Rattle.fk_model.specs.Readers.{own_page_at, own_page, their_page_at, their_page, object_in}
+use Rattle.fk_model.specs.Talks.{Line, line_from, line, other_side, same_side, receiving, path_to, is_service_free, awaited, first_stage, is_handled, receive_on}
+use Rattle.fk_model.specs.TransferRows.{overwritten, block, moved_words, at_turn, has_sent, sends_words, sends_into, sends_to_thread, sends_to, sends, send, may_carry}
+use Rattle.fk_model.specs.TransferRows.{passes, passes_to_thread, passes_to, over, over_ref, taken_answers, takes_turn}
 use Rattle.fk_model.specs.LinkRows.{user_at}
-use Rattle.fk_model.specs.Cut.{is_out}
+use Rattle.fk_model.specs.Cut.{is_out, seen_by, unheld}
 use Rattle.fk_model.specs.Further.{told_by_said}
-use Rattle.laws_subtrees.specs.Cut.Likeness.{seen_peer, seen_talk, seen_thread, PtrLikeness, HasLikeness, IfServer, IsLikeness, AlikeResults, AlikeOptions, IsBeneath}
-use Rattle.laws_subtrees.specs.Cut.Likeness.{IsSeenTalk, ReachLikeness, PeerLikeness, EndLikeness}
+use Rattle.laws_subtrees.specs.Cut.Likeness.{seen_peer, seen_talk, seen_thread, PtrLikeness, HasLikeness, IfServer, IsLikeness, AlikeResults, AlikeOptions, IsBeneath, IsSeenAs}
+use Rattle.laws_subtrees.specs.Cut.Likeness.{IsSeenTalk, ReachLikeness, PeerLikeness, EndLikeness, seeing}
 use Rattle.laws_subtrees.specs.Cut.Likeness.PtrLikeness.{Nulls, Deads, Inside, PortAt, PortOut}
 use Rattle.laws_subtrees.specs.Cut.Likeness.ReachLikeness.{Homes, Misses, Bads}
 use Rattle.laws_subtrees.specs.Cut.Likeness.PeerLikeness.{Outsiders, Servers, Services, Waiters}
 use Rattle.laws_subtrees.specs.Cut.Likeness.EndLikeness.{Ends}
-use Rattle.laws_subtrees.specs.Cut.LikeChanges.{LikeChanges, IsLikeOutcome}
+use Rattle.laws_subtrees.specs.Cut.LikeChanges.{LikeChanges, IsLikeOutcome, IsLikeUnlessWaiting}
 use Rattle.laws_subtrees.specs.Cut.LikeChanges.LikeChange.{Alters, PutsPage}
 use Rattle.laws_subtrees.specs.Cut.LikeChanges.LikeChanges.{Empty, Both}
 use Rattle.laws_subtrees.proofs.InCut.likeness.Alike.{alike_if, alike_and_then, alike-holds}
 use Rattle.laws_subtrees.proofs.InCut.likeness.Memory.{root_space, root_seen, reach_word-like, words_at-like}
-use Rattle.laws_subtrees.proofs.InCut.likeness.Holds.{root_unfrozen, is_unheld-like, is_free-like}
+use Rattle.laws_subtrees.proofs.InCut.likeness.Holds.{root_unfrozen, is_unheld-like, is_free-like, leads_to_frozen-like}
 use Rattle.laws_subtrees.proofs.InCut.likeness.Talks.{talk_at-like, thread_at-like, path_to-like, peer-like}
-use Rattle.laws_subtrees.proofs.InCut.likeness.Outcomes.{append-like}
+use Rattle.laws_subtrees.proofs.InCut.likeness.Outcomes.{append-like, unless_waiting}
+use Rattle.fk_model.specs.Objects.Body.{Reference}
+use Rattle.fk_model.specs.TransferRows.{fills_in}
+use Rattle.laws_subtrees.proofs.InCut.likeness.Reads.{reference_in-like}
 
 -- ---- what the outside hears
 
 -- the same words, or the same turn, at the port as it is seen
 pub data SaidLikeness (see : Ptr → Ptr) : Said → Said → Type 0 where
-  Hushed : (said told : Said) → ((x : Path) → told_by_said x said ≡ []) → ((x : Path) → told_by_said x told ≡ []) → SaidLikeness see said told
+  Hushed : (said told : Said) → ((v : World) (x : Path) → told_by_said v x said ≡ []) → ((v : World) (x : Path) → told_by_said v x told ≡ []) → SaidLikeness see said told
   SaysWords : (port : Ptr) (words : List ℕ) → SaidLikeness see (Words (see port) words) (Words port words)
   SaysPassed : (port : Ptr) → SaidLikeness see (Passed (see port)) (Passed port)
 
@@ -55,7 +58,7 @@ IsHeard see (Goes cs said) (Goes ds told) = SaidLikeness see said told
 IsHeard see other (Goes ds told) = Unit {0}
 
 pub says_nothing : {see : Ptr → Ptr} → SaidLikeness see Nothing Nothing
-says_nothing = Hushed Nothing Nothing (λ x. refl) (λ x. refl)
+says_nothing = Hushed Nothing Nothing (λ v x. refl) (λ v x. refl)
 
 -- ---- lines of which the other end is seen
 
@@ -144,6 +147,47 @@ module _ {root : Path} {see : Ptr → Ptr} {small big : World} (like : IsLikenes
       by true = heard
       by false = heard
 
+  -- ---- who receives
+
+  reference-seen : (space : Path) (k : ℕ) → holds (λ b. is_some (reference_of b)) (small.body (k ∷ space)) ≡ holds (λ b. is_some (reference_of b)) (big.body (k ∷ (space ++ root)))
+  unfolding seen_by
+  reference-seen space k = rw (like.bodies (k ∷ space)) (by (big.body (k ∷ (space ++ root))))
+    where
+      by : (o : Option Body) → holds (λ b. is_some (reference_of b)) (option_map (λ b. unheld (k ∷ space) (seen_by (seeing see) b)) o) ≡ holds (λ b. is_some (reference_of b)) o
+      by None = refl
+      by (Some (Reference to)) = refl
+      by (Some b) = refl
+
+  pub is_handled-like : (space : Path) (to : Option ℕ) → is_handled small space to ≡ is_handled big (space ++ root) to
+  is_handled-like space None = refl
+  is_handled-like space (Some k) = ap (λ (b : Bool). nat_le k LAST_USER_SLOT && b) (reference-seen space k)
+
+  pub receiving-like : (space : Path) (side : Turn) (m : Mode) → receiving small space side m ≡ receiving big (space ++ root) side m
+  receiving-like space side m = ap (λ (b : Bool). cond b (and_then (receive_on side) (first_stage m)) None) (is_handled-like space (awaited m))
+
+  -- the pointer that goes with a turn is seen alike
+  abbrev pub CarriedLike : Option Ptr → Option Ptr → Type 0
+  CarriedLike seen carried = AlikeOptions (IsSeenAs root see big) seen carried
+
+  fills-like : (space : Path) (seen carried : Option Ptr) (to : Option ℕ) → CarriedLike seen carried → LikeChanges root see big (fills_in space seen to) (fills_in (space ++ root) carried to)
+  fills-like space None None to h = Empty
+  fills-like space (Some seen) (Some p) None h = Empty
+  fills-like space (Some seen) (Some p) (Some k) h = Both (Alters k space (SetPointer seen) (SetPointer p) (ap SetPointer h.0) h.1) Empty
+  fills-like space None (Some p) to h = absurd h
+  fills-like space (Some seen) None to h = absurd h
+
+  answers-like : (seen carried : Option Ptr) (to : Option ℕ) → CarriedLike seen carried → taken_answers to seen ≡ taken_answers to carried
+  answers-like seen carried None h = refl
+  answers-like None None (Some k) h = refl
+  answers-like (Some seen) (Some p) (Some k) h = refl
+  answers-like None (Some p) (Some k) h = absurd h
+  answers-like (Some seen) None (Some k) h = absurd h
+
+  pub takes_turn-like : (i : ℕ) (y : Path) (seen carried : Option Ptr) (to : Option ℕ) → CarriedLike seen carried →
+      LikeChanges root see big (takes_turn (i ∷ y) seen to) (takes_turn (i ∷ (y ++ root)) carried to)
+  takes_turn-like i y seen carried to h =
+      append-like (fills-like y seen carried to h) (Both (Alters i y _ (Finish (taken_answers to carried)) (ap Finish (answers-like seen carried to h)) tt) Empty)
+
   -- ---- a Send
 
   module _ (free : is_frozen big root ≡ false) (k : ℕ) (q : Path) where
@@ -181,7 +225,8 @@ module _ {root : Path} {see : Ptr → Ptr} {small big : World} (like : IsLikenes
             EndLikeness root see big seen e → Same (sends_to_thread small (user_at (k ∷ q)) side (j ∷ z) address count page (Some seen))
             (sends_to_thread big (user_at (k ∷ (q ++ root))) side (j ∷ (z ++ root)) address count page (Some e))
         by _ _ (Ends i y t is near) = same_when (is_free small y (seen_thread see t))
-            (is_free big (y ++ root) t) _ _ (is_free-like like free y t) (same_into j i z y address count page (receiving (other_side side) t.mode))
+            (is_free big (y ++ root) t) _ _ (is_free-like like free y t)
+            (rw (receiving-like y (other_side side) t.mode) (same_into j i z y address count page (receiving big (y ++ root) (other_side side) t.mode)))
     same_to_thread side j z address count page None (Some e) h = absurd h
     same_to_thread side j z address count page (Some seen) None h = absurd h
 
@@ -239,37 +284,50 @@ module _ {root : Path} {see : Ptr → Ptr} {small big : World} (like : IsLikenes
     same_passes side j z cs ds h =
         append-like (append-like h (Both (Alters j z _ (PassTurn (other_side side)) refl tt) Empty)) (Both (Alters k q _ (Finish []) refl tt) Empty)
 
-    passes_to_same : (side : Turn) (j : ℕ) (z : Path) (o p : Option (Path × Thread)) → AlikeOptions (EndLikeness root see big) o p →
-        Same (passes_to_thread small (user_at (k ∷ q)) side (j ∷ z) o) (passes_to_thread big (user_at (k ∷ (q ++ root))) side (j ∷ (z ++ root)) p)
-    passes_to_same side j z None None h = (tt, tt)
-    passes_to_same side j z (Some seen) (Some e) h = by seen e h
+    passes_to_same : (side : Turn) (j : ℕ) (z : Path) (seen_carried carried : Option Ptr) (o p : Option (Path × Thread)) → CarriedLike seen_carried carried →
+        AlikeOptions (EndLikeness root see big) o p →
+        Same (passes_to_thread small (user_at (k ∷ q)) side (j ∷ z) seen_carried o) (passes_to_thread big (user_at (k ∷ (q ++ root))) side (j ∷ (z ++ root)) carried p)
+    passes_to_same side j z seen_carried carried None None alike h = (tt, tt)
+    passes_to_same side j z seen_carried carried (Some seen) (Some e) alike h = by seen e h
       where
-        by : (seen e : Path × Thread) → EndLikeness root see big seen e → Same (passes_to_thread small (user_at (k ∷ q)) side (j ∷ z) (Some seen))
-            (passes_to_thread big (user_at (k ∷ (q ++ root))) side (j ∷ (z ++ root)) (Some e))
-        by _ _ (Ends i y t is near) = same_when (is_free small y (seen_thread see t) && is_some (receiving (other_side side) t.mode))
-            (is_free big (y ++ root) t && is_some (receiving (other_side side) t.mode))
-            _ _ (ap (λ (b : Bool). b && is_some (receiving (other_side side) t.mode)) (is_free-like like free y t))
-            (same_passes side j z _ _ (Both (Alters i y _ (Finish []) refl tt) Empty), says_nothing)
-    passes_to_same side j z None (Some e) h = absurd h
-    passes_to_same side j z (Some seen) None h = absurd h
+        by : (seen e : Path × Thread) → EndLikeness root see big seen e → Same (passes_to_thread small (user_at (k ∷ q)) side (j ∷ z) seen_carried (Some seen))
+            (passes_to_thread big (user_at (k ∷ (q ++ root))) side (j ∷ (z ++ root)) carried (Some e))
+        by _ _ (Ends i y t is near) = same_when (is_free small y (seen_thread see t) && is_some (receiving small y (other_side side) t.mode))
+            (is_free big (y ++ root) t && is_some (receiving big (y ++ root) (other_side side) t.mode))
+            _ _ (rw (is_free-like like free y t, receiving-like y (other_side side) t.mode) refl)
+            (same_passes side j z _ _ (takes_turn-like i y seen_carried carried (awaited t.mode) alike), says_nothing)
+    passes_to_same side j z seen_carried carried None (Some e) alike h = absurd h
+    passes_to_same side j z seen_carried carried (Some seen) None alike h = absurd h
 
-    passes_same : (side : Turn) (near far : Line) → NearLine root see big near far →
-        Same (passes_to small (user_at (k ∷ q)) side near near.other) (passes_to big (user_at (k ∷ (q ++ root))) side far far.other)
-    passes_same side _ _ (Near j z talk other seen has peer ends) = by other seen peer ends
+    passes_same : (side : Turn) (seen_carried carried : Option Ptr) → CarriedLike seen_carried carried → (near far : Line) → NearLine root see big near far →
+        Same (passes_to small (user_at (k ∷ q)) side near seen_carried near.other) (passes_to big (user_at (k ∷ (q ++ root))) side far carried far.other)
+    passes_same side seen_carried carried alike _ _ (Near j z talk other seen has peer ends) = by other seen peer ends
       where
         off : (b : Bool) → not b ≡ true → b ≡ false
         off false h = refl
         off true h = cc
 
         by : (other seen : Peer) → PeerLikeness root see big other seen → ends_inside (see talk.port) seen ≡ true →
-            Same (passes_to small (user_at (k ∷ q)) side (record { client = j ∷ z; talk = seen_talk see talk; other = seen }) seen)
-            (passes_to big (user_at (k ∷ (q ++ root))) side (record { client = j ∷ (z ++ root); talk = talk; other = other }) other)
+            Same (passes_to small (user_at (k ∷ q)) side (record { client = j ∷ z; talk = seen_talk see talk; other = seen }) seen_carried seen)
+            (passes_to big (user_at (k ∷ (q ++ root))) side (record { client = j ∷ (z ++ root); talk = talk; other = other }) carried other)
         by _ _ (Outsiders peer outer) ends = cc
-        by _ _ (Servers thread h) ends = passes_to_same side j z _ _ (thread_at-like like thread (see thread) h)
+        by _ _ (Servers thread h) ends = passes_to_same side j z seen_carried carried _ _ alike (thread_at-like like thread (see thread) h)
         by _ _ Services ends =
             same_when (is_service_free small (see talk.port)) (is_service_free big talk.port)
             _ _ (service_free talk.port has (off (is_out (see talk.port)) ends)) (same_passes side j z [] [] Empty, SaysPassed talk.port)
         by _ _ Waiters ends = (tt, tt)
+
+    -- what may be handed on in the big world may be here. A port outside may be frozen, and isn't seen to be
+    pub may_carry-like : (seen carried : Option Ptr) → CarriedLike seen carried → may_carry big (k ∷ (q ++ root)) carried ≡ true → may_carry small (k ∷ q) seen ≡ true
+    may_carry-like None None h on = refl
+    may_carry-like (Some seen) (Some p) h on =
+        ap not (leads_to_frozen-like like free (k ∷ q) p seen (subst (λ (s : Ptr). PtrLikeness root big p s) (sym h.0) h.1) (off (leads_to_frozen big (k ∷ (q ++ root)) p) on))
+      where
+        off : (b : Bool) → not b ≡ true → b ≡ false
+        off false h = refl
+        off true h = cc
+    may_carry-like None (Some p) h on = absurd h
+    may_carry-like (Some seen) None h on = absurd h
 
     -- ---- the rows
 
@@ -289,10 +347,48 @@ module _ {root : Path} {see : Ptr → Ptr} {small big : World} (like : IsLikenes
     unfolding send
     send-same side address count lines = same_bind (NearLine root see big) _ _ _ _ (turn_near side _ _ lines) (same_sends side address count)
 
-    pub over-same : (side : Turn) → AlikeOptions (NearLine root see big) (line small (k ∷ q) side) (line big (k ∷ (q ++ root)) side) →
-        Same (over small (user_at (k ∷ q)) side) (over big (user_at (k ∷ (q ++ root))) side)
+    -- where both may be handed on, or neither
+    pub over-same : (side : Turn) (seen carried : Option Ptr) → CarriedLike seen carried → may_carry small (k ∷ q) seen ≡ may_carry big (k ∷ (q ++ root)) carried →
+        AlikeOptions (NearLine root see big) (line small (k ∷ q) side) (line big (k ∷ (q ++ root)) side) →
+        Same (over small (user_at (k ∷ q)) side seen) (over big (user_at (k ∷ (q ++ root))) side carried)
     unfolding over
-    over-same side lines = same_bind (NearLine root see big) _ _ _ _ (turn_near side _ _ lines) (passes_same side)
+    over-same side seen carried alike may lines = same_bind (NearLine root see big) _ _ _ _ (turn_near side _ _ lines)
+        (λ near far h. same_when (may_carry small (k ∷ q) seen) (may_carry big (k ∷ (q ++ root)) carried) _ _ may (passes_same side seen carried alike near far h))
+
+    pub weak_bind : {A B : Type 0} (R : A → B → Type 0) (a : Result A ℕ) (b : Result B ℕ) (f : A → Outcome) (g : B → Outcome) →
+        AlikeResults R a b → ((x : A) (y : B) → R x y → IsLikeUnlessWaiting root see big (f x) (g y)) → IsLikeUnlessWaiting root see big (a >>= f) (b >>= g)
+    weak_bind R (Ok x) (Ok y) f g h go = go x y h
+    weak_bind R (Err status) (Err refusal) f g h go = h
+    weak_bind R (Ok x) (Err refusal) f g h go = absurd h
+    weak_bind R (Err status) (Ok y) f g h go = absurd h
+
+    pub weak_when : (a b : Bool) (near far : Outcome) → (b ≡ true → a ≡ true) → IsLikeUnlessWaiting root see big near far →
+        IsLikeUnlessWaiting root see big (when a near) (when b far)
+    weak_when a true near far e h = rw (e refl) h
+    weak_when a false near far e h = tt
+
+    pub over-weak : (side : Turn) (seen carried : Option Ptr) → CarriedLike seen carried →
+        AlikeOptions (NearLine root see big) (line small (k ∷ q) side) (line big (k ∷ (q ++ root)) side) →
+        IsLikeUnlessWaiting root see big (over small (user_at (k ∷ q)) side seen) (over big (user_at (k ∷ (q ++ root))) side carried)
+    unfolding over
+    over-weak side seen carried alike lines = weak_bind (NearLine root see big) _ _ _ _ (turn_near side _ _ lines)
+        (λ near far h. weak_when (may_carry small (k ∷ q) seen) (may_carry big (k ∷ (q ++ root)) carried) _ _ (may_carry-like seen carried alike)
+        (unless_waiting like _ _ (passes_same side seen carried alike near far h).0))
+
+    pub over_ref-weak : (side : Turn) (reference : ℕ) → AlikeOptions (NearLine root see big) (line small (k ∷ q) side) (line big (k ∷ (q ++ root)) side) →
+        IsLikeUnlessWaiting root see big (over_ref small (user_at (k ∷ q)) side reference) (over_ref big (user_at (k ∷ (q ++ root))) side reference)
+    unfolding over_ref
+    over_ref-weak side reference lines = weak_bind (IsSeenAs root see big) (object_in small (user_at (k ∷ q)) reference_of q reference)
+        (object_in big (user_at (k ∷ (q ++ root))) reference_of (q ++ root) reference) _ _ (reference_in-like like (user_at (k ∷ q)) q reference)
+        (λ seen p h. over-weak side (Some seen) (Some p) h lines)
+
+    pub over_ref-same : ((p : Ptr) → HasLikeness root see big p → may_carry small (k ∷ q) (Some (see p)) ≡ may_carry big (k ∷ (q ++ root)) (Some p)) → (side : Turn) (reference : ℕ) →
+        AlikeOptions (NearLine root see big) (line small (k ∷ q) side) (line big (k ∷ (q ++ root)) side) →
+        Same (over_ref small (user_at (k ∷ q)) side reference) (over_ref big (user_at (k ∷ (q ++ root))) side reference)
+    unfolding over_ref
+    over_ref-same may side reference lines = same_bind (IsSeenAs root see big) (object_in small (user_at (k ∷ q)) reference_of q reference)
+        (object_in big (user_at (k ∷ (q ++ root))) reference_of (q ++ root) reference) _ _ (reference_in-like like (user_at (k ∷ q)) q reference)
+        (λ seen p h. over-same side (Some seen) (Some p) h (subst (λ (s : Ptr). may_carry small (k ∷ q) (Some s) ≡ may_carry big (k ∷ (q ++ root)) (Some p)) (sym h.0) (may p h.1)) lines)
 
   -- ---- the lines
 

@@ -7,13 +7,13 @@ use Rattle.fk_model.specs.declared.stage.Stage.{Stage}
 use Rattle.fk_model.specs.declared.stage.Stage.TheVariants.{Connect}
 use Rattle.fk_model.specs.Places.{Path, same_path, strip, is_within, parent, slot_of, Ptr}
 use Rattle.fk_model.specs.Places.Ptr.{Null, Dead, At, Out, Outside, Far}
-use Rattle.fk_model.specs.Objects.{Peer, Talk, Fault, Thread, Body, thread_of, and_then, or_else}
+use Rattle.fk_model.specs.Objects.{Peer, Talk, Fault, Thread, Body, thread_of, and_then, or_else, kind_of}
 use Rattle.fk_model.specs.Objects.Peer.{Server, Service, Parked}
-use Rattle.fk_model.specs.Objects.Body.{Port}
+use Rattle.fk_model.specs.Objects.Body.{Port, Reference, Space}
 use Rattle.fk_model.specs.World.{World}
 use Rattle.fk_model.specs.Searches.{talk_at, fault_at}
 use Rattle.fk_model.specs.Holds.{is_frozen, is_unheld, is_free}
-use Rattle.fk_model.specs.Talks.{first_stage}
+use Rattle.fk_model.specs.Talks.{first_stage, is_handled}
 use Rattle.fk_model.specs.LinkRows.{user_at, if_read, port_named, connecting_to, Candidate, is_member, slot_in_set, is_parked, is_open, faulting, connecting}
 use Rattle.fk_model.specs.LinkRows.{resuming, candidate_by, candidate}
 use Rattle.fk_model.specs.LinkRows.Candidate.{Faulting, Connecting, Resuming}
@@ -22,18 +22,21 @@ use Rattle.laws_subtrees.specs.Cut.Likeness.{seeing, seen_peer, seen_thread, Ptr
 use Rattle.laws_subtrees.specs.Cut.Likeness.{IsSeenAs, IsSeenHandle, IsSeenThread, CandidateLikeness}
 use Rattle.laws_subtrees.specs.Cut.Likeness.PtrLikeness.{Nulls, Deads, Inside, PortAt, PortOut}
 use Rattle.laws_subtrees.specs.Cut.Likeness.CandidateLikeness.{Faults, Connects, Resumes}
-use Rattle.fk_model.proofs.walks.PlaceLaws.{same_path_eq, same_path_cancel, strip-append}
+use Rattle.fk_model.proofs.walks.PlaceLaws.{same_path_eq, same_path_cancel, strip-append, same_path_refl, strip_some}
 use Rattle.laws_subtrees.proofs.InCut.likeness.Reads.{handle-like}
 use Rattle.laws_subtrees.proofs.InCut.likeness.Alike.{alike_or_else}
 use Rattle.laws_subtrees.proofs.InCut.likeness.Memory.{root_space, root_seen}
 use Rattle.laws_subtrees.proofs.InCut.likeness.Holds.{is_unheld-like, is_free-like}
 use Rattle.laws_subtrees.proofs.InCut.likeness.Talks.{thread_there-like}
+use Rattle.fk_model.specs.Readers.{handled}
+use Rattle.fk_model.specs.Valid.{kind_there}
+use Rattle.laws_moves.proofs.InRows.Handles.{reference-in}
 
 off : {A : Type 0} (t : Bool) (a : A) → t ≡ false → cond t (Some a) None ≡ None
 off t a h = rw h refl
 
 -- what lies outside lies in no space inside
-parent_outside : (root space x : Path) → is_within root x ≡ false → same_path (parent x) (space ++ root) ≡ false
+pub parent_outside : (root space x : Path) → is_within root x ≡ false → same_path (parent x) (space ++ root) ≡ false
 parent_outside root space x apart = by (same_path (parent x) (space ++ root)) refl
   where
     inside : (q : Path) → x ≡ q ++ root → ⊥
@@ -219,3 +222,23 @@ module _ {root : Path} {see : Ptr → Ptr} {small big : World} (like : IsLikenes
       by true = of_thread (and_then thread_of (small.body (k ∷ q))) (and_then thread_of (big.body (k ∷ (q ++ root)))) refl (thread_there-like like (k ∷ q))
       by false = tt
       -- ---- native servers
+
+-- a reference that a thread outside names lies outside: the root itself is a space
+pub reference_beside : {root : Path} {see : Ptr → Ptr} {small big : World} → IsLikeness root see small big → (y : Path) (i : ℕ) → is_within root y ≡ false →
+    is_handled big (parent y) (Some i) ≡ true → is_within root (i ∷ parent y) ≡ false
+unfolding kind_there
+reference_beside {root} {see} {small} {big} like y i out handled = by (strip root (i ∷ parent y)) refl
+  where
+    place : (z : Path) → i ∷ parent y ≡ z ++ root → ⊥
+    place [] e =
+        let at = reference-in big (parent y) i handled in
+        let kind : Some kinds.Space ≡ Some kinds.Reference = sym like.top ∙ ap (λ (x : Path). kind_there big x) (sym e) ∙ ap (option_map kind_of) at.there in
+        cc
+    place (a ∷ z) e =
+        let same : parent y ≡ z ++ root = ap parent e in
+        let clash : true ≡ false = sym (same_path_refl (z ++ root)) ∙ ap (λ (x : Path). same_path x (z ++ root)) (sym same) ∙ parent_outside root z y out in
+        cc
+
+    by : (r : Option Path) → strip root (i ∷ parent y) ≡ r → is_some r ≡ false
+    by None e = refl
+    by (Some z) e = absurd (place z (strip_some root (i ∷ parent y) z e))

@@ -16,7 +16,7 @@ use Rattle.fk_model.specs.Searches.{pointers, option_list, peer_pointer, talk_po
 use Rattle.fk_model.specs.Holds.{decider, is_frozen, is_frozen_for, leads_to_frozen}
 use Rattle.fk_model.specs.Freezing.{body_pointers, changed_pointers, made_pointers, are_unfrozen, is_in_set, is_swept, talk_lost, fault_lost, lost_with}
 use Rattle.fk_model.specs.Freezing.{may_be_swept, may_follow, IsAllowed, AreAllowed}
-use Rattle.fk_model.specs.Cut.{is_out, seen_by}
+use Rattle.fk_model.specs.Cut.{is_out, seen_by, is_far, is_outer}
 use Rattle.fk_model.specs.Rebind.{rebound_ptr, rebound}
 use Rattle.fk_model.proofs.walks.PlaceLaws.{strip-append}
 use Rattle.laws_subtrees.specs.Cut.Likeness.{seeing, seen_peer, seen_talk, seen_fault, IsLikeness, IsCutWorld}
@@ -33,6 +33,14 @@ itself p = p
 pub out_kept : (bind : ℕ → ℕ) (p : Ptr) → is_out (rebound_ptr bind p) ≡ is_out p
 out_kept bind (Out slot) = refl
 out_kept bind p = refl
+
+pub far_kept : (bind : ℕ → ℕ) (p : Ptr) → is_far (rebound_ptr bind p) ≡ is_far p
+far_kept bind (Out slot) = refl
+far_kept bind p = refl
+
+pub outer_kept : (bind : ℕ → ℕ) (p : Ptr) → is_outer (rebound_ptr bind p) ≡ is_outer p
+outer_kept bind (Out slot) = refl
+outer_kept bind p = refl
 
 pub top_free : (c : World) → IsCutWorld c → is_frozen c [] ≡ false
 unfolding decider

@@ -1,50 +1,53 @@
 -- The law of rebinding for a Send and an Over, with what the outside is told of them.
-use Rattle.std.proofs.Common.{◌≡◌, ℕ, eqb, leb, ltb, Bool, true, false, cond, ◌&&◌, List, [], ◌∷◌, ◌++◌, map, find, Option, Some, None, is_none, Ok, Err, refl}
+use Rattle.std.proofs.Common.{◌≡◌, ℕ, eqb, leb, ltb, Bool, true, false, cond, ◌&&◌, List, [], ◌∷◌, ◌++◌, map, find, Option, Some, None, is_none, Ok, Err, refl, not}
 use Rattle.std.proofs.Common.{sym, ap, subst, ◌∙◌, append-nil}
 use Rattle.fk_model.specs.declared.limits.TheConstants.{BLOCK_WORDS}
 use Rattle.fk_model.specs.declared.statuses.status.TheConstants.{WRONGTURN}
 use Rattle.fk_model.specs.declared.stage.Stage.{Stage}
-use Rattle.fk_model.specs.declared.stage.Stage.TheVariants.{ClientSend, ClientOver, ServerSend, ServerOver}
+use Rattle.fk_model.specs.declared.stage.Stage.TheVariants.{ClientSend, ClientOver, ServerSend, ServerOver, ClientOverRef, ServerOverRef}
 use Rattle.fk_model.specs.declared.thread.Turn.TheVariants as turns
 use Rattle.fk_model.specs.Places.{Path, parent, Ptr}
-use Rattle.fk_model.specs.Objects.{Talk, Thread, holds}
+use Rattle.fk_model.specs.Objects.{Talk, Thread, holds, reference_of}
 use Rattle.fk_model.specs.Objects.Mode.{Calling}
 use Rattle.fk_model.specs.World.{World, serves}
 use Rattle.fk_model.specs.World.Change.{Alter}
 use Rattle.fk_model.specs.World.Edit.{Finish, End, CountMoved, PassTurn}
 use Rattle.fk_model.specs.Searches.{talk_at, client_of, objects, thread_at}
 use Rattle.fk_model.specs.Reach.{words_at}
-use Rattle.fk_model.specs.Holds.{is_frozen, is_free}
+use Rattle.fk_model.specs.Holds.{is_frozen, is_free, leads_to_frozen}
 use Rattle.fk_model.specs.Outcomes.{Outcome, ◌>>=◌, when, done}
 use Rattle.fk_model.specs.Outcomes.Outcome.{Refused, Waits, Goes}
-use Rattle.fk_model.specs.Readers.{own_page}
+use Rattle.fk_model.specs.Readers.{own_page, object_in}
 use Rattle.fk_model.specs.Talks.{Line, line, same_side}
-use Rattle.fk_model.specs.TransferRows.{block, moved_words, in_turn}
+use Rattle.fk_model.specs.TransferRows.{block, moved_words, in_turn, may_carry}
 use Rattle.fk_model.specs.LinkRows.{user_at}
 use Rattle.fk_model.specs.Moves.{stage_row, is_for_porters, chooses, closed, call_row}
 use Rattle.fk_model.specs.Cut.{is_out}
-use Rattle.fk_model.specs.Further.{is_outside, takes_words, sends_outside, passes_outside, talks_outside, outside_row, own_row, counted, onward_row}
+use Rattle.fk_model.specs.Further.{is_outside, takes_words, sends_outside, passes_outside, talks_outside, outside_row, own_row, counted, onward_row, over_outside}
 use Rattle.fk_model.specs.Further.Onward.{Own}
 use Rattle.fk_model.specs.Rebind.{rebound_ptr, rebound}
-use Rattle.laws_subtrees.specs.Cut.CutLaws.{IsAtStage, IsServerSend, IsServerOver, IsClientSend, IsClientOver}
-use Rattle.laws_subtrees.specs.Cut.Likeness.{seen_talk, seen_thread, IsLikeness, IsCutWorld, ServesNobodyOutside, IsBeneath, AlikeOptions, IsSeenTalk}
+use Rattle.laws_subtrees.specs.Cut.CutLaws.{IsAtStage, IsServerSend, IsServerOver, IsClientSend, IsClientOver, IsClientOverRef, IsServerOverRef}
+use Rattle.laws_subtrees.specs.Cut.Likeness.{seen_talk, seen_thread, IsLikeness, IsCutWorld, ServesNobodyOutside, IsBeneath, AlikeOptions, IsSeenTalk, IsSeenAs, PtrLikeness}
 use Rattle.laws_subtrees.specs.Cut.LikeChanges.LikeChange.{Alters}
 use Rattle.laws_subtrees.specs.Cut.LikeChanges.LikeChanges.{Empty, Both}
 use Rattle.laws_subtrees.specs.Cut.RebindLaws.{RebindsTo, StageRebinds}
 use Rattle.laws_subtrees.proofs.InCut.likeness.Instances.{rebound-like}
 use Rattle.laws_subtrees.proofs.InCut.likeness.Memory.{root_space, root_seen, words_at-like}
-use Rattle.laws_subtrees.proofs.InCut.likeness.Holds.{is_free-like}
+use Rattle.laws_subtrees.proofs.InCut.likeness.Holds.{is_free-like, is_frozen_for-like}
 use Rattle.laws_subtrees.proofs.InCut.likeness.Talks.{talk_at-like}
 use Rattle.laws_subtrees.proofs.InCut.likeness.Walks.{beneath-like}
 use Rattle.laws_subtrees.proofs.InCut.likeness.Sweeps.{serves_alike}
 use Rattle.laws_subtrees.proofs.InCut.likeness.Servers.{cut_world-apart}
-use Rattle.laws_subtrees.proofs.InCut.likeness.Sends.{NearLine, says_nothing, Same, same_when, same_own, same_sent, send-same, over-same, client_near, server_near}
+use Rattle.laws_subtrees.proofs.InCut.likeness.Sends.{NearLine, says_nothing, Same, same_when, same_own, same_sent, send-same, over-same, client_near, server_near, CarriedLike, over_ref-same}
+use Rattle.laws_subtrees.proofs.InCut.likeness.Sends.{same_bind}
 use Rattle.laws_subtrees.proofs.InCut.likeness.Sends.SaidLikeness.{SaysWords, SaysPassed}
 use Rattle.laws_subtrees.proofs.InCut.cut.Inside.{call_closed}
-use Rattle.laws_subtrees.proofs.InCut.rebinding.Freedom.{out_kept, top_free}
+use Rattle.laws_subtrees.proofs.InCut.rebinding.Freedom.{out_kept, top_free, nothing_outside}
 use Rattle.laws_subtrees.proofs.InCut.rebinding.Rebound.{no_thread, thread_named, rebinds_by}
 use Rattle.laws_subtrees.proofs.InCut.talks.Sends.{own_is}
 use Rattle.laws_subtrees.proofs.InCut.talks.Clients.{alone, picked, outside_at, outside_talk}
+use Rattle.laws_subtrees.specs.Cut.Likeness.PtrLikeness.{Deads, Inside, Nulls, PortAt, PortOut}
+use Rattle.laws_subtrees.proofs.InCut.likeness.Reads.{reference_in-like}
 
 -- ---- calls act and are heard alike
 
@@ -176,7 +179,26 @@ server_over_rebinds = told_rebinds IsServerOver (λ p n stage such. rw such (law
     law p n see small c like outs world k q =
         rw (silent_row p n ServerOver small (k ∷ q) (λ n o. refl), silent_row p n ServerOver c (k ∷ (q ++ [])) (λ n o. refl))
         (same_call like k q p ServerOver refl
-        refl (over-same like (top_free c world) k q turns.Server (server_near like (k ∷ q) (client_same like (cut_world-apart c see outs world) (k ∷ q)))))
+        refl (over-same like (top_free c world) k q turns.Server None None tt refl (server_near like (k ∷ q) (client_same like (cut_world-apart c see outs world) (k ∷ q)))))
+
+-- in a world that is all inside, what is frozen is seen so
+frozen_alike : {see : Ptr → Ptr} {small c : World} (like : IsLikeness [] see small c) → is_frozen c [] ≡ false → (me : Path) (p seen : Ptr) → PtrLikeness [] c p seen →
+    leads_to_frozen small me seen ≡ leads_to_frozen c (me ++ []) p
+frozen_alike like free me _ _ Nulls = refl
+frozen_alike like free me _ _ Deads = refl
+frozen_alike like free me _ _ (Inside x) = is_frozen_for-like like free me x
+frozen_alike like free me _ _ (PortAt x slot apart kind) = absurd (nothing_outside x apart)
+frozen_alike like free me _ _ (PortOut old slot) = refl
+
+pub server_over_ref_rebinds : StageRebinds IsServerOverRef
+server_over_ref_rebinds = told_rebinds IsServerOverRef (λ p n stage such. rw such.1 (law p n such.0))
+  where
+    law : (p : Option Path) (n reference : ℕ) → IsRebound p n (ServerOverRef reference)
+    law p n reference see small c like outs world k q =
+        rw (silent_row p n (ServerOverRef reference) small (k ∷ q) (λ n o. refl), silent_row p n (ServerOverRef reference) c (k ∷ (q ++ [])) (λ n o. refl))
+        (same_call like k q p (ServerOverRef reference) refl refl (over_ref-same like (top_free c world) k q
+        (λ p h. ap not (frozen_alike like (top_free c world) (k ∷ q) p (see p) h)) turns.Server reference
+        (server_near like (k ∷ q) (client_same like (cut_world-apart c see outs world) (k ∷ q)))))
 
 -- ---- a client
 
@@ -200,7 +222,7 @@ client_rebound : (n : ℕ) (stage : Stage) → chooses stage ≡ false → is_fo
     ((see : Ptr → Ptr) (small c : World) (like : IsLikeness [] see small c) →
     is_frozen c [] ≡ false → (k : ℕ) (q : Path) → AlikeOptions (NearLine [] see c) (line small (k ∷ q) turns.Client) (line c (k ∷ (q ++ [])) turns.Client) →
     Same like (stage_row small (user_at (k ∷ q)) None stage) (stage_row c (user_at (k ∷ (q ++ []))) None stage)) →
-    ((see : Ptr → Ptr) (small c : World) (like : IsLikeness [] see small c) (k : ℕ) (q : Path) (talk : Talk) →
+    ((see : Ptr → Ptr) (small c : World) (like : IsLikeness [] see small c) → is_frozen c [] ≡ false → (k : ℕ) (q : Path) (talk : Talk) →
     talk_at small (k ∷ q) ≡ Some (seen_talk see talk) → talk_at c (k ∷ (q ++ [])) ≡ Some talk → (o p : Outcome) →
     Same like (outside_row small (user_at (k ∷ q)) n stage o) (outside_row c (user_at (k ∷ (q ++ []))) n stage p)) →
     (p : Option Path) → IsRebound p n stage
@@ -224,7 +246,7 @@ client_rebound n stage picks users near out None see small c like outs world k q
     by true e =
         let on = outside_same see small c like outs world k q ∙ e in
         let there = outside_talk like k q on in
-        same_closed like k q _ _ (out see small c like k q there.0 (outside_at like k q true on there.0 there.1).0 there.1 _ _)
+        same_closed like k q _ _ (out see small c like (top_free c world) k q there.0 (outside_at like k q true on there.0 there.1).0 there.1 _ _)
     by false e =
         let off = outside_same see small c like outs world k q ∙ e in
         same_call like k q
@@ -265,14 +287,16 @@ module _ {root : Path} {see : Ptr → Ptr} {small big : World} (like : IsLikenes
       by true = sent (eqb count 0)
       by false = (refl, tt)
 
-  over_told : Same like (in_turn small (k ∷ q) turns.Client turns.Client >>= passes_outside (user_at (k ∷ q)))
-      (in_turn big me turns.Client turns.Client >>= passes_outside (user_at me))
+  over_told : (seen carried : Option Ptr) → CarriedLike like seen carried → may_carry small (k ∷ q) seen ≡ may_carry big me carried →
+      Same like (over_outside small (user_at (k ∷ q)) seen) (over_outside big (user_at me) carried)
   unfolding line
-  over_told = rw (near, far) (by (same_side talk.turn turns.Client))
+  over_told seen carried alike may = rw (near, far) (by (same_side talk.turn turns.Client))
     where
       by : (b : Bool) → Same like
-          (cond b (Ok near_line) (Err WRONGTURN) >>= passes_outside (user_at (k ∷ q))) (cond b (Ok far_line) (Err WRONGTURN) >>= passes_outside (user_at me))
-      by true = (Both (Alters k q _ (PassTurn turns.Server) refl tt) (Both (Alters k q _ (Finish []) refl tt) Empty), SaysPassed talk.port)
+          (cond b (Ok near_line) (Err WRONGTURN) >>= passes_outside small (user_at (k ∷ q)) seen)
+          (cond b (Ok far_line) (Err WRONGTURN) >>= passes_outside big (user_at me) carried)
+      by true = same_when like (may_carry small (k ∷ q) seen) (may_carry big me carried) _ _ may
+          (Both (Alters k q _ (PassTurn turns.Server) refl tt) (Both (Alters k q _ (Finish []) refl tt) Empty), SaysPassed talk.port)
       by false = (refl, tt)
 
 pub client_send_rebinds : StageRebinds IsClientSend
@@ -281,12 +305,24 @@ client_send_rebinds = told_rebinds IsClientSend (λ p n stage such. rw such.2 (l
     law : (p : Option Path) (n address count : ℕ) → IsRebound p n (ClientSend address count)
     law p n address count =
         client_rebound n (ClientSend address count) refl refl (λ see small c like free k q lines. send-same like free k q turns.Client address count lines)
-        (λ see small c like k q talk near far o o2. send_told like k q talk near far n address count) p
+        (λ see small c like free k q talk near far o o2. send_told like k q talk near far n address count) p
 
 pub client_over_rebinds : StageRebinds IsClientOver
 client_over_rebinds = told_rebinds IsClientOver (λ p n stage such. rw such (law p n))
   where
     law : (p : Option Path) (n : ℕ) → IsRebound p n ClientOver
     law p n =
-        client_rebound n ClientOver refl refl (λ see small c like free k q lines. over-same like free k q turns.Client lines)
-        (λ see small c like k q talk near far o o2. over_told like k q talk near far) p
+        client_rebound n ClientOver refl refl (λ see small c like free k q lines. over-same like free k q turns.Client None None tt refl lines)
+        (λ see small c like free k q talk near far o o2. over_told like k q talk near far None None tt refl) p
+
+pub client_over_ref_rebinds : StageRebinds IsClientOverRef
+client_over_ref_rebinds = told_rebinds IsClientOverRef (λ p n stage such. rw such.1 (law p n such.0))
+  where
+    law : (p : Option Path) (n reference : ℕ) → IsRebound p n (ClientOverRef reference)
+    law p n reference =
+        client_rebound n (ClientOverRef reference) refl refl
+        (λ see small c like free k q lines. over_ref-same like free k q (λ p h. ap not (frozen_alike like free (k ∷ q) p (see p) h)) turns.Client reference lines)
+        (λ see small c like free k q talk near far o o2.
+        same_bind like (IsSeenAs [] see c) (object_in small (user_at (k ∷ q)) reference_of q reference) (object_in c (user_at (k ∷ (q ++ []))) reference_of (q ++ []) reference)
+        _ _ (reference_in-like like (user_at (k ∷ q)) q reference) (λ seen p h. over_told like k q talk near far (Some seen) (Some p) h
+        (ap not (frozen_alike like free (k ∷ q) p seen (subst (λ (s : Ptr). PtrLikeness [] c p s) (sym h.0) h.1))))) p

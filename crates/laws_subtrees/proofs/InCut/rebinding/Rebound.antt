@@ -4,10 +4,10 @@ use Rattle.std.proofs.Common.{sym, ap, subst, ◌∙◌, append-nil}
 use Rattle.std.specs.List.{flat_map}
 use Rattle.fk_model.specs.declared.stage.Stage.{Stage}
 use Rattle.fk_model.specs.Places.{Path, parent, Ptr}
-use Rattle.fk_model.specs.Objects.{Mode, Peer, Talk, Fault, Thread, Body, thread_of, and_then}
+use Rattle.fk_model.specs.Objects.{Mode, Peer, Talk, Fault, Thread, Body, thread_of, and_then, reference_of}
 use Rattle.fk_model.specs.Objects.Mode.{Calling}
-use Rattle.fk_model.specs.Objects.Body.{Space}
-use Rattle.fk_model.specs.World.{World, Change, Edit, apply, apply_all}
+use Rattle.fk_model.specs.Objects.Body.{Space, Reference, Thread_of}
+use Rattle.fk_model.specs.World.{World, Change, Edit, apply, apply_all, through}
 use Rattle.fk_model.specs.World.Change.{Alter}
 use Rattle.fk_model.specs.World.Edit.{SetTalk, SetFault}
 use Rattle.fk_model.specs.Searches.{talk_at, thread_at}
@@ -19,11 +19,11 @@ use Rattle.fk_model.specs.LinkRows.{user_at}
 use Rattle.fk_model.specs.Freezing.{AreAllowed}
 use Rattle.fk_model.specs.Moves.{call_row, goes_on}
 use Rattle.fk_model.specs.Cut.{is_out}
-use Rattle.fk_model.specs.Further.{Onward, Told, talks_outside, own_stage, goes_out, counted, onward_row, ends_told, told_fault, told_by_change, told_by_said}
-use Rattle.fk_model.specs.Further.{told_by, OnwardTo}
+use Rattle.fk_model.specs.Further.{Onward, Told, talks_outside, own_stage, goes_out, counted, onward_row, ends_told, told_fault, told_by_change, told_by_said, carried_by}
+use Rattle.fk_model.specs.Further.{told_by, OnwardTo, reference_handed}
 use Rattle.fk_model.specs.Further.Onward.{Own}
-use Rattle.fk_model.specs.Further.Told.{ToldEnd, ToldFault}
-use Rattle.fk_model.specs.Rebind.{rebound_ptr, rebound, rebound_told}
+use Rattle.fk_model.specs.Further.Told.{ToldEnd, ToldFault, ToldOver}
+use Rattle.fk_model.specs.Rebind.{rebound_ptr, rebound, rebound_told, rebinding, rebound_move}
 use Rattle.laws_subtrees.specs.Cut.CutLaws.{IsAtStage}
 use Rattle.laws_subtrees.specs.Cut.Likeness.{seeing, seen_fault, seen_thread, IsLikeness, IsCutWorld, AlikeOptions, IsSeenTalk, IsSeenThread}
 use Rattle.laws_subtrees.specs.Cut.LikeChanges.{seen_edit, LikeChange, LikeChanges, IsLikeOutcome}
@@ -41,6 +41,7 @@ use Rattle.laws_subtrees.proofs.InCut.cut.Holds.{changes-allowed}
 use Rattle.laws_subtrees.proofs.InCut.rebinding.Freedom.{out_kept, top_free, no_outside, changes_back}
 use Rattle.laws_subtrees.proofs.InCut.cut.Inside.{Quiet, quiet-when, quiet-call, when_same, call_row-like, call_closed}
 use Rattle.laws_subtrees.proofs.InCut.cut.Outside.{IsInner, IsOwn, inner_own}
+use Rattle.fk_model.specs.Talks.{first_stage}
 
 -- two likenesses of one world by the same eyes are one
 pub same_likeness : (root : Path) (see : Ptr → Ptr) (one other big : World) → IsLikeness root see one big → IsLikeness root see other big → one ≡ other
@@ -165,18 +166,18 @@ same_move w m (Goes cs said) told heard later after h g = (g.1 ∙ sym h.1, g.2 
 same_move w m Waits told heard later after h g = absurd h
 same_move w m (Refused status) told heard later after h g = absurd h
 
-pub rebinds_from : (bind : ℕ → ℕ) (c : World) (m : Onward) (near far : Outcome) → onward_row (rebound bind c) m ≡ near → onward_row c m ≡ far →
-    ((told : List Told) (later : World) → OnwardTo c m far told later → OnwardTo (rebound bind c) m near (map (rebound_told bind) told) (rebound bind later)) →
-    ((heard : List Told) (after : World) → OnwardTo (rebound bind c) m near heard after → (told : List Told) × (later : World) × OnwardTo c m far told later) →
+pub rebinds_from : (bind : ℕ → ℕ) (c : World) (m : Onward) (near far : Outcome) → onward_row (rebound bind c) (rebound_move bind m) ≡ near → onward_row c m ≡ far →
+    ((told : List Told) (later : World) → OnwardTo c m far told later → OnwardTo (rebound bind c) (rebound_move bind m) near (map (rebound_told bind) told) (rebound bind later)) →
+    ((heard : List Told) (after : World) → OnwardTo (rebound bind c) (rebound_move bind m) near heard after → (told : List Told) × (later : World) × OnwardTo c m far told later) →
     ((told : List Told) (later : World) → OnwardTo c m far told later → IsCutWorld later) → RebindsTo bind c m
 rebinds_from bind c m near far near_is far_is forth back stays = record {
-  forth = λ told later onward. subst (λ (o : Outcome). OnwardTo (rebound bind c) m o (map (rebound_told bind) told) (rebound bind later))
+  forth = λ told later onward. subst (λ (o : Outcome). OnwardTo (rebound bind c) (rebound_move bind m) o (map (rebound_told bind) told) (rebound bind later))
       (sym near_is) (forth told later (subst (λ (o : Outcome). OnwardTo c m o told later) far_is onward));
   back = λ heard after onward.
-      let here : OnwardTo (rebound bind c) m near heard after = subst (λ (o : Outcome). OnwardTo (rebound bind c) m o heard after) near_is onward in
+      let here : OnwardTo (rebound bind c) (rebound_move bind m) near heard after = subst (λ (o : Outcome). OnwardTo (rebound bind c) (rebound_move bind m) o heard after) near_is onward in
       let was = back heard after here in
       let now = forth was.0 was.1 was.2 in
-      let same = same_move (rebound bind c) m near (map (rebound_told bind) was.0) heard (rebound bind was.1) after now here in
+      let same = same_move (rebound bind c) (rebound_move bind m) near (map (rebound_told bind) was.0) heard (rebound bind was.1) after now here in
       (was.0, was.1, subst (λ (o : Outcome). OnwardTo c m o was.0 was.1) (sym far_is) was.2, same.0, same.1);
   stays = λ told later onward. stays told later (subst (λ (o : Outcome). OnwardTo c m o told later) far_is onward);
 }
@@ -207,10 +208,34 @@ module _ (bind : ℕ → ℕ) (c : World) (world : IsCutWorld c) (k : ℕ) (q : 
   abbrev likeness_of : IsLikeness [] (rebound_ptr bind) (rebound bind c) c
   likeness_of = rebound-like bind (λ p. p) [] c c world
 
-  said_anew : (x : Path) (was said : Said) → SaidLikeness (rebound_ptr bind) was said → map (rebound_told bind) (told_by_said x said) ≡ told_by_said x was
-  said_anew x _ _ (Hushed was said h g) = ap (map (rebound_told bind)) (g x) ∙ sym (h x)
+  -- the pointer that goes with a turn has its new name
+  carried_anew : (x : Path) → option_map (rebound_ptr bind) (carried_by c x) ≡ carried_by (rebound bind c) x
+  unfolding rebound
+  carried_anew x = by (c.body x)
+    where
+      held : (o : Option Body) (y : Path) → option_map (rebound_ptr bind) (and_then reference_of o) ≡ and_then reference_of (option_map (through (rebinding bind) y) o)
+      held None y = refl
+      held (Some (Reference to)) y = refl
+      held (Some b) y = refl
+
+      of_slot : (o : Option ℕ) → option_map (rebound_ptr bind) (and_then (λ k. and_then reference_of (c.body (k ∷ parent x))) o) ≡
+          and_then (λ k. and_then reference_of (option_map (through (rebinding bind) (k ∷ parent x)) (c.body (k ∷ parent x)))) o
+      of_slot None = refl
+      of_slot (Some k) = held (c.body (k ∷ parent x)) (k ∷ parent x)
+
+      by : (o : Option Body) → option_map (rebound_ptr bind) (and_then (λ k. and_then reference_of (c.body (k ∷ parent x)))
+          (and_then (λ (t : Thread). and_then reference_handed (first_stage t.mode)) (and_then thread_of o))) ≡
+          and_then (λ k. and_then reference_of (option_map (through (rebinding bind) (k ∷ parent x)) (c.body (k ∷ parent x))))
+          (and_then (λ (t : Thread). and_then reference_handed (first_stage t.mode)) (and_then thread_of (option_map (through (rebinding bind) x) o)))
+      by None = refl
+      by (Some (Thread_of t)) = of_slot (and_then reference_handed (first_stage t.mode))
+      by (Some b) = refl
+
+  said_anew : (x : Path) (was said : Said) → SaidLikeness (rebound_ptr bind) was said →
+      map (rebound_told bind) (told_by_said c x said) ≡ told_by_said (rebound bind c) x was
+  said_anew x _ _ (Hushed was said h g) = ap (map (rebound_told bind)) (g c x) ∙ sym (h (rebound bind c) x)
   said_anew x _ _ (SaysWords port words) = refl
-  said_anew x _ _ (SaysPassed port) = refl
+  said_anew x _ _ (SaysPassed port) = ap (λ (p : Option Ptr). ToldOver x (rebound_ptr bind port) p ∷ []) (carried_anew x)
 
   goes_anew : (p : Option Path) (n : ℕ) (near far : Outcome) →
       IsLikeOutcome [] (rebound_ptr bind) c near far → IsLikeOutcome [] (λ p. p) c far far → IsHeard (rebound_ptr bind) near far →
@@ -222,7 +247,7 @@ module _ (bind : ℕ → ℕ) (c : World) (world : IsCutWorld c) (k : ℕ) (q : 
       let same : rebound bind now ≡ apply_all cs (rebound bind c) = same_likeness [] (rebound_ptr bind) (rebound bind now)
       (apply_all cs (rebound bind c)) now (rebound-like bind (λ p. p) [] now now world_now) (changes-like (rebound bind c) c cs ds h likeness_of) in
       let hears : List Told = flat_map (told_by_change c) ds in
-      let says : List Told = told_by_said (k ∷ q) said in
+      let says : List Told = told_by_said c (k ∷ q) said in
       let changed : map (rebound_told bind) hears ≡ flat_map (told_by_change (rebound bind c)) cs = sym (changes_told bind c likeness_of c cs ds h) in
       let spoken = said_anew (k ∷ q) was said heard in (
         changes-allowed likeness_of (top_free c world) (k ∷ q) c cs ds h (subst (λ (y : Path). AreAllowed c (k ∷ y) ds) (sym (append-nil q)) onward.0),
@@ -235,8 +260,8 @@ module _ (bind : ℕ → ℕ) (c : World) (world : IsCutWorld c) (k : ℕ) (q : 
   goes_anew p n Waits (Goes ds said) h again heard told later onward = absurd h
 
   -- words go out in both or in none
-  hushed : (cs : List Change) (said : Said) → ((x : Path) → told_by_said x said ≡ []) → goes_out (Goes cs said) ≡ false
-  hushed cs (Words port words) hush = let none = hush [] in cc
+  hushed : (cs : List Change) (said : Said) → ((v : World) (x : Path) → told_by_said v x said ≡ []) → goes_out (Goes cs said) ≡ false
+  hushed cs (Words port words) hush = let none = hush c [] in cc
   hushed cs said hush = refl
 
   both_out : (cs ds : List Change) (was said : Said) → SaidLikeness (rebound_ptr bind) was said → goes_out (Goes cs was) ≡ goes_out (Goes ds said)

@@ -1,5 +1,5 @@
 -- The law of rebinding for what the outside does to a subtree: with other outward ports it is done in the same way.
-use Rattle.std.proofs.Common.{◌≡◌, ℕ, ◌%◌, eqb, leb, ltb, min, Bool, true, false, cond, ◌&&◌, List, [], ◌∷◌, ◌++◌, map, length, Option, Some, None, is_none}
+use Rattle.std.proofs.Common.{◌≡◌, ℕ, ◌%◌, eqb, leb, ltb, min, Bool, true, false, cond, ◌&&◌, List, [], ◌∷◌, ◌++◌, map, length, Option, Some, None, is_none, not}
 use Rattle.std.proofs.Common.{is_some, option_map, refl, sym, ap, subst, ◌∙◌, append-nil}
 use Rattle.std.proofs.lemmas.Bool.{and_parts}
 use Rattle.fk_model.specs.declared.limits.TheConstants.{PAGE_WORDS, BLOCK_WORDS}
@@ -7,40 +7,47 @@ use Rattle.fk_model.specs.declared.statuses.status.TheConstants.{FULL, ENDED}
 use Rattle.fk_model.specs.declared.thread.Turn.TheVariants as turns
 use Rattle.fk_model.specs.Searches.{fault_at, thread_at}
 use Rattle.fk_model.specs.Places.{Path, Ptr}
-use Rattle.fk_model.specs.Places.Ptr.{Outside}
-use Rattle.fk_model.specs.Objects.{Peer, Talk, Fault, Thread, Body, space_of, and_then, holds}
+use Rattle.fk_model.specs.Places.Ptr.{Outside, At, Dead, Far, Null, Out}
+use Rattle.fk_model.specs.Objects.{Peer, Talk, Fault, Thread, Body, space_of, and_then, holds, kind_of, reference_of}
 use Rattle.fk_model.specs.Objects.Peer.{Server}
-use Rattle.fk_model.specs.Objects.Body.{Space}
+use Rattle.fk_model.specs.Objects.Body.{Space, Reference}
 use Rattle.fk_model.specs.World.{World, apply_all}
 use Rattle.fk_model.specs.World.Change.{Alter}
-use Rattle.fk_model.specs.World.Edit.{Shift, Finish, End, SetTalk, CountMoved, PassTurn, SetFault, SetTaker}
+use Rattle.fk_model.specs.World.Edit.{Shift, Finish, End, SetTalk, CountMoved, PassTurn, SetFault, SetTaker, SetPointer}
 use Rattle.fk_model.specs.Reach.{words_at}
-use Rattle.fk_model.specs.Holds.{is_free, is_unheld}
+use Rattle.fk_model.specs.Holds.{is_free, is_unheld, is_frozen}
 use Rattle.fk_model.specs.Outcomes.{Outcome, when}
 use Rattle.fk_model.specs.Outcomes.Outcome.{Refused, Waits, Goes}
-use Rattle.fk_model.specs.Talks.{same_side, receiving, is_talking}
-use Rattle.fk_model.specs.TransferRows.{overwritten, to_page_end}
+use Rattle.fk_model.specs.Talks.{same_side, receiving, is_talking, awaited}
+use Rattle.fk_model.specs.TransferRows.{overwritten, to_page_end, taken_answers}
 use Rattle.fk_model.specs.LinkRows.{new_talk}
-use Rattle.fk_model.specs.Cut.{is_out, seen_by, unheld}
-use Rattle.fk_model.specs.Further.{Touch, Told, is_outside, on_found, is_outside_talk, taken_at, if_awaiting, given_at, given_to, left_by_peer}
-use Rattle.fk_model.specs.Further.{fault_taken_outside, done_fault, touch_row, onward_row, OnwardTo}
-use Rattle.fk_model.specs.Further.Touch.{Taken, Given, Filled, Handed, Left, FaultTaken, FaultDone, PageGiven, PageTaken}
+use Rattle.fk_model.specs.Cut.{is_out, seen_by, unheld, is_far, is_outer}
+use Rattle.fk_model.specs.Further.{Touch, Told, is_outside, on_found, is_outside_talk, taken_at, if_awaiting, given_at, given_to, left_by_peer, handed_with, is_named}
+use Rattle.fk_model.specs.Further.{fault_taken_outside, done_fault, touch_row, onward_row, OnwardTo, leads_to_held, may_take}
+use Rattle.fk_model.specs.Further.Touch.{Taken, Given, Filled, Handed, Left, FaultTaken, FaultDone, PageGiven, PageTaken, HandedWith}
 use Rattle.fk_model.specs.Further.Onward.{ByOthers}
-use Rattle.fk_model.specs.Rebind.{rebound_ptr, rebound, rebound_told}
-use Rattle.laws_subtrees.specs.Cut.Likeness.{seeing, seen_peer, seen_talk, seen_fault, seen_thread, IsLikeness, IsCutWorld, AlikeOptions, IsSeenAs, IsSeenThread}
+use Rattle.fk_model.specs.Rebind.{rebound_ptr, rebound, rebound_told, rebound_move, touch_by}
+use Rattle.laws_subtrees.specs.Cut.Likeness.{seeing, seen_peer, seen_talk, seen_fault, seen_thread, IsLikeness, IsCutWorld, AlikeOptions, IsSeenAs, IsSeenThread, HasLikeness}
+use Rattle.laws_subtrees.specs.Cut.Likeness.{PtrLikeness}
 use Rattle.laws_subtrees.specs.Cut.LikeChanges.{LikeChanges, IsLikeOutcome, HasFaultSeen}
 use Rattle.laws_subtrees.specs.Cut.LikeChanges.LikeChange.{Alters, AltersOut, PutsPage, DropsPage}
 use Rattle.laws_subtrees.specs.Cut.LikeChanges.LikeChanges.{Empty, Both}
 use Rattle.laws_subtrees.specs.Cut.RebindLaws.{TouchRebinds}
 use Rattle.laws_subtrees.proofs.InCut.likeness.Instances.{rebound-like}
 use Rattle.laws_subtrees.proofs.InCut.likeness.Memory.{root_space, root_seen, words_at-like}
-use Rattle.laws_subtrees.proofs.InCut.likeness.Holds.{is_unheld-like, is_free-like}
+use Rattle.laws_subtrees.proofs.InCut.likeness.Holds.{is_unheld-like, is_free-like, is_frozen-like}
 use Rattle.laws_subtrees.proofs.InCut.likeness.Talks.{thread_there-like}
 use Rattle.laws_subtrees.proofs.InCut.likeness.Waits.{connecting_to-like}
 use Rattle.laws_subtrees.proofs.InCut.likeness.Outcomes.{their_page-like}
 use Rattle.laws_subtrees.proofs.InCut.likeness.ChangeLists.{changes-like}
-use Rattle.laws_subtrees.proofs.InCut.rebinding.Freedom.{out_kept, top_free}
+use Rattle.laws_subtrees.proofs.InCut.rebinding.Freedom.{out_kept, top_free, far_kept, outer_kept}
 use Rattle.laws_subtrees.proofs.InCut.rebinding.Rebound.{stays_alone, same_likeness, rebinds_from}
+use Rattle.laws_subtrees.specs.Cut.Likeness.PtrLikeness.{Deads, Inside, Nulls, PortOut}
+use Rattle.fk_model.specs.Valid.{is_one_of, kind_there}
+use Rattle.laws_subtrees.proofs.InCut.likeness.Reads.{kind-there}
+use Rattle.fk_model.specs.StateRows.{referable}
+use Rattle.laws_subtrees.proofs.InCut.likeness.Sends.{receiving-like}
+use Rattle.fk_model.specs.Runs.{after}
 
 -- ---- who is outside, in a world that is all inside
 
@@ -74,7 +81,8 @@ fault_shown t shown fault is =
     the_one : (a b : Fault) → Some a ≡ Some b → a ≡ b
     the_one a b h = cc
 
-module _ {see : Ptr → Ptr} {small c : World} (like : IsLikeness [] see small c) (outs : (p : Ptr) → is_out (see p) ≡ is_out p) (world : IsCutWorld c) where
+module _ {see : Ptr → Ptr} {small c : World} (like : IsLikeness [] see small c) (outs : (p : Ptr) → is_out (see p) ≡ is_out p) (fars : (p : Ptr) → is_far (see p) ≡ is_far p)
+    (outers : (p : Ptr) → is_outer (see p) ≡ is_outer p) (world : IsCutWorld c) where
   abbrev Alike : Outcome → Outcome → Type 0
   Alike = IsLikeOutcome [] see c
 
@@ -140,8 +148,9 @@ module _ {see : Ptr → Ptr} {small c : World} (like : IsLikeness [] see small c
   awaiting : (k : ℕ) (q : Path) (near far : ℕ × ℕ → Outcome) → ((receive : ℕ × ℕ) → Alike (near receive) (far receive)) →
       (t : Thread) → t ≡ seen_thread (λ p. p) t → Alike (if_awaiting small (k ∷ q) near (seen_thread see t)) (if_awaiting c (k ∷ (q ++ [])) far t)
   awaiting k q near far go t shown =
-      when_so _ (is_free c (q ++ []) t && holds (λ (talk : Talk). is_outside_talk talk && same_side talk.turn turns.Server) t.talk) _ _
-      (rw (free_here q t, talk_test (λ (talk : Talk). same_side talk.turn turns.Server) (λ talk. refl) t shown) refl) (λ on. by (receiving turns.Client t.mode))
+      when_so _ (is_free c (q ++ []) t && holds (λ (talk : Talk). is_outside_talk talk && same_side talk.turn turns.Server) t.talk)
+      (on_found near (receiving small q turns.Client t.mode)) (on_found far (receiving c (q ++ []) turns.Client t.mode))
+      (rw (free_here q t, talk_test (λ (talk : Talk). same_side talk.turn turns.Server) (λ talk. refl) t shown) refl) (λ on. rw (receiving-like like q turns.Client t.mode) (by (receiving c (q ++ []) turns.Client t.mode)))
     where
       by : (o : Option (ℕ × ℕ)) → Alike (on_found near o) (on_found far o)
       by None = tt
@@ -224,9 +233,98 @@ module _ {see : Ptr → Ptr} {small c : World} (like : IsLikeness [] see small c
   space_here q (Some b) = refl
   space_here q None = refl
 
+  -- ---- a pointer that is handed over
+
+  see_at : (y : Path) → see (At y) ≡ At y
+  see_at y = ap (λ (x : Path). see (At x)) (sym (append-nil y)) ∙ like.within y
+
+  kind_same : (y : Path) → kind_there small y ≡ kind_there c y
+  unfolding kind_there
+  kind_same y = kinds_map (small.body y) ∙ kind-there like y ∙ sym (kinds_map (c.body (y ++ []))) ∙ ap (λ (x : Path). option_map kind_of (c.body x)) (append-nil y)
+    where
+      kinds_map : (o : Option Body) → option_map kind_of o ≡ and_then (λ b. Some (kind_of b)) o
+      kinds_map None = refl
+      kinds_map (Some b) = refl
+
+  out_nowhere : (s : Ptr) → is_out s ≡ true → leads_to_held small s ≡ false
+  out_nowhere (Out i) h = refl
+  out_nowhere (At x) h = cc
+  out_nowhere s h = refl
+
+  far_nowhere : (s : Ptr) → is_far s ≡ true → leads_to_held small s ≡ false
+  far_nowhere Far h = refl
+  far_nowhere (At x) h = cc
+  far_nowhere s h = refl
+
+  outer_nowhere : (s : Ptr) → is_outer s ≡ true → leads_to_held small s ≡ false
+  outer_nowhere Outside h = refl
+  outer_nowhere (At x) h = cc
+  outer_nowhere s h = refl
+
+  held_same_ptr : (p : Ptr) → leads_to_held small (see p) ≡ leads_to_held c p
+  held_same_ptr (At y) = rw (see_at y) (is_frozen-like like (top_free c world) y ∙ ap (is_frozen c) (append-nil y))
+  held_same_ptr Null = rw like.null refl
+  held_same_ptr Dead = rw like.dead refl
+  held_same_ptr (Out i) = out_nowhere (see (Out i)) (outs (Out i))
+  held_same_ptr Far = far_nowhere (see Far) (fars Far)
+  held_same_ptr Outside = outer_nowhere (see Outside) (outers Outside)
+
+  out_named : (s : Ptr) → is_out s ≡ true → is_named small s ≡ true
+  out_named (Out i) h = refl
+  out_named s h = cc
+
+  far_unnamed : (s : Ptr) → is_far s ≡ true → is_named small s ≡ false
+  far_unnamed Far h = refl
+  far_unnamed s h = cc
+
+  outer_unnamed : (s : Ptr) → is_outer s ≡ true → is_named small s ≡ false
+  outer_unnamed Outside h = refl
+  outer_unnamed s h = cc
+
+  named_same : (p : Ptr) → is_named small (see p) ≡ is_named c p
+  named_same (At y) = rw (see_at y) (ap (is_one_of referable) (kind_same y))
+  named_same Null = rw like.null refl
+  named_same Dead = rw like.dead refl
+  named_same (Out i) = out_named (see (Out i)) (outs (Out i))
+  named_same Far = far_unnamed (see Far) (fars Far)
+  named_same Outside = outer_unnamed (see Outside) (outers Outside)
+
+  replaced_same : (q : Path) (i : ℕ) → holds (leads_to_held small) (and_then reference_of (small.body (i ∷ q))) ≡
+      holds (leads_to_held c) (and_then reference_of (c.body (i ∷ (q ++ []))))
+  unfolding seen_by
+  replaced_same q i = rw (like.bodies (i ∷ q)) (by (c.body (i ∷ (q ++ []))))
+    where
+      by : (o : Option Body) → holds (leads_to_held small) (and_then reference_of (option_map (λ b. unheld (i ∷ q) (seen_by (seeing see) b)) o)) ≡
+          holds (leads_to_held c) (and_then reference_of o)
+      by None = refl
+      by (Some (Reference to)) = held_same_ptr to
+      by (Some b) = refl
+
+  may_take_same : (q : Path) (p : Ptr) (i : ℕ) → may_take small q (see p) i ≡ may_take c (q ++ []) p i
+  may_take_same q p i = rw (named_same p, held_same_ptr p, replaced_same q i) refl
+
+  port_out : (i : ℕ) (s : Ptr) → is_out s ≡ true → PtrLikeness [] c (Out i) s
+  port_out i (Out j) h = PortOut i j
+  port_out i s h = cc
+
+  named_like : (p : Ptr) → is_named c p ≡ true → HasLikeness [] see c p
+  named_like (At y) on = rw (see_at y) (subst (λ (x : Path). PtrLikeness [] c (At x) (At y)) (append-nil y) (Inside y))
+  named_like Null on = rw like.null Nulls
+  named_like Dead on = rw like.dead Deads
+  named_like (Out i) on = port_out i (see (Out i)) (outs (Out i))
+  named_like Far on = cc
+  named_like Outside on = cc
+
+  handed_here : (k : ℕ) (q : Path) (p : Ptr) (to : Option ℕ) (receive : ℕ × ℕ) →
+      Alike (handed_with small (k ∷ q) (see p) to receive) (handed_with c (k ∷ (q ++ [])) p to receive)
+  handed_here k q p None receive = tt
+  handed_here k q p (Some i) receive = when_so (may_take small q (see p) i) (may_take c (q ++ []) p i) _ _ (may_take_same q p i)
+      (λ on. Both (Alters i q _ (SetPointer p) refl (named_like p (and_parts (is_named c p) _ (and_parts (is_named c p && not (leads_to_held c p)) _ on).0).0))
+      (Both (Alters k q _ (PassTurn turns.Client) refl tt) (Both (Alters k q _ (Finish (1 ∷ [])) refl tt) Empty)))
+
   -- ---- every touch
 
-  touch-like : (touch : Touch) → Alike (touch_row small touch) (touch_row c touch)
+  touch-like : (touch : Touch) → Alike (touch_row small (touch_by see touch)) (touch_row c touch)
   unfolding touch_row
   touch-like (Taken []) = no_root _ _
   touch-like (Taken (k ∷ q)) = subst (λ (y : Path). Alike (touch_row small (Taken (k ∷ q))) (touch_row c (Taken (k ∷ y)))) (append-nil q)
@@ -242,7 +340,12 @@ module _ {see : Ptr → Ptr} {small c : World} (like : IsLikeness [] see small c
   touch-like (Handed []) = no_root _ _
   touch-like (Handed (k ∷ q)) = subst (λ (y : Path). Alike (touch_row small (Handed (k ∷ q))) (touch_row c (Handed (k ∷ y)))) (append-nil q)
       (on_thread k q _ _ (λ t is shown.
-      awaiting k q _ _ (λ receive. Both (Alters k q _ (PassTurn turns.Client) refl tt) (Both (Alters k q _ (Finish []) refl tt) Empty)) t shown))
+      awaiting k q _ _ (λ receive. Both (Alters k q _ (PassTurn turns.Client) refl tt)
+      (Both (Alters k q _ (Finish (taken_answers (awaited t.mode) None)) refl tt) Empty)) t shown))
+  touch-like (HandedWith [] p) = no_root _ _
+  touch-like (HandedWith (k ∷ q) p) =
+      subst (λ (y : Path). Alike (touch_row small (HandedWith (k ∷ q) (see p))) (touch_row c (HandedWith (k ∷ y) p))) (append-nil q)
+      (on_thread k q _ _ (λ t is shown. awaiting k q _ _ (handed_here k q p (awaited t.mode)) t shown))
   touch-like (Left []) = no_root _ _
   touch-like (Left (k ∷ q)) = subst (λ (y : Path). Alike (touch_row small (Left (k ∷ q))) (touch_row c (Left (k ∷ y))))
       (append-nil q) (on_thread k q _ _ (λ t is shown. left_here k q t shown))
@@ -265,7 +368,7 @@ module _ {see : Ptr → Ptr} {small c : World} (like : IsLikeness [] see small c
 module _ (bind : ℕ → ℕ) (c : World) (world : IsCutWorld c) (touch : Touch) where
   touch_gone : (near far : Outcome) → IsLikeOutcome [] (rebound_ptr bind) c near far → IsLikeOutcome [] (λ p. p) c far far →
       (told : List Told) (later : World) →
-      OnwardTo c (ByOthers touch) far told later → OnwardTo (rebound bind c) (ByOthers touch) near (map (rebound_told bind) told) (rebound bind later)
+      OnwardTo c (ByOthers touch) far told later → OnwardTo (rebound bind c) (rebound_move bind (ByOthers touch)) near (map (rebound_told bind) told) (rebound bind later)
   touch_gone (Goes cs was) (Goes ds said) h again told later onward =
       let now : World = apply_all ds c in
       let world_now : IsCutWorld now = changes-like c c ds ds again world in
@@ -278,18 +381,24 @@ module _ (bind : ℕ → ℕ) (c : World) (world : IsCutWorld c) (touch : Touch)
   touch_gone Waits (Goes ds said) h again told later onward = absurd h
 
   touch_back : (near far : Outcome) → IsLikeOutcome [] (rebound_ptr bind) c near far → (heard : List Told) (after : World) →
-      OnwardTo (rebound bind c) (ByOthers touch) near heard after → (told : List Told) × (later : World) × OnwardTo c (ByOthers touch) far told later
+      OnwardTo (rebound bind c) (rebound_move bind (ByOthers touch)) near heard after → (told : List Told) × (later : World) × OnwardTo c (ByOthers touch) far told later
   touch_back (Goes cs was) (Goes ds said) h heard after onward = ([], apply_all ds c, (tt, refl, refl))
   touch_back Waits far h heard after onward = absurd onward
   touch_back (Refused status) far h heard after onward = absurd onward
   touch_back (Goes cs was) Waits h heard after onward = absurd h
   touch_back (Goes cs was) (Refused refusal) h heard after onward = absurd h
 
+same_touch : (touch : Touch) → touch_by (λ p. p) touch ≡ touch
+same_touch (HandedWith x p) = refl
+same_touch touch = refl
+
 pub touch_rebinds : TouchRebinds
 unfolding onward_row
 touch_rebinds c touch bind world =
-    let alike = touch-like (rebound-like bind (λ p. p) [] c c world) (out_kept bind) world touch in
-    rebinds_from bind c (ByOthers touch) (touch_row (rebound bind c) touch) (touch_row c touch) refl refl
-    (touch_gone bind c world touch (touch_row (rebound bind c) touch) (touch_row c touch) alike (touch-like world (λ p. refl) world touch))
-    (touch_back bind c world touch (touch_row (rebound bind c) touch) (touch_row c touch) alike)
-    (stays_alone c world (ByOthers touch) (touch_row c touch) (touch-like world (λ p. refl) world touch))
+    let alike = touch-like (rebound-like bind (λ p. p) [] c c world) (out_kept bind) (far_kept bind) (outer_kept bind) world touch in
+    let again = subst (λ (m : Touch). IsLikeOutcome [] (λ p. p) c (touch_row c m) (touch_row c touch)) (same_touch touch)
+    (touch-like world (λ p. refl) (λ p. refl) (λ p. refl) world touch) in
+    rebinds_from bind c (ByOthers touch) (touch_row (rebound bind c) (touch_by (rebound_ptr bind) touch)) (touch_row c touch) refl refl
+    (touch_gone bind c world touch (touch_row (rebound bind c) (touch_by (rebound_ptr bind) touch)) (touch_row c touch) alike again)
+    (touch_back bind c world touch (touch_row (rebound bind c) (touch_by (rebound_ptr bind) touch)) (touch_row c touch) alike)
+    (stays_alone c world (ByOthers touch) (touch_row c touch) again)

@@ -85,8 +85,8 @@ module _ (w : World) (port : Path) (pick : Option Path) where
 
   quiet-view : (root : Path) (o : Outcome) → View o → Quiet root o
   quiet-view root o (inl e) = rw e quiet-waits
-  quiet-view root o (inr (inl v)) = rw v.3 (record { quiet = ((λ out. refl), tt); mute = λ y. refl })
-  quiet-view root o (inr (inr v)) = rw v.6 (record { quiet = ((λ out. refl), (tt, tt)); mute = λ y. refl })
+  quiet-view root o (inr (inl v)) = rw v.3 (record { quiet = ((λ out. refl), tt); mute = λ v y. refl })
+  quiet-view root o (inr (inr v)) = rw v.6 (record { quiet = ((λ out. refl), (tt, tt)); mute = λ v y. refl })
 
 module _ (w : World) (nester : Path) (slot : ℕ) (plain : IsPlain w nester slot) (port : Path) (pick : Option Path) where
   abbrev root : Path

@@ -1,14 +1,14 @@
 -- A Send and an Over of a client inside to a peer outside: the cut's own row for them is alike.
 use Rattle.std.proofs.Common.{◌≡◌, ℕ, ◌%◌, ◌<◌, ◌≤◌, eqb, Bool, true, false, cond, not, ◌&&◌, ◌||◌, List, [], ◌∷◌, ◌++◌, Option, Some, None, is_some, unwrap_or}
 use Rattle.std.proofs.Common.{Ok, Err, refl, sym, ap, subst, ◌∙◌, arith, append_assoc}
-use Rattle.std.proofs.lemmas.Bool.{le-leb, lt-ltb, eqb-false}
+use Rattle.std.proofs.lemmas.Bool.{le-leb, lt-ltb, eqb-false, and_parts}
 use Rattle.fk_model.specs.declared.limits.TheConstants.{PAGE_WORDS, BLOCK_WORDS}
 use Rattle.fk_model.specs.declared.statuses.status.TheConstants.{FULL, WRONGTURN}
 use Rattle.fk_model.specs.declared.stage.Stage.{Stage}
 use Rattle.fk_model.specs.declared.thread.Turn.TheVariants as turns
 use Rattle.fk_model.specs.Places.{Path, same_path, strip, is_within, parent, slot_of, Ptr}
 use Rattle.fk_model.specs.Places.Ptr.{Null, Dead, At, Out, Outside, Far}
-use Rattle.fk_model.specs.Objects.{Peer, Talk, Fault, Thread, thread_of, and_then, holds}
+use Rattle.fk_model.specs.Objects.{Peer, Talk, Fault, Thread, thread_of, and_then, holds, reference_of}
 use Rattle.fk_model.specs.Objects.Peer.{Server, Service, Parked}
 use Rattle.fk_model.specs.World.{World, Change}
 use Rattle.fk_model.specs.World.Change.{Alter, PutPage}
@@ -16,22 +16,22 @@ use Rattle.fk_model.specs.World.Edit.{Shift, Finish, End, CountMoved, PassTurn, 
 use Rattle.fk_model.specs.Searches.{talk_at}
 use Rattle.fk_model.specs.Reach.{Reach, reach_word, words_at}
 use Rattle.fk_model.specs.Reach.Reach.{Home, Missing, Bad}
-use Rattle.fk_model.specs.Holds.{is_free}
+use Rattle.fk_model.specs.Holds.{is_free, is_frozen}
 use Rattle.fk_model.specs.Outcomes.{Said, Outcome, ◌>>=◌, when, done, listed}
 use Rattle.fk_model.specs.Outcomes.Outcome.{Refused, Waits, Goes}
 use Rattle.fk_model.specs.Outcomes.Said.{Nothing, Words, Passed}
-use Rattle.fk_model.specs.Readers.{own_page_at, own_page, their_page_at, their_page}
-use Rattle.fk_model.specs.Talks.{Line, line, same_side, receiving, thread_led_to, is_service_free}
-use Rattle.fk_model.specs.TransferRows.{overwritten, block, moved_words, in_turn, has_sent, sends_words, sends_into, sends_to_thread, sends_to_service}
-use Rattle.fk_model.specs.TransferRows.{sends_to, sends, send, passes, passes_to_thread, passes_to, over}
+use Rattle.fk_model.specs.Readers.{own_page_at, own_page, their_page_at, their_page, object_in, handled}
+use Rattle.fk_model.specs.Talks.{Line, line, same_side, receiving, thread_led_to, is_service_free, awaited, is_handled}
+use Rattle.fk_model.specs.TransferRows.{overwritten, block, moved_words, in_turn, has_sent, sends_words, sends_into, sends_to_thread, sends_to_service, may_carry, over_ref}
+use Rattle.fk_model.specs.TransferRows.{sends_to, sends, send, passes, passes_to_thread, passes_to, over, takes_turn}
 use Rattle.fk_model.specs.LinkRows.{user_at}
 use Rattle.fk_model.specs.Moves.{stage_row, is_for_porters, chooses, with_pick, closed, call_row}
 use Rattle.fk_model.specs.Cut.{is_out}
-use Rattle.fk_model.specs.Further.{is_outside, counted, takes_words, sends_outside, passes_outside, talks_outside}
+use Rattle.fk_model.specs.Further.{is_outside, counted, takes_words, sends_outside, passes_outside, talks_outside, over_outside}
 use Rattle.fk_model.specs.Seen.{count_set, writes_inside, only_fills, leads_out}
 use Rattle.fk_model.proofs.walks.PlaceLaws.{same_path_refl, strip_some, strip-append}
 use Rattle.laws_moves.proofs.InMachine.Frame.{or_off}
-use Rattle.laws_subtrees.specs.Cut.Likeness.{seen_peer, seen_talk, PtrLikeness, HasLikeness, IfServer, AllInTalk, IsLikeness, IsOuter, AlikeOptions, IsSeenTalk}
+use Rattle.laws_subtrees.specs.Cut.Likeness.{seen_peer, seen_talk, PtrLikeness, HasLikeness, IfServer, AllInTalk, IsLikeness, IsOuter, AlikeOptions, IsSeenTalk, IsSeenAs}
 use Rattle.laws_subtrees.specs.Cut.Likeness.{ReachLikeness}
 use Rattle.laws_subtrees.specs.Cut.Likeness.PtrLikeness.{Nulls, Deads, Inside, PortAt, PortOut}
 use Rattle.laws_subtrees.specs.Cut.Likeness.ReachLikeness.{Homes, Misses, Bads}
@@ -41,7 +41,10 @@ use Rattle.laws_subtrees.specs.Cut.LikeChanges.LikeChanges.{Empty, Both, Beyond}
 use Rattle.laws_subtrees.proofs.InCut.likeness.Memory.{reach_word-like, words_at-like}
 use Rattle.laws_subtrees.proofs.InCut.likeness.Talks.{talk_at-like}
 use Rattle.laws_subtrees.proofs.InCut.likeness.Outcomes.{append-like, unless_waiting}
-use Rattle.laws_subtrees.proofs.InCut.likeness.Sends.{sent-like}
+use Rattle.laws_subtrees.proofs.InCut.likeness.Sends.{sent-like, CarriedLike, weak_bind, may_carry-like}
+use Rattle.laws_subtrees.proofs.InCut.likeness.Reads.{reference_in-like}
+use Rattle.laws_moves.proofs.InRows.Handles.{receives-handled}
+use Rattle.laws_subtrees.proofs.InCut.likeness.Waits.{reference_beside}
 
 -- ---- how many words a peer outside takes
 
@@ -188,8 +191,8 @@ module _ {root : Path} {see : Ptr → Ptr} {small big : World}
   to_thread page None outer many = λ takes. tt
   to_thread page (Some e) outer many = by (is_free big (parent e.0) e.1)
     where
-      by : (b : Bool) → Taking (near_row page) (when b (sends_into big (user_at me) me e.0 address count page (receiving turns.Server e.1.mode)))
-      by true = into e.0 (outer e refl) page (receiving turns.Server e.1.mode) many
+      by : (b : Bool) → Taking (near_row page) (when b (sends_into big (user_at me) me e.0 address count page (receiving big (parent e.0) turns.Server e.1.mode)))
+      by true = into e.0 (outer e refl) page (receiving big (parent e.0) turns.Server e.1.mode) many
       by false = λ takes. tt
 
   abbrev far_line : Line
@@ -257,37 +260,67 @@ module _ {root : Path} {see : Ptr → Ptr} {small big : World}
   abbrev Passing : Outcome → Outcome → Type 0
   Passing = IsLikeUnlessWaiting root see big
 
-  passed : (ds : List Change) → LikeChanges root see big [] ds → Passing (passes_outside (user_at (k ∷ q)) near_line) (passes (user_at me) turns.Client me ds)
-  passed ds h = append-like (append-like h (Both (Alters k q _ (PassTurn turns.Server) refl tt) Empty)) (Both (Alters k q _ (Finish []) refl tt) Empty)
+  -- a pointer that may be handed on in the world may be by the subtree alone
+  module _ (free : is_frozen big root ≡ false) (seen carried : Option Ptr) (alike : CarriedLike like seen carried) where
+    passed : (ds : List Change) (told : Said) → may_carry small (k ∷ q) seen ≡ true → LikeChanges root see big [] ds →
+        Passing (passes_outside small (user_at (k ∷ q)) seen near_line) (Goes ((ds ++ Alter me (PassTurn turns.Server) ∷ []) ++ Alter me (Finish []) ∷ []) told)
+    passed ds told on h =
+        rw on (append-like (append-like h (Both (Alters k q _ (PassTurn turns.Server) refl tt) Empty)) (Both (Alters k q _ (Finish []) refl tt) Empty))
 
-  passes_thread : (o : Option (Path × Thread)) → ((e : Path × Thread) → o ≡ Some e → is_within root e.0 ≡ false) →
-      Passing (passes_outside (user_at (k ∷ q)) near_line) (passes_to_thread big (user_at me) turns.Client me o)
-  passes_thread None outer = tt
-  passes_thread (Some e) outer = by (is_free big (parent e.0) e.1 && is_some (receiving turns.Server e.1.mode))
-    where
-      by : (b : Bool) → Passing (passes_outside (user_at (k ∷ q)) near_line) (when b (passes (user_at me) turns.Client me (Alter e.0 (Finish []) ∷ [])))
-      by true = passed (Alter e.0 (Finish []) ∷ []) (Beyond (outer e refl) Empty)
-      by false = tt
+    turn-beyond : (y : Path) → is_within root y ≡ false → (to : Option ℕ) → is_handled big (parent y) to ≡ true → LikeChanges root see big [] (takes_turn y carried to)
+    turn-beyond y out to handled = by carried to handled
+      where
+        by : (carried : Option Ptr) (to : Option ℕ) → is_handled big (parent y) to ≡ true → LikeChanges root see big [] (takes_turn y carried to)
+        by None to handled = Beyond out Empty
+        by (Some p) None handled = Beyond out Empty
+        by (Some p) (Some i) handled = Beyond (reference_beside like y i out handled) (Beyond out Empty)
 
-  passes_out : (peer : Peer) → IsOuter root peer → Passing (passes_outside (user_at (k ∷ q)) near_line) (passes_to big (user_at me) turns.Client far_line peer)
-  passes_out (Server thread) outer = passes_thread (thread_led_to big thread) (λ e is. outer_at big root thread e outer is)
-  passes_out Service outer = by (is_service_free big talk.port)
-    where
-      by : (b : Bool) →
-          Passing (passes_outside (user_at (k ∷ q)) near_line) (when b (Goes (Alter me (PassTurn turns.Server) ∷ Alter me (Finish []) ∷ []) (Passed talk.port)))
-      by true = passed [] Empty
-      by false = tt
-  passes_out Parked outer = tt
+    passes_thread : (o : Option (Path × Thread)) → ((e : Path × Thread) → o ≡ Some e → is_within root e.0 ≡ false) → may_carry small (k ∷ q) seen ≡ true →
+        Passing (passes_outside small (user_at (k ∷ q)) seen near_line) (passes_to_thread big (user_at me) turns.Client me carried o)
+    passes_thread None outer on = tt
+    passes_thread (Some e) outer on = by (is_free big (parent e.0) e.1 && is_some (receiving big (parent e.0) turns.Server e.1.mode)) refl
+      where
+        by : (b : Bool) → (is_free big (parent e.0) e.1 && is_some (receiving big (parent e.0) turns.Server e.1.mode)) ≡ b →
+            Passing (passes_outside small (user_at (k ∷ q)) seen near_line)
+            (when b (passes (user_at me) turns.Client me (takes_turn e.0 carried (awaited e.1.mode))))
+        by true at = passed (takes_turn e.0 carried (awaited e.1.mode)) Nothing on (turn-beyond e.0 (outer e refl) (awaited e.1.mode)
+            (receives-handled big (parent e.0) turns.Server e.1.mode (and_parts (is_free big (parent e.0) e.1) _ at).1))
+        by false at = tt
 
-  pub over_out : talk_at small (k ∷ q) ≡ Some (seen_talk see talk) → talk_at big me ≡ Some talk → IsOuter root talk.peer →
-      Passing (in_turn small (k ∷ q) turns.Client turns.Client >>= passes_outside (user_at (k ∷ q))) (over big (user_at me) turns.Client)
-  unfolding over line
-  over_out near far outer = rw (near, far) (by (same_side talk.turn turns.Client))
-    where
-      by : (b : Bool) → Passing (cond b (Ok near_line) (Err WRONGTURN) >>= passes_outside (user_at (k ∷ q)))
-          (cond b (Ok far_line) (Err WRONGTURN) >>= λ l. passes_to big (user_at me) turns.Client l l.other)
-      by true = passes_out talk.peer outer
-      by false = refl
+    passes_out : (peer : Peer) → IsOuter root peer → may_carry small (k ∷ q) seen ≡ true →
+        Passing (passes_outside small (user_at (k ∷ q)) seen near_line) (passes_to big (user_at me) turns.Client far_line carried peer)
+    passes_out (Server thread) outer on = passes_thread (thread_led_to big thread) (λ e is. outer_at big root thread e outer is) on
+    passes_out Service outer on = by (is_service_free big talk.port)
+      where
+        by : (b : Bool) → Passing (passes_outside small (user_at (k ∷ q)) seen near_line)
+            (when b (Goes (Alter me (PassTurn turns.Server) ∷ Alter me (Finish []) ∷ []) (Passed talk.port)))
+        by true = passed [] (Passed talk.port) on Empty
+        by false = tt
+    passes_out Parked outer on = tt
+
+    passes_on_out : (peer : Peer) → IsOuter root peer → (b : Bool) → may_carry big me carried ≡ b →
+        Passing (passes_outside small (user_at (k ∷ q)) seen near_line) (when b (passes_to big (user_at me) turns.Client far_line carried peer))
+    passes_on_out peer outer true e = passes_out peer outer (may_carry-like like free k q seen carried alike e)
+    passes_on_out peer outer false e = tt
+
+    pub over_out : talk_at small (k ∷ q) ≡ Some (seen_talk see talk) → talk_at big me ≡ Some talk → IsOuter root talk.peer →
+        Passing (over_outside small (user_at (k ∷ q)) seen) (over big (user_at me) turns.Client carried)
+    unfolding over line
+    over_out near far outer = rw (near, far) (by (same_side talk.turn turns.Client))
+      where
+        by : (b : Bool) → Passing (cond b (Ok near_line) (Err WRONGTURN) >>= passes_outside small (user_at (k ∷ q)) seen)
+            (cond b (Ok far_line) (Err WRONGTURN) >>= λ l. when (may_carry big me carried) (passes_to big (user_at me) turns.Client l carried l.other))
+        by true = passes_on_out talk.peer outer (may_carry big me carried) refl
+        by false = refl
+
+  pub over_ref_out : is_frozen big root ≡ false → (reference : ℕ) → talk_at small (k ∷ q) ≡ Some (seen_talk see talk) → talk_at big me ≡ Some talk →
+      IsOuter root talk.peer →
+      Passing (object_in small (user_at (k ∷ q)) reference_of q reference >>= λ p. over_outside small (user_at (k ∷ q)) (Some p))
+      (over_ref big (user_at me) turns.Client reference)
+  unfolding over_ref
+  over_ref_out free reference near far outer = weak_bind like free k q (IsSeenAs root see big) (object_in small (user_at (k ∷ q)) reference_of q reference)
+      (object_in big (user_at me) reference_of (q ++ root) reference) _ _ (reference_in-like like (user_at (k ∷ q)) q reference)
+      (λ seen p h. over_out free (Some seen) (Some p) h near far outer)
 
 -- ---- a client inside
 

@@ -58,10 +58,10 @@ quiet-ends : (root : Path) (xs : List Path) → AreQuiet root (end_all xs)
 quiet-ends root [] = tt
 quiet-ends root (x ∷ xs) = (tt, quiet-ends root xs)
 
-hushed_end : (talk : Talk) (peer : Peer) (x : Path) → told_by_said x (told_end talk peer) ≡ []
-hushed_end talk (Server thread) x = refl
-hushed_end talk Service x = refl
-hushed_end talk Parked x = refl
+hushed_end : (talk : Talk) (peer : Peer) (v : World) (x : Path) → told_by_said v x (told_end talk peer) ≡ []
+hushed_end talk (Server thread) v x = refl
+hushed_end talk Service v x = refl
+hushed_end talk Parked v x = refl
 
 pub quiet-disconnect : (root : Path) (w : World) (x : Path) (side : Turn) → Quiet root (disconnect w (user_at x) side)
 unfolding disconnect

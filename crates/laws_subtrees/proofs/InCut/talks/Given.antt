@@ -15,14 +15,14 @@ use Rattle.fk_model.specs.Places.{Path, same_path, strip, is_within, parent, slo
 use Rattle.fk_model.specs.Places.Ptr.{At}
 use Rattle.fk_model.specs.Objects.{Talk, Thread, Body, kind_of, thread_of, and_then, or_else, holds}
 use Rattle.fk_model.specs.Objects.Peer.{Server}
-use Rattle.fk_model.specs.Objects.Body.{Mutex, Space}
+use Rattle.fk_model.specs.Objects.Body.{Mutex, Space, Port}
 use Rattle.fk_model.specs.World.{World, Change, apply_all, serves}
 use Rattle.fk_model.specs.World.Change.{Alter, PutPage}
 use Rattle.fk_model.specs.World.Edit.{Shift, Finish, End, CountMoved, SetFault}
 use Rattle.fk_model.specs.Searches.{talk_at, client_of, client_at, objects, thread_at}
 use Rattle.fk_model.specs.Reach.{Reach, at_home, mapped, followed, mapping_at, keeper, led_by, reach_within, reach, reach_word, words_at}
 use Rattle.fk_model.specs.Reach.Reach.{Home, Missing, Bad}
-use Rattle.fk_model.specs.Holds.{holder_of, decider, is_frozen_for, is_free, is_unheld}
+use Rattle.fk_model.specs.Holds.{holder_of, decider, is_frozen_for, is_free, is_unheld, is_frozen}
 use Rattle.fk_model.specs.Outcomes.{Said, Outcome, ◌>>=◌, when, done, listed}
 use Rattle.fk_model.specs.Outcomes.Outcome.{Refused, Waits, Goes}
 use Rattle.fk_model.specs.Outcomes.Said.{Nothing, Full, Given as SaidGiven}
@@ -58,6 +58,8 @@ use Rattle.laws_subtrees.proofs.InCut.cut.Pages.{has_touched, seen_outside, take
 use Rattle.laws_subtrees.proofs.InCut.talks.Clients.{some_words, outside_at}
 use Rattle.laws_subtrees.proofs.InCut.talks.Sends.{still-when, still-call, still-send, still-plain, server_send_keeps}
 use Rattle.laws_subtrees.proofs.InCut.cut.Outside.{stage_outcome, stage_called}
+use Rattle.laws_subtrees.proofs.InCut.likeness.Sends.{receiving-like}
+use Rattle.laws_subtrees.proofs.InCut.talks.Accepts.{outward}
 
 -- ---- pages that are there
 
@@ -139,6 +141,48 @@ decider_thread w valid x p = by x
     by : (x : Path) → decider w x ≡ Some p → leads_there (kind_there w) (kinds.Thread ∷ []) p ≡ true
     by [] h = holds_thread [] h
     by (k ∷ x) h = either (decider w x) (holder_of (w.body (k ∷ x))) h (by x) (holds_thread (k ∷ x))
+
+-- what one outside may change, where nobody holds the subtree itself, no hold inside freezes
+pub thawed : (w : World) (nester : Path) (slot : ℕ) (plain : IsPlain w nester slot) → IsConsistent w → (me : Path) → is_within (slot ∷ nester) me ≡ false →
+    is_frozen w (slot ∷ nester) ≡ false → (s : Path) → is_frozen_for w me (s ++ slot ∷ nester) ≡ false → is_frozen (cut w nester slot) s ≡ false
+unfolding kind_there
+thawed w nester slot plain valid me out free s allowed =
+    let like = cut-like w nester slot plain in
+    by (decider small s) (decider w (s ++ root)) refl refl (decider-like like free s)
+  where
+    root : Path
+    root = slot ∷ nester
+
+    small : World
+    small = cut w nester slot
+
+    see : Ptr → Ptr
+    see = cut_ptr (ports_of w nester slot) nester slot
+
+    nobody : (p seen : Ptr) → PtrLikeness root w p seen → leads_there (kind_there w) (kinds.Thread ∷ []) p ≡ true → leads_to me p ≡ true → ⊥
+    nobody _ _ Nulls thread mine = cc
+    nobody _ _ Deads thread mine = cc
+    nobody _ _ (Inside y) thread mine =
+        let same = same_path_eq (y ++ root) me mine in
+        let there : is_within root me ≡ true = ap (is_within root) (sym same) ∙ ap is_some (strip-append root y) in
+        let clash : true ≡ false = sym there ∙ out in
+        cc
+    nobody _ _ (PortAt y slot apart kind) thread mine = port (w.body y) kind thread
+      where
+        port : (o : Option Body) → and_then (λ b. Some (kind_of b)) o ≡ Some kinds.Port → is_one_of (kinds.Thread ∷ []) (option_map kind_of o) ≡ true → ⊥
+        port None kind thread = cc
+        port (Some b) kind thread = let same : kind_of b ≡ kinds.Port = cc in let never = rw same at thread in cc
+    nobody _ _ (PortOut old slot) thread mine = cc
+
+    by : (o p : Option Ptr) → decider small s ≡ o → decider w (s ++ root) ≡ p → AlikeOptions (IsSeenAs root see w) o p → is_frozen small s ≡ false
+    by None p e f h = rw e refl
+    by (Some seen) None e f h = absurd h
+    by (Some seen) (Some p) e f h =
+        absurd (nobody p (see p) h.1 (decider_thread w valid (s ++ root) p f) (not_off (leads_to me p) (rw f at allowed)))
+      where
+        not_off : (b : Bool) → not b ≡ false → b ≡ true
+        not_off true h = refl
+        not_off false h = cc
 
 -- ---- whom a server outside serves, it serves at a port outside
 
@@ -256,7 +300,7 @@ module _ (w : World) (nester : Path) (slot : ℕ) (plain : IsPlain w nester slot
   -- ---- the client awaits words
 
   module _ (turn : same_side talk.turn turns.Server ≡ true)
-      (free : is_free w (z ++ root) t ≡ true) (receive : ℕ × ℕ) (awaits : receiving turns.Client t.mode ≡ Some receive) where
+      (free : is_free w (z ++ root) t ≡ true) (receive : ℕ × ℕ) (awaits : receiving w (z ++ root) turns.Client t.mode ≡ Some receive) where
     here : thread_at small (k ∷ z) ≡ Some (seen_thread see t)
     here = rw ((cut-like w nester slot plain).bodies (k ∷ z)) (thread_seen see k z (w.body client) t is)
 
@@ -264,7 +308,8 @@ module _ (w : World) (nester : Path) (slot : ℕ) (plain : IsPlain w nester slot
     free_here = let like = cut-like w nester slot plain in is_free-like like (unheld-free like z t free) z t ∙ free
 
     awaiting : (go : ℕ × ℕ → Outcome) → if_awaiting small (k ∷ z) go (seen_thread see t) ≡ go receive
-    awaiting go = rw (free_here, its, awaits) (rw (outward, turn) refl)
+    awaiting go = let like = cut-like w nester slot plain in
+        rw (free_here, its, receiving-like like z turns.Client t.mode ∙ awaits) (rw (outward, turn) refl)
 
     filled_row : eqb receive.1 0 ≡ true → touch_row small (Filled (k ∷ z)) ≡ Goes (Alter (k ∷ z) (End FULL []) ∷ []) Nothing
     unfolding touch_row
@@ -292,36 +337,8 @@ module _ (w : World) (nester : Path) (slot : ℕ) (plain : IsPlain w nester slot
 
         -- a page that one outside may write, where nobody holds the subtree itself, nobody holds
         unheld_here : is_frozen_for w me (s ++ root) ≡ false → is_unheld small s ≡ true
-        unfolding kind_there
         unheld_here allowed =
-            let like = cut-like w nester slot plain in
-            by (decider small s) (decider w (s ++ root)) refl refl (decider-like like (unheld-free like z t free) s)
-          where
-            nobody : (p seen : Ptr) → PtrLikeness root w p seen → leads_there (kind_there w) (kinds.Thread ∷ []) p ≡ true → leads_to me p ≡ true → ⊥
-            nobody _ _ Nulls thread mine = cc
-            nobody _ _ Deads thread mine = cc
-            nobody _ _ (Inside y) thread mine =
-                let same = same_path_eq (y ++ root) me mine in
-                let there : is_within root me ≡ true = ap (is_within root) (sym same) ∙ ap is_some (strip-append root y) in
-                let clash : true ≡ false = sym there ∙ out in
-                cc
-            nobody _ _ (PortAt y slot apart kind) thread mine = port (w.body y) kind thread
-              where
-                port : (o : Option Body) → and_then (λ b. Some (kind_of b)) o ≡ Some kinds.Port → is_one_of (kinds.Thread ∷ []) (option_map kind_of o) ≡ true
-                    → ⊥
-                port None kind thread = cc
-                port (Some b) kind thread = let same : kind_of b ≡ kinds.Port = cc in let never = rw same at thread in cc
-            nobody _ _ (PortOut old slot) thread mine = cc
-
-            by : (o p : Option Ptr) → decider small s ≡ o → decider w (s ++ root) ≡ p → AlikeOptions (IsSeenAs root see w) o p → is_unheld small s ≡ true
-            by None p e f h = rw e refl
-            by (Some seen) None e f h = absurd h
-            by (Some seen) (Some p) e f h =
-                absurd (nobody p (see p) h.1 (decider_thread w valid (s ++ root) p f) (not_off (leads_to me p) (rw f at allowed)))
-              where
-                not_off : (b : Bool) → not b ≡ false → b ≡ true
-                not_off true h = refl
-                not_off false h = cc
+            let like = cut-like w nester slot plain in ap not (thawed w nester slot plain valid me out (unheld-free like z t free) s allowed)
 
         given_row : is_unheld small s ≡ true → touch_row small (Given (k ∷ z) words) ≡ Goes near Nothing
         unfolding touch_row
@@ -352,7 +369,7 @@ module _ (w : World) (nester : Path) (slot : ℕ) (plain : IsPlain w nester slot
   -- ---- the row of a Send
 
   sent : (turn : same_side talk.turn turns.Server ≡ true)
-      (free : is_free w (z ++ root) t ≡ true) (receive : ℕ × ℕ) (awaits : receiving turns.Client t.mode ≡ Some receive) (address count : ℕ) (page : List ℕ) →
+      (free : is_free w (z ++ root) t ≡ true) (receive : ℕ × ℕ) (awaits : receiving w (z ++ root) turns.Client t.mode ≡ Some receive) (address count : ℕ) (page : List ℕ) →
       length page ≡ PAGE_WORDS → 0 < moved_words address count receive.0 receive.1 →
       (s : Path) (p : ℕ) → reach_word small z receive.0 true ≡ Home s p → is_some (w.page (s ++ root) p) ≡ true → Touches (sends_words (user_at x)
       client client (moved_words address count receive.0 receive.1) address count page receive.0 (s ++ root) p (words_at w (s ++ root) p))
@@ -377,7 +394,7 @@ module _ (w : World) (nester : Path) (slot : ℕ) (plain : IsPlain w nester slot
       by false = goes (Alter me (Shift m) ∷ []) (Beyond out Empty) (tt, tt)
 
   their : (turn : same_side talk.turn turns.Server ≡ true)
-      (free : is_free w (z ++ root) t ≡ true) (receive : ℕ × ℕ) (awaits : receiving turns.Client t.mode ≡ Some receive) (address count : ℕ) (page : List ℕ) →
+      (free : is_free w (z ++ root) t ≡ true) (receive : ℕ × ℕ) (awaits : receiving w (z ++ root) turns.Client t.mode ≡ Some receive) (address count : ℕ) (page : List ℕ) →
       length page ≡ PAGE_WORDS → 0 < moved_words address count receive.0 receive.1 →
       (a b : Reach) → reach_word small z receive.0 true ≡ a → IsThere w b → ReachLikeness root see w a b → Touches (their_page_at (λ s other.
       sends_words (user_at x) client client (moved_words address count receive.0 receive.1) address count page receive.0 s other (words_at w s other)) b)
@@ -386,7 +403,7 @@ module _ (w : World) (nester : Path) (slot : ℕ) (plain : IsPlain w nester slot
   their turn free receive awaits address count page long some _ _ e there Bads = nothing_seen Waits refl refl
 
   into : same_side talk.turn turns.Server ≡ true → is_free w (z ++ root) t ≡ true → (address count : ℕ) (page : List ℕ) → length page ≡ PAGE_WORDS →
-      eqb count 0 ≡ false → (o : Option (ℕ × ℕ)) → receiving turns.Client t.mode ≡ o → Touches (sends_into w (user_at x) client client address count page o)
+      eqb count 0 ≡ false → (o : Option (ℕ × ℕ)) → receiving w (z ++ root) turns.Client t.mode ≡ o → Touches (sends_into w (user_at x) client client address count page o)
   into turn free address count page long many None awaits = nothing_seen Waits refl refl
   into turn free address count page long many (Some receive) awaits = by (eqb receive.1 0) refl
     where
@@ -403,8 +420,8 @@ module _ (w : World) (nester : Path) (slot : ℕ) (plain : IsPlain w nester slot
   to_thread turn address count page long many = rw is (by (is_free w (z ++ root) t) refl)
     where
       by : (b : Bool) →
-          is_free w (z ++ root) t ≡ b → Touches (when b (sends_into w (user_at x) client client address count page (receiving turns.Client t.mode)))
-      by true e = into turn e address count page long many (receiving turns.Client t.mode) refl
+          is_free w (z ++ root) t ≡ b → Touches (when b (sends_into w (user_at x) client client address count page (receiving w (z ++ root) turns.Client t.mode)))
+      by true e = into turn e address count page long many (receiving w (z ++ root) turns.Client t.mode) refl
       by false e = nothing_seen Waits refl refl
 
   abbrev its_line : Line
@@ -438,7 +455,7 @@ module _ (w : World) (nester : Path) (slot : ℕ) (plain : IsPlain w nester slot
   touches-so false o h = nothing_seen Waits refl refl
 
   native_words : same_side talk.turn turns.Server ≡ true → is_free w (z ++ root) t ≡ true →
-      (receive : ℕ × ℕ) → receiving turns.Client t.mode ≡ Some receive → (port : Path) (words : List ℕ) → 0 < moved_words 0 (length words) receive.0 receive.1 →
+      (receive : ℕ × ℕ) → receiving w (z ++ root) turns.Client t.mode ≡ Some receive → (port : Path) (words : List ℕ) → 0 < moved_words 0 (length words) receive.0 receive.1 →
       (a b : Reach) → reach_word small z receive.0 true ≡ a → IsThere w b → ReachLikeness root see w a b →
       Touches (their_page_at (gives_words w port client words receive.0 receive.1) b)
   native_words turn free receive awaits port words some _ _ home there (Homes s p) =
@@ -448,7 +465,7 @@ module _ (w : World) (nester : Path) (slot : ℕ) (plain : IsPlain w nester slot
   native_words turn free receive awaits port words some _ _ home there (Misses s p keeper kept h) = nothing_seen Waits refl refl
   native_words turn free receive awaits port words some _ _ home there Bads = nothing_seen Waits refl refl
 
-  native_gives : same_side talk.turn turns.Server ≡ true → is_free w (z ++ root) t ≡ true → (receive : ℕ × ℕ) → receiving turns.Client t.mode ≡ Some receive →
+  native_gives : same_side talk.turn turns.Server ≡ true → is_free w (z ++ root) t ≡ true → (receive : ℕ × ℕ) → receiving w (z ++ root) turns.Client t.mode ≡ Some receive →
       (port : Path) (words : List ℕ) → eqb (length words) 0 ≡ false → Touches (gives_to w port words client receive)
   native_gives turn free receive awaits port words many = by (eqb receive.1 0) refl
     where
@@ -461,10 +478,10 @@ module _ (w : World) (nester : Path) (slot : ℕ) (plain : IsPlain w nester slot
           (reach_word-like (cut-like w nester slot plain) z receive.0 true)
 
   native_client : (go : Path → ℕ × ℕ → Outcome) → (same_side talk.turn turns.Server ≡ true → is_free w (z ++ root) t ≡ true →
-      (receive : ℕ × ℕ) → receiving turns.Client t.mode ≡ Some receive → Touches (go client receive)) → Touches (if_receiving w client go t)
-  native_client go goes = by (receiving turns.Client t.mode) refl
+      (receive : ℕ × ℕ) → receiving w (z ++ root) turns.Client t.mode ≡ Some receive → Touches (go client receive)) → Touches (if_receiving w client go t)
+  native_client go goes = by (receiving w (z ++ root) turns.Client t.mode) refl
     where
-      by : (o : Option (ℕ × ℕ)) → receiving turns.Client t.mode ≡ o → Touches (if_receiving w client go t)
+      by : (o : Option (ℕ × ℕ)) → receiving w (z ++ root) turns.Client t.mode ≡ o → Touches (if_receiving w client go t)
       by None e = rw e (touches-when _ Waits (nothing_seen Waits refl refl))
       by (Some receive) e = rw (e, its) (touches-so (is_free w (z ++ root) t && same_side talk.turn turns.Server)
           (go client receive) (λ on. let both = and_parts (is_free w (z ++ root) t) (same_side talk.turn turns.Server) on in goes both.1 both.0 receive e))

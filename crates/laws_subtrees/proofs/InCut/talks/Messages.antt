@@ -3,7 +3,7 @@ use Rattle.std.proofs.Common.{◌≡◌, ℕ, Bool, true, false, cond, eqb, ◌&
 use Rattle.std.proofs.lemmas.Bool.{and_parts}
 use Rattle.fk_model.specs.declared.moves.Ask.TheVariants as asks
 use Rattle.fk_model.specs.declared.stage.Stage.{Stage}
-use Rattle.fk_model.specs.declared.stage.Stage.TheVariants.{ClientSend, ClientOver}
+use Rattle.fk_model.specs.declared.stage.Stage.TheVariants.{ClientSend, ClientOver, ClientOverRef}
 use Rattle.fk_model.specs.declared.thread.Turn.TheVariants as turns
 use Rattle.fk_model.specs.Places.{Path, is_within, Ptr}
 use Rattle.fk_model.specs.Objects.{Talk, Thread, and_then, holds}
@@ -19,17 +19,17 @@ use Rattle.fk_model.specs.Valid.{is_fit}
 use Rattle.fk_model.specs.Cut.{ports_of, cut_ptr, cut, IsPlain, is_out}
 use Rattle.fk_model.specs.Further.{talks_outside, outside_row, goes_out, counted}
 use Rattle.fk_model.specs.Seen.{Seen, IsSeen, count_set, writes_inside, only_fills, leads_out, sends_out, words_out, is_send}
-use Rattle.laws_subtrees.specs.Cut.CutLaws.{HasDone, KeepsCut, IsAtStage, moves, IsClientSend, IsClientOver, StageKeepsCut, StageInsideKeepsCut}
+use Rattle.laws_subtrees.specs.Cut.CutLaws.{HasDone, KeepsCut, IsAtStage, moves, IsClientSend, IsClientOver, StageKeepsCut, StageInsideKeepsCut, IsClientOverRef}
 use Rattle.laws_subtrees.specs.Cut.Likeness.{seen_talk, seen_thread, IsLikeness, IsOuter, AlikeOptions}
 use Rattle.laws_subtrees.specs.Cut.LikeChanges.{IsLikeOutcome, IsLikeUnlessWaiting}
 use Rattle.laws_subtrees.proofs.InCut.likeness.Instances.{cut-like}
 use Rattle.laws_subtrees.proofs.InCut.likeness.Holds.{is_free-like}
 use Rattle.laws_subtrees.proofs.InCut.likeness.Servers.{cut-apart}
 use Rattle.laws_subtrees.proofs.InCut.likeness.Outcomes.{unless_waiting, closed-like, closed-unless}
-use Rattle.laws_subtrees.proofs.InCut.likeness.Sends.{NearLine, send-same, over-same, client_near}
+use Rattle.laws_subtrees.proofs.InCut.likeness.Sends.{NearLine, send-same, over-same, client_near, over_ref-weak}
 use Rattle.laws_subtrees.proofs.InCut.cut.Inside.{call_row-like, inside_stages, unsent_counts, unsent_stage}
-use Rattle.laws_subtrees.proofs.InCut.talks.Sends.{Still, still_outside, own_is, either_way, own_law, still-call, still-send, still-over}
-use Rattle.laws_subtrees.proofs.InCut.talks.Clients.{Takes, AlikeTaking, send_out, over_out, alone, picked, outward_only, outside_at, outside_talk, inward_only}
+use Rattle.laws_subtrees.proofs.InCut.talks.Sends.{Still, still_outside, own_is, either_way, own_law, still-call, still-send, still-over, call_weak, still-over_ref}
+use Rattle.laws_subtrees.proofs.InCut.talks.Clients.{Takes, AlikeTaking, send_out, over_out, alone, picked, outward_only, outside_at, outside_talk, inward_only, over_ref_out}
 
 -- a row that is refused takes no words
 module _ {root : Path} {see : Ptr → Ptr} {small big : World} (like : IsLikeness root see small big) (k : ℕ) (q : Path) where
@@ -82,11 +82,11 @@ module _ (w : World) (nester : Path) (slot : ℕ) (plain : IsPlain w nester slot
   -- alike where the other end is seen
   abbrev IsAlikeNear : Type 0
   IsAlikeNear = is_frozen w root ≡ false → AlikeOptions (NearLine root see w) (line small (k ∷ q) turns.Client) (line w me turns.Client) →
-      AlikeHere (stage_row small (user_at (k ∷ q)) None stage) (stage_row w (user_at me) None stage)
+      WeaklyHere (stage_row small (user_at (k ∷ q)) None stage) (stage_row w (user_at me) None stage)
 
   -- alike where it is outside
   abbrev IsAlikeOut : Type 0
-  IsAlikeOut = (talk : Talk) → talk_at small (k ∷ q) ≡ Some (seen_talk see talk) → talk_at w me ≡ Some talk → IsOuter root talk.peer → leads_out root
+  IsAlikeOut = is_frozen w root ≡ false → (talk : Talk) → talk_at small (k ∷ q) ≡ Some (seen_talk see talk) → talk_at w me ≡ Some talk → IsOuter root talk.peer → leads_out root
       talk.port ≡ true → is_out (see talk.port) ≡ true → (cs : List Change) → cs ≡ listed (closed (user_at me) (stage_row w (user_at me) None stage)) →
       (sends_out w root me && only_fills root cs) ≡ false → (writes_inside root cs && sends_out w root me) ≡ false → (o : Outcome) →
       WeaklyHere (counted (words_out w root me cs) (closed (user_at (k ∷ q)) (outside_row small (user_at (k ∷ q)) (words_out w root me cs) stage o)))
@@ -110,7 +110,7 @@ module _ (w : World) (nester : Path) (slot : ℕ) (plain : IsPlain w nester slot
       rw (own_is small (k ∷ q) p (words_out w root me (listed (call_row w (user_at me) None stage))) (seen_thread see at.0) stage at.1 at.2 at.4)
       (either_way root see w (words_out w root me (listed (call_row w (user_at me) None stage))) (talks_outside small (k ∷ q) && is_none p)
       (is_free small q (seen_thread see at.0)) _ _ (call_row w (user_at me) None stage) (is_free-like (cut-like w nester slot plain) free q at.0 ∙ f)
-      (λ on. outward (and_parts (talks_outside small (k ∷ q)) (is_none p) on).0 fills through (call_row small (user_at (k ∷ q)) p stage))
+      (λ on. outward free (and_parts (talks_outside small (k ∷ q)) (is_none p) on).0 fills through (call_row small (user_at (k ∷ q)) p stage))
       (λ off. inward_none p e free (left_off (talks_outside small (k ∷ q)) (is_none p) e off))))
       sound same
     where
@@ -119,29 +119,29 @@ module _ (w : World) (nester : Path) (slot : ℕ) (plain : IsPlain w nester slot
       left_off true b e h = let clash : true ≡ false = sym e ∙ h in cc
 
       inward : (p : Option Path) → is_none p ≡ true → is_frozen w root ≡ false →
-          talks_outside small (k ∷ q) ≡ false → AlikeHere (call_row small (user_at (k ∷ q)) p stage) (call_row w (user_at me) None stage)
+          talks_outside small (k ∷ q) ≡ false → WeaklyHere (call_row small (user_at (k ∷ q)) p stage) (call_row w (user_at me) None stage)
       inward None e free off =
           let like = cut-like w nester slot plain in
-          call_row-like like k q None None stage refl (near free (client_near like k q (λ talk is. (outside_at like k q false off talk is).2)))
+          call_weak like k q None None stage picks users refl (near free (client_near like k q (λ talk is. (outside_at like k q false off talk is).2)))
       inward (Some y) e free off = cc
 
       inward_none : (p : Option Path) → is_none p ≡ true → is_frozen w root ≡ false → talks_outside small (k ∷ q) ≡ false →
           WeaklyHere (counted (words_out w root me (listed (call_row w (user_at me) None stage))) (call_row small (user_at (k ∷ q)) p stage))
           (call_row w (user_at me) None stage)
       inward_none p e free off = rw (unsent_counts w root me (listed (call_row w (user_at me) None stage)) (stays_inside off))
-          (unless_waiting (cut-like w nester slot plain) _ _ (inward p e free off))
+          (inward p e free off)
 
-      outward : talks_outside small (k ∷ q) ≡ true → (sends_out w root me && only_fills root (listed (call_row w (user_at me) None stage))) ≡ false →
+      outward : is_frozen w root ≡ false → talks_outside small (k ∷ q) ≡ true → (sends_out w root me && only_fills root (listed (call_row w (user_at me) None stage))) ≡ false →
           (writes_inside root (listed (call_row w (user_at me) None stage)) && sends_out w root me) ≡ false → (o : Outcome) →
           WeaklyHere (counted (words_out w root me (listed (call_row w (user_at me) None stage)))
           (closed (user_at (k ∷ q)) (outside_row small (user_at (k ∷ q)) (words_out w root me (listed (call_row w (user_at me) None stage))) stage o)))
           (call_row w (user_at me) None stage)
-      outward on = rw (alone w me stage picks users)
+      outward free on = rw (alone w me stage picks users)
           (let like = cut-like w nester slot plain in
           let there = outside_talk like k q on in
           let talk = there.0 in
           let seen = outside_at like k q true on talk there.1 in
-          λ fills through o. out talk seen.0 there.1 ((cut-apart w nester slot sound.valid plain).talks k q talk there.1 seen.2)
+          λ fills through o. out free talk seen.0 there.1 ((cut-apart w nester slot sound.valid plain).talks k q talk there.1 seen.2)
           (outward_only root w talk.port (see talk.port) seen.1.0 seen.2) seen.2 _ refl fills through o)
   client_law (Some y) still near out sound same =
       own_law w nester slot
@@ -162,17 +162,32 @@ whole IsSuch inside outside w nester slot x pick stage such at sound plain = by 
 
 pub client_over_keeps : StageKeepsCut IsClientOver
 client_over_keeps = whole IsClientOver (inside_stages IsClientOver law) (λ w nester slot plain x pick stage such out at.
-    still_outside w nester slot plain x pick ClientOver out (rw such at at) (λ cs. refl) (still-over (slot ∷ nester) w x turns.Client))
+    still_outside w nester slot plain x pick ClientOver out (rw such at at) (λ cs. refl) (still-over (slot ∷ nester) w x turns.Client None))
   where
     law : (w : World) (nester : Path) (slot : ℕ) → IsPlain w nester slot → (k : ℕ) (q : Path) (pick : Option Path) (stage : Stage) →
         IsClientOver stage → IsAtStage w (k ∷ (q ++ slot ∷ nester)) stage → KeepsCut w nester slot (moves (k ∷ (q ++ slot ∷ nester)) pick)
     law w nester slot plain k q pick stage such at =
         let like = cut-like w nester slot plain in
-        client_law w nester slot plain k q ClientOver (rw such at at) refl refl pick (still-over (slot ∷ nester) w (k ∷ (q ++ slot ∷ nester)) turns.Client)
-        (λ free lines. (over-same like free k q turns.Client lines).0)
-        (λ talk near far outer leads out cs is fills through o.
+        client_law w nester slot plain k q ClientOver (rw such at at) refl refl pick (still-over (slot ∷ nester) w (k ∷ (q ++ slot ∷ nester)) turns.Client None)
+        (λ free lines. unless_waiting like _ _ (over-same like free k q turns.Client None None tt refl lines).0)
+        (λ free talk near far outer leads out cs is fills through o.
         rw (unsent_counts w (slot ∷ nester) (k ∷ (q ++ slot ∷ nester)) cs (unsent_stage w (slot ∷ nester) (k ∷ (q ++ slot ∷ nester))
-        ClientOver refl (rw such at at))) (closed-unless like (user_at (k ∷ q)) _ _ (over_out like k q talk 0 0 0 out near far outer)))
+        ClientOver refl (rw such at at))) (closed-unless like (user_at (k ∷ q)) _ _ (over_out like k q talk 0 0 0 out free None None tt near far outer)))
+
+pub client_over_ref_keeps : StageKeepsCut IsClientOverRef
+client_over_ref_keeps = whole IsClientOverRef (inside_stages IsClientOverRef law) (λ w nester slot plain x pick stage such out at.
+    still_outside w nester slot plain x pick (ClientOverRef such.0) out (rw such.1 at at) (λ cs. refl) (still-over_ref (slot ∷ nester) w x turns.Client such.0))
+  where
+    law : (w : World) (nester : Path) (slot : ℕ) → IsPlain w nester slot → (k : ℕ) (q : Path) (pick : Option Path) (stage : Stage) →
+        IsClientOverRef stage → IsAtStage w (k ∷ (q ++ slot ∷ nester)) stage → KeepsCut w nester slot (moves (k ∷ (q ++ slot ∷ nester)) pick)
+    law w nester slot plain k q pick stage such at =
+        let like = cut-like w nester slot plain in
+        client_law w nester slot plain k q (ClientOverRef such.0) (rw such.1 at at) refl refl pick
+        (still-over_ref (slot ∷ nester) w (k ∷ (q ++ slot ∷ nester)) turns.Client such.0)
+        (λ free lines. over_ref-weak like free k q turns.Client such.0 lines)
+        (λ free talk near far outer leads out cs is fills through o.
+        rw (unsent_counts w (slot ∷ nester) (k ∷ (q ++ slot ∷ nester)) cs (unsent_stage w (slot ∷ nester) (k ∷ (q ++ slot ∷ nester))
+        (ClientOverRef such.0) refl (rw such.1 at at))) (closed-unless like (user_at (k ∷ q)) _ _ (over_ref_out like k q talk 0 0 0 out free such.0 near far outer)))
 
 -- ---- a Send
 
@@ -206,8 +221,8 @@ client_send_keeps = whole IsClientSend (inside_stages IsClientSend law) (λ w ne
         let like = cut-like w nester slot plain in
         let here : IsAtStage w me (ClientSend such.0 such.1) = rw such.2 at at in
         client_law w nester slot plain k q (ClientSend such.0 such.1) here refl refl pick (still-send root w me turns.Client such.0 such.1)
-        (λ free lines. (send-same like free k q turns.Client such.0 such.1 lines).0)
-        (λ talk near far outer leads out cs is fills through o.
+        (λ free lines. unless_waiting like _ _ (send-same like free k q turns.Client such.0 such.1 lines).0)
+        (λ free talk near far outer leads out cs is fills through o.
         let facts = taking w
         root me such.0 such.1 here talk far leads (sends_out w root me) cs (it_sends w root me such.0 such.1 here talk far leads) fills through in
         closed_taking like k q _ _ (words_out w root me cs) (send_out like k q talk (words_out w root me cs) such.0 such.1 out near far outer)

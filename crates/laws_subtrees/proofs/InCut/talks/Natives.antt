@@ -9,7 +9,7 @@ use Rattle.fk_model.specs.Places.{Path, strip, is_within, parent, slot_of, Ptr, 
 use Rattle.fk_model.specs.Places.Ptr.{At}
 use Rattle.fk_model.specs.Objects.{Talk, Thread, Body, kind_of, port_of, thread_of, and_then, holds}
 use Rattle.fk_model.specs.Objects.Body.{Port}
-use Rattle.fk_model.specs.World.{World}
+use Rattle.fk_model.specs.World.{World, apply_all}
 use Rattle.fk_model.specs.World.Change.{Alter}
 use Rattle.fk_model.specs.World.Edit.{Finish, PassTurn}
 use Rattle.fk_model.specs.Searches.{is_service, talk_at, client_at, objects, thread_at}
@@ -18,7 +18,7 @@ use Rattle.fk_model.specs.Holds.{is_free}
 use Rattle.fk_model.specs.Outcomes.{Outcome, when, listed}
 use Rattle.fk_model.specs.Outcomes.Outcome.{Refused, Waits, Goes}
 use Rattle.fk_model.specs.Outcomes.Said.{Nothing}
-use Rattle.fk_model.specs.Talks.{same_side, receiving}
+use Rattle.fk_model.specs.Talks.{same_side, receiving, awaited}
 use Rattle.fk_model.specs.NativeRows.{is_serving_port, has_turn, if_receiving, with_client, gives_words, gives_to, give_row, passes_client, over_row}
 use Rattle.fk_model.specs.Moves.{with_pick, outcome, GoesAllowed, stepped, step}
 use Rattle.fk_model.specs.Valid.{IsValid, kind_there}
@@ -43,6 +43,8 @@ use Rattle.laws_subtrees.proofs.InCut.talks.Clients.{outside_at}
 use Rattle.laws_subtrees.proofs.InCut.talks.Sends.{Still, still-goes, still-waits, still-when, still-if, still-their, still-picked, still-plain}
 use Rattle.laws_subtrees.proofs.InCut.talks.Accepts.{outward, unready}
 use Rattle.laws_subtrees.proofs.InCut.talks.Given.{give_seen, touches-picked}
+use Rattle.laws_subtrees.proofs.InCut.likeness.Sends.{receiving-like}
+use Rattle.fk_model.specs.TransferRows.{awaits, taken_answers, takes_turn}
 
 -- ---- whom a port's native server serves
 
@@ -177,24 +179,28 @@ module _ (w : World) (nester : Path) (slot : ℕ) (plain : IsPlain w nester slot
     hands-so false o h = λ ready. absurd ready
 
     handed : same_side talk.turn turns.Server ≡ true →
-        is_free w (z ++ root) t ≡ true → (receive : ℕ × ℕ) → receiving turns.Client t.mode ≡ Some receive → Hands (passes_client port client receive)
+        is_free w (z ++ root) t ≡ true → (receive : ℕ × ℕ) → receiving w (z ++ root) turns.Client t.mode ≡ Some receive → Hands (passes_client w port client receive)
     unfolding touch_row
     handed turn free receive awaits ready =
         let like = cut-like w nester slot plain in
         let here : thread_at small (k ∷ z) ≡ Some (seen_thread see t) = rw (like.bodies (k ∷ z)) (thread_seen see k z (w.body client) t is) in
         let free_here : is_free small z (seen_thread see t) ≡ true = is_free-like like (unheld-free like z t free) z t ∙ free in
-        let row : touch_row small (Handed (k ∷ z)) ≡ Goes
-        (Alter (k ∷ z) (PassTurn turns.Client) ∷ Alter (k ∷ z) (Finish []) ∷ []) Nothing = rw (here, free_here, its, awaits) (rw (outside, turn) refl) in
-        has_touched w nester slot plain (Handed (k ∷ z)) (Alter (k ∷ z) (PassTurn turns.Client) ∷ Alter (k ∷ z) (Finish []) ∷ [])
-        (Alter client (PassTurn turns.Client) ∷ Alter client (Finish []) ∷ []) Nothing row
-        (Both (Alters k z _ (PassTurn turns.Client) refl tt) (Both (Alters k z _ (Finish []) refl tt) Empty)) (tt, (tt, tt))
+        let near_awaits = receiving-like like z turns.Client t.mode ∙ awaits in
+        let answers : List ℕ = taken_answers (awaited t.mode) None in
+        let row : touch_row small (Handed (k ∷ z)) ≡ Goes (Alter (k ∷ z) (PassTurn turns.Client) ∷ Alter (k ∷ z) (Finish answers) ∷ []) Nothing =
+        rw (here, free_here, its, near_awaits) (rw (outside, turn) refl) in
+        subst (λ (o : Option Thread). DoneBy (ByOthers (Handed (k ∷ z))) (apply_all (Alter client (PassTurn turns.Client)
+        ∷ takes_turn client None (and_then (λ (t : Thread). awaited t.mode) o)) w)) (sym is)
+        (has_touched w nester slot plain (Handed (k ∷ z)) (Alter (k ∷ z) (PassTurn turns.Client) ∷ Alter (k ∷ z) (Finish answers) ∷ [])
+        (Alter client (PassTurn turns.Client) ∷ Alter client (Finish answers) ∷ []) Nothing row
+        (Both (Alters k z _ (PassTurn turns.Client) refl tt) (Both (Alters k z _ (Finish answers) refl tt) Empty)) (tt, (tt, tt)))
 
-    hands_client : Hands (if_receiving w client (passes_client port) t)
-    hands_client = by (receiving turns.Client t.mode) refl
+    hands_client : Hands (if_receiving w client (passes_client w port) t)
+    hands_client = by (receiving w (z ++ root) turns.Client t.mode) refl
       where
-        by : (o : Option (ℕ × ℕ)) → receiving turns.Client t.mode ≡ o → Hands (if_receiving w client (passes_client port) t)
+        by : (o : Option (ℕ × ℕ)) → receiving w (z ++ root) turns.Client t.mode ≡ o → Hands (if_receiving w client (passes_client w port) t)
         by None e = rw e (hands-so _ Waits (λ on ready. absurd ready))
-        by (Some receive) e = rw (e, its) (hands-so (is_free w (z ++ root) t && same_side talk.turn turns.Server) (passes_client port client receive)
+        by (Some receive) e = rw (e, its) (hands-so (is_free w (z ++ root) t && same_side talk.turn turns.Server) (passes_client w port client receive)
             (λ on. let both = and_parts (is_free w (z ++ root) t) (same_side talk.turn turns.Server) on in handed both.1 both.0 receive e))
 
     over_hands : client_at w port ≡ Some client → Hands (over_row w port)
@@ -212,13 +218,13 @@ still_with : (root : Path) (w : World) (port : Path) (go : Path → ℕ × ℕ �
     ((x : Path) (receive : ℕ × ℕ) → Still root (go x receive)) → Still root (with_client w port go)
 still_with root w port go still = by (client_at w port) refl
   where
-    of_mode : (x : Path) (t : Thread) (o : Option (ℕ × ℕ)) → receiving turns.Client t.mode ≡ o → Still root (if_receiving w x go t)
+    of_mode : (x : Path) (t : Thread) (o : Option (ℕ × ℕ)) → receiving w (parent x) turns.Client t.mode ≡ o → Still root (if_receiving w x go t)
     of_mode x t None e = rw e (still-when root _ Waits still-waits)
     of_mode x t (Some receive) e = rw e (still-when root _ (go x receive) (still x receive))
 
     of_thread : (x : Path) → client_at w port ≡ Some x → (o : Option Thread) → and_then thread_of (w.body x) ≡ o → Still root (with_client w port go)
     of_thread x e None f = rw (e, f) (still-when root (is_serving_port w port) Waits still-waits)
-    of_thread x e (Some t) f = rw (e, f) (still-when root (is_serving_port w port) (if_receiving w x go t) (of_mode x t (receiving turns.Client t.mode) refl))
+    of_thread x e (Some t) f = rw (e, f) (still-when root (is_serving_port w port) (if_receiving w x go t) (of_mode x t (receiving w (parent x) turns.Client t.mode) refl))
 
     by : (o : Option Path) → client_at w port ≡ o → Still root (with_client w port go)
     by None e = rw e (still-when root (is_serving_port w port) Waits still-waits)
@@ -234,7 +240,7 @@ still_give root w port (word ∷ words) =
 
 still_over : (root : Path) (w : World) (port : Path) → Still root (over_row w port)
 unfolding over_row
-still_over root w port = still_with root w port (passes_client port) (λ x receive. still-goes (tt, (tt, tt)))
+still_over root w port = still_with root w port (passes_client w port) (λ x receive. still-goes (tt, (tt, tt)))
 
 -- ---- the laws
 

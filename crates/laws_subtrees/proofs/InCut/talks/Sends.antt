@@ -4,7 +4,7 @@ use Rattle.std.proofs.Common.{Result, Ok, Err, refl, sym, ap, subst, ◌∙◌}
 use Rattle.fk_model.specs.declared.limits.TheConstants.{PAGE_WORDS, BLOCK_WORDS}
 use Rattle.fk_model.specs.declared.moves.Ask.TheVariants as asks
 use Rattle.fk_model.specs.declared.stage.Stage.{Stage}
-use Rattle.fk_model.specs.declared.stage.Stage.TheVariants.{ServerSend, ServerOver}
+use Rattle.fk_model.specs.declared.stage.Stage.TheVariants.{ServerSend, ServerOver, ServerOverRef}
 use Rattle.fk_model.specs.declared.thread.Turn.{Turn}
 use Rattle.fk_model.specs.declared.thread.Turn.TheVariants as turns
 use Rattle.fk_model.specs.declared.statuses.status.TheConstants.{DENIED}
@@ -22,9 +22,9 @@ use Rattle.fk_model.specs.Outcomes.{Said, Outcome, ◌>>=◌, when, listed}
 use Rattle.fk_model.specs.Outcomes.Outcome.{Refused, Waits, Goes}
 use Rattle.fk_model.specs.Outcomes.Said.{Nothing, Words}
 use Rattle.fk_model.specs.Readers.{own_page_at, their_page_at}
-use Rattle.fk_model.specs.Talks.{Line, receiving, other_side, thread_led_to, is_service_free}
-use Rattle.fk_model.specs.TransferRows.{overwritten, block, has_sent, moved_words, sends_into, sends_to_thread, sends_to, sends, send, passes, passes_to_thread}
-use Rattle.fk_model.specs.TransferRows.{passes_to, over}
+use Rattle.fk_model.specs.Talks.{Line, receiving, other_side, thread_led_to, is_service_free, awaited}
+use Rattle.fk_model.specs.TransferRows.{overwritten, block, has_sent, moved_words, sends_into, sends_to_thread, sends_to, sends, send, passes, passes_to_thread, may_carry}
+use Rattle.fk_model.specs.TransferRows.{passes_to, over, over_ref, takes_turn}
 use Rattle.fk_model.specs.LinkRows.{user_at}
 use Rattle.fk_model.specs.Moves.{stage_row, is_for_porters, chooses, with_pick, closed, call_row, goes_on, outcome, GoesAllowed, stepped, step}
 use Rattle.fk_model.specs.Cut.{ports_of, cut_ptr, cut, IsPlain}
@@ -33,18 +33,19 @@ use Rattle.fk_model.specs.Further.Onward.{Own}
 use Rattle.fk_model.specs.Seen.{sends_out, only_fills, writes_inside, words_out, picked_inside, own_of, stage_touch, outer_touch, row_of}
 use Rattle.fk_model.specs.Seen.Seen.{Onwards, Unseen, Other}
 use Rattle.fk_model.proofs.walks.PlaceLaws.{strip-append}
-use Rattle.laws_subtrees.specs.Cut.CutLaws.{KeepsCut, IsAtStage, moves, IsServerSend, IsServerOver, StageInsideKeepsCut}
-use Rattle.laws_subtrees.specs.Cut.Likeness.{seen_thread}
+use Rattle.laws_subtrees.specs.Cut.CutLaws.{KeepsCut, IsAtStage, moves, IsServerSend, IsServerOver, StageInsideKeepsCut, IsServerOverRef}
+use Rattle.laws_subtrees.specs.Cut.Likeness.{seen_thread, IsLikeness, under}
 use Rattle.laws_subtrees.specs.Cut.LikeChanges.{IsLikeOutcome, IsLikeUnlessWaiting}
 use Rattle.laws_subtrees.proofs.InCut.likeness.Instances.{cut-like}
 use Rattle.laws_subtrees.proofs.InCut.likeness.Holds.{strip_none, is_free-like, unheld-free}
 use Rattle.laws_subtrees.proofs.InCut.likeness.Servers.{client_of-like, cut-served}
-use Rattle.laws_subtrees.proofs.InCut.likeness.Outcomes.{unless_waiting}
-use Rattle.laws_subtrees.proofs.InCut.likeness.Sends.{send-same, over-same, server_near}
+use Rattle.laws_subtrees.proofs.InCut.likeness.Outcomes.{unless_waiting, closed-unless}
+use Rattle.laws_subtrees.proofs.InCut.likeness.Sends.{send-same, over-same, server_near, over_ref-weak}
 use Rattle.laws_subtrees.proofs.InCut.cut.Plain.{AreQuiet, changes-clear, clear-plain, same-plain}
 use Rattle.laws_subtrees.proofs.InCut.cut.Inside.{quiet-then, call_row-like, call_closed, thread_seen, has_gone, HasGone, thread_beneath, silent_counts}
 use Rattle.laws_subtrees.proofs.InCut.cut.Outside.{untouched, stage_outcome, stage_called}
 use Rattle.fk_model.specs.Searches.{thread_at}
+use Rattle.laws_subtrees.proofs.InCut.talks.Clients.{alone, picked}
 
 -- ---- rows whose changes are quiet, whatever they tell
 
@@ -120,7 +121,7 @@ still-to_thread : (root : Path) (w : World) (x : Path) (side : Turn) (client : P
     Still root (sends_to_thread w (user_at x) side client address count page o)
 still-to_thread root w x side client address count page None = still-waits
 still-to_thread root w x side client address count page (Some e) =
-    still-when root (is_free w (parent e.0) e.1) _ (still-into root w x client e.0 address count page (receiving (other_side side) e.1.mode))
+    still-when root (is_free w (parent e.0) e.1) _ (still-into root w x client e.0 address count page (receiving w (parent e.0) (other_side side) e.1.mode))
 
 still-to : (root : Path) (w : World) (x : Path) (side : Turn) (address count : ℕ) (l : Line) (page : List ℕ) (peer : Peer) →
     Still root (sends_to w (user_at x) side l address count page peer)
@@ -145,19 +146,30 @@ still-passes : (root : Path) (x : Path) (side : Turn) (client : Path) (cs : List
 still-passes root x side client cs quiet = still-goes (quiet-then root (cs ++ Alter client (PassTurn (other_side side)) ∷ [])
     (Alter (slot_of x ∷ parent x) (Finish []) ∷ []) (quiet-then root cs (Alter client (PassTurn (other_side side)) ∷ []) quiet (tt, tt)) (tt, tt))
 
-still-passes_to : (root : Path) (w : World) (x : Path) (side : Turn) (l : Line) (peer : Peer) → Still root (passes_to w (user_at x) side l peer)
-still-passes_to root w x side l (Server thread) = by (thread_led_to w thread)
-  where
-    by : (o : Option (Path × Thread)) → Still root (passes_to_thread w (user_at x) side l.client o)
-    by None = still-waits
-    by (Some e) = still-when root (is_free w (parent e.0) e.1 && is_some (receiving (other_side side) e.1.mode))
-        _ (still-passes root x side l.client (Alter e.0 (Finish []) ∷ []) (tt, tt))
-still-passes_to root w x side l Service = still-when root (is_service_free w l.talk.port) _ (still-goes (still-passes root x side l.client [] tt).quiet)
-still-passes_to root w x side l Parked = still-waits
+still-takes : (root y : Path) (carried : Option Ptr) (to : Option ℕ) → AreQuiet root (takes_turn y carried to)
+still-takes root y None to = (tt, tt)
+still-takes root y (Some p) None = (tt, tt)
+still-takes root y (Some p) (Some k) = (tt, (tt, tt))
 
-pub still-over : (root : Path) (w : World) (x : Path) (side : Turn) → Still root (over w (user_at x) side)
+still-passes_to : (root : Path) (w : World) (x : Path) (side : Turn) (l : Line) (carried : Option Ptr) (peer : Peer) →
+    Still root (passes_to w (user_at x) side l carried peer)
+still-passes_to root w x side l carried (Server thread) = by (thread_led_to w thread)
+  where
+    by : (o : Option (Path × Thread)) → Still root (passes_to_thread w (user_at x) side l.client carried o)
+    by None = still-waits
+    by (Some e) = still-when root (is_free w (parent e.0) e.1 && is_some (receiving w (parent e.0) (other_side side) e.1.mode))
+        _ (still-passes root x side l.client (takes_turn e.0 carried (awaited e.1.mode)) (still-takes root e.0 carried (awaited e.1.mode)))
+still-passes_to root w x side l carried Service =
+    still-when root (is_service_free w l.talk.port) _ (still-goes (still-passes root x side l.client [] tt).quiet)
+still-passes_to root w x side l carried Parked = still-waits
+
+pub still-over : (root : Path) (w : World) (x : Path) (side : Turn) (carried : Option Ptr) → Still root (over w (user_at x) side carried)
 unfolding over
-still-over root w x side = still->>= root _ _ (λ l. still-passes_to root w x side l l.other)
+still-over root w x side carried = still->>= root _ _ (λ l. still-when root (may_carry w (slot_of x ∷ parent x) carried) _ (still-passes_to root w x side l carried l.other))
+
+pub still-over_ref : (root : Path) (w : World) (x : Path) (side : Turn) (reference : ℕ) → Still root (over_ref w (user_at x) side reference)
+unfolding over_ref
+still-over_ref root w x side reference = still->>= root _ _ (λ p. still-over root w x side (Some p))
 
 -- ---- a row that leaves the cut as it was
 
@@ -303,19 +315,25 @@ module _ (w : World) (nester : Path)
   own_law still alike sound same fit ready Other seen = tt
 
   -- where a peer outside makes no difference
-  pub silent_law : ((n : ℕ) (o : Outcome) → outside_row small (user_at (k ∷ q)) n stage o ≡ o) → Still root (stage_row w (user_at me) pick stage) →
-      ((p : Option Path) → is_frozen w root ≡ false → AlikeHere (stage_row small (user_at (k ∷ q)) p stage) (stage_row w (user_at me) pick stage)) →
-      KeepsCut w nester slot (moves me pick)
-  silent_law silent still alike =
+  pub silent_law_weak : ((n : ℕ) (o : Outcome) → outside_row small (user_at (k ∷ q)) n stage o ≡ o) → Still root (stage_row w (user_at me) pick stage) →
+      ((p : Option Path) → is_none p ≡ is_none pick → is_frozen w root ≡ false →
+      IsLikeUnlessWaiting root see w (call_row small (user_at (k ∷ q)) p stage) far) → KeepsCut w nester slot (moves me pick)
+  silent_law_weak silent still alike =
       own_law (still-call root w me pick stage still)
       (λ p e free f fills through.
       let like = cut-like w nester slot plain in
-      let row = unless_waiting like _ _ (call_row-like like k q p pick stage e (alike p free)) in
+      let row = alike p e free in
       let n : ℕ = words_out w root me (listed far) in
       let none : n ≡ 0 = silent_counts w small root me (k ∷ q) stage at silent (listed far) in
       rw (own_is small (k ∷ q) p n (seen_thread see t) stage at.1 at.2 at.4)
       (either_way root see w n (talks_outside small (k ∷ q) && is_none p) (is_free small q (seen_thread see t)) _ _ far (is_free-like like free q t ∙ f)
       (λ on. rw (none, silent 0 (call_row small (user_at (k ∷ q)) p stage), call_closed small (k ∷ q) p stage) row) (λ off. rw none row)))
+
+  pub silent_law : ((n : ℕ) (o : Outcome) → outside_row small (user_at (k ∷ q)) n stage o ≡ o) → Still root (stage_row w (user_at me) pick stage) →
+      ((p : Option Path) → is_frozen w root ≡ false → AlikeHere (stage_row small (user_at (k ∷ q)) p stage) (stage_row w (user_at me) pick stage)) →
+      KeepsCut w nester slot (moves me pick)
+  silent_law silent still alike = silent_law_weak silent still
+      (λ p e free. let like = cut-like w nester slot plain in unless_waiting like _ _ (call_row-like like k q p pick stage e (alike p free)))
 
 -- ---- by a server
 
@@ -341,6 +359,29 @@ server_over_keeps w nester slot x pick stage such within at sound plain =
     law : (k : ℕ) (q : Path) → IsAtStage w (k ∷ (q ++ slot ∷ nester)) ServerOver → KeepsCut w nester slot (moves (k ∷ (q ++ slot ∷ nester)) pick)
     law k q at sound plain =
         let like = cut-like w nester slot plain in
-        silent_law w nester slot plain k q pick ServerOver at (λ n o. refl) (still-over (slot ∷ nester) w (k ∷ (q ++ slot ∷ nester)) turns.Server)
+        silent_law w nester slot plain k q pick ServerOver at (λ n o. refl) (still-over (slot ∷ nester) w (k ∷ (q ++ slot ∷ nester)) turns.Server None)
         (λ p free. (over-same like free
-        k q turns.Server (server_near like (k ∷ q) (client_of-like like (cut-served w nester slot sound.valid plain sound.few) (k ∷ q)))).0) sound plain
+        k q turns.Server None None tt refl (server_near like (k ∷ q) (client_of-like like (cut-served w nester slot sound.valid plain sound.few) (k ∷ q)))).0) sound plain
+
+-- a call of no pick that is for users, where its stage is alike unless the other end isn't ready
+pub call_weak : {root : Path} {see : Ptr → Ptr} {small big : World} (like : IsLikeness root see small big) (k : ℕ) (q : Path) (p pick : Option Path) (stage : Stage) →
+    chooses stage ≡ false → is_for_porters stage ≡ false → is_none p ≡ is_none pick →
+    IsLikeUnlessWaiting root see big (stage_row small (user_at (k ∷ q)) None stage) (stage_row big (user_at (k ∷ (q ++ root))) None stage) →
+    IsLikeUnlessWaiting root see big (call_row small (user_at (k ∷ q)) p stage) (call_row big (user_at (k ∷ (q ++ root))) pick stage)
+call_weak {root} {see} {small} {big} like k q p (Some y) stage picks users e h = rw (picked big (k ∷ (q ++ root)) y stage picks) tt
+call_weak {root} {see} {small} {big} like k q None None stage picks users e h =
+    rw (alone small (k ∷ q) stage picks users, alone big (k ∷ (q ++ root)) stage picks users) (closed-unless like (user_at (k ∷ q)) _ _ h)
+call_weak like k q (Some y) None stage picks users e h = cc
+
+pub server_over_ref_keeps : StageInsideKeepsCut IsServerOverRef
+server_over_ref_keeps w nester slot x pick stage such within at sound plain =
+    let under = thread_beneath w nester slot plain x at.0 within at.3 in
+    rw under.2 (law under.0 under.1 (rw (under.2, such.1) at at) sound plain)
+  where
+    law : (k : ℕ) (q : Path) → IsAtStage w (k ∷ (q ++ slot ∷ nester)) (ServerOverRef such.0) → KeepsCut w nester slot (moves (k ∷ (q ++ slot ∷ nester)) pick)
+    law k q at sound plain =
+        let like = cut-like w nester slot plain in
+        silent_law_weak w nester slot plain k q pick (ServerOverRef such.0) at (λ n o. refl)
+        (still-over_ref (slot ∷ nester) w (k ∷ (q ++ slot ∷ nester)) turns.Server such.0)
+        (λ p e free. call_weak like k q p pick (ServerOverRef such.0) refl refl e (over_ref-weak like free
+        k q turns.Server such.0 (server_near like (k ∷ q) (client_of-like like (cut-served w nester slot sound.valid plain sound.few) (k ∷ q))))) sound plain

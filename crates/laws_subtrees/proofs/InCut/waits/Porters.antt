@@ -45,8 +45,8 @@ module _ (w : World) (nester : Path) (slot : ℕ) (plain : IsPlain w nester slot
     where
       after : (a : Result Body ℕ) (b : Result (Unit {0}) ℕ) → Quiet root (closed c (with_pick true None (a >>= (λ body. b >>= (λ v. Waits)))))
       after (Ok a) (Ok b) = quiet-waits
-      after (Ok a) (Err status) = record { quiet = tt; mute = λ y. refl }
-      after (Err status) b = record { quiet = tt; mute = λ y. refl }
+      after (Ok a) (Err status) = record { quiet = tt; mute = λ v y. refl }
+      after (Err status) b = record { quiet = tt; mute = λ v y. refl }
 
   beside : (t : Thread) → and_then thread_of (w.body x) ≡ Some t → is_porter t.mode ≡ true → is_within root (path_of c) ≡ false
   beside t at porter = rw (stands_in_slot w sound x t at) (porter_outside w nester slot plain x t at porter)

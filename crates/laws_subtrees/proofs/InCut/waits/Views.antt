@@ -152,7 +152,7 @@ quiet-ended : (root : Path) (c : Caller) (cs : List Change) (answers : List ℕ)
 quiet-ended root c cs answers quiet = by c.is_porter
   where
     by : (porter : Bool) → Quiet root (ended (record c { is_porter = porter }) cs answers)
-    by true = record { quiet = quiet; mute = λ x. refl }
+    by true = record { quiet = quiet; mute = λ v x. refl }
     by false = quiet-goes (quiet-then root cs _ quiet (tt, tt))
 
 -- nobody inside comes to serve the outside, unless who waits stands inside and takes a thread outside

@@ -5,10 +5,10 @@ use Rattle.fk_model.specs.declared.moves.Ask.{Ask}
 use Rattle.fk_model.specs.declared.moves.Ask.TheVariants as asks
 use Rattle.fk_model.specs.declared.names.Kind.TheVariants as kinds
 use Rattle.fk_model.specs.declared.stage.Stage.{Stage}
-use Rattle.fk_model.specs.declared.stage.Stage.TheVariants.{Search, Wait, ServerSend, ServerOver, ServerEnd, PageGive, PageTake}
+use Rattle.fk_model.specs.declared.stage.Stage.TheVariants.{Search, Wait, ServerSend, ServerOver, ServerEnd, PageGive, PageTake, ServerOverRef}
 use Rattle.fk_model.specs.declared.stage.Stage.TheVariants as stages
 use Rattle.fk_model.specs.Places.{Path, strip, is_within}
-use Rattle.fk_model.specs.Objects.{kind_of, and_then}
+use Rattle.fk_model.specs.Objects.{kind_of, and_then, reference_of}
 use Rattle.fk_model.specs.NativeRows.{accept_row}
 use Rattle.fk_model.specs.World.{World, Change, apply_all}
 use Rattle.fk_model.specs.Searches.{client_of, faulter_of, client_at}
@@ -22,7 +22,7 @@ use Rattle.fk_model.specs.Cut.{cut, IsPlain}
 use Rattle.fk_model.specs.Further.{Touch}
 use Rattle.fk_model.specs.Further.Touch.{Handed, Left, FaultDone, PageTaken}
 use Rattle.fk_model.specs.Further.Onward.{ByOthers}
-use Rattle.fk_model.specs.Seen.{accepted, outcome_said, page_put, drops_page, passes_turn, ends_talk, serves_outside, given_of, on_inner, taken_as, page_given}
+use Rattle.fk_model.specs.Seen.{accepted, outcome_said, page_put, drops_page, passes_turn, ends_talk, serves_outside, given_of, on_inner, taken_as, page_given, handed_by}
 use Rattle.fk_model.specs.Seen.{on_place, stage_touch, caller_stage, outer_touch, IsSeen, IsStranger}
 use Rattle.fk_model.specs.Seen.Seen.{Unseen}
 use Rattle.laws_moves.proofs.InMachine.safety.Outcomes.{SafeOutcome}
@@ -89,7 +89,9 @@ module _ (w : World) (nester : Path) (slot : ℕ) (valid : IsConsistent w) (plai
     stage-none : (pick : Option Path) (cs : List Change) (stage : Stage) → stage_touch w root c pick cs stage ≡ None
     stage-none pick cs (Wait set) = picked-none set pick
     stage-none pick cs (ServerSend address count) = untouched (given_of w cs) (client_of w (path_of c)) me_client
-    stage-none pick cs ServerOver = if_none (passes_turn cs) _ (untouched (λ x q. Some (Handed q)) (client_of w (path_of c)) me_client)
+    stage-none pick cs ServerOver = if_none (passes_turn cs) _ (untouched (handed_by w root None) (client_of w (path_of c)) me_client)
+    stage-none pick cs (ServerOverRef reference) = if_none (passes_turn cs) _
+        (untouched (handed_by w root (and_then reference_of (w.body (reference ∷ c.space)))) (client_of w (path_of c)) me_client)
     stage-none pick cs ServerEnd = if_none (ends_talk cs) _ (untouched (λ x q. Some (Left q)) (client_of w (path_of c)) me_client)
     stage-none pick cs stages.FaultDone = untouched (λ x q. Some (FaultDone q)) (faulter_of w (path_of c)) me_faulter
     stage-none pick cs (PageGive s page address) = place-none (λ q. page_given q page (page_put cs)) s

@@ -121,7 +121,7 @@ module _ (w : World) (nester : Path) (slot : ℕ) (valid : IsConsistent w) (plai
   if_receiving-away : (x : Path) (go : Path → ℕ × ℕ → Outcome) (t : Thread) → ((space : ℕ × ℕ) → Goes_away (go x space)) → Goes_away (if_receiving w x go t)
   if_receiving-away x go t going = elim (cases_Bool (is_free w (parent x) t && holds (λ (talk : Talk). same_side talk.turn turns.Server) t.talk)) [
     | inr off ↦ rw off (waits w nester slot valid plain windows)
-    | inl on ↦ rw on (elim (is (receiving turns.Client t.mode)) [
+    | inl on ↦ rw on (elim (is (receiving w (parent x) turns.Client t.mode)) [
       | Absent e ↦ rw e (waits w nester slot valid plain windows)
       | Present space e ↦ rw e (going space)
     ])
@@ -155,7 +155,7 @@ module _ (w : World) (nester : Path) (slot : ℕ) (valid : IsConsistent w) (plai
 
   over_row-away : Goes_away (over_row w port)
   unfolding over_row
-  over_row-away = with_client-away (passes_client port) (λ x space found. let out = guest-out w nester slot valid plain port away x found in
+  over_row-away = with_client-away (passes_client w port) (λ x space found. let out = guest-out w nester slot valid plain port away x found in
       goes w nester slot valid plain windows ((out, tt), ((out, tt), tt)))
 
   -- ---- an act

@@ -33,7 +33,7 @@ use Rattle.laws_moves.specs.Rows.Stages.{Sets, Work, Own, Step}
 use Rattle.laws_moves.specs.Rows.Stages.Sets.{Locks, Wakes, Stops, Lets_go, Points, Clears, Gets_pointer, Sets_pointer, Holds, Releases, Restores_hold, Fills}
 use Rattle.laws_moves.specs.Rows.Stages.Sets.{Passes_service, Takes_fault, Resumes, Frees, Restores_talk, Parks_talk, Restores_fault, Parks_fault}
 use Rattle.laws_moves.specs.Rows.Stages.Work.{Looks, Edits, Makes, Makes_held, Kills, Renames, Writes_record, Sets_record, Gives, Copies, Drops, Sleeps, Wakes_all}
-use Rattle.laws_moves.specs.Rows.Stages.Work.{Takes_client, Hangs_up, Sends, Sends_service, Passes}
+use Rattle.laws_moves.specs.Rows.Stages.Work.{Takes_client, Hangs_up, Sends, Sends_service, Passes, Hands_over, Hands_over}
 use Rattle.laws_moves.specs.Rows.Stages.Own.{Stayed, Renamed}
 use Rattle.laws_moves.specs.Rows.Stages.Step.{Is_refused, Is_waiting, Raises, Answers, Stays, Finishes, Ends}
 use Rattle.laws_moves.specs.Rows.Moves.{Instructs, Lists}
@@ -41,6 +41,8 @@ use Rattle.laws_moves.specs.Rows.Moves.Instructs.{Goes_on, Stores, Faults}
 use Rattle.laws_moves.specs.Rows.Moves.Lists.{Moves_not, Runs, Calls, Is_told_no, Asks, Is_answered_no, Acts}
 use Rattle.laws_moves.specs.Rows.Moves.Serves.{Waits_for_client}
 use Rattle.laws_moves.specs.Rows.Moves.{Serves}
+use Rattle.laws_subtrees.proofs.InCut.likeness.Instances.{cut-like}
+use Rattle.laws_subtrees.proofs.InCut.likeness.Waits.{reference_beside}
 use Rattle.laws_moves.proofs.InRows.Walk.{new_all, drops-all, sleepers-all}
 use Rattle.laws_moves.proofs.InRows.Moves.{moves-listed}
 use Rattle.laws_subtrees.specs.Further.Strangers.{HasNoWindow, is_of_thread}
@@ -249,7 +251,10 @@ module _ (w : World) (nester : Path) (slot : ℕ) (valid : IsConsistent w) (plai
         let client = (turn-line side side l at).client in
         (home (parent e.0) receive.0 true t other (parent_out e.0 out) to, ((client, tt), ((out, tt), ((here c.slot, tt), tt))))
     work (Sends_service stage side l address count at other) = (((turn-line side side l at).client, tt), ((here c.slot, tt), tt))
-    work (Passes stage side l thread e at other led free) =
+    work (Hands_over stage side l thread e k reference p at other led free awaits there read may) =
+        let out = other_out side l thread e at other led in
+        ((reference_beside (cut-like w nester slot plain) e.0 k out there, tt), ((out, tt), (((turn-line side side l at).client, tt), tt)))
+    work (Passes stage side l thread e to carried at other led free awaits) =
         ((other_out side l thread e at other led, tt), (((turn-line side side l at).client, tt), tt))
 
     me_out : {cs : List Change} {me : Path} → Own c cs me → Aways cs → IsOut me

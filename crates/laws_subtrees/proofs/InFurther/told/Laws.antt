@@ -16,7 +16,7 @@ use Rattle.fk_model.specs.Outcomes.{Said, Outcome, listed}
 use Rattle.fk_model.specs.Outcomes.Outcome.{Refused, Waits, Goes}
 use Rattle.fk_model.specs.Outcomes.Said.{Words, Passed}
 use Rattle.fk_model.specs.Cut.{is_out, seen_by, unheld}
-use Rattle.fk_model.specs.Further.{Onward, Told, onward_row, ends_told, told_fault, told_by_change, told_by_said, told_by, OnwardTo}
+use Rattle.fk_model.specs.Further.{Onward, Told, onward_row, ends_told, told_fault, told_by_change, told_by_said, told_by, OnwardTo, carried_by}
 use Rattle.fk_model.specs.Further.Onward.{Own, ByOthers}
 use Rattle.fk_model.specs.Further.Told.{ToldWords, ToldOver, ToldEnd, ToldFault}
 use Rattle.fk_model.specs.Seen.{outcome_said}
@@ -78,19 +78,19 @@ of_onward c d m told (Goes changes said) h = (h.1, h.2)
 of_onward c d m told (Refused status) h = absurd h
 of_onward c d m told Waits h = absurd h
 
-said_no_end : (x : Path) (said : Said) (q : Path) (port : Ptr) → IsTold (ToldEnd q port) (told_by_said x said) → ⊥
-said_no_end x (Words at words) q port (inl e) = cc
-said_no_end x (Words at words) q port (inr h) = h
-said_no_end x (Passed at) q port (inl e) = cc
-said_no_end x (Passed at) q port (inr h) = h
-said_no_end x said q port h = h
+said_no_end : (w : World) (x : Path) (said : Said) (q : Path) (port : Ptr) → IsTold (ToldEnd q port) (told_by_said w x said) → ⊥
+said_no_end w x (Words at words) q port (inl e) = cc
+said_no_end w x (Words at words) q port (inr h) = h
+said_no_end w x (Passed at) q port (inl e) = cc
+said_no_end w x (Passed at) q port (inr h) = h
+said_no_end w x said q port h = h
 
-said_no_fault : (x : Path) (said : Said) (q : Path) (port : Ptr) (page : ℕ) (write : Bool) → IsTold (ToldFault q port page write) (told_by_said x said) → ⊥
-said_no_fault x (Words at words) q port page write (inl e) = cc
-said_no_fault x (Words at words) q port page write (inr h) = h
-said_no_fault x (Passed at) q port page write (inl e) = cc
-said_no_fault x (Passed at) q port page write (inr h) = h
-said_no_fault x said q port page write h = h
+said_no_fault : (w : World) (x : Path) (said : Said) (q : Path) (port : Ptr) (page : ℕ) (write : Bool) → IsTold (ToldFault q port page write) (told_by_said w x said) → ⊥
+said_no_fault w x (Words at words) q port page write (inl e) = cc
+said_no_fault w x (Words at words) q port page write (inr h) = h
+said_no_fault w x (Passed at) q port page write (inl e) = cc
+said_no_fault w x (Passed at) q port page write (inr h) = h
+said_no_fault w x said q port page write h = h
 
 -- ---- ends
 
@@ -104,7 +104,7 @@ record EndOf (q : Path) (port : Ptr) (o : Option Talk) : Type 0 where
 abbrev end_told : Told → Ptr
 end_told (ToldEnd q port) = port
 end_told (ToldWords q port words) = port
-end_told (ToldOver q port) = port
+end_told (ToldOver q port carried) = port
 end_told (ToldFault q port page write) = port
 
 of_ends : (q : Path) (port : Ptr) (o : Option Talk) → IsTold (ToldEnd q port) (ends_told q o) → EndOf q port o
@@ -121,23 +121,23 @@ in_ends q port talk at out = rw (at, out) (inl refl)
 
 module _ (c : World) (q : Path) (port : Ptr) (x : Path) (said : Said) where
   ends_exact : (d : World) (ts : List Told) → EndCase c d q ts →
-      (IsTold (ToldEnd q port) (ts ++ told_by_said x said) → IsTalkLost c d q port) × (IsTalkLost c d q port →
-      IsTold (ToldEnd q port) (ts ++ told_by_said x said))
-  ends_exact d ts (Kept none stays) = (λ h. absurd (forth (told-either _ ts (told_by_said x said) h)), λ lost. absurd (back lost))
+      (IsTold (ToldEnd q port) (ts ++ told_by_said c x said) → IsTalkLost c d q port) × (IsTalkLost c d q port →
+      IsTold (ToldEnd q port) (ts ++ told_by_said c x said))
+  ends_exact d ts (Kept none stays) = (λ h. absurd (forth (told-either _ ts (told_by_said c x said) h)), λ lost. absurd (back lost))
     where
-      forth : IsTold (ToldEnd q port) ts ⊎ IsTold (ToldEnd q port) (told_by_said x said) → ⊥
+      forth : IsTold (ToldEnd q port) ts ⊎ IsTold (ToldEnd q port) (told_by_said c x said) → ⊥
       forth (inl h) = none port h
-      forth (inr h) = said_no_end x said q port h
+      forth (inr h) = said_no_end c x said q port h
 
       back : IsTalkLost c d q port → ⊥
       back lost = stays lost.talk lost.was (rw lost.at lost.outward) lost.gone
-  ends_exact d ts (Lost told gone) = (λ h. forth (told-either _ ts (told_by_said x said) h), λ lost. told-first _ ts (told_by_said x said) (back lost))
+  ends_exact d ts (Lost told gone) = (λ h. forth (told-either _ ts (told_by_said c x said) h), λ lost. told-first _ ts (told_by_said c x said) (back lost))
     where
-      forth : IsTold (ToldEnd q port) ts ⊎ IsTold (ToldEnd q port) (told_by_said x said) → IsTalkLost c d q port
+      forth : IsTold (ToldEnd q port) ts ⊎ IsTold (ToldEnd q port) (told_by_said c x said) → IsTalkLost c d q port
       forth (inl h) =
           let end = of_ends q port (talk_at c q) (subst (λ (ts : List Told). IsTold (ToldEnd q port) ts) told h) in
           record { talk = end.talk; was = end.was; at = end.at; outward = end.outward; gone = gone }
-      forth (inr h) = absurd (said_no_end x said q port h)
+      forth (inr h) = absurd (said_no_end c x said q port h)
 
       back : IsTalkLost c d q port → IsTold (ToldEnd q port) ts
       back lost = rw (told, lost.was) (in_ends q port lost.talk lost.at lost.outward)
@@ -181,24 +181,24 @@ in_faults q port page write out = rw out (inl refl)
 
 module _ (c : World) (q : Path) (port : Ptr) (page : ℕ) (write : Bool) (x : Path) (said : Said) where
   faults_exact : (d : World) (ts : List Told) → FaultCase c d q ts →
-      (IsTold (ToldFault q port page write) (ts ++ told_by_said x said) → IsFaultRaised c d q port page write)
-      × (IsFaultRaised c d q port page write → IsTold (ToldFault q port page write) (ts ++ told_by_said x said))
-  faults_exact d ts (Quiet none stays) = (λ h. absurd (forth (told-either _ ts (told_by_said x said) h)), λ raised. absurd (back raised))
+      (IsTold (ToldFault q port page write) (ts ++ told_by_said c x said) → IsFaultRaised c d q port page write)
+      × (IsFaultRaised c d q port page write → IsTold (ToldFault q port page write) (ts ++ told_by_said c x said))
+  faults_exact d ts (Quiet none stays) = (λ h. absurd (forth (told-either _ ts (told_by_said c x said) h)), λ raised. absurd (back raised))
     where
-      forth : IsTold (ToldFault q port page write) ts ⊎ IsTold (ToldFault q port page write) (told_by_said x said) → ⊥
+      forth : IsTold (ToldFault q port page write) ts ⊎ IsTold (ToldFault q port page write) (told_by_said c x said) → ⊥
       forth (inl h) = none port page write h
-      forth (inr h) = said_no_fault x said q port page write h
+      forth (inr h) = said_no_fault c x said q port page write h
 
       back : IsFaultRaised c d q port page write → ⊥
       back raised = let gone = stays raised.none in let there = raised.raised in cc
   faults_exact d ts (Raised fault told untaken none there) =
-      (λ h. forth (told-either _ ts (told_by_said x said) h), λ raised. told-first _ ts (told_by_said x said) (back raised))
+      (λ h. forth (told-either _ ts (told_by_said c x said) h), λ raised. told-first _ ts (told_by_said c x said) (back raised))
     where
-      forth : IsTold (ToldFault q port page write) ts ⊎ IsTold (ToldFault q port page write) (told_by_said x said) → IsFaultRaised c d q port page write
+      forth : IsTold (ToldFault q port page write) ts ⊎ IsTold (ToldFault q port page write) (told_by_said c x said) → IsFaultRaised c d q port page write
       forth (inl h) =
           let its = of_faults q port page write fault untaken (subst (λ (ts : List Told). IsTold (ToldFault q port page write) ts) told h) in
           record { outward = its.outward; none = none; raised = there ∙ ap Some (sym its.is) }
-      forth (inr h) = absurd (said_no_fault x said q port page write h)
+      forth (inr h) = absurd (said_no_fault c x said q port page write h)
 
       same_some : (f g : Fault) → Some f ≡ Some g → f ≡ g
       same_some f g h = cc
@@ -249,8 +249,8 @@ renames_tell_no_ends c d x pick taken told world onward moved q port page write 
     let o = onward_row c (Own x pick taken) in
     let its = of_onward c d (Own x pick taken) told o onward in
     let none = rename_alone c (listed o) (own-once c taken x pick world.top) moved in
-    let said : told ≡ told_by_said x (outcome_said o) = its.0 ∙ ap (λ (ts : List Told). ts ++ told_by_said x (outcome_said o)) none in
-    (λ h. said_no_end x (outcome_said o) q port (rw said at h), λ h. said_no_fault x (outcome_said o) q port page write (rw said at h))
+    let said : told ≡ told_by_said c x (outcome_said o) = its.0 ∙ ap (λ (ts : List Told). ts ++ told_by_said c x (outcome_said o)) none in
+    (λ h. said_no_end c x (outcome_said o) q port (rw said at h), λ h. said_no_fault c x (outcome_said o) q port page write (rw said at h))
 
 -- ---- words and overs
 
@@ -259,7 +259,7 @@ abbrev is_of_change : Told → Bool
 is_of_change (ToldEnd q port) = true
 is_of_change (ToldFault q port page write) = true
 is_of_change (ToldWords q port words) = false
-is_of_change (ToldOver q port) = false
+is_of_change (ToldOver q port carried) = false
 
 ends_of_change : (t : Told) (y : Path) (o : Option Talk) → IsTold t (ends_told y o) → is_of_change t ≡ true
 ends_of_change t y None h = absurd h
@@ -306,38 +306,40 @@ said-exact c cs us t other = (λ h. by (told-either t (flat_map (told_by_change 
     by (inl g) = let yes = of_changes c cs t g in cc
     by (inr g) = g
 
-words_said : (x : Path) (said : Said) (q : Path) (port : Ptr) (words : List ℕ) → IsTold (ToldWords q port words) (told_by_said x said) →
+words_said : (w : World) (x : Path) (said : Said) (q : Path) (port : Ptr) (words : List ℕ) → IsTold (ToldWords q port words) (told_by_said w x said) →
     (q ≡ x) × (said ≡ Words port words)
-words_said x (Words at given) q port words (inl e) =
+words_said w x (Words at given) q port words (inl e) =
     let who : x ≡ q = cc in let where_at : at ≡ port = cc in let what : given ≡ words = cc in (sym who, rw (where_at, what) refl)
-words_said x (Words at given) q port words (inr h) = absurd h
-words_said x (Passed at) q port words (inl e) = cc
-words_said x (Passed at) q port words (inr h) = absurd h
-words_said x said q port words h = absurd h
+words_said w x (Words at given) q port words (inr h) = absurd h
+words_said w x (Passed at) q port words (inl e) = cc
+words_said w x (Passed at) q port words (inr h) = absurd h
+words_said w x said q port words h = absurd h
 
-over_said : (x : Path) (said : Said) (q : Path) (port : Ptr) → IsTold (ToldOver q port) (told_by_said x said) → (q ≡ x) × (said ≡ Passed port)
-over_said x (Passed at) q port (inl e) = let who : x ≡ q = cc in let where_at : at ≡ port = cc in (sym who, rw where_at refl)
-over_said x (Passed at) q port (inr h) = absurd h
-over_said x (Words at given) q port (inl e) = cc
-over_said x (Words at given) q port (inr h) = absurd h
-over_said x said q port h = absurd h
+over_said : (w : World) (x : Path) (said : Said) (q : Path) (port : Ptr) (carried : Option Ptr) → IsTold (ToldOver q port carried) (told_by_said w x said) →
+    (q ≡ x) × (said ≡ Passed port) × (carried ≡ carried_by w x)
+over_said w x (Passed at) q port carried (inl e) =
+    let who : x ≡ q = cc in let where_at : at ≡ port = cc in let what : carried_by w x ≡ carried = cc in (sym who, rw where_at refl, sym what)
+over_said w x (Passed at) q port carried (inr h) = absurd h
+over_said w x (Words at given) q port carried (inl e) = cc
+over_said w x (Words at given) q port carried (inr h) = absurd h
+over_said w x said q port carried h = absurd h
 
 pub words_are_told : WordsAreTold
 words_are_told c d x pick taken told onward q port words =
     let o = onward_row c (Own x pick taken) in
     let its = of_onward c d (Own x pick taken) told o onward in
-    let both = said-exact c (listed o) (told_by_said x (outcome_said o)) (ToldWords q port words) refl in (
-      λ h. words_said x (outcome_said o) q port words (both.0 (rw its.0 at h)),
+    let both = said-exact c (listed o) (told_by_said c x (outcome_said o)) (ToldWords q port words) refl in (
+      λ h. words_said c x (outcome_said o) q port words (both.0 (rw its.0 at h)),
       λ h. rw (its.0) (both.1 (rw (h.0, h.1) (inl refl))),
     )
 
 pub overs_are_told : OversAreTold
-overs_are_told c d x pick taken told onward q port =
+overs_are_told c d x pick taken told onward q port carried =
     let o = onward_row c (Own x pick taken) in
     let its = of_onward c d (Own x pick taken) told o onward in
-    let both = said-exact c (listed o) (told_by_said x (outcome_said o)) (ToldOver q port) refl in (
-      λ h. over_said x (outcome_said o) q port (both.0 (rw its.0 at h)),
-      λ h. rw (its.0) (both.1 (rw (h.0, h.1) (inl refl))),
+    let both = said-exact c (listed o) (told_by_said c x (outcome_said o)) (ToldOver q port carried) refl in (
+      λ h. over_said c x (outcome_said o) q port carried (both.0 (rw its.0 at h)),
+      λ h. rw (its.0) (both.1 (rw (h.0, h.1, h.2) (inl refl))),
     )
 
 -- ---- touches

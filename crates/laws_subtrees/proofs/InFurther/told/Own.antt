@@ -3,10 +3,10 @@ use Rattle.std.proofs.Common.{◌≡◌, ℕ, false, ◌&&◌, ◌||◌, ◌==�
 use Rattle.fk_model.specs.declared.limits.TheConstants.{BLOCK_WORDS}
 use Rattle.fk_model.specs.declared.names.Kind.TheVariants as kinds
 use Rattle.fk_model.specs.declared.stage.Stage.{Stage}
-use Rattle.fk_model.specs.declared.stage.Stage.TheVariants.{ClientSend, ClientOver}
+use Rattle.fk_model.specs.declared.stage.Stage.TheVariants.{ClientSend, ClientOver, ClientOverRef}
 use Rattle.fk_model.specs.declared.thread.Turn.TheVariants as turns
 use Rattle.fk_model.specs.Places.{Path, Ptr}
-use Rattle.fk_model.specs.Objects.{Mode, Thread}
+use Rattle.fk_model.specs.Objects.{Mode, Thread, reference_of}
 use Rattle.fk_model.specs.Objects.Mode.{Calling}
 use Rattle.fk_model.specs.World.{World}
 use Rattle.fk_model.specs.World.Change.{Alter}
@@ -14,19 +14,20 @@ use Rattle.fk_model.specs.World.Edit.{CountMoved}
 use Rattle.fk_model.specs.Searches.{thread_at}
 use Rattle.fk_model.specs.Reach.{words_at}
 use Rattle.fk_model.specs.Holds.{is_free}
-use Rattle.fk_model.specs.Outcomes.{Outcome, Caller, path_of, listed}
+use Rattle.fk_model.specs.Outcomes.{Outcome, Caller, path_of, listed, ◌>>=◌}
 use Rattle.fk_model.specs.Outcomes.Said.{Words}
 use Rattle.fk_model.specs.Talks.{Line}
-use Rattle.fk_model.specs.TransferRows.{in_turn, moved_words, has_sent, block}
+use Rattle.fk_model.specs.TransferRows.{in_turn, moved_words, has_sent, block, may_carry}
 use Rattle.fk_model.specs.LinkRows.{user_at}
 use Rattle.fk_model.specs.Moves.{goes_on}
 use Rattle.fk_model.specs.Valid.{kind_there}
-use Rattle.fk_model.specs.Further.{takes_words, sends_outside, passes_outside, talks_outside, outside_row, own_stage, own_move, own_row, goes_out, onward_row}
+use Rattle.fk_model.specs.Further.{takes_words, sends_outside, passes_outside, talks_outside, outside_row, own_stage, own_move, own_row, goes_out, onward_row, over_outside}
 use Rattle.fk_model.specs.Further.Onward.{Own}
 use Rattle.laws_moves.specs.Frozen.Once.{IsFaultless, TouchOnce}
 use Rattle.laws_moves.proofs.InFrozen.once.Outcomes.{OnceOutcome, waits, once->>=, once-when, once-if, once-done, once-telling, own_page-once}
 use Rattle.laws_moves.proofs.InFrozen.once.Rows.{has_sent-once}
 use Rattle.laws_moves.proofs.InFrozen.once.Moves.{closed-once, goes_on-once, user_move-once, free-faultless, rootless, listed-once}
+use Rattle.fk_model.specs.Readers.{object_in}
 
 module _ (w : World) (taken : ℕ) where
   takes-once : (c : Caller) (client : Path) (port : Ptr) (address count : ℕ) (page : List ℕ) →
@@ -41,13 +42,18 @@ module _ (w : World) (taken : ℕ) where
       (own_page-once w c address false (λ s page. takes_words c l.client l.talk.port taken address count (words_at w s page)) clean
       (λ s page. takes-once c l.client l.talk.port address count _))
 
-  passes-once : (c : Caller) (l : Line) → OnceOutcome w (passes_outside c l)
-  passes-once c l = once-telling w _ _ (once-done w c _ [] tt)
+  passes-once : (c : Caller) (carried : Option Ptr) (l : Line) → OnceOutcome w (passes_outside w c carried l)
+  passes-once c carried l = once-when w (may_carry w (path_of c) carried) _ (λ e. once-telling w _ _ (once-done w c _ [] tt))
+
+  over_outside-once : (c : Caller) (carried : Option Ptr) → OnceOutcome w (over_outside w c carried)
+  over_outside-once c carried = once->>= w (in_turn w (path_of c) turns.Client turns.Client) (passes_outside w c carried) (λ l e. passes-once c carried l)
 
   outside-once : (c : Caller) (stage : Stage) (o : Outcome) → IsFaultless w (path_of c) → OnceOutcome w o → OnceOutcome w (outside_row w c taken stage o)
   outside-once c (ClientSend address count) o clean once =
       once->>= w (in_turn w (path_of c) turns.Client turns.Client) (sends_outside w c taken address count) (λ l e. sends-once c address count l clean)
-  outside-once c ClientOver o clean once = once->>= w (in_turn w (path_of c) turns.Client turns.Client) (passes_outside c) (λ l e. passes-once c l)
+  outside-once c ClientOver o clean once = over_outside-once c None
+  outside-once c (ClientOverRef reference) o clean once =
+      once->>= w (object_in w c reference_of c.space reference) (λ p. over_outside w c (Some p)) (λ p e. over_outside-once c (Some p))
   outside-once c stage o clean once = once
 
   stage-once : (k : ℕ) (s : Path) (pick : Option Path) (mode : Mode) (o : Outcome) → IsFaultless w (k ∷ s) → OnceOutcome w o →

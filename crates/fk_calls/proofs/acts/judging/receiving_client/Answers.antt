@@ -18,19 +18,19 @@ returns-then-not-has_turn-clause-client c go =
     (place p c.in-Some.client) (c.in-Some.ensures.client c.requires.valid.consistent) (thread_by p c.in-Some-free_thread.thread.now)
     c.in-Some-free_thread.ensures.there (c.in-Some-free_thread.ensures.free refl) (sym (c.has_turn.ensures p) ∙ c.if-not-has_turn.true)
 
-pub returns-in-Some-receive_of-clause-client : goal.returns-in-Some-receive_of-clause-client
-returns-in-Some-receive_of-clause-client c go =
+pub returns-in-Some-receiving-clause-client : goal.returns-in-Some-receiving-clause-client
+returns-in-Some-receiving-clause-client c go =
     let p = path c.args.store.now in
     client_receives (world c.args.store.now) (place p c.args.port) go (sym c.is_serving.ensures.serving ∙ c.if-not-is_serving.false)
     (place p c.in-Some.client) (c.in-Some.ensures.client c.requires.valid.consistent) (thread_by p c.in-Some-free_thread.thread.now)
-    c.in-Some-free_thread.ensures.there (c.in-Some-free_thread.ensures.free refl) c.in-Some-receive_of.receive
-    (sym (c.has_turn.ensures p) ∙ c.if-not-has_turn.false) (c.in-Some-receive_of.ensures p)
+    c.in-Some-free_thread.ensures.there (c.in-Some-free_thread.ensures.free refl) c.in-Some-receiving.receive
+    (sym (c.has_turn.ensures p) ∙ c.if-not-has_turn.false) c.in-Some-receiving.ensures.receive
 
-pub returns-in-Some-receive_of-clause-receives : goal.returns-in-Some-receive_of-clause-receives
-returns-in-Some-receive_of-clause-receives c =
+pub returns-in-Some-receiving-clause-receives : goal.returns-in-Some-receiving-clause-receives
+returns-in-Some-receiving-clause-receives c =
     let p = path c.args.store.now in
-    receiver (world c.args.store.now) (place p c.in-Some.client) (thread_by p c.in-Some-free_thread.thread.now) c.in-Some-receive_of.receive
-    c.in-Some-free_thread.ensures.there (c.in-Some-free_thread.ensures.free refl) (c.in-Some-receive_of.ensures p)
+    receiver (world c.args.store.now) (place p c.in-Some.client) (thread_by p c.in-Some-free_thread.thread.now) c.in-Some-receiving.receive
+    c.in-Some-free_thread.ensures.there (c.in-Some-free_thread.ensures.free refl) c.in-Some-receiving.ensures.receive
 
 pub returns-in-None-clause-client : goal.returns-in-None-clause-client
 returns-in-None-clause-client c go =
@@ -38,4 +38,4 @@ returns-in-None-clause-client c go =
     client_away (world c.args.store.now) (place p c.args.port) go (sym c.is_serving.ensures.serving ∙ c.if-not-is_serving.false)
     (place p c.in-Some.client) (c.in-Some.ensures.client c.requires.valid.consistent) (thread_by p c.in-Some-free_thread.thread.now)
     c.in-Some-free_thread.ensures.there (c.in-Some-free_thread.ensures.free refl)
-    (sym (c.has_turn.ensures p) ∙ c.if-not-has_turn.false) (c.in-None.ensures p)
+    (sym (c.has_turn.ensures p) ∙ c.if-not-has_turn.false) c.in-None.ensures.receive

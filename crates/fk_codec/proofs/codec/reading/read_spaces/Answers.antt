@@ -12,6 +12,6 @@ loop-number-preserved c =
     let path = rw c.as_slice.ensures at c.in_ok-space.ensures.path in
     rw (c.in_ok-push-2.ensures.ok, path) (
       omega (arith, so_far.0, length-append spaces (s ∷ [])),
-      sym (spaces_go c.args.count
+      sym (spaces_go c.args.newer c.args.count
           c.loop-number.number (spaces, c.loop-number.path) spaces c.loop-number.rest.now s c.in_ok-space.after.now c.loop-number-test.true read) ∙ so_far.1,
     )

@@ -6,5 +6,5 @@ use Rattle.fk_codec.proofs.codec.reading.read_spaces.Given as goal
 
 abbrev pub invariant-loop-number : goal.invariant-loop-number
 invariant-loop-number l = (l.number ≡ length l.spaces) ×
-    (read_many read_space after_space (l.count - l.number) (l.spaces, l.path) l.spaces l.rest
-    ≡ read_many read_space after_space l.count ([], root_path) [] l.bytes)
+    (read_many (read_space l.newer) after_space (l.count - l.number) (l.spaces, l.path) l.spaces l.rest
+    ≡ read_many (read_space l.newer) after_space l.count ([], root_path) [] l.bytes)

@@ -7,4 +7,4 @@ use Rattle.fk_codec.proofs.reading.objects.objects_from.Given as goal
 
 abbrev pub invariant-loop : goal.invariant-loop
 invariant-loop l = (l.floor ≡ next_slot l.objects) ×
-    (read_many read_object after_object (l.count - l.counter) l.floor l.objects l.rest ≡ read_many read_object after_object l.count 0 [] l.bytes)
+    (read_many (read_object l.newer) after_object (l.count - l.counter) l.floor l.objects l.rest ≡ read_many (read_object l.newer) after_object l.count 0 [] l.bytes)

@@ -1,0 +1,153 @@
+-- What there is to know of a stage besides its row: one line a stage. All tables of facts about calls are read from it.
+use Rattle.std.specs.Prelude.{ℕ, Bool, true, false, Option, Some, None}
+use Rattle.fk_model.specs.declared.stage.Stage.{Stage}
+use Rattle.fk_model.specs.declared.stage.Stage.TheVariants.{Create, Destroy, Rename, Search, Point, Clear, Locate, CountIn, GetState, SetState, GetPtr, SetPtr, SpaceHold, SpaceRelease, ThreadStop, ThreadGo, PageGive, PageTake, PageRead, PageNext, MutexLock, MutexTrylock, MutexUnlock, CondWait, CondAsleep, CondSignal, CondBroadcast, Connect, ClientReceive, ClientSend, ClientOver, Disconnect, ClientOverRef, ClientReceiveRef, Wait, ServerReceive, ServerSend, ServerOver, ServerEnd, FaultDone, ServerOverRef, ServerReceiveRef, LinkSet, LinkPark, FaultSet, FaultPark, HoldSet, SpaceMakeHeld}
+use Rattle.fk_model.specs.declared.thread.Turn.{Turn}
+use Rattle.fk_model.specs.declared.thread.Turn.TheVariants as turns
+
+-- who may make it
+pub data Maker : Type 0 where
+  Anybody : Maker
+  Users : Maker
+  Porters : Maker
+
+-- what it makes, for which memory is taken
+pub data Made : Type 0 where
+  Makes_nothing : Made
+  An_object : Made
+  A_page : Made
+
+-- what a porter builds again by it, of a subtree that was saved
+pub data Rebuilt : Type 0 where
+  Rebuilds_nothing : Rebuilt
+  A_talk : Rebuilt
+  A_fault : Rebuilt
+  A_hold : Rebuilt
+  A_space : Rebuilt
+
+-- which users may learn or change by it what pages are home: whoever makes it, or those of the root alone
+pub data Peeking : Type 0 where
+  Nobody_peeks : Peeking
+  Everybody_peeks : Peeking
+  Roots_peek : Peeking
+
+pub record Facts : Type 0 where
+  -- the code of the call that has this stage alone
+  pub code : ℕ
+  pub who : Maker
+  -- the side of a talk on which it sends, hands over or receives, with a reference or without
+  pub side : Option Turn
+  -- its row can come to a wait
+  pub waits : Bool
+  -- it chooses a thread
+  pub picks : Bool
+  -- a thread in the call that has this stage alone waits for nobody while nothing is held
+  pub acts : Bool
+  pub makes : Made
+  pub rebuilds : Rebuilt
+  pub peeks : Peeking
+
+-- a stage of users and porters
+abbrev pub of_anybody : (code : ℕ) (waits picks acts : Bool) → Made → Peeking → Facts
+of_anybody code waits picks acts makes peeks = record {
+  code = code;
+  who = Anybody;
+  side = None;
+  waits = waits;
+  picks = picks;
+  acts = acts;
+  makes = makes;
+  rebuilds = Rebuilds_nothing;
+  peeks = peeks;
+}
+
+-- one of users alone
+abbrev pub of_users : (code : ℕ) (side : Option Turn) (waits picks acts : Bool) → Facts
+of_users code side waits picks acts = record {
+  code = code;
+  who = Users;
+  side = side;
+  waits = waits;
+  picks = picks;
+  acts = acts;
+  makes = Makes_nothing;
+  rebuilds = Rebuilds_nothing;
+  peeks = Nobody_peeks;
+}
+
+-- one of porters alone
+abbrev pub of_porters : (code : ℕ) (acts : Bool) → Made → Rebuilt → Facts
+of_porters code acts makes rebuilds = record {
+  code = code;
+  who = Porters;
+  side = None;
+  waits = false;
+  picks = false;
+  acts = acts;
+  makes = makes;
+  rebuilds = rebuilds;
+  peeks = Nobody_peeks;
+}
+
+abbrev pub facts_of : Stage → Facts
+-- of anybody: whether it waits, picks, acts, what it makes, who peeks by it
+facts_of (Create s x kind) = of_anybody 1 false false true An_object Everybody_peeks
+facts_of (Destroy s x) = of_anybody 2 false false true Makes_nothing Everybody_peeks
+facts_of (Rename s x y) = of_anybody 3 false false true Makes_nothing Everybody_peeks
+facts_of (Search s from) = of_anybody 4 false false true Makes_nothing Nobody_peeks
+facts_of (Point s x s2 x2) = of_anybody 5 false false true Makes_nothing Nobody_peeks
+facts_of (Clear s x) = of_anybody 6 false false true Makes_nothing Nobody_peeks
+facts_of (Locate reference s) = of_anybody 7 false false true Makes_nothing Nobody_peeks
+facts_of (GetState s x address) = of_anybody 9 false false true Makes_nothing Everybody_peeks
+facts_of (SetState s x address) = of_anybody 10 false false true Makes_nothing Everybody_peeks
+facts_of (GetPtr s x field reference) = of_anybody 11 false false true Makes_nothing Everybody_peeks
+facts_of (SetPtr s x field reference) = of_anybody 12 false false true Makes_nothing Everybody_peeks
+facts_of (SpaceHold s x) = of_anybody 13 true false false Makes_nothing Everybody_peeks
+facts_of (SpaceRelease s x) = of_anybody 14 false false true Makes_nothing Everybody_peeks
+facts_of (ThreadStop h) = of_anybody 15 false false true Makes_nothing Nobody_peeks
+facts_of (ThreadGo h) = of_anybody 16 false false true Makes_nothing Nobody_peeks
+facts_of (PageGive s page address) = of_anybody 17 false false true A_page Everybody_peeks
+facts_of (PageTake s page address) = of_anybody 18 false false true Makes_nothing Everybody_peeks
+facts_of (PageRead s page address) = of_anybody 19 false false true Makes_nothing Everybody_peeks
+facts_of (PageNext s from) = of_anybody 20 false false true Makes_nothing Everybody_peeks
+facts_of (Wait set) = of_anybody 48 true true false Makes_nothing Roots_peek
+facts_of FaultDone = of_anybody 56 true false false Makes_nothing Nobody_peeks
+-- of users alone: the side of a talk, whether it waits, picks, acts
+facts_of (MutexLock m) = of_users 21 None true false false
+facts_of (MutexTrylock m) = of_users 22 None false false true
+facts_of (MutexUnlock m) = of_users 23 None false false true
+facts_of (CondWait c m) = of_users 24 None false false false
+facts_of (CondAsleep c m) = of_users 25 None true false false
+facts_of (CondSignal c) = of_users 26 None true true false
+facts_of (CondBroadcast c) = of_users 27 None false false false
+facts_of (Connect h) = of_users 32 None true false false
+facts_of (ClientReceive into room) = of_users 36 (Some turns.Client) true false false
+facts_of (ClientSend address count) = of_users 37 (Some turns.Client) true false false
+facts_of ClientOver = of_users 38 (Some turns.Client) true false false
+facts_of Disconnect = of_users 39 None false false true
+facts_of (ClientOverRef reference) = of_users 40 (Some turns.Client) true false false
+facts_of (ClientReceiveRef into room reference) = of_users 41 (Some turns.Client) true false false
+facts_of (ServerReceive into room) = of_users 50 (Some turns.Server) true false false
+facts_of (ServerSend address count) = of_users 51 (Some turns.Server) true false false
+facts_of ServerOver = of_users 52 (Some turns.Server) true false false
+facts_of ServerEnd = of_users 55 None false false false
+facts_of (ServerOverRef reference) = of_users 57 (Some turns.Server) true false false
+facts_of (ServerReceiveRef into room reference) = of_users 58 (Some turns.Server) true false false
+-- of porters alone: whether it acts, what it makes, what it builds again
+facts_of (CountIn base s x) = of_porters 8 true Makes_nothing Rebuilds_nothing
+facts_of (LinkSet s x port server) = of_porters 60 false Makes_nothing A_talk
+facts_of (LinkPark s x port) = of_porters 61 false Makes_nothing A_talk
+facts_of (FaultSet s x port taker) = of_porters 62 false Makes_nothing A_fault
+facts_of (FaultPark s x port taken) = of_porters 63 false Makes_nothing A_fault
+facts_of (HoldSet s x thread) = of_porters 64 false Makes_nothing A_hold
+facts_of (SpaceMakeHeld x) = of_porters 65 false An_object A_space
+
+abbrev pub is_porters_alone : Maker → Bool
+is_porters_alone Porters = true
+is_porters_alone Users = false
+is_porters_alone Anybody = false
+
+abbrev pub is_users_alone : Maker → Bool
+is_users_alone Users = true
+is_users_alone Porters = false
+is_users_alone Anybody = false
