@@ -101,7 +101,7 @@ shifted-first : (k : ℕ) (g : List ℕ) → length g ≡ 16 → slice_index (sh
 shifted-first k g long = subst (λ g. slice_index (shifted_registers k g) 0 ≡ slice_index g 0) (sixteen g long) (on (get_or g 0 0) (λ i. get_or g i 0))
   where
     on : (n : ℕ) (r : ℕ → ℕ) → slice_index (shifted_registers k (registers n r)) 0 ≡ n
-    on n r = by (((eqb n 34 || eqb n 37) || eqb n 51) || eqb n 53) (eqb n 36 || eqb n 50)
+    on n r = by (((eqb n 34 || eqb n 37) || eqb n 51) || eqb n 53) (((eqb n 36 || eqb n 50) || eqb n 41) || eqb n 58)
       where
         by : (a b : Bool) → slice_index (advanced k (cond {A = Option ℕ} a (Some 2) (cond b (Some 4) None)) (registers n r)) 0 ≡ n
         by true b = refl

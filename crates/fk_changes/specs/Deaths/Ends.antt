@@ -1,6 +1,7 @@
 -- Ends: whose calls end with a talk.
 use Rattle.std.specs.Prelude.{◌≡◌, ℕ, Bool, true, ◌||◌, ◌==◌, List, [], Option, Some, None, option_map, if◌then◌else◌}
 use Rattle.std.specs.List.{list_any}
+use Rattle.fk_model.specs.declared.call.TheConstants.{CLIENT_OVER, CLIENT_OVER_RECEIVE, CLIENT_OVER_REF, CLIENT_RECEIVE, CLIENT_RECEIVE_REF, CLIENT_SEND, CLIENT_SEND_OVER_RECEIVE, SERVER_OVER, SERVER_OVER_RECEIVE, SERVER_OVER_REF, SERVER_RECEIVE, SERVER_RECEIVE_REF, SERVER_SEND, SERVER_SEND_OVER_RECEIVE}
 use Rattle.fk_model.specs.declared.statuses.status.TheConstants.{ENDED}
 use Rattle.fk_model.specs.declared.thread.Turn.{Turn}
 use Rattle.fk_model.specs.declared.thread.Turn.TheVariants as turns
@@ -15,8 +16,10 @@ use Rattle.fk_model.specs.World.Edit.{End}
 
 -- the codes of the calls that begin with a Send, an Over or a Receive on a side
 abbrev pub begins_talking : Turn → ℕ → Bool
-begins_talking turns.Client n = n == 34 || n == 35 || n == 36 || n == 37 || n == 38 || n == 40 || n == 41
-begins_talking turns.Server n = n == 50 || n == 51 || n == 52 || n == 53 || n == 54 || n == 57 || n == 58
+begins_talking turns.Client n = n == CLIENT_SEND_OVER_RECEIVE || n == CLIENT_OVER_RECEIVE || n == CLIENT_RECEIVE || n == CLIENT_SEND || n == CLIENT_OVER
+    || n == CLIENT_OVER_REF || n == CLIENT_RECEIVE_REF
+begins_talking turns.Server n = n == SERVER_RECEIVE || n == SERVER_SEND || n == SERVER_OVER || n == SERVER_SEND_OVER_RECEIVE || n == SERVER_OVER_RECEIVE
+    || n == SERVER_OVER_REF || n == SERVER_RECEIVE_REF
 
 -- a thread is at such a stage
 abbrev pub talking : Turn → Option Body → Bool

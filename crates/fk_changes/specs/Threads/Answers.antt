@@ -1,5 +1,6 @@
 -- Answers: those of a stage, and what is left of its call.
 use Rattle.std.specs.Prelude.{ℕ, Bool, ◌==◌, List, [], ◌∷◌, Option, Some, None, if◌then◌else◌, ⊤}
+use Rattle.fk_model.specs.declared.call.TheConstants.{CLIENT_OVER_RECEIVE, CLIENT_RECEIVE, CLIENT_SEND_OVER_RECEIVE, CONNECT_SEND_OVER_RECEIVE, SERVER_OVER_RECEIVE, SERVER_RECEIVE, SERVER_SEND_OVER_RECEIVE, WAIT_RECEIVE}
 use Rattle.fk_model.specs.declared.stage.Stage.{Stage}
 use Rattle.fk_model.specs.declared.stage.Stage.TheVariants.{Connect}
 use Rattle.fk_model.specs.Objects.{flag_of}
@@ -24,12 +25,12 @@ came_answers (Some came) = flag_of came ∷ []
 -- the code of a call without its first stage; none where that is its last
 abbrev pub code_after : ℕ → Option ℕ
 code_after n =
-    if n == 33 then Some 34 else
-    (if n == 34 then Some 35 else
-    (if n == 35 then Some 36 else
-    (if n == 49 then Some 50 else
-    (if n == 53 then Some 54 else
-    (if n == 54 then Some 50 else None)))))
+    if n == CONNECT_SEND_OVER_RECEIVE then Some CLIENT_SEND_OVER_RECEIVE else
+    (if n == CLIENT_SEND_OVER_RECEIVE then Some CLIENT_OVER_RECEIVE else
+    (if n == CLIENT_OVER_RECEIVE then Some CLIENT_RECEIVE else
+    (if n == WAIT_RECEIVE then Some SERVER_RECEIVE else
+    (if n == SERVER_SEND_OVER_RECEIVE then Some SERVER_OVER_RECEIVE else
+    (if n == SERVER_OVER_RECEIVE then Some SERVER_RECEIVE else None)))))
 
 -- answers stand in other registers than the arguments of later stages: after connect these begin with the third
 abbrev pub LeaveArguments : Answers → List Stage → Type 0

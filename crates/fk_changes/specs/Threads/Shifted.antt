@@ -1,5 +1,6 @@
 -- Shifted: what a moved block makes of the registers of a call.
 use Rattle.std.specs.Prelude.{◌<◌, ◌^◌, ℕ, Bool, ◌+◌, ◌-◌, ◌||◌, ◌==◌, List, ◌∷◌, Option, Some, None, if◌then◌else◌, slice_index, slice_set}
+use Rattle.fk_model.specs.declared.call.TheConstants.{CLIENT_RECEIVE, CLIENT_RECEIVE_REF, CLIENT_SEND, CLIENT_SEND_OVER_RECEIVE, SERVER_RECEIVE, SERVER_RECEIVE_REF, SERVER_SEND, SERVER_SEND_OVER_RECEIVE}
 use Rattle.fk_model.specs.declared.stage.Stage.{Stage}
 use Rattle.fk_model.specs.declared.stage.Stage.TheVariants.{ClientReceive, ClientSend, ClientReceiveRef, ServerReceive, ServerSend, ServerReceiveRef}
 use Rattle.fk_model.specs.declared.thread.Turn.{Turn}
@@ -10,7 +11,8 @@ use Rattle.fk_store.specs.Store.Threads.{todo_at}
 
 -- the register of the address at which the first stage of a call moves words, by the call's code
 abbrev pub moving : ℕ → Option ℕ
-moving n = if n == 34 || n == 37 || n == 51 || n == 53 then Some 2 else (if n == 36 || n == 50 || n == 41 || n == 58 then Some 4 else None)
+moving n = if n == CLIENT_SEND_OVER_RECEIVE || n == CLIENT_SEND || n == SERVER_SEND || n == SERVER_SEND_OVER_RECEIVE then Some 2
+    else (if n == CLIENT_RECEIVE || n == SERVER_RECEIVE || n == CLIENT_RECEIVE_REF || n == SERVER_RECEIVE_REF then Some 4 else None)
 
 abbrev pub advanced : ℕ → Option ℕ → List ℕ → List ℕ
 advanced k None g = g
@@ -21,12 +23,12 @@ shifted_registers k g = advanced k (moving (slice_index g 0)) g
 
 -- the code of the call that is a Receive alone, on this side of a talk
 abbrev pub receive_code : Turn → ℕ
-receive_code turns.Client = 36
-receive_code turns.Server = 50
+receive_code turns.Client = CLIENT_RECEIVE
+receive_code turns.Server = SERVER_RECEIVE
 
 abbrev pub receive_ref_code : Turn → ℕ
-receive_ref_code turns.Client = 41
-receive_ref_code turns.Server = 58
+receive_ref_code turns.Client = CLIENT_RECEIVE_REF
+receive_ref_code turns.Server = SERVER_RECEIVE_REF
 
 abbrev pub is_receive : Turn → ℕ → Bool
 is_receive side n = n == receive_code side || n == receive_ref_code side
@@ -37,7 +39,7 @@ receive_in side g = if is_receive side (slice_index g 0) then Some (slice_index 
 
 -- the slot of the reference that is to take a pointer, of a ReceiveRef
 abbrev pub awaited_in : List ℕ → Option ℕ
-awaited_in g = if slice_index g 0 == 41 || slice_index g 0 == 58 then Some (slice_index g 6) else None
+awaited_in g = if slice_index g 0 == CLIENT_RECEIVE_REF || slice_index g 0 == SERVER_RECEIVE_REF then Some (slice_index g 6) else None
 
 -- the address of a stage that moves words; 0 of every other
 abbrev pub address_of : List Stage → ℕ
