@@ -1,83 +1,84 @@
 //! The codes of calls.
 ghost use Rattle.std.specs.Prelude.{◌≡◌, ◌≤◌};
 ghost use Rattle.fk_model.specs.Calls as calls;
+ghost use Rattle.fk_model.specs.declared.call.TheConstants.{CONNECT, LINK_SET};
 
-use fk_model::{Stage, Todo};
+use fk_model::{Stage, Todo, call};
 
-/// The code of a call of one stage that is for porters alone: 60 to 65.
+/// The code of a call of one stage that makes a part of a saved subtree again.
 fn code_of_porters_stage(stage: &Stage) -> u64
-    requires { 60 ≤ calls.code_of_stage stage.now }
+    requires { LINK_SET ≤ calls.code_of_stage stage.now }
     ensures { result ≡ calls.code_of_stage stage.now }
 {
     match stage {
-        Stage::LinkSet { .. } => 60,
-        Stage::LinkPark { .. } => 61,
-        Stage::FaultSet { .. } => 62,
-        Stage::FaultPark { .. } => 63,
-        Stage::HoldSet { .. } => 64,
-        Stage::SpaceMakeHeld { .. } => 65,
+        Stage::LinkSet { .. } => call::LINK_SET,
+        Stage::LinkPark { .. } => call::LINK_PARK,
+        Stage::FaultSet { .. } => call::FAULT_SET,
+        Stage::FaultPark { .. } => call::FAULT_PARK,
+        Stage::HoldSet { .. } => call::HOLD_SET,
+        Stage::SpaceMakeHeld { .. } => call::SPACE_MAKE_HELD,
         _ => unreachable!(),
     }
 }
 
-/// The code of a call of one stage of a talk or a fault: 32 to 58.
+/// The code of a call of one stage from `CONNECT` on: those of talks and faults, and a porter's own.
 fn code_of_talks_stage(stage: &Stage) -> u64
-    requires { 32 ≤ calls.code_of_stage stage.now }
+    requires { CONNECT ≤ calls.code_of_stage stage.now }
     ensures { result ≡ calls.code_of_stage stage.now }
 {
     match stage {
-        Stage::Connect { .. } => 32,
-        Stage::ClientReceive { .. } => 36,
-        Stage::ClientSend { .. } => 37,
-        Stage::ClientOver => 38,
-        Stage::Disconnect => 39,
-        Stage::ClientOverRef { .. } => 40,
-        Stage::ClientReceiveRef { .. } => 41,
-        Stage::Wait { .. } => 48,
-        Stage::ServerReceive { .. } => 50,
-        Stage::ServerSend { .. } => 51,
-        Stage::ServerOver => 52,
-        Stage::ServerEnd => 55,
-        Stage::FaultDone => 56,
-        Stage::ServerOverRef { .. } => 57,
-        Stage::ServerReceiveRef { .. } => 58,
+        Stage::Connect { .. } => call::CONNECT,
+        Stage::ClientReceive { .. } => call::CLIENT_RECEIVE,
+        Stage::ClientSend { .. } => call::CLIENT_SEND,
+        Stage::ClientOver => call::CLIENT_OVER,
+        Stage::Disconnect => call::DISCONNECT,
+        Stage::ClientOverRef { .. } => call::CLIENT_OVER_REF,
+        Stage::ClientReceiveRef { .. } => call::CLIENT_RECEIVE_REF,
+        Stage::Wait { .. } => call::WAIT,
+        Stage::ServerReceive { .. } => call::SERVER_RECEIVE,
+        Stage::ServerSend { .. } => call::SERVER_SEND,
+        Stage::ServerOver => call::SERVER_OVER,
+        Stage::ServerEnd => call::SERVER_END,
+        Stage::FaultDone => call::FAULT_DONE,
+        Stage::ServerOverRef { .. } => call::SERVER_OVER_REF,
+        Stage::ServerReceiveRef { .. } => call::SERVER_RECEIVE_REF,
         other => code_of_porters_stage(other),
     }
 }
 
-/// The code of a call of one stage: 1 to 27, 32, 36 to 41, 48, 50 to 52, 55 to 58, 60 to 65.
+/// The code of a call of one stage.
 #[inline(always)]
 pub fn code_of_stage(stage: &Stage) -> u64
     ensures { result ≡ calls.code_of_stage stage.now }
 {
     match stage {
-        Stage::Create { .. } => 1,
-        Stage::Destroy { .. } => 2,
-        Stage::Rename { .. } => 3,
-        Stage::Search { .. } => 4,
-        Stage::Point { .. } => 5,
-        Stage::Clear { .. } => 6,
-        Stage::Locate { .. } => 7,
-        Stage::CountIn { .. } => 8,
-        Stage::GetState { .. } => 9,
-        Stage::SetState { .. } => 10,
-        Stage::GetPtr { .. } => 11,
-        Stage::SetPtr { .. } => 12,
-        Stage::SpaceHold { .. } => 13,
-        Stage::SpaceRelease { .. } => 14,
-        Stage::ThreadStop { .. } => 15,
-        Stage::ThreadGo { .. } => 16,
-        Stage::PageGive { .. } => 17,
-        Stage::PageTake { .. } => 18,
-        Stage::PageRead { .. } => 19,
-        Stage::PageNext { .. } => 20,
-        Stage::MutexLock { .. } => 21,
-        Stage::MutexTrylock { .. } => 22,
-        Stage::MutexUnlock { .. } => 23,
-        Stage::CondWait { .. } => 24,
-        Stage::CondAsleep { .. } => 25,
-        Stage::CondSignal { .. } => 26,
-        Stage::CondBroadcast { .. } => 27,
+        Stage::Create { .. } => call::CREATE,
+        Stage::Destroy { .. } => call::DESTROY,
+        Stage::Rename { .. } => call::RENAME,
+        Stage::Search { .. } => call::SEARCH,
+        Stage::Point { .. } => call::POINT,
+        Stage::Clear { .. } => call::CLEAR,
+        Stage::Locate { .. } => call::LOCATE,
+        Stage::CountIn { .. } => call::COUNT_IN,
+        Stage::GetState { .. } => call::GET_STATE,
+        Stage::SetState { .. } => call::SET_STATE,
+        Stage::GetPtr { .. } => call::GET_PTR,
+        Stage::SetPtr { .. } => call::SET_PTR,
+        Stage::SpaceHold { .. } => call::SPACE_HOLD,
+        Stage::SpaceRelease { .. } => call::SPACE_RELEASE,
+        Stage::ThreadStop { .. } => call::THREAD_STOP,
+        Stage::ThreadGo { .. } => call::THREAD_GO,
+        Stage::PageGive { .. } => call::PAGE_GIVE,
+        Stage::PageTake { .. } => call::PAGE_TAKE,
+        Stage::PageRead { .. } => call::PAGE_READ,
+        Stage::PageNext { .. } => call::PAGE_NEXT,
+        Stage::MutexLock { .. } => call::MUTEX_LOCK,
+        Stage::MutexTrylock { .. } => call::MUTEX_TRYLOCK,
+        Stage::MutexUnlock { .. } => call::MUTEX_UNLOCK,
+        Stage::CondWait { .. } => call::COND_WAIT,
+        Stage::CondAsleep { .. } => call::COND_ASLEEP,
+        Stage::CondSignal { .. } => call::COND_SIGNAL,
+        Stage::CondBroadcast { .. } => call::COND_BROADCAST,
         other => code_of_talks_stage(other),
     }
 }
@@ -89,17 +90,19 @@ pub fn code_of(todo: &Todo) -> u64
 {
     match todo {
         Todo::One(stage) => code_of_stage(stage),
-        Todo::Two(Stage::ClientOver, Stage::ClientReceive { .. }) => 35,
-        Todo::Two(Stage::Wait { .. }, Stage::ServerReceive { .. }) => 49,
-        Todo::Two(Stage::ServerOver, Stage::ServerReceive { .. }) => 54,
-        Todo::Three(Stage::ClientSend { .. }, Stage::ClientOver, Stage::ClientReceive { .. }) => 34,
-        Todo::Three(Stage::ServerSend { .. }, Stage::ServerOver, Stage::ServerReceive { .. }) => 53,
+        Todo::Two(Stage::ClientOver, Stage::ClientReceive { .. }) => call::CLIENT_OVER_RECEIVE,
+        Todo::Two(Stage::Wait { .. }, Stage::ServerReceive { .. }) => call::WAIT_RECEIVE,
+        Todo::Two(Stage::ServerOver, Stage::ServerReceive { .. }) => call::SERVER_OVER_RECEIVE,
+        Todo::Three(Stage::ClientSend { .. }, Stage::ClientOver, Stage::ClientReceive { .. }) =>
+            call::CLIENT_SEND_OVER_RECEIVE,
+        Todo::Three(Stage::ServerSend { .. }, Stage::ServerOver, Stage::ServerReceive { .. }) =>
+            call::SERVER_SEND_OVER_RECEIVE,
         Todo::Four(
             Stage::Connect { .. },
             Stage::ClientSend { .. },
             Stage::ClientOver,
             Stage::ClientReceive { .. },
-        ) => 33,
+        ) => call::CONNECT_SEND_OVER_RECEIVE,
         _ => 0,
     }
 }

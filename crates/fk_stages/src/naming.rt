@@ -2,7 +2,7 @@
 ghost use Rattle.std.specs.Prelude.{◌≡◌, option_map, slice_index, take, drop};
 ghost use Rattle.fk_model.specs.Calls.{calls, named_by, stages_of, todo_of};
 
-use fk_model::{Stage, Todo};
+use fk_model::{Stage, Todo, call};
 
 /// Those of a call upon objects: codes 1 to 14.
 #[inline(always)]
@@ -11,34 +11,34 @@ fn named_object_call(registers: &[u64; 16]) -> Option<Todo>
 {
     let (s, x, c, d) = (registers[1], registers[2], registers[3], registers[4]);
     let stage = match registers[0] {
-        1 => Stage::Create { s, x, kind: c },
-        2 => Stage::Destroy { s, x },
-        3 => Stage::Rename { s, x, y: c },
-        4 => Stage::Search { s, from: x },
-        5 => Stage::Point { s, x, s2: c, x2: d },
-        6 => Stage::Clear { s, x },
-        7 => Stage::Locate { reference: s, s: x },
-        8 => Stage::CountIn {
+        call::CREATE => Stage::Create { s, x, kind: c },
+        call::DESTROY => Stage::Destroy { s, x },
+        call::RENAME => Stage::Rename { s, x, y: c },
+        call::SEARCH => Stage::Search { s, from: x },
+        call::POINT => Stage::Point { s, x, s2: c, x2: d },
+        call::CLEAR => Stage::Clear { s, x },
+        call::LOCATE => Stage::Locate { reference: s, s: x },
+        call::COUNT_IN => Stage::CountIn {
             base: s,
             s: x,
             x: c,
         },
-        9 => Stage::GetState { s, x, addr: c },
-        10 => Stage::SetState { s, x, addr: c },
-        11 => Stage::GetPtr {
+        call::GET_STATE => Stage::GetState { s, x, addr: c },
+        call::SET_STATE => Stage::SetState { s, x, addr: c },
+        call::GET_PTR => Stage::GetPtr {
             s,
             x,
             field: c,
             reference: d,
         },
-        12 => Stage::SetPtr {
+        call::SET_PTR => Stage::SetPtr {
             s,
             x,
             field: c,
             reference: d,
         },
-        13 => Stage::SpaceHold { s, x },
-        14 => Stage::SpaceRelease { s, x },
+        call::SPACE_HOLD => Stage::SpaceHold { s, x },
+        call::SPACE_RELEASE => Stage::SpaceRelease { s, x },
         _ => return None,
     };
     Some(Todo::One(stage))
@@ -51,31 +51,31 @@ fn named_thread_call(registers: &[u64; 16]) -> Option<Todo>
 {
     let (a, b, c) = (registers[1], registers[2], registers[3]);
     let stage = match registers[0] {
-        15 => Stage::ThreadStop { h: a },
-        16 => Stage::ThreadGo { h: a },
-        17 => Stage::PageGive {
+        call::THREAD_STOP => Stage::ThreadStop { h: a },
+        call::THREAD_GO => Stage::ThreadGo { h: a },
+        call::PAGE_GIVE => Stage::PageGive {
             s: a,
             page: b,
             addr: c,
         },
-        18 => Stage::PageTake {
+        call::PAGE_TAKE => Stage::PageTake {
             s: a,
             page: b,
             addr: c,
         },
-        19 => Stage::PageRead {
+        call::PAGE_READ => Stage::PageRead {
             s: a,
             page: b,
             addr: c,
         },
-        20 => Stage::PageNext { s: a, from: b },
-        21 => Stage::MutexLock { m: a },
-        22 => Stage::MutexTrylock { m: a },
-        23 => Stage::MutexUnlock { m: a },
-        24 => Stage::CondWait { c: a, m: b },
-        25 => Stage::CondAsleep { c: a, m: b },
-        26 => Stage::CondSignal { c: a },
-        27 => Stage::CondBroadcast { c: a },
+        call::PAGE_NEXT => Stage::PageNext { s: a, from: b },
+        call::MUTEX_LOCK => Stage::MutexLock { m: a },
+        call::MUTEX_TRYLOCK => Stage::MutexTrylock { m: a },
+        call::MUTEX_UNLOCK => Stage::MutexUnlock { m: a },
+        call::COND_WAIT => Stage::CondWait { c: a, m: b },
+        call::COND_ASLEEP => Stage::CondAsleep { c: a, m: b },
+        call::COND_SIGNAL => Stage::CondSignal { c: a },
+        call::COND_BROADCAST => Stage::CondBroadcast { c: a },
         _ => return None,
     };
     Some(Todo::One(stage))
@@ -96,18 +96,23 @@ fn named_client_call(registers: &[u64; 16]) -> Option<Todo>
         room: registers[5],
     };
     match registers[0] {
-        32 => Some(Todo::One(connect)),
-        33 => Some(Todo::Four(connect, send, Stage::ClientOver, receive)),
-        34 => Some(Todo::Three(send, Stage::ClientOver, receive)),
-        35 => Some(Todo::Two(Stage::ClientOver, receive)),
-        36 => Some(Todo::One(receive)),
-        37 => Some(Todo::One(send)),
-        38 => Some(Todo::One(Stage::ClientOver)),
-        39 => Some(Todo::One(Stage::Disconnect)),
-        40 => Some(Todo::One(Stage::ClientOverRef {
+        call::CONNECT => Some(Todo::One(connect)),
+        call::CONNECT_SEND_OVER_RECEIVE => Some(Todo::Four(
+            connect,
+            send,
+            Stage::ClientOver,
+            receive,
+        )),
+        call::CLIENT_SEND_OVER_RECEIVE => Some(Todo::Three(send, Stage::ClientOver, receive)),
+        call::CLIENT_OVER_RECEIVE => Some(Todo::Two(Stage::ClientOver, receive)),
+        call::CLIENT_RECEIVE => Some(Todo::One(receive)),
+        call::CLIENT_SEND => Some(Todo::One(send)),
+        call::CLIENT_OVER => Some(Todo::One(Stage::ClientOver)),
+        call::DISCONNECT => Some(Todo::One(Stage::Disconnect)),
+        call::CLIENT_OVER_REF => Some(Todo::One(Stage::ClientOverRef {
             reference: registers[1],
         })),
-        41 => Some(Todo::One(Stage::ClientReceiveRef {
+        call::CLIENT_RECEIVE_REF => Some(Todo::One(Stage::ClientReceiveRef {
             addr: registers[4],
             room: registers[5],
             reference: registers[6],
@@ -131,19 +136,19 @@ fn named_server_call(registers: &[u64; 16]) -> Option<Todo>
         room: registers[5],
     };
     match registers[0] {
-        48 => Some(Todo::One(wait)),
-        49 => Some(Todo::Two(wait, receive)),
-        50 => Some(Todo::One(receive)),
-        51 => Some(Todo::One(send)),
-        52 => Some(Todo::One(Stage::ServerOver)),
-        53 => Some(Todo::Three(send, Stage::ServerOver, receive)),
-        54 => Some(Todo::Two(Stage::ServerOver, receive)),
-        55 => Some(Todo::One(Stage::ServerEnd)),
-        56 => Some(Todo::One(Stage::FaultDone)),
-        57 => Some(Todo::One(Stage::ServerOverRef {
+        call::WAIT => Some(Todo::One(wait)),
+        call::WAIT_RECEIVE => Some(Todo::Two(wait, receive)),
+        call::SERVER_RECEIVE => Some(Todo::One(receive)),
+        call::SERVER_SEND => Some(Todo::One(send)),
+        call::SERVER_OVER => Some(Todo::One(Stage::ServerOver)),
+        call::SERVER_SEND_OVER_RECEIVE => Some(Todo::Three(send, Stage::ServerOver, receive)),
+        call::SERVER_OVER_RECEIVE => Some(Todo::Two(Stage::ServerOver, receive)),
+        call::SERVER_END => Some(Todo::One(Stage::ServerEnd)),
+        call::FAULT_DONE => Some(Todo::One(Stage::FaultDone)),
+        call::SERVER_OVER_REF => Some(Todo::One(Stage::ServerOverRef {
             reference: registers[1],
         })),
-        58 => Some(Todo::One(Stage::ServerReceiveRef {
+        call::SERVER_RECEIVE_REF => Some(Todo::One(Stage::ServerReceiveRef {
             addr: registers[4],
             room: registers[5],
             reference: registers[6],
@@ -159,27 +164,27 @@ fn named_porter_call(registers: &[u64; 16]) -> Option<Todo>
 {
     let (s, x, c, d) = (registers[1], registers[2], registers[3], registers[4]);
     let stage = match registers[0] {
-        60 => Stage::LinkSet {
+        call::LINK_SET => Stage::LinkSet {
             s,
             x,
             port: c,
             server: d,
         },
-        61 => Stage::LinkPark { s, x, port: c },
-        62 => Stage::FaultSet {
+        call::LINK_PARK => Stage::LinkPark { s, x, port: c },
+        call::FAULT_SET => Stage::FaultSet {
             s,
             x,
             port: c,
             taker: d,
         },
-        63 => Stage::FaultPark {
+        call::FAULT_PARK => Stage::FaultPark {
             s,
             x,
             port: c,
             taken: d,
         },
-        64 => Stage::HoldSet { s, x, thread: c },
-        65 => Stage::SpaceMakeHeld { x: s },
+        call::HOLD_SET => Stage::HoldSet { s, x, thread: c },
+        call::SPACE_MAKE_HELD => Stage::SpaceMakeHeld { x: s },
         _ => return None,
     };
     Some(Todo::One(stage))

@@ -1,5 +1,6 @@
 //! The registers that stages are written into.
 ghost use Rattle.std.specs.Prelude.{◌≡◌, ◌≤◌, slice_set};
+ghost use Rattle.fk_model.specs.declared.call.TheConstants.{CONNECT, LINK_SET};
 ghost use Rattle.fk_model.specs.Calls as calls;
 
 use crate::code::code_of;
@@ -29,7 +30,7 @@ fn put_four(registers: &mut [u64; 16], a: u64, b: u64, c: u64, d: u64)
 
 /// Writes the arguments of a stage that is for porters alone.
 fn write_porters_arguments(stage: &Stage, registers: &mut [u64; 16])
-    requires { 60 ≤ calls.code_of_stage stage.now }
+    requires { LINK_SET ≤ calls.code_of_stage stage.now }
     ensures { registers.new ≡ calls.with_values (calls.arguments stage.now) registers.old }
 {
     match *stage {
@@ -45,7 +46,7 @@ fn write_porters_arguments(stage: &Stage, registers: &mut [u64; 16])
 
 /// Writes the arguments of a stage of a talk or a fault.
 fn write_talks_arguments(stage: &Stage, registers: &mut [u64; 16])
-    requires { 32 ≤ calls.code_of_stage stage.now }
+    requires { CONNECT ≤ calls.code_of_stage stage.now }
     ensures { registers.new ≡ calls.with_values (calls.arguments stage.now) registers.old }
 {
     match *stage {
