@@ -22,7 +22,7 @@ use Rattle.fk_model.specs.Reach.Reach.{Home, Missing, Bad}
 use Rattle.fk_model.specs.Readers.{own_page_at}
 use Rattle.fk_model.specs.Searches.{talk_at, thread_at}
 use Rattle.fk_model.specs.Talks.{Line, line, line_from, other_side, same_side}
-use Rattle.fk_model.specs.TransferRows.{at_turn, block, has_sent, moved_words, over, passes_to, send, sends, sends_to}
+use Rattle.fk_model.specs.TransferRows.{at_turn, block, has_sent, moved_words, over, passes_on, passes_to, send, sends, sends_to}
 use Rattle.fk_model.specs.declared.limits.TheConstants.{BLOCK_WORDS}
 use Rattle.fk_model.specs.World.{World, Change}
 use Rattle.fk_model.specs.World.Change.{Alter}
@@ -151,7 +151,7 @@ module _ (w : World) (unheld : (q : Path) → decider w q ≡ None) (k : ℕ) (s
     send_goes talk port at peer leads h = line_goes (talk_at w me) talk port at peer leads h
 
   over_peer : (talk : Talk) (port : Path) → talk.port ≡ At port → (q : Peer) → q ≡ Service →
-      passes_to w (user_at me) turns.Client (record { client = me; talk = talk; other = talk.peer }) q ≡ Waits → ⊥
+      passes_to w (user_at me) turns.Client (record { client = me; talk = talk; other = talk.peer }) None q ≡ Waits → ⊥
   over_peer talk port leads Service e h =
       when_goes _ _ (rw (leads, unheld (parent port)) refl) (telling-moves (Passed talk.port) _
       (done-moves (user_at me) (Alter me (PassTurn (other_side turns.Client)) ∷ []) [])) h
@@ -159,7 +159,7 @@ module _ (w : World) (unheld : (q : Path) → decider w q ≡ None) (k : ℕ) (s
   over_peer talk port leads Parked e h = absurd (cc)
 
   over_line : (o : Option Talk) (talk : Talk) (port : Path) → o ≡ Some talk → talk.peer ≡ Service → talk.port ≡ At port →
-      (at_turn turns.Client (line_from me (λ (talk : Talk). talk.peer) o) >>= λ l. passes_to w (user_at me) turns.Client l l.other) ≡ Waits → ⊥
+      (at_turn turns.Client (line_from me (λ (talk : Talk). talk.peer) o) >>= passes_on w (user_at me) turns.Client None) ≡ Waits → ⊥
   over_line None talk port at peer leads h = absurd (cc)
   over_line (Some other) talk port at peer leads h = turn_goes (same_side other.turn turns.Client) h
     where
@@ -169,12 +169,12 @@ module _ (w : World) (unheld : (q : Path) → decider w q ≡ None) (k : ℕ) (s
       same : other ≡ talk
       same = cc
 
-      turn_goes : (b : Bool) → ((if b then Ok its else Err status.WRONGTURN) >>= λ l. passes_to w (user_at me) turns.Client l l.other) ≡ Waits → ⊥
+      turn_goes : (b : Bool) → ((if b then Ok its else Err status.WRONGTURN) >>= passes_on w (user_at me) turns.Client None) ≡ Waits → ⊥
       turn_goes true h = over_peer other port (ap (λ (t : Talk). t.port) same ∙ leads) other.peer (ap (λ (t : Talk). t.peer) same ∙ peer) h
       turn_goes false h = absurd (cc)
 
   over_goes : (talk : Talk) (port : Path) → talk_at w me ≡ Some talk → talk.peer ≡ Service → talk.port ≡ At port →
-      over w (user_at me) turns.Client ≡ Waits → ⊥
+      over w (user_at me) turns.Client None ≡ Waits → ⊥
   unfolding over line
   over_goes talk port at peer leads h = over_line (talk_at w me) talk port at peer leads h
 

@@ -22,6 +22,18 @@ over-requires-clause-user c = by_user c.args.caller.is_porter (rw c.in-ClientOve
 pub over-requires-in-ServerOver-clause-user : goal.over-requires-in-ServerOver-clause-user
 over-requires-in-ServerOver-clause-user c = by_user c.args.caller.is_porter (rw c.in-ServerOver.is at c.requires.allowed)
 
+pub over_ref-requires-clause-user : goal.over_ref-requires-clause-user
+over_ref-requires-clause-user c = by_user c.args.caller.is_porter (rw c.in-ClientOverRef.is at c.requires.allowed)
+
+pub over_ref-requires-in-ServerOverRef-clause-user : goal.over_ref-requires-in-ServerOverRef-clause-user
+over_ref-requires-in-ServerOverRef-clause-user c = by_user c.args.caller.is_porter (rw c.in-ServerOverRef.is at c.requires.allowed)
+
+pub receive_ref-requires-clause-user : goal.receive_ref-requires-clause-user
+receive_ref-requires-clause-user c = by_user c.args.caller.is_porter (rw c.in-ClientReceiveRef.is at c.requires.allowed)
+
+pub receive_ref-requires-in-ServerReceiveRef-clause-user : goal.receive_ref-requires-in-ServerReceiveRef-clause-user
+receive_ref-requires-in-ServerReceiveRef-clause-user c = by_user c.args.caller.is_porter (rw c.in-ServerReceiveRef.is at c.requires.allowed)
+
 pub disconnect-requires-clause-user : goal.disconnect-requires-clause-user
 disconnect-requires-clause-user c = by_user c.args.caller.is_porter (rw c.in-Disconnect.is at c.requires.allowed)
 
