@@ -1,5 +1,6 @@
 //! Over, on either side of a talk.
 ghost use Rattle.std.specs.Prelude.{◌≡◌, ◌≤◌, ℕ, List, false, None, option_map, IfOk, IfSome};
+ghost use Rattle.fk_model.specs.declared.limits.TheConstants.{LAST_USER_SLOT};
 ghost use Rattle.fk_model.specs.Places.Ptr.{At};
 ghost use Rattle.fk_model.specs.Talks as talks;
 ghost use Rattle.fk_model.specs.TransferRows as rows;
@@ -43,7 +44,7 @@ fn handed(
     awaited: Option<u64>,
 ) -> Verdict
     requires carried { IfSome carried (OnPointer (IsLive store.now)) }
-    requires slot { IfSome awaited (λ slot. slot ≤ 239) }
+    requires slot { IfSome awaited (λ slot. slot ≤ LAST_USER_SLOT) }
     ensures outcome { (words : List ℕ) → outcome_by (world store.now) (path store.now) (caller_by (path store.now) caller words) result
         ≡ rows.passes (caller_by (path store.now) caller words) side (place (path store.now) client)
         (rows.takes_turn (place (path store.now) peer) (option_map (pointer_by (path store.now)) carried) awaited) }

@@ -1,4 +1,5 @@
-use Rattle.std.proofs.Common.{◌≡◌, Bool, true, false, Option, option_map, is_some, sym, ap, ◌∙◌}
+use Rattle.std.proofs.Common.{◌≡◌, ◌≤◌, Bool, true, false, Option, option_map, is_some, IfSome, sym, ap, ◌∙◌, subst}
+use Rattle.fk_model.specs.declared.limits.TheConstants.{LAST_USER_SLOT}
 use Rattle.fk_model.specs.Places.{Ptr}
 use Rattle.fk_model.specs.Talks.{other_side, receiving}
 use Rattle.fk_model.specs.TransferRows.{passes, takes_turn}
@@ -9,6 +10,11 @@ use Rattle.fk_store.specs.Store.World.{world}
 use Rattle.fk_plans.specs.Plans.Plans.{caller_by}
 use Rattle.fk_transfer.proofs.Passed.{passed_free}
 use Rattle.fk_transfer.proofs.passing.passes_to_thread.Goals as goal
+
+pub handed-requires-clause-slot : goal.handed-requires-clause-slot
+handed-requires-clause-slot c =
+    subst (λ awaited. IfSome awaited (λ slot. slot ≤ LAST_USER_SLOT)) (sym (c.awaited_by.ensures (path c.args.store.now)))
+    (c.receiving.ensures.low (ap is_some c.in-Some-receiving.is))
 
 pub returns-in-Some-receiving-clause-outcome : goal.returns-in-Some-receiving-clause-outcome
 returns-in-Some-receiving-clause-outcome c words =
