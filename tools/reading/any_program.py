@@ -327,7 +327,7 @@ class Parts:
 
     def odd(self):
         """A call with any code and any arguments."""
-        codes = {PLAYS: (21, 22, 23), OBJECTS: range(1, 9), MEMORY: range(1, 21), MESSAGES: range(17, 57)}
+        codes = {PLAYS: (21, 22, 23), OBJECTS: range(1, 9), MEMORY: range(1, 21), MESSAGES: range(17, 59)}
         code = self.dice.choice([*codes.get(self.level, range(1, 66)), 0, 28, 66])
         if self.level < STATES and code in range(9, 17):
             code = 20
@@ -472,11 +472,14 @@ class Parts:
         """A client that goes stage by stage, and may leave out some."""
         if self.dice.random() < 0.8:
             self.writer.call(32, self.one(self.references("port", "served") or [PORT, PORT2]))
-        for _ in range(self.dice.randint(1, 4)):
-            code = self.dice.choice((34, 35, 36, 37, 37, 38, 38))
+        codes = [self.dice.choice((34, 35, 36, 37, 37, 38, 38, 40, 40, 41, 41)) for _ in range(self.dice.randint(1, 4))]
+        if self.dice.random() < 0.5:
+            # A whole message, with references to and fro.
+            codes = [37] * self.dice.randint(0, 1) + [self.dice.choice((38, 40, 40)), self.dice.choice((36, 41, 41))]
+        for code in codes:
             sent = (self.buffer(), self.count()) if code in (34, 37) else (None, None)
-            room = (self.buffer(), self.count()) if code in (34, 35, 36) else (None, None)
-            self.writer.call(code, *sent, *room, first=2)
+            room = (self.buffer(), self.count()) if code in (34, 35, 36, 41) else (None, None)
+            self.writer.call(code, self.given() if code == 40 else None, *sent, *room, self.given() if code == 41 else None)
         if self.dice.random() < 0.7:
             self.writer.call(39)
 
@@ -491,11 +494,13 @@ class Parts:
             writer.put(f"jnz r2, {faults}")
             if self.dice.random() < 0.7:
                 writer.put(f"jnz r0, {ended}")
-            for _ in range(self.dice.randint(1, 2)):
-                code = self.dice.choice((50, 51, 52, 53, 53, 54))
+            codes = [self.dice.choice((50, 51, 52, 53, 53, 54, 57, 57, 58, 58)) for _ in range(self.dice.randint(1, 2))]
+            if self.dice.random() < 0.5:
+                codes = [self.dice.choice((50, 58, 58))] + [51] * self.dice.randint(0, 1) + [self.dice.choice((52, 57, 57))]
+            for code in codes:
                 sent = (self.buffer(), self.count()) if code in (51, 53) else (None, None)
-                taken = (at, room) if code in (50, 53, 54) else (None, None)
-                writer.call(code, *sent, *taken, first=2)
+                taken = (at, room) if code in (50, 53, 54, 58) else (None, None)
+                writer.call(code, self.given() if code == 57 else None, *sent, *taken, self.given() if code == 58 else None)
             writer.here(ended)
             if self.dice.random() < 0.9:
                 writer.call(55)
@@ -514,6 +519,10 @@ class Parts:
             writer.call(55)
             writer.here(done)
         writer.loop(8, body)
+
+    def given(self):
+        """A reference that is sent, or filled."""
+        return self.one(list(self.place.leads) or NEW)
 
     def held(self):
         """A space that may be held: its slot, and its place."""

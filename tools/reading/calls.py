@@ -188,13 +188,13 @@ def end_call(thread, status):
 def end_talk(client):
     """A talk ends. The ends of it that stand at a stage of it end their call; a native server hears of it."""
     talk, client.talk = client.talk, None
-    if stands(client, CLIENT, "send", "over", "receive"):
+    if stands(client, CLIENT, *OF_A_TALK):
         end_call(client, ENDED)
     if talk.peer is SERVICE:
         talk.port.served.ended()
     elif talk.peer is not PARKED:
         talk.peer.client = None
-        if stands(talk.peer, SERVER, "send", "over", "receive"):
+        if stands(talk.peer, SERVER, *OF_A_TALK):
             end_call(talk.peer, ENDED)
 
 
@@ -645,6 +645,9 @@ def first_of(thread):
     return CODES[thread.registers[0]] if thread.mode == CALLING else None
 
 
+OF_A_TALK = ("send", "over", "over_reference", "receive", "receive_reference")
+
+
 def stands(thread, side, *names):
     """Whether a thread stands at a stage of its talk on a side."""
     first = first_of(thread)
@@ -771,10 +774,25 @@ def other_end(client, talk, side):
 
 
 def is_receiving(world, talk, peer, side):
-    """Whether the other end is free and at its Receive of the talk."""
+    """Whether the other end is free and at a receive of the talk that isn't refused for its handle."""
     if peer is SERVICE:
         return not world.is_held(talk.port)
-    return peer is not PARKED and world.is_free(peer) and stands(peer, side, "receive")
+    return peer is not PARKED and world.is_free(peer) and receives(world, peer, side)
+
+
+def receives(world, thread, side):
+    """Whether a thread stands at a receive on a side, with a reference in its slot where it wants one."""
+    return stands(thread, side, "receive") or wanted(world, thread, side) is not None
+
+
+def wanted(world, thread, side):
+    """The reference that a thread at a receive wants to have filled; nothing where it wants none, or where that is refused."""
+    if not stands(thread, side, "receive_reference"):
+        return None
+    try:
+        return Asked(world, thread, ()).own(thread.registers[FILLED], REFERENCE)
+    except Refused:
+        return None
 
 
 def send(asked, side):
@@ -814,10 +832,10 @@ def shift(thread, registers, length):
 
 
 class Block:
-    """Words that would go to a thread at its Receive. Raises Waits where its next page isn't there to be written."""
+    """Words that would go to a thread at a receive. Raises Waits where its next page isn't there to be written."""
 
     def __init__(self, world, receiver, given, place, length):
-        self.receiver, self.registers = receiver, first_of(receiver).registers
+        self.receiver, self.registers = receiver, ROOM
         at, room = (receiver.registers[register] for register in self.registers)
         self.full = room == 0
         if self.full:
@@ -835,6 +853,12 @@ class Block:
         shift(self.receiver, self.registers, self.length)
 
 
+def receive_reference(asked, side):
+    """A receive that may get a reference with the turn; its handle is looked at first."""
+    asked.own(asked.arguments.pop(), REFERENCE)
+    return receive(asked, side)
+
+
 def receive(asked, side):
     """Is moved by the other side; alone it can only be refused or miss its page."""
     addr, room = asked.arguments
@@ -844,20 +868,31 @@ def receive(asked, side):
     raise Waits
 
 
-def over(asked, side):
-    """The turn passes to the other side, whose Receive ends."""
+def over(asked, side, sent=None):
+    """The turn passes to the other side, whose receive ends; perhaps with where a reference leads."""
     client, talk = turn_of(asked, side, True)
     peer, other = other_end(client, talk, side)
     if not is_receiving(asked.world, talk, peer, other):
         raise Waits
+    filled = wanted(asked.world, peer, other) if peer is not SERVICE else None
+    touched = [sent.to] if sent is not None else []
 
     def doing():
         hand_over(talk)
         if peer is SERVICE:
             talk.port.served.over()
-        else:
-            end_call(peer, OK)
-    return Deed(() if peer is SERVICE else (peer,), doing)
+            return
+        if filled is not None:
+            peer.registers[1] = 0 if sent is None else 1
+            if sent is not None:
+                filled.to = sent.to
+        end_call(peer, OK)
+    return Deed(touched + ([] if peer is SERVICE else [peer]) + ([filled, filled.to] if filled is not None and sent is not None else []), doing)
+
+
+def over_reference(asked, side):
+    """The turn passes with where a reference leads; its handle is looked at first."""
+    return over(asked, side, asked.own(asked.arguments[0], REFERENCE))
 
 
 def hand_over(talk):
@@ -980,7 +1015,7 @@ class Stage:
 
 
 LOCK, ASLEEP = 21, 25
-SENT, ROOM = (2, 3), (4, 5)
+SENT, ROOM, FILLED = (2, 3), (4, 5), 6
 CODES = {
     1: Stage(create, (1, 2, 3)), 2: Stage(destroy, (1, 2)), 3: Stage(rename, (1, 2, 3)), 4: Stage(search, (1, 2)),
     5: Stage(point, (1, 2, 3, 4)), 6: Stage(clear, (1, 2)), 7: Stage(locate, (1, 2)), 8: Stage(count_in, (1, 2, 3)),
@@ -991,12 +1026,15 @@ CODES = {
     25: Stage(cond_asleep, (1, 2)), 26: Stage(cond_signal, (1,)), 27: Stage(cond_broadcast, (1,)),
     32: Stage(connect, (1,)), 33: Stage(connect, (1,), rest=34), 34: Stage(send, SENT, CLIENT, 35), 35: Stage(over, (), CLIENT, 36),
     36: Stage(receive, ROOM, CLIENT), 37: Stage(send, SENT, CLIENT), 38: Stage(over, (), CLIENT), 39: Stage(leave, (), CLIENT),
+    40: Stage(over_reference, (1,), CLIENT), 41: Stage(receive_reference, (*ROOM, FILLED), CLIENT),
     48: Stage(wait, (1,)), 49: Stage(wait, (1,), rest=50), 50: Stage(receive, ROOM, SERVER), 51: Stage(send, SENT, SERVER),
     52: Stage(over, (), SERVER), 53: Stage(send, SENT, SERVER, 54), 54: Stage(over, (), SERVER, 50), 55: Stage(leave, (), SERVER),
-    56: Stage(fault_done),
+    56: Stage(fault_done), 57: Stage(over_reference, (1,), SERVER), 58: Stage(receive_reference, (*ROOM, FILLED), SERVER),
     60: Stage(link_set, (1, 2, 3, 4)), 61: Stage(link_park, (1, 2, 3)), 62: Stage(fault_set, (1, 2, 3, 4)),
     63: Stage(fault_park, (1, 2, 3, 4)), 64: Stage(hold_set, (1, 2, 3)), 65: Stage(space_make_held, (1,)),
 }
+# Codes with which an image is of version 2.
+WITH_REFERENCES = {40, 41, 57, 58}
 # What users are denied, and what porters are.
 PORTERS_ALONE = {8, *range(60, 66)}
 USERS_ALONE = set(range(21, 59)) - {48, 56}

@@ -1,13 +1,13 @@
 """Images of subtrees: reading, with the offset and the reason of the first fault, and writing.
 
-Reasons 1 to 5 are found from left to right, then 7, then 6 in order of offsets.
+Reasons 1 to 5 are found from left to right, then 7, then 6 in order of offsets, then 8.
 """
 from . import calls
 from .world import CALLING, COND, HALTED, MAPPING, MUTEX, PAGE, PORT, PORTSET, REFERENCE, REGION, SPACE, THREAD
 
 MAGIC = b"FLUKEIMG"
-VERSION = 1
-NO_MAGIC, NO_VERSION, CUT, NO_ORDER, OUT_OF_RANGE, LEADS_NOWHERE, LEFT_OVER = range(1, 8)
+VERSIONS = (1, 2)
+NO_MAGIC, NO_VERSION, CUT, NO_ORDER, OUT_OF_RANGE, LEADS_NOWHERE, LEFT_OVER, NO_REFERENCES = range(1, 9)
 NULL, DEAD, IN, OUT, ROOT, OUTSIDE = range(6)
 NO_PARENT = 0xFFFFFFFF
 SLOTS = 240
@@ -55,6 +55,11 @@ class Image:
     def __init__(self, spaces):
         self.spaces = spaces
 
+    def version(self):
+        """2 where a thread calls to send or to get a reference."""
+        return 1 + any(record.kind == THREAD and record.mode == CALLING and record.registers[0] in calls.WITH_REFERENCES
+                       for space in self.spaces for record in space.objects.values())
+
     def links(self):
         """All pointers."""
         for space in self.spaces:
@@ -92,7 +97,7 @@ class Reader:
     """A place in the bytes."""
 
     def __init__(self, octets):
-        self.octets, self.at = octets, 0
+        self.octets, self.at, self.version = octets, 0, None
         self.spaces = []
         # The open path: numbers of the spaces from the first to the last that was read, in their order.
         self.open = {}
@@ -133,14 +138,18 @@ class Reader:
         magic = self.number(8).to_bytes(8, "little")
         if magic != MAGIC:
             raise BadImage(0, NO_MAGIC)
-        if self.number(2) != VERSION:
+        self.version = self.number(2)
+        if self.version not in VERSIONS:
             raise BadImage(8, NO_VERSION)
         for index in range(self.below(4, 1 << 32, 1)):
             self.spaces.append(self.space(index))
         if self.at != len(self.octets):
             raise BadImage(self.at, LEFT_OVER)
         Looked(self.spaces)
-        return Image(self.spaces)
+        image = Image(self.spaces)
+        if image.version() != self.version:
+            raise BadImage(8, NO_REFERENCES)
+        return image
 
     def space(self, index):
         """A space."""
@@ -221,7 +230,7 @@ class Reader:
         counter = self.number(8)
         at = self.at
         mode = self.below(1, 3)
-        if mode == CALLING and registers[0] not in calls.CODES:
+        if mode == CALLING and (registers[0] not in calls.CODES or self.version == 1 and registers[0] in calls.WITH_REFERENCES):
             raise BadImage(at, OUT_OF_RANGE)
         code = self.below(1, 256 if mode == HALTED else 1)
         out = Record(slot, THREAD, registers=registers, counter=counter, mode=mode, code=code, stops=self.number(2))
@@ -310,7 +319,7 @@ def read(octets):
 
 def write(image):
     """The bytes of an image."""
-    out = [MAGIC, VERSION.to_bytes(2, "little"), len(image.spaces).to_bytes(4, "little")]
+    out = [MAGIC, image.version().to_bytes(2, "little"), len(image.spaces).to_bytes(4, "little")]
 
     def put(width, *numbers):
         for number in numbers:

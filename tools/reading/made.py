@@ -202,8 +202,8 @@ WHOLE = {
     "sends-cut": sends_cut, "sends-changed": sends_changed, "sends-pages-changed": sends_pages_changed,
 }
 ANSWERED = (
-    "plays", "plays-objects", "plays-memory", "plays-messages", "plays-states", "plays-servers", "check", "texts", "images", "bytes",
-    "promises", "sends", "replays", "workers-all",
+    "plays", "plays-objects", "plays-memory", "plays-messages", "plays-references", "plays-states", "plays-servers", "check", "texts",
+    "images", "images-versions", "bytes", "promises", "sends", "replays", "workers-all",
 )
 NAMES = ("pieces", *ANSWERED, *WHOLE, *families.FILES)
 

@@ -61,9 +61,9 @@ class Server:
         if self.client is None:
             return self.accepts(world, pick)
         talk = self.client.talk
-        if pick is not None or talk.turn == CLIENT or not world.is_free(self.client) or not calls.stands(self.client, CLIENT, "receive"):
+        if pick is not None or talk.turn == CLIENT or not world.is_free(self.client) or not calls.receives(world, self.client, CLIENT):
             return None
-        return self.gives(world, talk) if self.left else lambda: self.hands_over(talk)
+        return self.gives(world, talk) if self.left else lambda: self.hands_over(world, talk)
 
     def accepts(self, world, pick):
         """It accepts, or takes up, whom the move picks."""
@@ -94,7 +94,9 @@ class Server:
             del self.left[:block.length]
         return doing
 
-    def hands_over(self, talk):
-        """It hands over the turn."""
+    def hands_over(self, world, talk):
+        """It hands over the turn, never with a reference."""
+        if calls.wanted(world, self.client, CLIENT) is not None:
+            self.client.registers[1] = 0
         calls.end_call(self.client, calls.OK)
         calls.hand_over(talk)

@@ -42,7 +42,7 @@ def checked(scenario):
 def shown(image):
     """What `show` writes."""
     objects, pages = sum(len(space.objects) for space in image.spaces), sum(len(space.pages) for space in image.spaces)
-    return ended(["version 1", f"spaces {len(image.spaces)}", f"objects {objects}", f"pages {pages}", " ".join(["outs", *map(str, image.outs())])])
+    return ended([f"version {image.version()}", f"spaces {len(image.spaces)}", f"objects {objects}", f"pages {pages}", " ".join(["outs", *map(str, image.outs())])])
 
 
 class Fault(Exception):
