@@ -1,6 +1,7 @@
 -- Versions: 2 where a calling thread shows a call that hands a reference over or receives one, else 1.
 use Rattle.std.specs.Prelude.{ℕ, Bool, true, false, not, ◌&&◌, ◌||◌, ◌==◌, List, slice_index, if◌then◌else◌}
 use Rattle.std.specs.List.{list_any}
+use Rattle.fk_model.specs.declared.call.TheConstants.{CLIENT_OVER_REF, CLIENT_RECEIVE_REF, SERVER_OVER_REF, SERVER_RECEIVE_REF}
 use Rattle.fk_image.specs.declared.image.image.Rec.{Rec}
 use Rattle.fk_image.specs.declared.image.image.Rec.TheVariants.{Thread}
 use Rattle.fk_image.specs.declared.image.image.ObjectRec.{ObjectRec}
@@ -9,7 +10,7 @@ use Rattle.fk_image.specs.declared.image.image.Image.{Image}
 
 -- the codes of these calls
 abbrev pub is_new_code : ℕ → Bool
-is_new_code n = n == 40 || n == 41 || n == 57 || n == 58
+is_new_code n = n == CLIENT_OVER_REF || n == CLIENT_RECEIVE_REF || n == SERVER_OVER_REF || n == SERVER_RECEIVE_REF
 
 -- the first register of a calling thread is one
 abbrev pub shows_new : List ℕ → ℕ → Bool

@@ -1,6 +1,7 @@
 -- Numbers in their ranges, and each in the range that its field in the bytes has.
 use Rattle.std.specs.Prelude.{ℕ, ◌+◌, ◌^◌, Bool, true, not, ◌&&◌, ◌||◌, ◌==◌, nat_le, nat_lt, List, length, Option, Some, None, slice_index}
-use Rattle.std.specs.List.{list_all}
+use Rattle.std.specs.List.{list_all, list_any}
+use Rattle.fk_model.specs.Calls.{Call, calls}
 pub use Rattle.fk_model.specs.Whole.{is_word}
 use Rattle.fk_image.specs.declared.image.image.Link.{Link}
 use Rattle.fk_image.specs.declared.image.image.Link.TheVariants.{Null, Dead, In, Out, Root, Outside}
@@ -39,9 +40,9 @@ is_set_word set = nat_lt set 241
 abbrev pub is_extent : ℕ → ℕ → Bool
 is_extent first count = nat_lt 0 count && nat_le (first + count) 256
 
--- the codes of calls
+-- the code of a call
 abbrev pub is_call_code : ℕ → Bool
-is_call_code n = nat_le 1 n && nat_le n 27 || nat_le 32 n && nat_le n 41 || nat_le 48 n && nat_le n 58 || nat_le 60 n && nat_le n 65
+is_call_code n = list_any (λ (c : Call). n == c.code) calls
 
 -- running, calling or halted; a calling thread's first register has the code of a call
 abbrev pub is_mode_byte : List ℕ → ℕ → Bool

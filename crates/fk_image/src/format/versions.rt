@@ -4,13 +4,21 @@ ghost use Rattle.std.specs.List.{list_any};
 ghost use Rattle.fk_image.specs.Format.Versions as versions;
 
 use crate::image::{Image, ObjectRec, Rec, SpaceRec};
+use fk_model::call;
 
 /// A calling thread's first register is the code of a call that hands a reference over or receives
 /// one.
 pub fn shows_new(regs: &[u64; 16], mode: u8) -> bool
     ensures { result ≡ versions.shows_new regs.now mode }
 {
-    mode == 1 && matches!(regs[0], 40 | 41 | 57 | 58)
+    mode == 1
+        && matches!(
+            regs[0],
+            call::CLIENT_OVER_REF
+                | call::CLIENT_RECEIVE_REF
+                | call::SERVER_OVER_REF
+                | call::SERVER_RECEIVE_REF
+        )
 }
 
 fn body_shows(body: &Rec) -> bool

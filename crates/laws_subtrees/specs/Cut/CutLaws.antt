@@ -1,6 +1,6 @@
 -- The law of the cut: what a move of the world does to a plain subtree is what the subtree, seen alone, does by the move
 -- as which it is seen.
-use Rattle.std.specs.Prelude.{◌≡◌, ℕ, Bool, true, false, not, ◌&&◌, ◌||◌, ◌==◌, List, [], ◌∷◌, Option, Some}
+use Rattle.std.specs.Prelude.{◌≡◌, ℕ, Bool, true, false, not, ◌&&◌, List, [], ◌∷◌, Option, Some}
 use Rattle.fk_model.specs.declared.moves.Ask.TheVariants as asks
 use Rattle.fk_model.specs.declared.stage.Stage.{Stage}
 use Rattle.fk_model.specs.declared.stage.Stage.TheVariants.{Create, Destroy, Rename, Search, Point, Clear, Locate, CountIn, GetState, SetState, GetPtr, SetPtr, ClientOverRef}
@@ -9,7 +9,6 @@ use Rattle.fk_model.specs.declared.stage.Stage.TheVariants.{MutexTrylock, MutexU
 use Rattle.fk_model.specs.declared.stage.Stage.TheVariants.{ClientSend, ClientOver, Disconnect, Wait, ServerReceive, ServerSend, ServerOver, ServerEnd, ServerReceiveRef}
 use Rattle.fk_model.specs.declared.stage.Stage.TheVariants.{FaultDone, LinkSet, LinkPark, FaultSet, FaultPark, HoldSet, SpaceMakeHeld}
 use Rattle.fk_model.specs.Places.{Path, is_within}
-use Rattle.fk_model.specs.Calls.{code_of_stage}
 use Rattle.fk_model.specs.Objects.{Thread, thread_of, and_then}
 use Rattle.fk_model.specs.Objects.Mode.{Running, Calling}
 use Rattle.fk_model.specs.World.{World}
@@ -121,9 +120,11 @@ IsForPorters stage = is_for_porters stage ≡ true
 abbrev pub IsForUsers : Stage → Type 0
 IsForUsers stage = is_for_users stage ≡ true
 
--- a porter's stages that name a server, by code, and its other own ones
+-- a porter's stages that name a server, and its other own ones
 abbrev pub names_server : Stage → Bool
-names_server stage = code_of_stage stage == 60 || code_of_stage stage == 62
+names_server (LinkSet s x port server) = true
+names_server (FaultSet s x port taker) = true
+names_server other = false
 
 abbrev pub IsServerNamed : Stage → Type 0
 IsServerNamed stage = names_server stage ≡ true
