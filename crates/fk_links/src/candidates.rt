@@ -1,5 +1,6 @@
 //! Whom a wait may take.
 ghost use Rattle.std.specs.Prelude.{◌≡◌, ◌||◌, ◌==◌, ℕ, Some, true, option_map, IfSome, IsSome};
+ghost use Rattle.fk_model.specs.declared.call.TheConstants.{CONNECT, CONNECT_SEND_OVER_RECEIVE};
 ghost use Rattle.fk_model.specs.LinkRows as rows;
 ghost use Rattle.fk_model.specs.Places.{Path};
 ghost use Rattle.fk_model.specs.Places.Ptr.{At};
@@ -97,7 +98,7 @@ fn faulting(store: &Store, space: u32, set: u64, thread: &Thread) -> Option<Cand
 
 /// The call with this code begins with a connect.
 fn is_connect(code: u64) -> bool
-    ensures { result ≡ (code == 32 || code == 33) }
+    ensures { result ≡ (code == CONNECT || code == CONNECT_SEND_OVER_RECEIVE) }
 {
     code == CONNECT || code == CONNECT_SEND_OVER_RECEIVE
 }

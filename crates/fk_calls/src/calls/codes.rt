@@ -1,6 +1,6 @@
 //! Codes of calls: those that begin with a send, and those on objects, spaces and pages.
 use fk_model::call::{
-    CLIENT_SEND, CLIENT_SEND_OVER_RECEIVE, MUTEX_LOCK, SERVER_SEND, SERVER_SEND_OVER_RECEIVE,
+    self, CLIENT_SEND, CLIENT_SEND_OVER_RECEIVE, SERVER_SEND, SERVER_SEND_OVER_RECEIVE,
 };
 
 /// A call begins with a client's send.
@@ -15,5 +15,27 @@ pub fn begins_with_send(code: u64) -> bool {
 
 /// A call is on objects, spaces or pages. Such a one waits for nobody.
 pub fn is_on_objects(code: u64) -> bool {
-    code < MUTEX_LOCK
+    matches!(
+        code,
+        call::CREATE
+            | call::DESTROY
+            | call::RENAME
+            | call::SEARCH
+            | call::POINT
+            | call::CLEAR
+            | call::LOCATE
+            | call::COUNT_IN
+            | call::GET_STATE
+            | call::SET_STATE
+            | call::GET_PTR
+            | call::SET_PTR
+            | call::SPACE_HOLD
+            | call::SPACE_RELEASE
+            | call::THREAD_STOP
+            | call::THREAD_GO
+            | call::PAGE_GIVE
+            | call::PAGE_TAKE
+            | call::PAGE_READ
+            | call::PAGE_NEXT
+    )
 }

@@ -16,7 +16,6 @@ ghost use Rattle.fk_calls.specs.Calls.Rows.{are_given, takes_memory, IsFirst};
 use fk_changes::readers::Caller;
 use fk_faults::{fault_done, fault_park, fault_set};
 use fk_links::{connect, disconnect, link_park, link_set, wait};
-use fk_model::call::{COUNT_IN, FAULT_DONE, LINK_SET, MUTEX_LOCK, WAIT};
 use fk_model::status::DENIED;
 use fk_model::{Stage, Turn, Who};
 use fk_objects::{clear, count_in, create, destroy, locate, point, rename, search};
@@ -25,7 +24,6 @@ use fk_spaces::{
     hold_set, page_give, page_next, page_read, page_take, space_hold, space_make_held,
     space_release, thread_go, thread_stop,
 };
-use fk_stages::code_of_stage;
 use fk_state::{get_ptr, get_state, set_ptr, set_state};
 use fk_store::Store;
 use fk_sync::{
@@ -146,17 +144,60 @@ fn row(
     }
 }
 
-/// A stage that is for the other kind of caller. Mutexes, conditions and talks are for users alone,
-/// but for waiting and the end of a fault.
+/// A stage that porters alone make: it makes a part of a saved subtree again, or counts pointers.
+fn is_for_porters(stage: &Stage) -> bool
+    ensures { result ≡ machine.is_for_porters stage.now }
+{
+    matches!(
+        stage,
+        Stage::CountIn { .. }
+            | Stage::LinkSet { .. }
+            | Stage::LinkPark { .. }
+            | Stage::FaultSet { .. }
+            | Stage::FaultPark { .. }
+            | Stage::HoldSet { .. }
+            | Stage::SpaceMakeHeld { .. }
+    )
+}
+
+/// A stage that users alone make: on mutexes and conditions, or in a talk.
+fn is_for_users(stage: &Stage) -> bool
+    ensures { result ≡ machine.is_for_users stage.now }
+{
+    matches!(
+        stage,
+        Stage::MutexLock { .. }
+            | Stage::MutexTrylock { .. }
+            | Stage::MutexUnlock { .. }
+            | Stage::CondWait { .. }
+            | Stage::CondAsleep { .. }
+            | Stage::CondSignal { .. }
+            | Stage::CondBroadcast { .. }
+            | Stage::Connect { .. }
+            | Stage::ClientReceive { .. }
+            | Stage::ClientSend { .. }
+            | Stage::ClientOver
+            | Stage::Disconnect
+            | Stage::ClientOverRef { .. }
+            | Stage::ClientReceiveRef { .. }
+            | Stage::ServerReceive { .. }
+            | Stage::ServerSend { .. }
+            | Stage::ServerOver
+            | Stage::ServerEnd
+            | Stage::ServerOverRef { .. }
+            | Stage::ServerReceiveRef { .. }
+    )
+}
+
+/// A stage that is for the other kind of caller.
 #[inline(always)]
 fn is_denied(caller: Caller, stage: &Stage) -> bool
     ensures { (p : ℕ → Path) (words : List ℕ) → result ≡ machine.is_denied (caller_by p caller words) stage.now }
 {
-    let code = code_of_stage(stage);
     if caller.is_porter {
-        MUTEX_LOCK <= code && code < LINK_SET && !(code == WAIT || code == FAULT_DONE)
+        is_for_users(stage)
     } else {
-        code == COUNT_IN || LINK_SET <= code
+        is_for_porters(stage)
     }
 }
 

@@ -1,6 +1,8 @@
 -- Steps: what a move leaves of where threads stand.
 use Rattle.std.specs.Prelude.{◌≡◌, ◌≤◌, ◌⊎◌, ◌&&◌, ◌||◌, ◌==◌, ℕ, Bool, true, false, not, List, [], ◌∷◌, Option, Some, None, is_none, Result, Ok, Err}
 use Rattle.std.specs.Prelude.{slice_index}
+use Rattle.fk_model.specs.declared.call.TheConstants.{CLEAR, CLIENT_OVER, CLIENT_OVER_RECEIVE, CLIENT_SEND, CLIENT_SEND_OVER_RECEIVE, COUNT_IN, CREATE, DESTROY, DISCONNECT, GET_PTR, GET_STATE, LOCATE}
+use Rattle.fk_model.specs.declared.call.TheConstants.{MUTEX_TRYLOCK, MUTEX_UNLOCK, PAGE_GIVE, PAGE_NEXT, PAGE_READ, PAGE_TAKE, POINT, RENAME, SEARCH, SET_PTR, SET_STATE, SPACE_RELEASE, THREAD_GO, THREAD_STOP}
 use Rattle.fk_model.specs.declared.moves.Ask.{Ask}
 use Rattle.fk_model.specs.declared.moves.Move.{Move}
 use Rattle.fk_model.specs.declared.names.Who.{Who}
@@ -59,11 +61,11 @@ IsPut m move ask n s =
 
 -- a call begins with a client's send
 abbrev pub begins_with_send : ℕ → Bool
-begins_with_send code = code == 37 || code == 34
+begins_with_send code = code == CLIENT_SEND || code == CLIENT_SEND_OVER_RECEIVE
 
 -- or with its over
 abbrev pub begins_with_over : ℕ → Bool
-begins_with_over code = code == 38 || code == 35
+begins_with_over code = code == CLIENT_OVER || code == CLIENT_OVER_RECEIVE
 
 abbrev pub speaks : ℕ → Bool
 speaks code = begins_with_send code || begins_with_over code
@@ -79,14 +81,17 @@ is_speaking t = holds (λ (talk : Talk). speaks (slice_index t.regs 0) && is_ser
 -- calls on objects, spaces and pages, but space_hold
 abbrev pub acts_first : ℕ → Bool
 acts_first code =
-    code == 1 || code == 2 || code == 3 || code == 4 || code == 5 || code == 6 || code == 7 || code == 8 || code == 9 || code == 10
+    code == CREATE || code == DESTROY || code == RENAME || code == SEARCH || code == POINT || code == CLEAR || code == LOCATE || code == COUNT_IN
+    || code == GET_STATE || code == SET_STATE
 
 abbrev pub acts_later : ℕ → Bool
-acts_later code = code == 11 || code == 12 || code == 14 || code == 15 || code == 16 || code == 17 || code == 18 || code == 19 || code == 20
+acts_later code =
+    code == GET_PTR || code == SET_PTR || code == SPACE_RELEASE || code == THREAD_STOP || code == THREAD_GO || code == PAGE_GIVE || code == PAGE_TAKE
+    || code == PAGE_READ || code == PAGE_NEXT
 
 -- and a mutex's trylock and unlock, and disconnect: none of these waits but for what is held
 abbrev pub acts_besides : ℕ → Bool
-acts_besides code = code == 22 || code == 23 || code == 39
+acts_besides code = code == MUTEX_TRYLOCK || code == MUTEX_UNLOCK || code == DISCONNECT
 
 abbrev pub acts : ℕ → Bool
 acts code = acts_first code || acts_later code || acts_besides code

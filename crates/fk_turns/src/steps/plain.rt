@@ -20,8 +20,10 @@ ghost use Rattle.fk_turns.specs.Steps.Steps.{IsCalm, IsGentle, IsOneApart, IsQui
 use crate::next::after;
 use fk_calls::ready;
 use fk_model::call::{
-    CLIENT_OVER, CLIENT_OVER_RECEIVE, CLIENT_SEND, CLIENT_SEND_OVER_RECEIVE, DISCONNECT,
-    MUTEX_TRYLOCK, MUTEX_UNLOCK,
+    CLEAR, CLIENT_OVER, CLIENT_OVER_RECEIVE, CLIENT_SEND, CLIENT_SEND_OVER_RECEIVE, COUNT_IN,
+    CREATE, DESTROY, DISCONNECT, GET_PTR, GET_STATE, LOCATE, MUTEX_TRYLOCK, MUTEX_UNLOCK,
+    PAGE_GIVE, PAGE_NEXT, PAGE_READ, PAGE_TAKE, POINT, RENAME, SEARCH, SET_PTR, SET_STATE,
+    SPACE_RELEASE, THREAD_GO, THREAD_STOP,
 };
 use fk_model::{Ask, Mode, Move, Peer, Thread, Who};
 use fk_plans::wakes::Touched;
@@ -576,31 +578,31 @@ fn acts(code: u64) -> bool
 fn acts_first(code: u64) -> bool
     ensures { result ≡ steps_of.acts_first code }
 {
-    code == 1
-        || code == 2
-        || code == 3
-        || code == 4
-        || code == 5
-        || code == 6
-        || code == 7
-        || code == 8
-        || code == 9
-        || code == 10
+    code == CREATE
+        || code == DESTROY
+        || code == RENAME
+        || code == SEARCH
+        || code == POINT
+        || code == CLEAR
+        || code == LOCATE
+        || code == COUNT_IN
+        || code == GET_STATE
+        || code == SET_STATE
 }
 
 /// Those from `get_ptr` on.
 fn acts_later(code: u64) -> bool
     ensures { result ≡ steps_of.acts_later code }
 {
-    code == 11
-        || code == 12
-        || code == 14
-        || code == 15
-        || code == 16
-        || code == 17
-        || code == 18
-        || code == 19
-        || code == 20
+    code == GET_PTR
+        || code == SET_PTR
+        || code == SPACE_RELEASE
+        || code == THREAD_STOP
+        || code == THREAD_GO
+        || code == PAGE_GIVE
+        || code == PAGE_TAKE
+        || code == PAGE_READ
+        || code == PAGE_NEXT
 }
 
 /// A mutex's trylock and unlock, and disconnect.
