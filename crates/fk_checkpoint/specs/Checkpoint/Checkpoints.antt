@@ -1,8 +1,10 @@
 -- What a checkpoint in code is about to end with.
-use Rattle.std.specs.Prelude.{ℕ}
+use Rattle.std.specs.Prelude.{ℕ, Option, Some, None}
 use Rattle.fk_finish.specs.declared.finish.Place.{Place as CodePlace}
 use Rattle.fk_model.specs.Closed.{Place}
-use Rattle.laws_checkpoint.specs.Checkpoint.{End}
+use Rattle.fk_image.specs.declared.image.image.Image.{Image}
+use Rattle.laws_checkpoint.specs.Checkpoint.{End, State}
+use Rattle.laws_checkpoint.specs.Checkpoint.State.{Releases}
 use Rattle.laws_checkpoint.specs.Checkpoint.End.{Gone, Foreign, Done}
 use Rattle.laws_checkpoint.specs.Foreign.{place_of}
 use Rattle.laws_checkpoint.specs.Assembly.{assembled}
@@ -36,3 +38,14 @@ abbrev pub IsReady : Ending → Type 0
 IsReady (endings.Foreign walk at field) = ⊥
 IsReady (endings.Done contents leads) = ⊥
 IsReady (endings.Made finish) = Unit {0}
+
+-- the image with which a checkpoint ends
+abbrev pub image_of : End → Option Image
+image_of (Done image) = Some image
+image_of (Foreign place) = None
+image_of Gone = None
+
+-- the image that is gathered, where only the release is left of a checkpoint that will be done
+abbrev pub gathered_in : State → Option Image
+gathered_in (Releases end) = image_of end
+gathered_in other = None

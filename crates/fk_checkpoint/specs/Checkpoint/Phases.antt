@@ -44,7 +44,7 @@ phase_of slot (phases.Closed walk) = Reads (reads.begin slot (spaces_met (seekin
 phase_of slot (phases.Reads read) = Reads (gathering.read_of slot read)
 phase_of slot (phases.Gathers contents gather) = Gathers (gathering.contents_of contents.items) (gathered.gather_of slot contents.items gather)
 phase_of slot (phases.Drops scratch ending) = Drops (slot_of scratch) (dropped_after scratch) (ending_of slot ending)
-phase_of slot (phases.Releases ending) = Releases (ending_of slot ending)
+phase_of slot (phases.Releases way) = Releases (end_of way)
 phase_of slot (phases.Over finish) = Over (end_of finish)
 
 -- what comes of a part that has come to its end
@@ -85,8 +85,8 @@ HasRoomIn (phases.Seeks walk seek) = Unit {0}
 HasRoomIn (phases.Closed walk) = ⊥
 HasRoomIn (phases.Reads read) = gathering.HasRoom read
 HasRoomIn (phases.Gathers contents gather) = gathered.HasRoom gather
-HasRoomIn (phases.Drops scratch ending) = Unit {0}
-HasRoomIn (phases.Releases ending) = IsReady ending
+HasRoomIn (phases.Drops scratch ending) = IsReady ending
+HasRoomIn (phases.Releases way) = Unit {0}
 HasRoomIn (phases.Over finish) = Unit {0}
 
 abbrev pub HasRoom : Checkpoint → Type 0
@@ -102,7 +102,7 @@ IsOpened (phases.Seeks walk seek) = Unit {0}
 IsOpened (phases.Reads read) = Unit {0}
 IsOpened (phases.Gathers contents gather) = Unit {0}
 IsOpened (phases.Drops scratch ending) = Unit {0}
-IsOpened (phases.Releases ending) = Unit {0}
+IsOpened (phases.Releases way) = Unit {0}
 IsOpened (phases.Over finish) = Unit {0}
 
 abbrev pub IsOver : Phase → Type 0
@@ -115,4 +115,4 @@ IsOver (phases.Seeks walk seek) = ⊥
 IsOver (phases.Reads read) = ⊥
 IsOver (phases.Gathers contents gather) = ⊥
 IsOver (phases.Drops scratch ending) = ⊥
-IsOver (phases.Releases ending) = ⊥
+IsOver (phases.Releases way) = ⊥

@@ -1,5 +1,5 @@
 //! The checkpoint, phase by phase.
-ghost use Rattle.std.specs.Prelude.{◌≡◌, OnOk, IfNone, IfSome};
+ghost use Rattle.std.specs.Prelude.{◌≡◌, OnOk, IfNone, IfSome, option_map};
 ghost use Rattle.fk_checkpoint.specs.declared.checkpoint.checkpoint.Phase.TheVariants as phases;
 ghost use Rattle.laws_checkpoint.specs.Checkpoint.State.{Holds, Over};
 ghost use Rattle.laws_checkpoint.specs.Contents.State.{Over as WasRead};
@@ -9,7 +9,7 @@ ghost use Rattle.laws_checkpoint.specs.Checkpoint as machine;
 ghost use Rattle.laws_checkpoint.specs.Checkpoint.{checkpoint};
 ghost use Rattle.fk_checkpoint.specs.Seeking.Seeking.{answered};
 ghost use Rattle.fk_checkpoint.specs.Gathering.Gathering as gathering;
-ghost use Rattle.fk_checkpoint.specs.Checkpoint.Checkpoints.{end_of, ending_of, IsReady};
+ghost use Rattle.fk_checkpoint.specs.Checkpoint.Checkpoints.{end_of, ending_of, gathered_in, IsReady};
 ghost use Rattle.fk_checkpoint.specs.Checkpoint.Ends.{IsEnd};
 ghost use Rattle.fk_checkpoint.specs.Checkpoint.Phases.{slot_of, made_after, dropped_after, phase_of, over_of, state_of, heard_by};
 ghost use Rattle.fk_checkpoint.specs.Checkpoint.Phases.{IsBrief, IsOpened, IsOver, HasHeard, HasRoomIn, HasRoom};
@@ -19,7 +19,7 @@ use crate::checkpoint::left::spaces_left;
 use crate::checkpoint::way::Way;
 use crate::gathering::{Content, Gather, Read};
 use crate::seeking::{Seek, Sought, Walk, words_of};
-use fk_finish::Finish;
+use fk_finish::{Finish, ValidImage};
 use fk_model::kind::REFERENCE;
 use fk_model::limits::{FIRST_SCRATCH_SLOT, OWN_SPACE};
 use fk_model::status::OK;
@@ -63,8 +63,8 @@ pub enum Phase {
         scratch: Scratch,
         ending: Ending,
     },
-    /// It releases the subtree.
-    Releases(Ending),
+    /// It releases the subtree: what it ends with is made.
+    Releases(Way),
     /// It has ended.
     Over(Way),
 }
@@ -109,8 +109,20 @@ fn readied(alloc: Global, scratch: Scratch) -> Phase
     }
 }
 
+/// What a checkpoint ends with, which is made.
+fn made_way(ending: Ending) -> Way
+    requires { IsReady ending }
+    ensures { (slot : _) → end_of result ≡ ending_of slot ending }
+{
+    match ending {
+        Ending::Made(way) => way,
+        _ => unreachable!(),
+    }
+}
+
 /// A scratch reference is destroyed: the next one, or the release.
 fn dropped(scratch: Scratch, ending: Ending) -> Phase
+    requires { IsReady ending }
     ensures { (slot : _) → phase_of slot result ≡ machine.dropped (dropped_after scratch) (ending_of slot ending) }
 {
     match scratch {
@@ -122,7 +134,7 @@ fn dropped(scratch: Scratch, ending: Ending) -> Phase
             scratch: Scratch::Places,
             ending,
         },
-        Scratch::Places => Phase::Releases(ending),
+        Scratch::Places => Phase::Releases(made_way(ending)),
     }
 }
 
@@ -228,17 +240,6 @@ fn behind(alloc: Global, phase: Phase) -> Phase
     }
 }
 
-/// The subtree is released.
-fn released(ending: Ending) -> Phase
-    requires { IsReady ending }
-    ensures { (slot : _) → phase_of slot result ≡ Over (ending_of slot ending) }
-{
-    match ending {
-        Ending::Made(way) => Phase::Over(way),
-        _ => unreachable!(),
-    }
-}
-
 /// The phase after an answer, where it isn't a long part.
 fn after(alloc: Global, slot: u8, phase: Phase, answer: &Answer) -> Phase
     requires room { HasRoomIn phase }
@@ -253,7 +254,7 @@ fn after(alloc: Global, slot: u8, phase: Phase, answer: &Answer) -> Phase
         Phase::Walks(_) | Phase::Closed(_) | Phase::Reads(_) | Phase::Gathers { .. } =>
             unreachable!(),
         Phase::Drops { scratch, ending } => dropped(scratch, ending),
-        Phase::Releases(ending) => released(ending),
+        Phase::Releases(way) => Phase::Over(way),
         Phase::Over(way) => Phase::Over(way),
     }
 }
@@ -341,7 +342,6 @@ fn ready(alloc: Global, slot: u8, phase: &mut Phase) -> Result<(), NoMemory>
         Phase::Reads(read) => read.reserve(),
         Phase::Gathers { gather, .. } => gather.reserve(),
         Phase::Drops { ending, .. } => make(alloc, slot, ending),
-        Phase::Releases(ending) => make(alloc, slot, ending),
         _ => Ok(()),
     }
 }
@@ -365,6 +365,16 @@ impl Checkpoint {
         ensures none { IfNone result (IsOver self.now.phase) }
     {
         stage(self.slot, &self.phase)
+    }
+
+    /// The image that it has gathered, where only the release is left of a checkpoint that will be done. Nothing elsewhere.
+    pub fn gathered(&self) -> Option<&ValidImage>
+        ensures { option_map (λ image. image.now) result ≡ gathered_in (state_of self.now) }
+    {
+        match &self.phase {
+            Phase::Releases(way) => way.image(),
+            _ => None,
+        }
     }
 
     /// Makes room for one answer, and changes nothing else.

@@ -1,8 +1,9 @@
 //! The way in which a checkpoint ends.
-ghost use Rattle.std.specs.Prelude.{◌≡◌};
+ghost use Rattle.std.specs.Prelude.{◌≡◌, option_map};
+ghost use Rattle.fk_checkpoint.specs.Checkpoint.Checkpoints.{end_of, image_of};
 ghost use Rattle.fk_checkpoint.specs.Checkpoint.Ends.{IsEnd};
 
-use fk_finish::Finish;
+use fk_finish::{Finish, ValidImage};
 use std::marker::Model;
 
 /// How a checkpoint ends, which is never as a restore does. Contracts see the finish alone.
@@ -37,6 +38,16 @@ impl Way {
         ensures way { IsEnd self.now }
     {
         &self.finish
+    }
+
+    /// The image with which it ends, where it ends with one.
+    pub fn image(&self) -> Option<&ValidImage>
+        ensures { option_map (λ image. image.now) result ≡ image_of (end_of self.now) }
+    {
+        match &self.finish {
+            Finish::Image(image) => Some(image),
+            _ => None,
+        }
     }
 
     /// The same, handed out.
