@@ -3,7 +3,7 @@ use Rattle.std.proofs.Common.{◌≡◌, ℕ, ◌+◌, true, List, map, Some, re
 use Rattle.fk_model.specs.World.{World}
 use Rattle.fk_model.specs.Cut.{cut}
 use Rattle.fk_model.specs.Further.{Onward, Told, IsFurther}
-use Rattle.fk_model.specs.Rebind.{rebound, rebound_told}
+use Rattle.fk_model.specs.Rebind.{rebound, rebound_told, rebound_move}
 use Rattle.fk_image.specs.declared.image.image.Image.{Image}
 use Rattle.fk_image.specs.Image.Picture.{picture}
 use Rattle.fk_image.specs.Image.Valid.{is_valid}
@@ -26,8 +26,9 @@ goes_on_as c d image bind ms valid is same =
     let law = run_rebinds bind (picture image) ms (picture_is_cut_world image valid) in
     subst (λ (p : World). GoesOnAs bind p d ms) is
     (record {
-      forth = λ told later run. subst (λ (e : World). IsFurther e ms (map (rebound_told bind) told) (rebound bind later)) (sym same) (law.forth told later run);
-      back = λ heard after run. law.back heard after (subst (λ (e : World). IsFurther e ms heard after) same run);
+      forth = λ told later run. subst (λ (e : World). IsFurther e (map (rebound_move bind) ms) (map (rebound_told bind) told) (rebound bind later)) (sym same)
+          (law.forth told later run);
+      back = λ heard after run. law.back heard after (subst (λ (e : World). IsFurther e (map (rebound_move bind) ms) heard after) same run);
     })
 
 pub copies_go_on : {J S A V K T B U : Type 0} → CopiesGoOn J S A V K T B U
@@ -56,16 +57,16 @@ pub copies_tell_the_same : {V U : Type 0} → CopiesTellTheSame V U
 copies_tell_the_same jobs others servers fellows first c start d past moves run other headline again image birth slot hold release birth_there place made done
     bind valid from to k n came low high plain seen seen_there =
     let mine = headline.goes_on hold k low from.nester slot came plain seen in
-    let theirs = again.goes_on (done + 1) n high to.nester place came to.plain seen_there in
+    let theirs = again.goes_on (done + 1) n high to.nester place (map (rebound_move bind) came) to.plain seen_there in
     let law = goes_on_as (cut (world_at run hold) from.nester slot) (cut (world_at other (done + 1)) to.nester place) image bind came valid from.picture
     to.cut_there in
     let forth = law.forth mine.1.0 (cut (world_at run (hold + k)) from.nester slot) mine.1.1 in
     let once = further_once (cut (world_at other (done + 1)) to.nester place) (cut (world_at other (done + 1 + n)) to.nester place)
-    (rebound bind (cut (world_at run (hold + k)) from.nester slot)) came theirs.1.0 (map (rebound_told bind) mine.1.0) theirs.1.1 forth in
+    (rebound bind (cut (world_at run (hold + k)) from.nester slot)) (map (rebound_move bind) came) theirs.1.0 (map (rebound_told bind) mine.1.0) theirs.1.1 forth in
     record {
       told = mine.1.0;
       tells = mine.1.1;
-      tells_there = subst (λ (t : List Told). IsFurther (cut (world_at other (done + 1)) to.nester place) came t
+      tells_there = subst (λ (t : List Told). IsFurther (cut (world_at other (done + 1)) to.nester place) (map (rebound_move bind) came) t
           (cut (world_at other (done + 1 + n)) to.nester place)) once.0 theirs.1.1;
       same = once.1;
     }

@@ -5,7 +5,7 @@ use Rattle.fk_model.specs.declared.moves.Move.{Move}
 use Rattle.fk_model.specs.Places.{Path}
 use Rattle.fk_model.specs.Cut.{cut, IsPlain}
 use Rattle.fk_model.specs.Further.{Onward, Told, IsFurther}
-use Rattle.fk_model.specs.Rebind.{rebound, rebound_told}
+use Rattle.fk_model.specs.Rebind.{rebound, rebound_told, rebound_move}
 use Rattle.fk_image.specs.declared.image.image.Image.{Image}
 use Rattle.fk_image.specs.Format.Spells.{SpellsImage}
 use Rattle.fk_image.specs.Image.Picture.{picture}
@@ -57,11 +57,12 @@ pub record GoOnAlike {V U : Type 0} {jobs others : List Job} {servers : Servers 
   pub told : List Told
   pub tells : IsFurther (cut (world_at run hold) nester slot) came told (cut (world_at run (hold + k)) nester slot)
   pub tells_there :
-      IsFurther (cut (world_at other (done + 1)) there place) came (map (rebound_told bind) told) (cut (world_at other (done + 1 + n)) there place)
+      IsFurther (cut (world_at other (done + 1)) there place) (map (rebound_move bind) came) (map (rebound_told bind) told)
+      (cut (world_at other (done + 1 + n)) there place)
   pub same : cut (world_at other (done + 1 + n)) there place ≡ rebound bind (cut (world_at run (hold + k)) nester slot)
 
--- the subtree is plain in both, and sees the same moves in both, and none as other: k moves of the one run from its hold on, n of the other from
--- behind its restore on
+-- the subtree is plain in both, and sees the same moves in both, but for its ports, which are bound, and none as other: k moves of the one run from
+-- its hold on, n of the other from behind its restore on
 abbrev pub CopiesTellTheSame : Type 0 → Type 0 → Type 0
 CopiesTellTheSame V U = (jobs others : List Job) (servers : Servers V) (fellows : Servers U) (first c : Core State End V)
     (start d : Core State End U) (past moves : List Move) (run : IsRun (house jobs servers) first past c)
@@ -70,5 +71,5 @@ CopiesTellTheSame V U = (jobs others : List Job) (servers : Servers V) (fellows 
     (from : Checkpointed run birth slot hold release (picture image)) → (to : Restored_there other birth_there place made done bind (picture image)) →
     (k n : ℕ) (came : List Onward) → hold + k ≤ length past → done + 1 + n ≤ length moves → IsPlain (world_at run hold) from.nester slot →
     IsSeenRun from.nester slot (world_at run hold) (between run hold k) came →
-    IsSeenRun to.nester place (world_at other (done + 1)) (between other (done + 1) n) came →
+    IsSeenRun to.nester place (world_at other (done + 1)) (between other (done + 1) n) (map (rebound_move bind) came) →
     GoOnAlike run other bind from.nester to.nester slot place hold done k n came
