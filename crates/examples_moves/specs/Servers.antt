@@ -67,6 +67,12 @@ awaiting room = world_of
     ((root_port, Port None true) ∷ (1 ∷ [], Space 1 None) ∷ (client, with_talk (served turns.Server 0) (calling 20 (36 ∷ 1 ∷ 128 ∷ 0 ∷ 192 ∷ room ∷ []))) ∷ [])
     (numbered (1 ∷ []) 1000 3 ∷ [])
 
+-- a client in this call, at this turn. Slot 1 of /1 holds a reference to the port
+unfoldable pub handing_to_native : Turn → List ℕ → World
+handing_to_native turn g = world_of
+    ((root_port, Port None true) ∷ (1 ∷ [], Space 1 None) ∷ (1 ∷ 1 ∷ [], Reference (At root_port)) ∷ (client, with_talk (served turn 0) (calling 20 g)) ∷ [])
+    (numbered (1 ∷ []) 1000 3 ∷ [])
+
 -- ---- a client with a parked talk at the server's turn, and one that connects
 
 -- the one that connects
@@ -90,5 +96,5 @@ idling = world_of ((root_port, Port None true) ∷ (1 ∷ [], Space 1 None) ∷ 
 
 -- ---- to compute in these worlds is to unfold these
 unfoldable pub server_worlds : Unit {0}
-unfolding machine to_console awaiting two_clients leaving idling
+unfolding machine to_console awaiting handing_to_native two_clients leaving idling
 server_worlds = tt

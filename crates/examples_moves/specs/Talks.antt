@@ -100,6 +100,39 @@ handed w = scene (client ∷ server ∷ taker ∷ []) (run w (goes client ∷ []
 abbrev pub taking_in : ℕ → List ℕ
 taking_in k = 58 ∷ 8 ∷ 7 ∷ 6 ∷ 320 ∷ 40 ∷ k ∷ []
 
+-- the same at the server's turn: its reference is handed over, and that of the client leads nowhere
+unfoldable pub handing_back : Ptr → List ℕ → List ℕ → World
+handing_back to g h = world_of ((4 ∷ 1 ∷ [], Reference Null) ∷ (5 ∷ 2 ∷ [], Reference to) ∷ talkers (with_talk (servers_turn 7) (calling 20 g)) (calling 30 h))
+    both_pages
+
+-- the client's call with this reference
+abbrev pub taking_back_in : ℕ → List ℕ
+taking_back_in k = 41 ∷ 8 ∷ 7 ∷ 6 ∷ 448 ∷ 40 ∷ k ∷ []
+
+-- both ends, and the client's reference, after a move of the server
+abbrev pub handed_back : World → List (Option Body)
+handed_back w = scene (client ∷ server ∷ (4 ∷ 1 ∷ []) ∷ []) (run w (goes server ∷ []))
+
+-- the space in slot 6 of the root, in which a port stands, is held by a third thread. The client's reference leads to the first pointer, the server's to the second
+unfoldable pub handing_beside : Ptr → Ptr → List ℕ → List ℕ → World
+handing_beside to old g h = world_of
+    ((4 ∷ 1 ∷ [], Reference to) ∷ (5 ∷ 2 ∷ [], Reference old) ∷ (6 ∷ [], Space 3 (Some (At (0 ∷ [])))) ∷ (1 ∷ 6 ∷ [], Port None false) ∷ (0 ∷ [], running 0 [])
+    ∷ talkers (with_talk (clients_turn 7) (calling 20 g)) (calling 30 h)) both_pages
+
+-- into that space, and to it
+abbrev pub into_held : Ptr
+into_held = At (1 ∷ 6 ∷ [])
+
+abbrev pub to_held : Ptr
+to_held = At (6 ∷ [])
+
+-- both ends lie in one space, and name one reference
+unfoldable pub handing_within : World
+handing_within = world_of
+    ((1 ∷ [], Space 1 None) ∷ (3 ∷ 1 ∷ [], Port None false) ∷ (4 ∷ 1 ∷ [], Reference (At (3 ∷ 1 ∷ [])))
+    ∷ (client, with_talk (served_by (3 ∷ 1 ∷ []) (1 ∷ 1 ∷ []) turns.Client 0) (calling 20 (40 ∷ 4 ∷ [])))
+    ∷ (1 ∷ 1 ∷ [], calling 30 (taking_in 4)) ∷ []) []
+
 -- ---- two threads of the root read the states of both ends, into page 1 of the root
 
 -- the first reads the client's state
@@ -257,5 +290,5 @@ still_serving = world_of ((8 ∷ 2 ∷ [], Portset) ∷ talkers (with_talk (clie
 
 -- ---- to compute in these worlds is to unfold these
 unfoldable pub talk_worlds : Unit {0}
-unfolding machine message sent sent_to_few linked_in unlinked_in handing watched kept meeting replying ending waiting picked still_serving
+unfolding machine message sent sent_to_few linked_in unlinked_in handing handing_back handing_beside handing_within watched kept meeting replying ending waiting picked still_serving
 talk_worlds = tt

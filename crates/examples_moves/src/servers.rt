@@ -4,12 +4,13 @@
 ghost use Rattle.std.specs.Prelude.{◌≡◌, [], ◌∷◌, ◌++◌, Some, true, false, replicate};
 ghost use Rattle.fk_model.specs.declared.thread.Turn.TheVariants as turns;
 ghost use Rattle.fk_model.specs.Places.Ptr.{At};
+ghost use Rattle.fk_model.specs.Objects.Body.{Reference};
 ghost use Rattle.fk_model.specs.Outcomes.Said.{Taken, Words, Passed, Given, Full, Ended};
 ghost use Rattle.fk_model.specs.Runs.{run, IsLegal};
 ghost use Rattle.examples_moves.specs.Worked.{becomes, IsReadyTo, told_by_move, goes, accepts, gives, hands_over, running, calling, halted, with_talk};
 ghost use Rattle.examples_moves.specs.Worked.{numbers_from, root_port, client};
 ghost use Rattle.examples_moves.specs.Servers.{served, to_console, rest_of_send, entered, and_accepted, and_sent_one, and_sent_two, and_turned, and_returned};
-ghost use Rattle.examples_moves.specs.Servers.{awaiting, second, two_clients, leaving, idling};
+ghost use Rattle.examples_moves.specs.Servers.{awaiting, handing_to_native, second, two_clients, leaving, idling};
 
 /// A program sends 70 words to a native server in two blocks, the first of them 64 words, and gets
 /// the turn back.
@@ -50,6 +51,21 @@ pub fn a_native_server_gives_its_reply()
     ensures full { (run (awaiting 0) (gives root_port (8 ∷ []) ∷ [])).body client ≡
         Some (with_talk (served turns.Server 0) (running 21 (15 ∷ 1 ∷ 128 ∷ 0 ∷ 192 ∷ 0 ∷ []))) }
     ensures told_full { told_by_move (awaiting 0) (gives root_port (8 ∷ [])) ≡ Full (At root_port) }
+{}
+
+/// A native server drops a pointer that comes with the turn, and brings none to a client that awaits
+/// one. It gives such a client words like any other.
+pub fn a_native_server_takes_and_brings_no_pointer()
+    ensures ready { IsReadyTo (handing_to_native turns.Client (40 ∷ 1 ∷ [])) (goes client) }
+    ensures turned { becomes (handing_to_native turns.Client (40 ∷ 1 ∷ [])) client ≡ Some (with_talk (served turns.Server 0) (running 21 (0 ∷ 1 ∷ []))) }
+    ensures told { told_by_move (handing_to_native turns.Client (40 ∷ 1 ∷ [])) (goes client) ≡ Passed (At root_port) }
+    ensures returned { (run (handing_to_native turns.Server (41 ∷ 8 ∷ 128 ∷ 0 ∷ 192 ∷ 4 ∷ 1 ∷ [])) (hands_over root_port ∷ [])).body client ≡
+        Some (with_talk (served turns.Client 0) (running 21 (0 ∷ 0 ∷ 128 ∷ 0 ∷ 192 ∷ 4 ∷ 1 ∷ []))) }
+    ensures kept { (run (handing_to_native turns.Server (41 ∷ 8 ∷ 128 ∷ 0 ∷ 192 ∷ 4 ∷ 1 ∷ [])) (hands_over root_port ∷ [])).body (1 ∷ 1 ∷ []) ≡
+        Some (Reference (At root_port)) }
+    ensures no_reference { ¬ IsReadyTo (handing_to_native turns.Server (41 ∷ 8 ∷ 128 ∷ 0 ∷ 192 ∷ 4 ∷ 2 ∷ [])) (hands_over root_port) }
+    ensures given { (run (handing_to_native turns.Server (41 ∷ 8 ∷ 128 ∷ 0 ∷ 192 ∷ 4 ∷ 1 ∷ [])) (gives root_port (8 ∷ []) ∷ [])).body client ≡
+        Some (with_talk (served turns.Server 1) (calling 20 (41 ∷ 8 ∷ 128 ∷ 0 ∷ 193 ∷ 3 ∷ 1 ∷ []))) }
 {}
 
 /// With nothing to give it is done at once, whatever its client does, but not before it has a client

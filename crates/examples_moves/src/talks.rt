@@ -10,7 +10,8 @@ ghost use Rattle.fk_model.specs.Runs.{run, IsLegal};
 ghost use Rattle.examples_moves.specs.Worked.{becomes, scene, after_each, IsReadyTo, with_fault, goes, picks, times, running, calling, stopped, with_talk};
 ghost use Rattle.examples_moves.specs.Worked.{registers_from, numbers_from, client, server};
 ghost use Rattle.examples_moves.specs.Talks.{port, clients_turn, servers_turn, sending, asking_to_receive, message, sent, ends_at, left, sent_all, both_ends};
-ghost use Rattle.examples_moves.specs.Talks.{sent_to_few, linked_in, unlinked_in, handing, handed, taking_in, reader, second_reader, watched, sent_and_read, keeper_thread, kept, sent_5};
+ghost use Rattle.examples_moves.specs.Talks.{sent_to_few, linked_in, unlinked_in, handing, handed, taking_in, handing_back, handed_back, taking_back_in, handing_beside};
+ghost use Rattle.examples_moves.specs.Talks.{into_held, to_held, handing_within, reader, second_reader, watched, sent_and_read, keeper_thread, kept, sent_5};
 ghost use Rattle.examples_moves.specs.Talks.{received_5, write_missed_5, arrives, misses, keeper_parts, talkers_and_keeper, until_mended, meeting, replying};
 ghost use Rattle.examples_moves.specs.Talks.{ending, waiting, waited_for, receives_10, taken_fault, picked, still_serving};
 
@@ -104,6 +105,50 @@ pub fn a_slot_without_a_reference_is_refused()
     ensures server { becomes (handing (At port) (40 ∷ 4 ∷ []) (taking_in 6)) server ≡
         Some (running 31 (2 ∷ 8 ∷ 7 ∷ 6 ∷ 320 ∷ 40 ∷ 6 ∷ [])) }
     ensures server_waits { ¬ IsReadyTo (handing (At port) (40 ∷ 4 ∷ []) (taking_in 5)) (goes server) }
+{}
+
+/// On the other side it is the same: with call 57 the pointer of the server's reference goes to a client
+/// at 41. Where words that were sent find no room, or the other side leaves, r1 says nothing of a pointer.
+pub fn a_pointer_comes_back_with_the_turn()
+    ensures ready { IsReadyTo (handing_back (At port) (taking_back_in 4) (57 ∷ 5 ∷ [])) (goes server) }
+    ensures handed { handed_back (handing_back (At port) (taking_back_in 4) (57 ∷ 5 ∷ [])) ≡
+        Some (with_talk (clients_turn 0) (running 21 (0 ∷ 1 ∷ 7 ∷ 6 ∷ 448 ∷ 40 ∷ 4 ∷ [])))
+        ∷ Some (running 31 (0 ∷ 5 ∷ [])) ∷ Some (Reference (At port)) ∷ [] }
+    ensures no_taker { handed_back (handing_back (At port) (36 ∷ 8 ∷ 7 ∷ 6 ∷ 448 ∷ 40 ∷ []) (57 ∷ 5 ∷ [])) ≡
+        Some (with_talk (clients_turn 0) (running 21 (0 ∷ 8 ∷ 7 ∷ 6 ∷ 448 ∷ 40 ∷ [])))
+        ∷ Some (running 31 (0 ∷ 5 ∷ [])) ∷ Some (Reference Null) ∷ [] }
+    ensures nothing { handed_back (handing_back (At port) (taking_back_in 4) (52 ∷ [])) ≡
+        Some (with_talk (clients_turn 0) (running 21 (0 ∷ 0 ∷ 7 ∷ 6 ∷ 448 ∷ 40 ∷ 4 ∷ [])))
+        ∷ Some (running 31 []) ∷ Some (Reference Null) ∷ [] }
+    ensures full { handed (handing (At port) (37 ∷ 9 ∷ 256 ∷ 1 ∷ []) (58 ∷ 8 ∷ 7 ∷ 6 ∷ 320 ∷ 0 ∷ 5 ∷ [])) ≡
+        Some (with_talk (clients_turn 7) (calling 20 (37 ∷ 9 ∷ 256 ∷ 1 ∷ [])))
+        ∷ Some (running 31 (15 ∷ 8 ∷ 7 ∷ 6 ∷ 320 ∷ 0 ∷ 5 ∷ [])) ∷ Some (Reference Null) ∷ [] }
+    ensures left { handed (handing (At port) (39 ∷ []) (taking_in 5)) ≡
+        Some (running 21 []) ∷ Some (running 31 (14 ∷ 8 ∷ 7 ∷ 6 ∷ 320 ∷ 40 ∷ 5 ∷ [])) ∷ Some (Reference Null) ∷ [] }
+    ensures left_behind { handed_back (handing_back (At port) (40 ∷ 4 ∷ []) (55 ∷ [])) ≡
+        Some (running 21 (14 ∷ 4 ∷ [])) ∷ Some (running 31 []) ∷ Some (Reference Null) ∷ [] }
+    ensures sends_wait { ¬ IsReadyTo (handing (At port) (37 ∷ 9 ∷ 256 ∷ 1 ∷ []) (taking_in 6)) (goes client) }
+    ensures wrong_turn { becomes (handing (At port) (40 ∷ 4 ∷ []) (57 ∷ 5 ∷ [])) server ≡ Some (running 31 (18 ∷ 5 ∷ [])) }
+    ensures handle_first { becomes (handing (At port) (40 ∷ 4 ∷ []) (57 ∷ 6 ∷ [])) server ≡ Some (running 31 (2 ∷ 6 ∷ [])) }
+    ensures own_turn { becomes (handing (At port) (41 ∷ 0 ∷ 0 ∷ 0 ∷ 16384 ∷ 1 ∷ 4 ∷ []) (taking_in 5)) client ≡
+        Some (with_talk (clients_turn 7) (running 21 (18 ∷ 0 ∷ 0 ∷ 0 ∷ 16384 ∷ 1 ∷ 4 ∷ []))) }
+    ensures within { scene ((4 ∷ 1 ∷ []) ∷ (1 ∷ 1 ∷ []) ∷ []) (run handing_within (goes client ∷ [])) ≡
+        Some (Reference (At (3 ∷ 1 ∷ []))) ∷ Some (running 31 (0 ∷ 1 ∷ 7 ∷ 6 ∷ 320 ∷ 40 ∷ 4 ∷ [])) ∷ [] }
+{}
+
+/// No pointer that leads to what another holds goes with a turn, whether it is awaited or not, and none
+/// takes the place of one that does. Without a pointer the turn goes, and what is refused is refused.
+pub fn no_pointer_goes_to_what_is_held()
+    ensures into { ¬ IsReadyTo (handing_beside into_held Null (40 ∷ 4 ∷ []) (taking_in 5)) (goes client) }
+    ensures held { ¬ IsReadyTo (handing_beside to_held Null (40 ∷ 4 ∷ []) (taking_in 5)) (goes client) }
+    ensures unawaited { ¬ IsReadyTo (handing_beside to_held Null (40 ∷ 4 ∷ []) (asking_to_receive 320 40)) (goes client) }
+    ensures replaced { ¬ IsReadyTo (handing_beside (At port) into_held (40 ∷ 4 ∷ []) (taking_in 5)) (goes client) }
+    ensures replaced_by_none { ¬ IsReadyTo (handing_beside Null into_held (40 ∷ 4 ∷ []) (taking_in 5)) (goes client) }
+    ensures beside { IsReadyTo (handing_beside (At port) Null (40 ∷ 4 ∷ []) (taking_in 5)) (goes client) }
+    ensures stays { handed (handing_beside (At port) into_held (38 ∷ []) (taking_in 5)) ≡
+        Some (with_talk (servers_turn 0) (running 21 [])) ∷ Some (running 31 (0 ∷ 0 ∷ 7 ∷ 6 ∷ 320 ∷ 40 ∷ 5 ∷ [])) ∷ Some (Reference into_held) ∷ [] }
+    ensures unfilled { IsReadyTo (handing_beside (At port) into_held (40 ∷ 4 ∷ []) (asking_to_receive 320 40)) (goes client) }
+    ensures refused { becomes (handing_beside Null to_held (36 ∷ []) (57 ∷ 5 ∷ [])) server ≡ Some (running 31 (18 ∷ 5 ∷ [])) }
 {}
 
 /// In the midst of a message the client's record names the rest of its call, its talk at its own

@@ -21,7 +21,7 @@ pub enum Status {
     BadScenario { rule: u8, section: u8, index: u32 },
     /// The shelf has nothing of this name, which is needed.
     Absent { name: Text },
-    /// The shelf's image of this name has its first fault at this offset, by this reason, from 1 to 7.
+    /// The shelf's image of this name has its first fault at this offset, by this reason, from 1 to 8.
     BadImage { name: Text, offset: u64, reason: u8 },
     /// The line of the move with this index is the first of the trace that is misspelled, whose move
     /// isn't ready, or that stands at the budget.

@@ -11,12 +11,13 @@ use lens_text::{Problem, Sheet, file_of, given, line_at, push_differences, push_
 /// What was expected of an image, by the reason for which it is refused, and by any other.
 const EXPECTED: &str = "the end of the file
 the 8 bytes FLUKEIMG
-the version 1
+the version 1 or 2
 the whole of the field that begins here; the file ends in it
 a space that follows in preorder, or a slot or page above the one before
 a number, slot, kind, mode or tag in its range
 a pointer to something that this field can hold
-the end of the file";
+the end of the file
+the version 1, since no thread is at a call that hands a reference over or receives one";
 
 /// Says that the file with a name isn't taken for an image, by the status with which it is refused.
 fn refuse_image(sheet: &Sheet, name: &str, status: &Status) {

@@ -2,7 +2,7 @@
 
 use thiserror::Error;
 
-/// The first fault of bytes that are no image: the offset of the field and the reason, from 1 to 7.
+/// The first fault of bytes that are no image: the offset of the field and the reason, from 1 to 8.
 #[derive(Clone, Copy, Debug, Error)]
 #[error("offset {offset} reason {reason}")]
 pub struct ImageError {
