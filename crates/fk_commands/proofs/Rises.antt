@@ -22,10 +22,10 @@ stands is_such before now (Err error) same = by (is_such error)
     by false = same
 
 -- one that stood up to a call, and in that call unless it answered such an error, stood unless it did
-pub stands-since : {T E : Type 0} (is_such : E → Bool) (before between now : ℕ) (r : Result T E) → between ≡ before
+pub stands_since : {T E : Type 0} (is_such : E → Bool) (before between now : ℕ) (r : Result T E) → between ≡ before
     → StandsUnless is_such between now r → StandsUnless is_such before now r
-stands-since is_such before between now (Ok value) same stood = stood ∙ same
-stands-since is_such before between now (Err error) same stood = by (is_such error) stood
+stands_since is_such before between now (Ok value) same stood = stood ∙ same
+stands_since is_such before between now (Err error) same stood = by (is_such error) stood
   where
     by : (b : Bool) → OnFalse b (now ≡ between) → OnFalse b (now ≡ before)
     by true stood = tt
