@@ -146,6 +146,7 @@ fn finish<W: Sink, H: Shelf>(
         × AppendsPrefix (W.written sink.old) (W.written sink.new) (string_bytes prepared.output) }
     ensures kept_writes { OnFalse (is_write_fault result.status) (W.faults sink.new ≡ W.faults sink.old) }
     ensures kept_puts { OnFalse (is_shelf_fault result.status) (H.failed_puts shelf.new ≡ H.failed_puts shelf.old) }
+    ensures puts_of_none { result.report ≡ None → H.failed_puts shelf.new ≡ H.failed_puts shelf.old }
     ensures same_gets { H.failed_gets shelf.new ≡ H.failed_gets shelf.old }
     ensures nothing { OnTrue (has_written_nothing result.status) (Keeps (W.written sink.old) (W.written sink.new)) }
     ensures no_report { OnTrue (has_no_report result.status) (result.report ≡ None) }
