@@ -31,10 +31,13 @@ loop-job-preserved g c =
     let within = slice_get_within jobs (length images) job got in
     let found : Finds files (needed (take (length images) jobs) job) (Ok image) = search rules in
     let long : length (images ++ image ∷ []) ≡ length images + 1 = length-append images (image ∷ []) in
+    let before = c.loop-job.invariant.later in
+    let after = c.image_for.ensures.later in
     rw c.in_ok-push.ensures.ok (record {
       found = subst (λ n. FindsFrom files jobs n (images ++ image ∷ [])) (sym long) (finds-on files jobs (length images) images job image got found c.loop-job.invariant.found);
       need = subst (NeedsFrom files jobs) (sym long) (needs-on files jobs (length images) job got c.loop-job.invariant.need);
       within = omega (arith, long, within);
+      later = omega (arith, before, after);
       kept = c.in_ok-image.ensures.kept_gets ∙ c.loop-job.invariant.kept;
       same_files = c.image_for.ensures.same_files ∙ c.loop-job.invariant.same_files;
       same_puts = c.image_for.ensures.same_puts ∙ c.loop-job.invariant.same_puts;
