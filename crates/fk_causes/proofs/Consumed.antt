@@ -1,5 +1,5 @@
 -- What was consumed of a source.
-use Rattle.std.proofs.Common.{◌≡◌, ◌<◌, ℕ, List, ◌++◌, Option, Some, None, length, length-append, refl, ap, ◌∙◌, arith}
+use Rattle.std.proofs.Common.{◌<◌, ℕ, List, Option, Some, None, length, length-append, refl, ap, ◌∙◌, arith}
 use Rattle.std.specs.Io.KnownBytes.{Consumes}
 use Rattle.fk_causes.specs.Causes.{MayHold}
 

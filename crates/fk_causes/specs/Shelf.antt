@@ -4,7 +4,7 @@ use Rattle.std.specs.declared.alloc.Global.{Global}
 use Rattle.std.specs.FinMap.{FinMap, from_entries}
 use Rattle.std.specs.Ordering.{nat_cmp}
 use Rattle.std.specs.Cmp.Lexicographic.{slice_cmp}
-use Rattle.fk_causes.specs.Causes.{counted, Rose}
+use Rattle.fk_causes.specs.Causes.{counted, Rose, StandsUnless}
 use Rattle.fk_causes.specs.declared.shelf.ShelfFail.{ShelfFail}
 use Rattle.fk_causes.specs.declared.shelf.ShelfFail.TheVariants.{Failed, NoMemory}
 
@@ -23,16 +23,21 @@ KeepsOthers None new name = ⊤
 KeepsOthers (Some old) None name = ⊥
 KeepsOthers (Some old) (Some new) name = (other : List ℕ) → other ≢ name → new other ≡ old other
 
--- a count of a shelf didn't fall, and `Failed` comes only where it rose
+-- which error of a shelf says that it failed, and not for want of memory
+abbrev pub is_failed : ShelfFail → Bool
+is_failed Failed = true
+is_failed NoMemory = false
+
+-- a count of a shelf didn't fall, `Failed` comes only where it rose, and it stands where another answer comes
 pub record HasShelfCause {T : Type 0} (before now : ℕ) (result : Result T ShelfFail) : Type 0 where
   pub later : before ≤ now
   pub failed : result ≡ Err Failed → Rose before now
+  pub kept : StandsUnless is_failed before now result
 
 -- whether a call of a shelf failed, and not for want of memory
 abbrev pub has_failed : {T : Type 0} → Result T ShelfFail → Bool
 has_failed (Ok value) = false
-has_failed (Err Failed) = true
-has_failed (Err NoMemory) = false
+has_failed (Err fail) = is_failed fail
 
 -- a call that failed counted one, and another none
 abbrev pub CountsFailure : {T : Type 0} → ℕ → ℕ → Result T ShelfFail → Type 0

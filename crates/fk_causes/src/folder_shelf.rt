@@ -14,9 +14,13 @@ use std::{fs, io};
 pub const FILE_LIMIT: u64 = 1 << 30;
 
 /// The files of the current folder. It tells nothing of what they hold. A file that is missing is
-/// none; one of more than `FILE_LIMIT` bytes counts as a fault, when it is read and when it is put.
-/// A put writes the file `NAME.new` and has it take the place of `NAME`: a put that fails, or is cut
-/// off, leaves what was under `NAME`.
+/// none; one of more than `FILE_LIMIT` bytes counts as a fault, when it is read and when it is put,
+/// and what is no file, as a pipe or a device, when it is read: it isn't waited for.
+///
+/// A put writes a new file, under the first name of `NAME.0.new`, `NAME.1.new` and so on that no file
+/// has, and has it take the place of `NAME` once it is whole. So a put that fails leaves what was under
+/// `NAME`, or all of its bytes, and so does one that is cut off; that one may leave its new file too,
+/// which no other put touches. Several at once, of one process or more, each put a whole file.
 #[derive(Drop)]
 pub struct FolderShelf<'a, R> {
     rt: &'a R,
@@ -39,17 +43,21 @@ impl<'a, R: Files + AllocGlobal> FolderShelf<'a, R> {
     }
 }
 
-/// The bytes of a file, or none of a file of more than `FILE_LIMIT` bytes.
+/// The bytes of a file, or none of a file of more than `FILE_LIMIT` bytes, and of what is no file.
 fn read_file<R: Files + AllocGlobal>(rt: &R, name: &str) -> io::Result<Option<Vec<u8>>>
     ensures short { IfOk result (λ found. IfSome found (λ bytes. vec_len bytes ≤ FILE_LIMIT)) }
 {
+    // A pipe isn't opened: that would wait for somebody who writes into it.
+    if !fs::metadata(rt, name)?.is_file() {
+        return Ok(None);
+    }
     let file = fs::open(rt, name)?;
     if file.metadata()?.len() > FILE_LIMIT {
         return Ok(None);
     }
     let mut bytes = Vec::new(rt.alloc());
     file.take(FILE_LIMIT + 1).read_to_end(&mut bytes)?;
-    // The length may have risen meanwhile, or isn't told, as a pipe's.
+    // The length may have risen meanwhile, or isn't told.
     if is_long(&bytes) {
         Ok(None)
     } else {
@@ -57,27 +65,53 @@ fn read_file<R: Files + AllocGlobal>(rt: &R, name: &str) -> io::Result<Option<Ve
     }
 }
 
-/// Writes bytes into a new file and onto its disk. A file that a process that was cut off has left under this name goes.
-fn write_file<R: Files>(rt: &R, name: &str, bytes: &[u8]) -> io::Result<()> {
-    let _ = fs::remove_file(rt, name);
-    let mut file = File::create_new(rt, name)?;
+/// A new file beside the one of a name, and its own name, which no other file has.
+fn new_beside<R: Files + AllocGlobal>(rt: &R, name: &str) -> io::Result<(String, R::File)> {
+    for number in 0..u32::MAX {
+        let beside = format!(in rt.alloc(); "{name}.{number}.new")?;
+        match File::create_new(rt, beside.as_str()) {
+            Ok(file) => return Ok((beside, file)),
+            Err(error) if error.kind() == ErrorKind::AlreadyExists => {}
+            Err(error) => return Err(error),
+        }
+    }
+    Err(io::Error::from(ErrorKind::AlreadyExists))
+}
+
+/// Writes bytes into a file and onto its disk.
+fn fill_file<F: Write + OpenFile>(file: &mut F, bytes: &[u8]) -> io::Result<()> {
     file.write_all(bytes)?;
     file.sync_all()
+}
+
+/// Has the names of the folder last, where it can be opened and its file system can do that.
+fn sync_folder<R: Files>(rt: &R) -> io::Result<()> {
+    let Ok(folder) = fs::open(rt, ".") else {
+        return Ok(());
+    };
+    match folder.sync_all() {
+        Err(error) if error.kind() == ErrorKind::InvalidInput => Ok(()),
+        Err(error) if error.kind() == ErrorKind::Unsupported => Ok(()),
+        synced => synced,
+    }
 }
 
 /// Has the file of this name hold these bytes. They are written beside it first, so that it holds what it did until all of them are
 /// there.
 fn replace_file<R: Files + AllocGlobal>(rt: &R, name: &str, bytes: &[u8]) -> io::Result<()> {
-    let beside = format!(in rt.alloc(); "{name}.new")?;
-    let put = match write_file(rt, beside.as_str(), bytes) {
+    let (beside, mut file) = new_beside(rt, name)?;
+    let put = match fill_file(&mut file, bytes) {
         Ok(()) => fs::rename(rt, beside.as_str(), name),
         Err(error) => Err(error),
     };
-    if put.is_err() {
-        // What failed is told; that this fails too says nothing more.
-        let _ = fs::remove_file(rt, beside.as_str());
+    match put {
+        Ok(()) => sync_folder(rt),
+        Err(error) => {
+            // What failed is told; that this fails too says nothing more.
+            let _ = fs::remove_file(rt, beside.as_str());
+            Err(error)
+        }
     }
-    put
 }
 
 fn is_long(bytes: &[u8]) -> bool

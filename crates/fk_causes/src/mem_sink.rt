@@ -2,7 +2,7 @@
 ghost use Rattle.std.specs.Prelude.{◌≡◌, ◌↔◌, ◌<◌, ◌≤◌, ◌-◌, ◌⊎◌, IsErr, IfOk, Contains, Some, [], min, length};
 ghost use Rattle.std.specs.Io.{WritesAtMost};
 ghost use Rattle.std.specs.Io.KnownBytes.{WriteAppends};
-ghost use Rattle.fk_causes.specs.Causes.{HasCause, Rose, counted, CountsFault};
+ghost use Rattle.fk_causes.specs.Causes.{HasCause, counted, CountsFault};
 
 use crate::traits::{Failed, Sink};
 use fk_model::NoMemory;
@@ -74,8 +74,7 @@ impl Sink for MemSink {
         ensures bound { WritesAtMost result piece.now }
         ensures bytes { WriteAppends (Some self.old.bytes) (Some self.new.bytes) result piece.now }
         ensures cause { HasCause self.old.faults self.new.faults result }
-        ensures zero { IfOk result (λ count. count ≡ 0 → 0 < length piece.now
-            → Rose self.old.faults self.new.faults) }
+        ensures some { IfOk result (λ count. 0 < length piece.now → 0 < count) }
 
         ensures calls { self.new.calls ≡ counted self.old.calls }
         ensures fails { IsErr result ↔ (Contains self.old.fails self.new.calls

@@ -48,8 +48,8 @@ pub trait Shelf {
     ///
     /// # Errors
     ///
-    /// `Failed` only where the count of failed gets rose in this call. `NoMemory` where there is no
-    /// memory for the bytes.
+    /// `Failed` only where the count of failed gets rose in this call: any other answer leaves it as it
+    /// was. `NoMemory` where there is no memory for the bytes.
     fn get(&mut self, name: &str) -> Result<Option<Vec<u8>>, ShelfFail>
         ensures found { IfOk result (λ found. HasAt (files self.old) name.now
             (option_map (λ bytes. bytes.items) found)) }
@@ -62,8 +62,8 @@ pub trait Shelf {
     ///
     /// # Errors
     ///
-    /// `Failed` only where the count of failed puts rose in this call. `NoMemory` where there is no
-    /// memory for the file.
+    /// `Failed` only where the count of failed puts rose in this call: any other answer leaves it as it
+    /// was. `NoMemory` where there is no memory for the file.
     fn put(&mut self, name: &str, bytes: &[u8]) -> Result<(), ShelfFail>
         ensures stored { OnOk result (HasAt (files self.new) name.now (Some bytes.now)) }
         ensures others { KeepsOthers (files self.old) (files self.new) name.now }

@@ -2,7 +2,7 @@
 ghost use Rattle.std.specs.Prelude.{◌≡◌, ◌<◌, IfOk, length};
 ghost use Rattle.std.specs.Io.{ReadsAtMost, WritesAtMost};
 ghost use Rattle.std.specs.Io.KnownBytes.{ReadConsumes, WriteAppends};
-ghost use Rattle.fk_causes.specs.Causes.{HasCause, Rose, CountsFault};
+ghost use Rattle.fk_causes.specs.Causes.{HasCause, CountsFault};
 
 use crate::traits::{Failed, Sink, Source};
 use std::io::{Read, Write};
@@ -76,8 +76,7 @@ impl<W: Write> Sink for StdSink<W> {
         ensures bound { WritesAtMost result piece.now }
         ensures bytes { WriteAppends (W.contents self.old.writer) (W.contents self.new.writer) result piece.now }
         ensures cause { HasCause self.old.faults self.new.faults result }
-        ensures zero { IfOk result (λ count. count ≡ 0 → 0 < length piece.now
-            → Rose self.old.faults self.new.faults) }
+        ensures some { IfOk result (λ count. 0 < length piece.now → 0 < count) }
 
         ensures faults { CountsFault self.old.faults self.new.faults result }
     {

@@ -1,8 +1,8 @@
 //! What a source and a sink promise.
-ghost use Rattle.std.specs.Prelude.{◌≡◌, ◌<◌, ℕ, List, Option, IfOk, length};
+ghost use Rattle.std.specs.Prelude.{◌<◌, ℕ, List, Option, IfOk, length};
 ghost use Rattle.std.specs.Io.{ReadsAtMost, WritesAtMost};
 ghost use Rattle.std.specs.Io.KnownBytes.{ReadConsumes, WriteAppends};
-ghost use Rattle.fk_causes.specs.Causes.{HasCause, Rose};
+ghost use Rattle.fk_causes.specs.Causes.{HasCause};
 
 /// A read or a write that failed. The count of faults of its source or sink rose.
 #[derive(Clone, Copy)]
@@ -22,7 +22,8 @@ pub trait Source {
     ///
     /// # Errors
     ///
-    /// `Failed` only where the count of faults rose in this call. Of told bytes none is taken then.
+    /// `Failed` only where the count of faults rose in this call: an `Ok` leaves it as it was. Of told
+    /// bytes none is taken after a failure.
     fn read(&mut self, into: &mut [u8]) -> Result<usize, Failed>
         ensures bound { ReadsAtMost result into.new }
         ensures bytes { ReadConsumes (left self.old) (left self.new) result into.new }
@@ -38,16 +39,15 @@ pub trait Sink {
     ghost faults: { Self → ℕ };
 
     /// Writes the front of a piece, and answers how many bytes it took: at most the length of the
-    /// piece. Told bytes grow by those. 0 for a piece that isn't empty is a fault: the count of
-    /// faults rose in this call.
+    /// piece, and at least one of a piece that isn't empty. Told bytes grow by those.
     ///
     /// # Errors
     ///
-    /// `Failed` only where the count of faults rose in this call. Told bytes are as before then.
+    /// `Failed` only where the count of faults rose in this call: an `Ok` leaves it as it was. Told
+    /// bytes are as before after a failure.
     fn write(&mut self, piece: &[u8]) -> Result<usize, Failed>
         ensures bound { WritesAtMost result piece.now }
         ensures bytes { WriteAppends (written self.old) (written self.new) result piece.now }
         ensures cause { HasCause (faults self.old) (faults self.new) result }
-        ensures zero { IfOk result (λ count. count ≡ 0 → 0 < length piece.now
-            → Rose (faults self.old) (faults self.new)) };
+        ensures some { IfOk result (λ count. 0 < length piece.now → 0 < count) };
 }

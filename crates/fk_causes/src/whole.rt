@@ -1,7 +1,7 @@
 //! All of a source, and all of a text to a sink.
 ghost use Rattle.std.specs.Prelude.{◌≡◌, ◌+◌, ◌<◌, ◌≤◌, ℕ, List, IfOk, OnOk, OnErr, length, vec_len};
 ghost use Rattle.std.specs.Io.KnownBytes.{IsAtEnd, Appends};
-ghost use Rattle.fk_causes.specs.Causes.{HasCause, Rose, MayHold, AppendsPrefix, ConsumesAtMost};
+ghost use Rattle.fk_causes.specs.Causes.{HasCause, Rose, StandsUnless, MayHold, AppendsPrefix, ConsumesAtMost, is_failed_read};
 
 use crate::traits::{Failed, Sink, Source};
 use std::alloc::Global;
@@ -24,9 +24,9 @@ pub enum ReadError {
 ///
 /// # Errors
 ///
-/// `TooLong` where the source held more than `LIMIT` bytes. `ReadFault` where a read failed, and so
-/// only where the source's count of faults rose. `NoMemory` where the text can't grow. What was
-/// read is gone from the source then.
+/// `TooLong` where the source held more than `LIMIT` bytes. `ReadFault` where a read failed: only
+/// where the source's count of faults rose, and wherever it did. `NoMemory` where the text can't
+/// grow. What was read is gone from the source then.
 pub fn read_all<R: Source>(alloc: Global, source: &mut R) -> Result<Vec<u8>, ReadError>
     ensures all { IfOk result (λ text. MayHold (R.left source.old) text.items) }
     ensures end { OnOk result (IsAtEnd (R.left source.new)) }
@@ -37,6 +37,7 @@ pub fn read_all<R: Source>(alloc: Global, source: &mut R) -> Result<Vec<u8>, Rea
         → (bytes : List ℕ) × MayHold (R.left source.old) bytes × (LIMIT < length bytes) }
     ensures read_fault { result ≡ Err ReadError.ReadFault
         → Rose (R.faults source.old) (R.faults source.new) }
+    ensures kept { StandsUnless is_failed_read (R.faults source.old) (R.faults source.new) result }
     ensures later { R.faults source.old ≤ R.faults source.new }
 {
     let mut text = Vec::new(alloc);
@@ -59,8 +60,8 @@ pub fn read_all<R: Source>(alloc: Global, source: &mut R) -> Result<Vec<u8>, Rea
 ///
 /// # Errors
 ///
-/// `Failed` where a write failed, and so only where the sink's count of faults rose. A prefix of the
-/// text is written then.
+/// `Failed` where a write failed: only where the sink's count of faults rose, and wherever it did. A
+/// prefix of the text is written then.
 pub fn write_all<W: Sink>(sink: &mut W, text: &[u8]) -> Result<(), Failed>
     ensures ok { OnOk result (Appends (W.written sink.old) (W.written sink.new) text.now) }
     ensures prefix { OnErr result (AppendsPrefix (W.written sink.old) (W.written sink.new) text.now) }
@@ -69,8 +70,8 @@ pub fn write_all<W: Sink>(sink: &mut W, text: &[u8]) -> Result<(), Failed>
     let mut done = 0;
     while done < text.len() {
         match sink.write(&text[done..]) {
-            Err(Failed) | Ok(0) => return Err(Failed),
             Ok(count) => done += count,
+            Err(Failed) => return Err(Failed),
         }
     }
     Ok(())

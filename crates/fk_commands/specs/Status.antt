@@ -56,6 +56,56 @@ was_cut_short WriteFault = true
 was_cut_short ShelfFault = true
 was_cut_short NoMemory = true
 
+-- ---- which part of the outside failed
+
+abbrev pub is_read_fault : Status → Bool
+is_read_fault Ok = false
+is_read_fault Usage = false
+is_read_fault TooLong = false
+is_read_fault (BadText line reason) = false
+is_read_fault (BadScenario rule section index) = false
+is_read_fault (Absent name) = false
+is_read_fault (BadImage name offset reason) = false
+is_read_fault (BadTrace index) = false
+is_read_fault (JobRefused job) = false
+is_read_fault (Budget budget) = false
+is_read_fault ReadFault = true
+is_read_fault WriteFault = false
+is_read_fault ShelfFault = false
+is_read_fault NoMemory = false
+
+abbrev pub is_write_fault : Status → Bool
+is_write_fault Ok = false
+is_write_fault Usage = false
+is_write_fault TooLong = false
+is_write_fault (BadText line reason) = false
+is_write_fault (BadScenario rule section index) = false
+is_write_fault (Absent name) = false
+is_write_fault (BadImage name offset reason) = false
+is_write_fault (BadTrace index) = false
+is_write_fault (JobRefused job) = false
+is_write_fault (Budget budget) = false
+is_write_fault ReadFault = false
+is_write_fault WriteFault = true
+is_write_fault ShelfFault = false
+is_write_fault NoMemory = false
+
+abbrev pub is_shelf_fault : Status → Bool
+is_shelf_fault Ok = false
+is_shelf_fault Usage = false
+is_shelf_fault TooLong = false
+is_shelf_fault (BadText line reason) = false
+is_shelf_fault (BadScenario rule section index) = false
+is_shelf_fault (Absent name) = false
+is_shelf_fault (BadImage name offset reason) = false
+is_shelf_fault (BadTrace index) = false
+is_shelf_fault (JobRefused job) = false
+is_shelf_fault (Budget budget) = false
+is_shelf_fault ReadFault = false
+is_shelf_fault WriteFault = false
+is_shelf_fault ShelfFault = true
+is_shelf_fault NoMemory = false
+
 -- ---- how far a call came
 
 pub data Progress : Type 0 where

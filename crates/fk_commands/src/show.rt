@@ -1,9 +1,10 @@
 //! The command `show`: the counts of an image are shown.
 ghost use Rattle.std.specs.Prelude.{◌≡◌, IfErr};
-ghost use Rattle.fk_causes.specs.Causes.{Rose};
+ghost use Rattle.fk_causes.specs.Causes.{Rose, StandsUnless};
 ghost use Rattle.fk_image.specs.Format.Reading.{image_reading};
 ghost use Rattle.fk_commands.specs.Show.{IsShow, IsShown};
 ghost use Rattle.fk_commands.specs.Prepared.{ComesTo, IsRefusal};
+ghost use Rattle.fk_commands.specs.Status.{is_shelf_fault};
 
 use crate::image::image_of;
 use crate::prepared::Prepared;
@@ -36,6 +37,7 @@ fn show_image(alloc: Global, name: &str, bytes: &[u8]) -> Result<Prepared, Statu
 pub fn show<H: Shelf>(alloc: Global, name: &str, shelf: &mut H) -> Result<Prepared, Status>
     ensures comes { ComesTo (IsShow name.now (H.files shelf.old)) result }
     ensures refusal { IfErr result (IsRefusal ⊥ (Rose (H.failed_gets shelf.old) (H.failed_gets shelf.new))) }
+    ensures kept_gets { StandsUnless is_shelf_fault (H.failed_gets shelf.old) (H.failed_gets shelf.new) result }
     ensures same_files { H.files shelf.new ≡ H.files shelf.old }
     ensures same_puts { H.failed_puts shelf.new ≡ H.failed_puts shelf.old }
 {

@@ -1,7 +1,8 @@
 //! The images of the shelf that a scenario's jobs need.
 ghost use Rattle.std.specs.Prelude.{◌≡◌, ◌≤◌, [], Ok, Err, Some, IfOk, IfErr, IsSome, option_map};
-ghost use Rattle.fk_causes.specs.Causes.{Rose};
+ghost use Rattle.fk_causes.specs.Causes.{Rose, StandsUnless};
 ghost use Rattle.fk_commands.specs.Prepared.{IsRefusal};
+ghost use Rattle.fk_commands.specs.Status.{is_shelf_fault};
 ghost use Rattle.fk_plays.specs.Images.{needed, Finds, FindsImages, NeedImage, UnlessFailed};
 
 use fk_causes::Shelf;
@@ -29,6 +30,7 @@ fn image_in<H: Shelf>(alloc: Global, shelf: &mut H, name: &str) -> Result<ValidI
     ensures found { IfOk result (λ image. Finds (H.files shelf.old) (Some name.now) (Ok (Some image))) }
     ensures lack { IfErr result (λ status. UnlessFailed status (Finds (H.files shelf.old) (Some name.now) (Err status))) }
     ensures refusal { IfErr result (IsRefusal ⊥ (Rose (H.failed_gets shelf.old) (H.failed_gets shelf.new))) }
+    ensures kept_gets { StandsUnless is_shelf_fault (H.failed_gets shelf.old) (H.failed_gets shelf.new) result }
     ensures later { H.failed_gets shelf.old ≤ H.failed_gets shelf.new }
     ensures same_files { H.files shelf.new ≡ H.files shelf.old }
     ensures same_puts { H.failed_puts shelf.new ≡ H.failed_puts shelf.old }
@@ -49,6 +51,7 @@ fn image_for<H: Shelf>(
     ensures found { IfOk result (λ image. Finds (H.files shelf.old) (needed before.now job.now) (Ok image)) }
     ensures lack { IfErr result (λ status. UnlessFailed status (Finds (H.files shelf.old) (needed before.now job.now) (Err status))) }
     ensures refusal { IfErr result (IsRefusal ⊥ (Rose (H.failed_gets shelf.old) (H.failed_gets shelf.new) × IsSome (needed before.now job.now))) }
+    ensures kept_gets { StandsUnless is_shelf_fault (H.failed_gets shelf.old) (H.failed_gets shelf.new) result }
     ensures later { H.failed_gets shelf.old ≤ H.failed_gets shelf.new }
     ensures same_files { H.files shelf.new ≡ H.files shelf.old }
     ensures same_puts { H.failed_puts shelf.new ≡ H.failed_puts shelf.old }
@@ -73,6 +76,7 @@ pub fn images_for<H: Shelf>(
     ensures found { IfOk result (λ images. FindsImages (H.files shelf.old) [] jobs.now (Ok images)) }
     ensures lack { IfErr result (λ status. UnlessFailed status (FindsImages (H.files shelf.old) [] jobs.now (Err status))) }
     ensures refusal { IfErr result (IsRefusal ⊥ (Rose (H.failed_gets shelf.old) (H.failed_gets shelf.new) × NeedImage [] jobs.now)) }
+    ensures kept_gets { StandsUnless is_shelf_fault (H.failed_gets shelf.old) (H.failed_gets shelf.new) result }
     ensures later { H.failed_gets shelf.old ≤ H.failed_gets shelf.new }
     ensures same_files { H.files shelf.new ≡ H.files shelf.old }
     ensures same_puts { H.failed_puts shelf.new ≡ H.failed_puts shelf.old }

@@ -1,9 +1,10 @@
 //! The command `play`: a scenario is run by the moves of a trace.
 ghost use Rattle.std.specs.Prelude.{◌≡◌, Some, IfOk, IfErr, map, string_bytes};
-ghost use Rattle.fk_causes.specs.Causes.{Rose};
+ghost use Rattle.fk_causes.specs.Causes.{Rose, StandsUnless};
 ghost use Rattle.fk_causes.specs.Shelf.{HasAt};
 ghost use Rattle.fk_commands.specs.Files.{trace_name};
 ghost use Rattle.fk_commands.specs.Prepared.{ComesTo, IsRefusal, IsFileFail};
+ghost use Rattle.fk_commands.specs.Status.{is_shelf_fault};
 ghost use Rattle.fk_plays.specs.Play.{IsPlay, IsPlayedBy, IsScenario};
 ghost use Rattle.fk_scenario.specs.Scenario.Kept.{KeepsScenario, HasRules};
 ghost use Rattle.fk_scenario.specs.Scenario.Reading.{scenario_reading};
@@ -21,6 +22,7 @@ use std::alloc::Global;
 fn trace_of<H: Shelf>(alloc: Global, shelf: &mut H, name: &str) -> Result<Vec<u8>, Status>
     ensures found { IfOk result (λ trace. HasAt (H.files shelf.old) (trace_name name.now) (Some trace.items)) }
     ensures fail { IfErr result (IsFileFail (trace_name name.now) name.now (H.files shelf.old) (H.failed_gets shelf.old) (H.failed_gets shelf.new)) }
+    ensures kept_gets { StandsUnless is_shelf_fault (H.failed_gets shelf.old) (H.failed_gets shelf.new) result }
     ensures same_files { H.files shelf.new ≡ H.files shelf.old }
     ensures same_puts { H.failed_puts shelf.new ≡ H.failed_puts shelf.old }
 {
@@ -41,6 +43,7 @@ fn play_with<H: Shelf>(
     requires rules { HasRules (map (λ r. r.rule) table.now.list.items) scenario.now }
     ensures comes { ComesTo (IsPlayedBy name.now (H.files shelf.old) scenario.now images.now) result }
     ensures refusal { IfErr result (IsRefusal ⊥ (Rose (H.failed_gets shelf.old) (H.failed_gets shelf.new))) }
+    ensures kept_gets { StandsUnless is_shelf_fault (H.failed_gets shelf.old) (H.failed_gets shelf.new) result }
     ensures same_files { H.files shelf.new ≡ H.files shelf.old }
     ensures same_puts { H.failed_puts shelf.new ≡ H.failed_puts shelf.old }
 {
@@ -67,6 +70,7 @@ pub fn play<H: Shelf>(
     ensures comes { ComesTo (IsPlay name.now (H.files shelf.old) (scenario_reading (map (λ r. (string_bytes r.name, r.rule)) table.now.list.items) text.now)) result }
     ensures refusal { IfErr result (IsRefusal ⊥ (Rose (H.failed_gets shelf.old) (H.failed_gets shelf.new)
         × IsScenario (scenario_reading (map (λ r. (string_bytes r.name, r.rule)) table.now.list.items) text.now))) }
+    ensures kept_gets { StandsUnless is_shelf_fault (H.failed_gets shelf.old) (H.failed_gets shelf.new) result }
     ensures same_files { H.files shelf.new ≡ H.files shelf.old }
     ensures same_puts { H.failed_puts shelf.new ≡ H.failed_puts shelf.old }
 {

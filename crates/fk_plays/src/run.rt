@@ -1,7 +1,8 @@
 //! The command `run`: a scenario runs by itself.
 ghost use Rattle.std.specs.Prelude.{◌≡◌, IfErr, map, string_bytes};
-ghost use Rattle.fk_causes.specs.Causes.{Rose};
+ghost use Rattle.fk_causes.specs.Causes.{Rose, StandsUnless};
 ghost use Rattle.fk_commands.specs.Prepared.{ComesTo, IsRefusal};
+ghost use Rattle.fk_commands.specs.Status.{is_shelf_fault};
 ghost use Rattle.fk_plays.specs.Play.{IsScenarioWithImages, IsWholeRun};
 ghost use Rattle.fk_scenario.specs.Scenario.Reading.{scenario_reading};
 
@@ -32,6 +33,7 @@ pub fn run<R: Threads + Wait + Sync, G: Gate + Sync, H: Shelf>(
     ensures comes { ComesTo (IsWholeRun (H.files shelf.old) (scenario_reading (map (λ r. (string_bytes r.name, r.rule)) table.now.list.items) text.now)) result }
     ensures refusal { IfErr result (IsRefusal ⊥ (Rose (H.failed_gets shelf.old) (H.failed_gets shelf.new)
         × IsScenarioWithImages (scenario_reading (map (λ r. (string_bytes r.name, r.rule)) table.now.list.items) text.now))) }
+    ensures kept_gets { StandsUnless is_shelf_fault (H.failed_gets shelf.old) (H.failed_gets shelf.new) result }
     ensures same_files { H.files shelf.new ≡ H.files shelf.old }
     ensures same_puts { H.failed_puts shelf.new ≡ H.failed_puts shelf.old }
 {

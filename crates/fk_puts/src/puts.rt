@@ -1,8 +1,8 @@
 //! What a run leaves on the shelf.
 ghost use Rattle.std.specs.Prelude.{◌≡◌, ◌≤◌, ℕ, List, Some, None, Err, IfOk, IsSome, OnOk, OnErr, option_map, All};
 ghost use Rattle.std.specs.Bool.{OnFalse};
-ghost use Rattle.fk_causes.specs.Causes.{Rose};
-ghost use Rattle.fk_causes.specs.Shelf.{KeepsOthers};
+ghost use Rattle.fk_causes.specs.Causes.{Rose, StandsUnless};
+ghost use Rattle.fk_causes.specs.Shelf.{KeepsOthers, is_failed};
 ghost use Rattle.fk_causes.specs.declared.shelf.ShelfFail.TheVariants as fails;
 ghost use Rattle.fk_commands.specs.Files.{image_name, trace_name};
 ghost use Rattle.fk_puts.specs.Small.{AreSmall, IsSmall};
@@ -36,6 +36,7 @@ fn put_image<H: Shelf>(
     ensures put { OnOk result (PutsImage name.now image.now (H.files shelf.old) (H.files shelf.new)) }
     ensures others { KeepsOthers (H.files shelf.old) (H.files shelf.new) (image_name name.now) }
     ensures cause { result ≡ Err fails.Failed → Rose (H.failed_puts shelf.old) (H.failed_puts shelf.new) }
+    ensures kept { StandsUnless is_failed (H.failed_puts shelf.old) (H.failed_puts shelf.new) result }
     ensures later { H.failed_puts shelf.old ≤ H.failed_puts shelf.new }
     ensures same_gets { H.failed_gets shelf.new ≡ H.failed_gets shelf.old }
 {
@@ -57,6 +58,7 @@ fn put_end<H: Shelf>(
     ensures put { OnOk result (PutsEnd name.now (option_map (λ e. e.now) end.entry) (H.files shelf.old) (H.files shelf.new)) }
     ensures others { OpensEnd name.now (option_map (λ e. e.now) end.entry) (H.files shelf.old) (H.files shelf.new) }
     ensures cause { result ≡ Err fails.Failed → Rose (H.failed_puts shelf.old) (H.failed_puts shelf.new) }
+    ensures kept { StandsUnless is_failed (H.failed_puts shelf.old) (H.failed_puts shelf.new) result }
     ensures later { H.failed_puts shelf.old ≤ H.failed_puts shelf.new }
     ensures same_gets { H.failed_gets shelf.new ≡ H.failed_gets shelf.old }
 {
@@ -83,6 +85,7 @@ fn put_images<H: Shelf>(
     ensures put { OnOk result (PutImages ends.now 0 names.now (H.files shelf.old) (H.files shelf.new)) }
     ensures some { OnErr result (PutSomeImages ends.now 0 names.now (H.files shelf.old) (H.files shelf.new)) }
     ensures cause { result ≡ Err fails.Failed → Rose (H.failed_puts shelf.old) (H.failed_puts shelf.new) }
+    ensures kept { StandsUnless is_failed (H.failed_puts shelf.old) (H.failed_puts shelf.new) result }
     ensures later { H.failed_puts shelf.old ≤ H.failed_puts shelf.new }
     ensures same_gets { H.failed_gets shelf.new ≡ H.failed_gets shelf.old }
 {
@@ -128,6 +131,7 @@ fn put_trace<H: Shelf>(
     ensures put { OnOk result (IsPut (H.files shelf.old) (trace_name name.now) (traces.trace_text report.now.history) (H.files shelf.new)) }
     ensures others { KeepsOthers (H.files shelf.old) (H.files shelf.new) (trace_name name.now) }
     ensures cause { result ≡ Err fails.Failed → Rose (H.failed_puts shelf.old) (H.failed_puts shelf.new) }
+    ensures kept { StandsUnless is_failed (H.failed_puts shelf.old) (H.failed_puts shelf.new) result }
     ensures same_gets { H.failed_gets shelf.new ≡ H.failed_gets shelf.old }
     ensures small { OnOk result (All traces.IsMove report.now.history) }
 {
@@ -150,6 +154,7 @@ fn put_named<H: Shelf>(
     ensures put { OnOk result (PutsTrace (option_map (λ name. name.now) trace.entry) report.now.history (H.files shelf.old) (H.files shelf.new)) }
     ensures others { KeepsButTrace (option_map (λ name. name.now) trace.entry) (H.files shelf.old) (H.files shelf.new) }
     ensures cause { result ≡ Err fails.Failed → Rose (H.failed_puts shelf.old) (H.failed_puts shelf.new) }
+    ensures kept { StandsUnless is_failed (H.failed_puts shelf.old) (H.failed_puts shelf.new) result }
     ensures same_gets { H.failed_gets shelf.new ≡ H.failed_gets shelf.old }
     ensures small { OnOk result (IsSmall (option_map (λ name. name.now) trace.entry) report.now.history) }
 {
@@ -169,6 +174,7 @@ fn put_run<H: Shelf>(
     ensures put { OnOk result (PutsRun (option_map (λ name. name.now) trace.entry) report.now (H.files shelf.old) (H.files shelf.new)) }
     ensures some { OnErr result (PutsSome (option_map (λ name. name.now) trace.entry) report.now (H.files shelf.old) (H.files shelf.new)) }
     ensures cause { result ≡ Err fails.Failed → Rose (H.failed_puts shelf.old) (H.failed_puts shelf.new) }
+    ensures kept { StandsUnless is_failed (H.failed_puts shelf.old) (H.failed_puts shelf.new) result }
     ensures same_gets { H.failed_gets shelf.new ≡ H.failed_gets shelf.old }
     ensures small { OnOk result (IsSmall (option_map (λ name. name.now) trace.entry) report.now.history) }
 {
@@ -191,6 +197,7 @@ fn put_of<H: Shelf>(
     ensures put { OnOk result (HasPut (Some (seen command.entry)) report.now (H.files shelf.old) (H.files shelf.new)) }
     ensures some { OnErr result (HasPutSome (Some (seen command.entry)) report.now (H.files shelf.old) (H.files shelf.new)) }
     ensures cause { result ≡ Err fails.Failed → IsSome report.now × Rose (H.failed_puts shelf.old) (H.failed_puts shelf.new) }
+    ensures kept { StandsUnless is_failed (H.failed_puts shelf.old) (H.failed_puts shelf.new) result }
     ensures same_gets { H.failed_gets shelf.new ≡ H.failed_gets shelf.old }
     ensures shelf { OnFalse (uses_shelf (Some (seen command.entry))) (shelf.new ≡ shelf.old) }
     ensures small { OnOk result (AreSmall (Some (seen command.entry)) report.now) }
@@ -223,6 +230,7 @@ pub fn put_files<H: Shelf>(
     ensures some { OnErr result (HasPutSome (Some (seen command.entry)) report.now (H.files shelf.old) (H.files shelf.new)) }
     ensures others { KeepsFiles (Some (seen command.entry)) (H.files shelf.old) (H.files shelf.new) }
     ensures cause { result ≡ Err fails.Failed → IsSome report.now × Rose (H.failed_puts shelf.old) (H.failed_puts shelf.new) }
+    ensures kept { StandsUnless is_failed (H.failed_puts shelf.old) (H.failed_puts shelf.new) result }
     ensures same_gets { H.failed_gets shelf.new ≡ H.failed_gets shelf.old }
     ensures shelf { OnFalse (uses_shelf (Some (seen command.entry))) (shelf.new ≡ shelf.old) }
     ensures small { OnOk result (AreSmall (Some (seen command.entry)) report.now) }

@@ -2,13 +2,14 @@
 ghost use Rattle.std.specs.Prelude.{◌≡◌, ◌↔◌, Some, None, Err, IsSome, OnOk, OnErr, IfErr, map, string_bytes, true, false};
 ghost use Rattle.std.specs.Bool.{OnTrue, OnFalse};
 ghost use Rattle.std.specs.Io.KnownBytes.{Appends, IsAtEnd, Keeps};
-ghost use Rattle.fk_causes.specs.Causes.{AppendsPrefix, Rose};
+ghost use Rattle.fk_causes.specs.Causes.{AppendsPrefix, Rose, StandsUnless};
+ghost use Rattle.fk_causes.specs.Shelf.{is_failed};
 ghost use Rattle.fk_causes.specs.declared.shelf.ShelfFail.TheVariants as fails;
 ghost use Rattle.fk_run.specs.Again.{PlaysAgain};
 ghost use Rattle.fk_run.specs.Complete.{IsComplete};
 ghost use Rattle.fk_words.specs.Commands.{command_of, reads_source, uses_shelf, is_shared, seen, HasCount};
 ghost use Rattle.fk_commands.specs.Prepared.{ComesTo, IsRefusal, outcome_of};
-ghost use Rattle.fk_commands.specs.Status.{progress_of, Finished, was_cut_short, has_written_nothing};
+ghost use Rattle.fk_commands.specs.Status.{progress_of, Finished, was_cut_short, has_written_nothing, is_read_fault, is_write_fault, is_shelf_fault};
 ghost use Rattle.fk_run.specs.Jobs.{HoldsOf};
 ghost use Rattle.fk_puts.specs.Puts.{HasPut, HasPutSome, KeepsFiles};
 ghost use Rattle.fk_run.specs.Top.{Rules, IsDue, IsDone, IsCutOff, HasFailed, GetsToShelf, has_no_report, has_put_all, has_put_none, has_read_all};
@@ -46,6 +47,8 @@ fn prepare_alone<R: Source, H: Shelf>(
     ensures refusal { IfErr result (IsRefusal (Rose (R.faults source.old) (R.faults source.new))
         (Rose (H.failed_gets shelf.old) (H.failed_gets shelf.new)
         × GetsToShelf (map (λ r. (string_bytes r.name, r.rule)) table.now.list.items) (Some (seen command.entry)) (R.left source.old))) }
+    ensures kept_reads { StandsUnless is_read_fault (R.faults source.old) (R.faults source.new) result }
+    ensures kept_gets { StandsUnless is_shelf_fault (H.failed_gets shelf.old) (H.failed_gets shelf.new) result }
     ensures all_read { OnOk result (OnTrue (reads_source (Some (seen command.entry))) (IsAtEnd (R.left source.new))) }
     ensures all_read_before { IfErr result (λ status. OnTrue (has_read_all (Some (seen command.entry)) status) (IsAtEnd (R.left source.new))) }
     ensures source { OnFalse (reads_source (Some (seen command.entry))) (source.new ≡ source.old) }
@@ -83,6 +86,8 @@ fn prepare_shared<T: Threads + Wait + Sync, R: Source, H: Shelf, G: Gate + Sync>
     ensures refusal { IfErr result (IsRefusal (Rose (R.faults source.old) (R.faults source.new))
         (Rose (H.failed_gets shelf.old) (H.failed_gets shelf.new)
         × GetsToShelf (map (λ r. (string_bytes r.name, r.rule)) table.now.list.items) (Some (seen command.entry)) (R.left source.old))) }
+    ensures kept_reads { StandsUnless is_read_fault (R.faults source.old) (R.faults source.new) result }
+    ensures kept_gets { StandsUnless is_shelf_fault (H.failed_gets shelf.old) (H.failed_gets shelf.new) result }
     ensures all_read { OnOk result (OnTrue (reads_source (Some (seen command.entry))) (IsAtEnd (R.left source.new))) }
     ensures all_read_before { IfErr result (λ status. OnTrue (has_read_all (Some (seen command.entry)) status) (IsAtEnd (R.left source.new))) }
     ensures source { OnFalse (reads_source (Some (seen command.entry))) (source.new ≡ source.old) }
@@ -115,6 +120,7 @@ fn put_all<H: Shelf>(
     ensures some { OnErr result (HasPutSome (Some (seen command.entry)) report.now (H.files shelf.old) (H.files shelf.new)) }
     ensures others { KeepsFiles (Some (seen command.entry)) (H.files shelf.old) (H.files shelf.new) }
     ensures cause { result ≡ Err fails.Failed → IsSome report.now × Rose (H.failed_puts shelf.old) (H.failed_puts shelf.new) }
+    ensures kept { StandsUnless is_failed (H.failed_puts shelf.old) (H.failed_puts shelf.new) result }
     ensures same_gets { H.failed_gets shelf.new ≡ H.failed_gets shelf.old }
     ensures shelf { OnFalse (uses_shelf (Some (seen command.entry))) (shelf.new ≡ shelf.old) }
     ensures again { (rules : Rules) → OnOk result (PlaysAgain rules (Some (seen command.entry)) (H.files shelf.new) report.now) }
@@ -138,6 +144,10 @@ fn finish<W: Sink, H: Shelf>(
         × Rose (H.failed_puts shelf.old) (H.failed_puts shelf.new) }
     ensures write_fault { result.status ≡ Status.WriteFault → (result.report ≡ prepared.report) × Rose (W.faults sink.old) (W.faults sink.new)
         × AppendsPrefix (W.written sink.old) (W.written sink.new) (string_bytes prepared.output) }
+    ensures kept_writes { OnFalse (is_write_fault result.status) (W.faults sink.new ≡ W.faults sink.old) }
+    ensures kept_puts { OnFalse (is_shelf_fault result.status) (H.failed_puts shelf.new ≡ H.failed_puts shelf.old) }
+    ensures puts_of_none { result.report ≡ None → H.failed_puts shelf.new ≡ H.failed_puts shelf.old }
+    ensures same_gets { H.failed_gets shelf.new ≡ H.failed_gets shelf.old }
     ensures nothing { OnTrue (has_written_nothing result.status) (Keeps (W.written sink.old) (W.written sink.new)) }
     ensures no_report { OnTrue (has_no_report result.status) (result.report ≡ None) }
     ensures put { OnTrue (has_put_all result.status) (HasPut (Some (seen command.entry)) result.report (H.files shelf.old) (H.files shelf.new)) }
@@ -202,6 +212,12 @@ pub fn fluke_alone<R: Source, W: Sink, H: Shelf>(
         (H.failed_puts shelf.old) (H.failed_puts shelf.new) (map (λ r. (string_bytes r.name, r.rule)) table.now.list.items)
         (command_of (map string_bytes words.now)) (R.left source.old) (H.files shelf.old) result result.report }
     ensures write_fault { result.status ≡ Status.WriteFault → Rose (W.faults sink.old) (W.faults sink.new) }
+    ensures reads { OnFalse (is_read_fault result.status) (R.faults source.new ≡ R.faults source.old) }
+    ensures writes { OnFalse (is_write_fault result.status) (W.faults sink.new ≡ W.faults sink.old) }
+    ensures gets { OnFalse (is_shelf_fault result.status) (H.failed_gets shelf.new ≡ H.failed_gets shelf.old) }
+    ensures gets_of_run { IsSome result.report → H.failed_gets shelf.new ≡ H.failed_gets shelf.old }
+    ensures puts { OnFalse (is_shelf_fault result.status) (H.failed_puts shelf.new ≡ H.failed_puts shelf.old) }
+    ensures puts_of_none { result.report ≡ None → H.failed_puts shelf.new ≡ H.failed_puts shelf.old }
     ensures cut_off { result.status ≡ Status.WriteFault → IsCutOff (map (λ r. (string_bytes r.name, r.rule)) table.now.list.items)
         (command_of (map string_bytes words.now))
         (R.left source.old) (H.files shelf.old) (W.written sink.old) (W.written sink.new) result }
@@ -294,6 +310,12 @@ pub fn fluke_top<T: Threads + Wait + Sync, R: Source, W: Sink, H: Shelf, G: Gate
         (H.failed_puts shelf.old) (H.failed_puts shelf.new) (map (λ r. (string_bytes r.name, r.rule)) table.now.list.items)
         (command_of (map string_bytes words.now)) (R.left source.old) (H.files shelf.old) result result.report }
     ensures write_fault { result.status ≡ Status.WriteFault → Rose (W.faults sink.old) (W.faults sink.new) }
+    ensures reads { OnFalse (is_read_fault result.status) (R.faults source.new ≡ R.faults source.old) }
+    ensures writes { OnFalse (is_write_fault result.status) (W.faults sink.new ≡ W.faults sink.old) }
+    ensures gets { OnFalse (is_shelf_fault result.status) (H.failed_gets shelf.new ≡ H.failed_gets shelf.old) }
+    ensures gets_of_run { IsSome result.report → H.failed_gets shelf.new ≡ H.failed_gets shelf.old }
+    ensures puts { OnFalse (is_shelf_fault result.status) (H.failed_puts shelf.new ≡ H.failed_puts shelf.old) }
+    ensures puts_of_none { result.report ≡ None → H.failed_puts shelf.new ≡ H.failed_puts shelf.old }
     ensures cut_off { result.status ≡ Status.WriteFault → IsCutOff (map (λ r. (string_bytes r.name, r.rule)) table.now.list.items)
         (command_of (map string_bytes words.now))
         (R.left source.old) (H.files shelf.old) (W.written sink.old) (W.written sink.new) result }

@@ -164,6 +164,7 @@ impl<S: Service + Drop, W: Worker + Drop> Core<S, W> {
         requires fits { AllFit (map (λ r. r.rule) table.now.list.items) self.old.services.list }
         ensures turned { OnOk result (IsTurned self.old.jobs.jobs (run_core self.old) m.now (run_core self.new)) }
         ensures lacking { OnErr result (run_core self.new ≡ run_core self.old) }
+        ensures lacking_kernel { OnErr result (self.new.kernel ≡ self.old.kernel) }
         ensures fits { AllFit (map (λ r. r.rule) table.now.list.items) self.new.services.list }
         ensures budget { self.new.budget ≡ self.old.budget }
         ensures jobs { self.new.jobs.jobs ≡ self.old.jobs.jobs }
@@ -185,6 +186,7 @@ impl<S: Service + Drop, W: Worker + Drop> Core<S, W> {
         requires fits { AllFit (map (λ r. r.rule) table.now.list.items) self.old.services.list }
         ensures tried { IsTried (IsReadyMove self.old.jobs.jobs (run_core self.old) m.now) self.old.jobs.jobs
             (run_core self.old) m.now (run_core self.new) result }
+        ensures lacking_kernel { OnErr result (self.new.kernel ≡ self.old.kernel) }
         ensures fits { AllFit (map (λ r. r.rule) table.now.list.items) self.new.services.list }
         ensures budget { self.new.budget ≡ self.old.budget }
         ensures jobs { self.new.jobs.jobs ≡ self.old.jobs.jobs }
@@ -228,6 +230,7 @@ impl<S: Service + Drop, W: Worker + Drop> Core<S, W> {
         requires fits { AllFit (map (λ r. r.rule) table.now.list.items) self.old.services.list }
         ensures tried { IsTried (IsReadyMove self.old.jobs.jobs (run_core self.old) m.now) self.old.jobs.jobs
             (run_core self.old) m.now (run_core self.new) result }
+        ensures lacking_kernel { OnErr result (self.new.kernel ≡ self.old.kernel) }
         ensures fits { AllFit (map (λ r. r.rule) table.now.list.items) self.new.services.list }
         ensures budget { self.new.budget ≡ self.old.budget }
         ensures jobs { self.new.jobs.jobs ≡ self.old.jobs.jobs }
@@ -246,6 +249,7 @@ impl<S: Service + Drop, W: Worker + Drop> Core<S, W> {
         requires fits { AllFit (map (λ r. r.rule) table.now.list.items) self.old.services.list }
         ensures tried { IsTried (IsAskedMove self.old.jobs.jobs (run_core self.old) m.now) self.old.jobs.jobs
             (run_core self.old) m.now (run_core self.new) result }
+        ensures lacking_kernel { OnErr result (self.new.kernel ≡ self.old.kernel) }
         ensures fits { AllFit (map (λ r. r.rule) table.now.list.items) self.new.services.list }
         ensures budget { self.new.budget ≡ self.old.budget }
         ensures jobs { self.new.jobs.jobs ≡ self.old.jobs.jobs }
@@ -301,6 +305,7 @@ impl<S: Service + Drop, W: Worker + Drop> Core<S, W> {
         requires fits { AllFit (map (λ r. r.rule) table.now.list.items) self.old.services.list }
         ensures tried { IsTried (IsAskedMove self.old.jobs.jobs (run_core self.old) m.now) self.old.jobs.jobs
             (run_core self.old) m.now (run_core self.new) result }
+        ensures lacking_kernel { OnErr result (self.new.kernel ≡ self.old.kernel) }
         ensures fits { AllFit (map (λ r. r.rule) table.now.list.items) self.new.services.list }
         ensures budget { self.new.budget ≡ self.old.budget }
         ensures jobs { self.new.jobs.jobs ≡ self.old.jobs.jobs }
@@ -334,6 +339,7 @@ impl<S: Service + Drop, W: Worker + Drop> Core<S, W> {
         requires fits { AllFit (map (λ r. r.rule) table.now.list.items) self.old.services.list }
         ensures tried { IsTried (IsReadyMove self.old.jobs.jobs (run_core self.old) m.now) self.old.jobs.jobs
             (run_core self.old) m.now (run_core self.new) result }
+        ensures lacking_kernel { OnErr result (self.new.kernel ≡ self.old.kernel) }
         ensures fits { AllFit (map (λ r. r.rule) table.now.list.items) self.new.services.list }
         ensures budget { self.new.budget ≡ self.old.budget }
         ensures jobs { self.new.jobs.jobs ≡ self.old.jobs.jobs }
@@ -355,6 +361,7 @@ impl<S: Service + Drop, W: Worker + Drop> Core<S, W> {
         requires fits { AllFit (map (λ r. r.rule) table.now.list.items) self.old.services.list }
         ensures tried { IsTried (IsReadyMove self.old.jobs.jobs (run_core self.old) m.now) self.old.jobs.jobs
             (run_core self.old) m.now (run_core self.new) result }
+        ensures lacking_kernel { OnErr result (self.new.kernel ≡ self.old.kernel) }
         ensures fits { AllFit (map (λ r. r.rule) table.now.list.items) self.new.services.list }
         ensures budget { self.new.budget ≡ self.old.budget }
         ensures jobs { self.new.jobs.jobs ≡ self.old.jobs.jobs }
@@ -371,6 +378,7 @@ impl<S: Service + Drop, W: Worker + Drop> Core<S, W> {
         requires fits { AllFit (map (λ r. r.rule) table.now.list.items) self.old.services.list }
         ensures tried { IsTried (IsCalledMove self.old.jobs (run_core self.old) m.now) self.old.jobs.jobs
             (run_core self.old) m.now (run_core self.new) result }
+        ensures lacking_kernel { OnErr result (self.new.kernel ≡ self.old.kernel) }
         ensures fits { AllFit (map (λ r. r.rule) table.now.list.items) self.new.services.list }
         ensures budget { self.new.budget ≡ self.old.budget }
         ensures jobs { self.new.jobs.jobs ≡ self.old.jobs.jobs }

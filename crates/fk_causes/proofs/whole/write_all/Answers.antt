@@ -7,5 +7,5 @@ pub loop-done-preserved : goal.loop-done-preserved
 loop-done-preserved g c = record {
   within = grind (arith, common_steps);
   appended = Appends-take-add _ _ _ c.args.text.now _ _ c.loop-done.invariant.appended c.in-Ok.ensures.bytes;
-  later = search rules;
+  kept = search rules;
 }

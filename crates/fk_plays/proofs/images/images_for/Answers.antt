@@ -38,6 +38,7 @@ loop-job-preserved g c =
       need = subst (NeedsFrom files jobs) (sym long) (needs-on files jobs (length images) job got c.loop-job.invariant.need);
       within = omega (arith, long, within);
       later = omega (arith, before, after);
+      kept = c.in_ok-image.ensures.kept_gets ∙ c.loop-job.invariant.kept;
       same_files = c.image_for.ensures.same_files ∙ c.loop-job.invariant.same_files;
       same_puts = c.image_for.ensures.same_puts ∙ c.loop-job.invariant.same_puts;
     })

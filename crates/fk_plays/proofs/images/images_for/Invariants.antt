@@ -9,6 +9,7 @@ invariant-loop-job g l = record {
   need : NeedsFrom (g.H.Shelf.files l.fn.shelf) l.jobs (length l.images);
   within : length l.images ≤ length l.jobs;
   later : g.H.Shelf.failed_gets l.fn.shelf ≤ g.H.Shelf.failed_gets l.shelf;
+  kept : g.H.Shelf.failed_gets l.shelf ≡ g.H.Shelf.failed_gets l.fn.shelf;
   same_files : g.H.Shelf.files l.shelf ≡ g.H.Shelf.files l.fn.shelf;
   same_puts : g.H.Shelf.failed_puts l.shelf ≡ g.H.Shelf.failed_puts l.fn.shelf;
 }

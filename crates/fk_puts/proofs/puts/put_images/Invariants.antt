@@ -10,6 +10,6 @@ invariant-loop-name g l = record {
       → PutImages l.ends 0 l.names (g.H.Shelf.files l.fn.shelf) new;
   some : (new : Option FileMap) → PutSomeImages l.ends l.place (drop l.name-index l.names) (g.H.Shelf.files l.shelf) new
       → PutSomeImages l.ends 0 l.names (g.H.Shelf.files l.fn.shelf) new;
-  later : g.H.Shelf.failed_puts l.fn.shelf ≤ g.H.Shelf.failed_puts l.shelf;
+  kept : g.H.Shelf.failed_puts l.shelf ≡ g.H.Shelf.failed_puts l.fn.shelf;
   same_gets : g.H.Shelf.failed_gets l.shelf ≡ g.H.Shelf.failed_gets l.fn.shelf;
 }
