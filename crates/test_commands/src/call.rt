@@ -1,8 +1,8 @@
 //! A case, called.
-use crate::case::Case;
-use crate::slow::{SlowSink, SlowSource};
+use crate::case::{Case, FileMap};
+use crate::pieces::{PieceSink, PieceSource};
 use crate::watch::Watch;
-use fk_causes::{MemShelf, MemSink, MemSource, NoMemory, Shelf, Sink, Source};
+use fk_causes::{MemShelf, MemSink, MemSource, NoMemory, Shelf};
 use fk_responders::Table;
 use fk_run::{End, Outcome, Report, fault_line, fluke_top};
 use fk_trace_text::trace_text;
@@ -10,8 +10,24 @@ use std::alloc::Global;
 use std::sync::Wait;
 use std::thread::Threads;
 
+/// The status for want of memory.
+const NO_MEMORY: u8 = 14;
+
+/// How a call ended.
+#[derive(Clone, Copy)]
+pub enum Ended {
+    /// As its case says.
+    Whole,
+    /// For want of memory, with no more done than is due.
+    Short,
+    /// In another way.
+    Otherwise,
+    /// As its case says, with ample memory: there is more than can be taken, or others would starve.
+    Ample,
+}
+
 /// A shelf with the files of a case on it. What fails is counted from the next call on.
-pub fn shelf_of(alloc: Global, case: &Case) -> Result<MemShelf, NoMemory> {
+fn shelf_of(alloc: Global, case: &Case) -> Result<MemShelf, NoMemory> {
     let mut shelf = MemShelf::new(case.fails_of(alloc, 2, case.files.len() as u64)?);
     for (name, bytes) in &case.files {
         if shelf.put(name.as_str(), bytes).is_err() {
@@ -21,30 +37,17 @@ pub fn shelf_of(alloc: Global, case: &Case) -> Result<MemShelf, NoMemory> {
     Ok(shelf)
 }
 
-/// The command of a case, called over these. So each caller is checked without the promises of `fluke_top`, which none of them needs.
-pub fn outcome_of<R: Threads + Wait + Sync, S: Source, W: Sink>(
-    rt: &R,
-    alloc: Global,
-    table: &Table,
-    case: &Case,
-    source: &mut S,
-    sink: &mut W,
-    shelf: &mut MemShelf,
-    watch: &Watch,
-) -> Outcome {
-    fluke_top(rt, alloc, &case.words, table, source, sink, shelf, watch)
-}
-
 /// Whether a report has these moves, as a trace, and then this end.
 fn is_report(alloc: Global, report: &Report, wanted: &[u8]) -> Result<bool, NoMemory> {
-    let moves = report.history.list(alloc)?;
-    let mut text = trace_text(alloc, moves.as_slice())?;
-    text.push_str(match report.end {
+    let end = match report.end {
         End::Halted => "end halted\n",
         End::Quiet => "end quiet\n",
         End::Budget => "end budget\n",
         End::Listed => "end listed\n",
-    })?;
+    };
+    let moves = report.history.list(alloc)?;
+    let mut text = trace_text(alloc, moves.as_slice())?;
+    text.push_str(end)?;
     Ok(text.as_str().as_bytes() == wanted)
 }
 
@@ -52,10 +55,10 @@ fn is_report(alloc: Global, report: &Report, wanted: &[u8]) -> Result<bool, NoMe
 fn has_report(
     alloc: Global,
     case: &Case,
-    outcome: &Outcome,
+    report: &Option<Report>,
     watch: &Watch,
 ) -> Result<bool, NoMemory> {
-    match &outcome.report {
+    match report {
         Some(report) => Ok(
             watch.is_well(report.history.len())
                 && (case.report.is_empty() || is_report(alloc, report, &case.report)?),
@@ -64,34 +67,73 @@ fn has_report(
     }
 }
 
-/// What was found where that isn't what the case says; empty where it is.
-fn difference(
+/// Whether each file is as it was or as it is wanted, and none is gone.
+fn are_in_order(case: &Case, files: &FileMap) -> bool {
+    for (name, bytes) in files {
+        if case.files.get(name) != Some(bytes) && case.after.get(name) != Some(bytes) {
+            return false;
+        }
+    }
+    files.len() >= case.files.len()
+}
+
+/// How a call has ended.
+fn ending_of<R: Print>(
+    rt: &R,
     alloc: Global,
     case: &Case,
     outcome: &Outcome,
     output: &[u8],
-    shelf: &MemShelf,
+    files: &FileMap,
     watch: &Watch,
-) -> Result<String, NoMemory> {
+) -> Result<Ended, NoMemory> {
     let status = outcome.status.number();
-    let line = fault_line(alloc, &outcome.status)?;
-    let is_told = line == case.error && has_report(alloc, case, outcome, watch)?;
-    if is_told && case.is_whole(status, output, shelf.files()) {
-        return Ok(String::new(alloc));
+    let is_done = status == case.status && case.output.as_slice() == output && case.after == *files;
+    if is_done
+        && fault_line(alloc, &outcome.status)? == case.error
+        && has_report(alloc, case, &outcome.report, watch)?
+    {
+        return Ok(Ended::Whole);
     }
+    if status == NO_MEMORY && output.is_empty() && are_in_order(case, files) {
+        return Ok(Ended::Short);
+    }
+    let name = case.name.as_str();
     let text = str::from_utf8(output).unwrap_or("no text");
-    Ok(format!(in alloc; "status {status}, line {line:?}, as told {is_told}, output {text:?}")?)
+    // Who can't write this can't write the counts, and ends with that.
+    let _ = println!(rt; "case {name}: status {status}, output {text:?}");
+    Ok(Ended::Otherwise)
 }
 
-/// Makes the call of a case: what differs.
-pub fn call<R: Threads + Wait + Sync>(
+/// The command of a case, called over these. So its caller is checked without the promises of `fluke_top`, which it doesn't need.
+fn outcome_of<R: Threads + Wait + Sync>(
     rt: &R,
     alloc: Global,
     table: &Table,
     case: &Case,
-) -> Result<String, NoMemory> {
-    let mut source = MemSource::new(case.source.clone()?, case.fails_of(alloc, 0, 0)?);
-    let mut sink = MemSink::new(alloc, case.room, case.fails_of(alloc, 1, 0)?)?;
+    source: &mut PieceSource,
+    sink: &mut PieceSink,
+    shelf: &mut MemShelf,
+    watch: &Watch,
+) -> Outcome {
+    fluke_top(rt, alloc, &case.words, table, source, sink, shelf, watch)
+}
+
+/// Makes the call of a case.
+pub fn call<R: Print + AllocGlobal + Threads + Wait + Sync>(
+    rt: &R,
+    table: &Table,
+    case: &Case,
+) -> Result<Ended, NoMemory> {
+    let alloc = rt.alloc();
+    let mut source = PieceSource {
+        source: MemSource::new(case.source.clone()?, case.fails_of(alloc, 0, 0)?),
+        is_slow: case.is_slow,
+    };
+    let mut sink = PieceSink {
+        sink: MemSink::new(alloc, case.room, case.fails_of(alloc, 1, 0)?)?,
+        is_slow: case.is_slow,
+    };
     let mut shelf = shelf_of(alloc, case)?;
     let watch = Watch::new(case.holds);
     let outcome = outcome_of(
@@ -104,29 +146,13 @@ pub fn call<R: Threads + Wait + Sync>(
         &mut shelf,
         &watch,
     );
-    difference(alloc, case, &outcome, sink.bytes(), &shelf, &watch)
-}
-
-/// The same, a byte at a time.
-pub fn call_slowly<R: Threads + Wait + Sync>(
-    rt: &R,
-    alloc: Global,
-    table: &Table,
-    case: &Case,
-) -> Result<String, NoMemory> {
-    let mut source = SlowSource::new(case.source.clone()?);
-    let mut sink = SlowSink::new(alloc);
-    let mut shelf = shelf_of(alloc, case)?;
-    let watch = Watch::new(case.holds);
-    let outcome = outcome_of(
+    ending_of(
         rt,
         alloc,
-        table,
         case,
-        &mut source,
-        &mut sink,
-        &mut shelf,
+        &outcome,
+        sink.sink.bytes(),
+        shelf.files(),
         &watch,
-    );
-    difference(alloc, case, &outcome, sink.bytes(), &shelf, &watch)
+    )
 }

@@ -2,7 +2,7 @@
 //!
 //! `case NAME` begins one with nothing in it, `again NAME` one with the words, the source and the files of the one before. Then `words A B`
 //! and `word A` are the words of the command, `source` and `file NAME` have content, `room N` is what the sink takes, `fails OBJECT N` has
-//! the call N of the `source`, the `sink` or the `shelf` fail, counted from 1, and `fails OBJECT N..M` each of these calls in its turn. `holds 1` holds the
+//! the call N of the `source`, the `sink` or the `shelf` fail, counted from 1, and `fails OBJECT N..M` all these calls. `holds 1` holds the
 //! first worker until the second has passed, and `holds 2` all others until a burst was committed (`watch`). What must come of it: `status N`, `error TEXT`
 //! for the line of the fault, `output` with content, `after NAME` with what a file of the shelf holds then, and `report` with the moves
 //! of the report as a trace, and how they ended. All other files are to be as they were.
@@ -46,10 +46,8 @@ pub struct Case {
     pub room: u32,
     /// The calls that fail.
     pub fails: Vec<Fail>,
-    /// The object whose calls fail each in its turn, from the first of these numbers to the last; none where the last is 0.
-    pub turning: usize,
-    pub first: u64,
-    pub last: u64,
+    /// Whether the source gives one byte a call, and the sink takes one.
+    pub is_slow: bool,
     /// Which workers are held, and until when.
     pub holds: u8,
     /// What must come of it.
@@ -109,6 +107,19 @@ pub fn add(alloc: Global, content: &mut Vec<u8>, line: &str) -> anyhow::Result<b
     Ok(true)
 }
 
+/// Makes bytes what they are to be.
+fn fill(bytes: &mut Vec<u8>, content: &[u8]) -> Result<(), AllocError> {
+    bytes.clear();
+    bytes.extend_from_slice(content)
+}
+
+/// Puts a file among others.
+fn put(alloc: Global, files: &mut FileMap, name: &str, content: &[u8]) -> Result<(), AllocError> {
+    let bytes = content.to_vec(alloc)?;
+    files.insert(String::from_str(alloc, name)?, bytes)?;
+    Ok(())
+}
+
 impl Case {
     /// No case.
     pub fn none(alloc: Global) -> Case {
@@ -119,9 +130,7 @@ impl Case {
             files: BTreeMap::new(alloc),
             room: ROOM,
             fails: Vec::new(alloc),
-            turning: 0,
-            first: 0,
-            last: 0,
+            is_slow: false,
             holds: 0,
             status: 0,
             error: String::new(alloc),
@@ -137,7 +146,6 @@ impl Case {
         self.name.push_str(name)?;
         self.room = ROOM;
         self.fails.clear();
-        self.last = 0;
         self.holds = 0;
         self.status = 0;
         self.error.clear();
@@ -147,11 +155,17 @@ impl Case {
         Ok(())
     }
 
+    /// Takes a word.
+    fn take_word(&mut self, alloc: Global, word: &str) -> Result<(), AllocError> {
+        self.words.push(String::from_str(alloc, word)?)?;
+        Ok(())
+    }
+
     /// Takes the words between the spaces of a text.
     fn take_words(&mut self, alloc: Global, text: &str) -> Result<(), AllocError> {
         self.words.clear();
         for word in text.split(' ') {
-            self.words.push(String::from_str(alloc, word)?)?;
+            self.take_word(alloc, word)?;
         }
         Ok(())
     }
@@ -160,22 +174,10 @@ impl Case {
     fn take_fails(&mut self, text: &str) -> anyhow::Result<()> {
         let (word, calls) = text.split_once(' ').context("which calls fail")?;
         let object = place_of(OBJECTS, word);
-        if let Some((first, last)) = calls.split_once("..") {
-            self.turning = object;
-            self.first = first.parse::<u64>()?;
-            self.last = last.parse::<u64>()?;
-        } else {
-            let call = calls.parse::<u64>()?;
+        let (first, last) = calls.split_once("..").unwrap_or((calls, calls));
+        for call in first.parse::<u64>()?..last.parse::<u64>()?.saturating_add(1) {
             self.fails.push(Fail { object, call })?;
         }
-        Ok(())
-    }
-
-    /// Takes a file, as it is before and, where it has to be, after.
-    fn take_file(&mut self, alloc: Global, name: &str, content: &[u8]) -> Result<(), AllocError> {
-        let bytes = content.to_vec(alloc)?;
-        self.files.insert(String::from_str(alloc, name)?, bytes)?;
-        self.after = self.files.clone()?;
         Ok(())
     }
 
@@ -195,20 +197,20 @@ impl Case {
             }
             1 => self.begin(rest)?,
             2 => self.take_words(alloc, rest)?,
-            3 => self.words.push(String::from_str(alloc, rest)?)?,
-            4 => self.source = content.to_vec(alloc)?,
-            5 => self.take_file(alloc, rest, content)?,
+            3 => self.take_word(alloc, rest)?,
+            4 => fill(&mut self.source, content)?,
+            5 => {
+                put(alloc, &mut self.files, rest, content)?;
+                self.after = self.files.clone()?;
+            }
             6 => self.room = rest.parse::<u32>()?,
             7 => self.take_fails(rest)?,
             8 => self.holds = rest.parse::<u8>()?,
             9 => self.status = rest.parse::<u8>()?,
-            10 => self.error = String::from_str(alloc, rest)?,
-            11 => self.output = content.to_vec(alloc)?,
-            12 => self.report = content.to_vec(alloc)?,
-            13 => {
-                let bytes = content.to_vec(alloc)?;
-                self.after.insert(String::from_str(alloc, rest)?, bytes)?;
-            }
+            10 => self.error.push_str(rest)?,
+            11 => fill(&mut self.output, content)?,
+            12 => fill(&mut self.report, content)?,
+            13 => put(alloc, &mut self.after, rest, content)?,
             _ => bail!("no section of a case is headed by this"),
         }
         Ok(())
@@ -228,10 +230,5 @@ impl Case {
             }
         }
         Ok(calls)
-    }
-
-    /// Whether a call that ended so, as far as can be told without any memory, has come to what the case says.
-    pub fn is_whole(&self, status: u8, output: &[u8], files: &FileMap) -> bool {
-        status == self.status && self.output.as_slice() == output && self.after == *files
     }
 }

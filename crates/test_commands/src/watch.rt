@@ -9,15 +9,14 @@ const LOOKS: u32 = 10_000_000;
 /// The most moves of one turn.
 const MOVES: u64 = 65;
 
-/// Counts its calls, those of the second worker, the bursts of more than one instruction, and who gave up waiting. Before its first turn it holds
-/// nobody, or by 1 the first worker until the second has passed, or by 2 all others until there is such a burst, so that nobody is in its
-/// way; for `LOOKS` looks at most.
+/// Counts its calls, what it waits for, and who gave up waiting. Before its first turn it holds nobody, or by 1 the first worker until the
+/// second has passed, or by 2 all others until there is a burst of more than one instruction, so that nobody is in its way; for `LOOKS`
+/// looks at most.
 #[derive(Drop)]
 pub struct Watch {
     holds: u8,
     calls: AtomicU64,
-    seconds: AtomicU64,
-    bursts: AtomicU64,
+    come: AtomicU64,
     tired: AtomicU64,
 }
 
@@ -27,25 +26,15 @@ impl Watch {
         Watch {
             holds,
             calls: AtomicU64::new(0),
-            seconds: AtomicU64::new(0),
-            bursts: AtomicU64::new(0),
+            come: AtomicU64::new(0),
             tired: AtomicU64::new(0),
-        }
-    }
-
-    /// Whether that for which workers are held has come.
-    fn has_come(&self) -> bool {
-        if self.holds == 1 {
-            self.seconds.load(Ordering::SeqCst) > 0
-        } else {
-            self.bursts.load(Ordering::SeqCst) > 0
         }
     }
 
     /// Whether it was called at least once in 65 of so many moves, and what was waited for has come to who was held.
     pub fn is_well(&self, moves: u64) -> bool {
         self.holds == 0
-            || (self.has_come()
+            || (self.come.load(Ordering::SeqCst) > 0
                 && self.tired.load(Ordering::SeqCst) == 0
                 && self.calls.load(Ordering::SeqCst) >= moves / MOVES)
     }
@@ -54,16 +43,15 @@ impl Watch {
 impl Gate for Watch {
     fn pass(&self, worker: u32, turn: u64) {
         self.calls.fetch_add(1, Ordering::SeqCst);
-        if worker == 1 {
-            self.seconds.fetch_add(1, Ordering::SeqCst);
+        if self.holds == 1 && worker == 1 {
+            self.come.fetch_add(1, Ordering::SeqCst);
         }
-        let is_held = turn == 0
-            && ((self.holds == 1 && worker == 0) || (self.holds == 2 && worker > 0));
+        let is_held = self.holds > 0 && turn == 0 && (self.holds == 1) == (worker == 0);
         if !is_held {
             return;
         }
         for _ in 0..LOOKS {
-            if self.has_come() {
+            if self.come.load(Ordering::SeqCst) > 0 {
                 return;
             }
             yield_now();
@@ -72,8 +60,8 @@ impl Gate for Watch {
     }
 
     fn committed(&self, _worker: u32, moves: u64) {
-        if moves > 1 {
-            self.bursts.fetch_add(1, Ordering::SeqCst);
+        if self.holds == 2 && moves > 1 {
+            self.come.fetch_add(1, Ordering::SeqCst);
         }
     }
 }

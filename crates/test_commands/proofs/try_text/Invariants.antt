@@ -1,6 +1,6 @@
 use denote.Text.{Utf8}
 use denote.Shadow.{shadow}
-use Rattle.test_commands.proofs.try_file.Given as goal
+use Rattle.test_commands.proofs.try_text.Given as goal
 
 -- the heading is text
 abbrev pub invariant-loop-line : goal.invariant-loop-line
