@@ -1,32 +1,35 @@
 //! A case, called.
-use crate::slow::{SlowSink, SlowSource};
-use fk_causes::{MemShelf, MemSink, MemSource, NoMemory, Open, Shelf, Sink, Source};
+use crate::case::{Case, FileMap};
+use crate::pieces::{PieceSink, PieceSource};
+use crate::watch::Watch;
+use fk_causes::{MemShelf, MemSink, MemSource, NoMemory, Shelf};
 use fk_responders::Table;
 use fk_run::{End, Outcome, Report, fault_line, fluke_top};
 use fk_trace_text::trace_text;
-use std::alloc::{AllocError, Global};
-use std::collections::BTreeMap;
+use std::alloc::Global;
 use std::sync::Wait;
 use std::thread::Threads;
-use test_case_files::{Case, Ending, Fails};
 
-/// The files of a shelf.
-pub type FileMap = BTreeMap<String, Vec<u8>>;
+/// The status for want of memory.
+const NO_MEMORY: u8 = 14;
 
-/// The numbers of calls that come behind so many others.
-fn moved_on(alloc: Global, calls: &[u64], by: u64) -> Result<Vec<u64>, AllocError> {
-    let mut numbers = Vec::new(alloc);
-    for call in calls {
-        numbers.push(call.saturating_add(by))?;
-    }
-    Ok(numbers)
+/// How a call ended.
+#[derive(Clone, Copy)]
+pub enum Ended {
+    /// As its case says.
+    Whole,
+    /// For want of memory, with no more done than is due.
+    Short,
+    /// In another way.
+    Otherwise,
+    /// As its case says, with ample memory: there is more than can be taken, or others would starve.
+    Ample,
 }
 
-/// A shelf with these files on it. What fails is counted from the next call on.
-pub fn shelf_of(alloc: Global, files: &FileMap, fails: &[u64]) -> Result<MemShelf, NoMemory> {
-    let puts = files.len() as u64;
-    let mut shelf = MemShelf::new(moved_on(alloc, fails, puts)?);
-    for (name, bytes) in files {
+/// A shelf with the files of a case on it. What fails is counted from the next call on.
+fn shelf_of(alloc: Global, case: &Case) -> Result<MemShelf, NoMemory> {
+    let mut shelf = MemShelf::new(case.fails_of(alloc, 2, case.files.len() as u64)?);
+    for (name, bytes) in &case.files {
         if shelf.put(name.as_str(), bytes).is_err() {
             return Err(NoMemory);
         }
@@ -34,77 +37,122 @@ pub fn shelf_of(alloc: Global, files: &FileMap, fails: &[u64]) -> Result<MemShel
     Ok(shelf)
 }
 
-/// The moves of a report as a trace, and how they ended.
-fn report_of(alloc: Global, report: &Report) -> Result<Vec<u8>, NoMemory> {
-    let moves = report.history.list(alloc)?;
-    let mut text = trace_text(alloc, moves.as_slice())?;
-    text.push_str(match report.end {
+/// Whether a report has these moves, as a trace, and then this end.
+fn is_report(alloc: Global, report: &Report, wanted: &[u8]) -> Result<bool, NoMemory> {
+    let end = match report.end {
         End::Halted => "end halted\n",
         End::Quiet => "end quiet\n",
         End::Budget => "end budget\n",
         End::Listed => "end listed\n",
-    })?;
-    Ok(text.into_bytes())
+    };
+    let moves = report.history.list(alloc)?;
+    let mut text = trace_text(alloc, moves.as_slice())?;
+    text.push_str(end)?;
+    Ok(text.as_str().as_bytes() == wanted)
 }
 
-/// What came of a call of which a sink and a shelf have this.
-fn ending_of(
+/// Whether the report of a call is what its case says, and the workers whom the case holds were seen.
+fn has_report(
     alloc: Global,
+    case: &Case,
+    report: &Option<Report>,
+    watch: &Watch,
+) -> Result<bool, NoMemory> {
+    match report {
+        Some(report) => Ok(
+            watch.is_well(report.history.len())
+                && (case.report.is_empty() || is_report(alloc, report, &case.report)?),
+        ),
+        None => Ok(case.report.is_empty() && case.holds == 0),
+    }
+}
+
+/// Whether each file is as it was or as it is wanted, and none is gone.
+fn are_in_order(case: &Case, files: &FileMap) -> bool {
+    for (name, bytes) in files {
+        if case.files.get(name) != Some(bytes) && case.after.get(name) != Some(bytes) {
+            return false;
+        }
+    }
+    files.len() >= case.files.len()
+}
+
+/// How a call has ended.
+fn ending_of<R: Print>(
+    rt: &R,
+    alloc: Global,
+    case: &Case,
     outcome: &Outcome,
     output: &[u8],
-    shelf: &MemShelf,
-) -> Result<Ending, NoMemory> {
-    let report = match &outcome.report {
-        Some(report) => Some(report_of(alloc, report)?),
-        None => None,
-    };
-    Ok(Ending {
-        status: outcome.status.number(),
-        error: fault_line(alloc, &outcome.status)?,
-        output: output.to_vec(alloc)?,
-        files: shelf.files().clone()?,
-        report,
-    })
+    files: &FileMap,
+    watch: &Watch,
+) -> Result<Ended, NoMemory> {
+    let status = outcome.status.number();
+    let is_done = status == case.status && case.output.as_slice() == output && case.after == *files;
+    if is_done
+        && fault_line(alloc, &outcome.status)? == case.error
+        && has_report(alloc, case, &outcome.report, watch)?
+    {
+        return Ok(Ended::Whole);
+    }
+    if status == NO_MEMORY && output.is_empty() && are_in_order(case, files) {
+        return Ok(Ended::Short);
+    }
+    let name = case.name.as_str();
+    let text = str::from_utf8(output).unwrap_or("no text");
+    // Who can't write this can't write the counts, and ends with that.
+    let _ = println!(rt; "case {name}: status {status}, output {text:?}");
+    Ok(Ended::Otherwise)
 }
 
-/// The command of a case, called over these. So each caller is checked without the promises of `fluke_top`, which none of them needs.
-pub fn outcome_of<R: Threads + Wait + Sync, S: Source, W: Sink>(
+/// The command of a case, called over these. So its caller is checked without the promises of `fluke_top`, which it doesn't need.
+fn outcome_of<R: Threads + Wait + Sync>(
     rt: &R,
     alloc: Global,
     table: &Table,
     case: &Case,
-    source: &mut S,
-    sink: &mut W,
+    source: &mut PieceSource,
+    sink: &mut PieceSink,
     shelf: &mut MemShelf,
+    watch: &Watch,
 ) -> Outcome {
-    fluke_top(rt, alloc, &case.words, table, source, sink, shelf, &Open)
+    fluke_top(rt, alloc, &case.words, table, source, sink, shelf, watch)
 }
 
-/// What comes of the call of a case in which these calls of its source, its sink and its shelf fail.
-pub fn call<R: Threads + Wait + Sync>(
+/// Makes the call of a case.
+pub fn call<R: Print + AllocGlobal + Threads + Wait + Sync>(
     rt: &R,
-    alloc: Global,
     table: &Table,
     case: &Case,
-    fails: &Fails,
-) -> Result<Ending, NoMemory> {
-    let mut source = MemSource::new(case.source.clone()?, fails.source.clone()?);
-    let mut sink = MemSink::new(alloc, case.room, fails.sink.clone()?)?;
-    let mut shelf = shelf_of(alloc, &case.files, &fails.shelf)?;
-    let outcome = outcome_of(rt, alloc, table, case, &mut source, &mut sink, &mut shelf);
-    ending_of(alloc, &outcome, sink.bytes(), &shelf)
-}
-
-/// What comes of the call of a case, a byte at a time.
-pub fn call_slowly<R: Threads + Wait + Sync>(
-    rt: &R,
-    alloc: Global,
-    table: &Table,
-    case: &Case,
-) -> Result<Ending, NoMemory> {
-    let mut source = SlowSource::new(case.source.clone()?);
-    let mut sink = SlowSink::new(alloc);
-    let mut shelf = shelf_of(alloc, &case.files, &[])?;
-    let outcome = outcome_of(rt, alloc, table, case, &mut source, &mut sink, &mut shelf);
-    ending_of(alloc, &outcome, sink.bytes(), &shelf)
+) -> Result<Ended, NoMemory> {
+    let alloc = rt.alloc();
+    let mut source = PieceSource {
+        source: MemSource::new(case.source.clone()?, case.fails_of(alloc, 0, 0)?),
+        is_slow: case.is_slow,
+    };
+    let mut sink = PieceSink {
+        sink: MemSink::new(alloc, case.room, case.fails_of(alloc, 1, 0)?)?,
+        is_slow: case.is_slow,
+    };
+    let mut shelf = shelf_of(alloc, case)?;
+    let watch = Watch::new(case.holds);
+    let outcome = outcome_of(
+        rt,
+        alloc,
+        table,
+        case,
+        &mut source,
+        &mut sink,
+        &mut shelf,
+        &watch,
+    );
+    ending_of(
+        rt,
+        alloc,
+        case,
+        &outcome,
+        sink.sink.bytes(),
+        shelf.files(),
+        &watch,
+    )
 }

@@ -1,206 +1,123 @@
-//! Cases, called with ample memory and while memory is scarce.
-use crate::call::{outcome_of, shelf_of};
-use crate::hoard::Hoard;
-use fk_causes::{MemSink, MemSource, NoMemory};
+//! A case, called while memory is scarce.
+use crate::call::{Ended, call};
+use crate::case::Case;
+use fk_causes::NoMemory;
 use fk_responders::Table;
-use std::alloc::{AllocError, Global};
-use std::collections::BTreeMap;
-use std::fmt;
+use std::alloc::Global;
+use std::fs;
+use std::rt::Files;
 use std::sync::Wait;
 use std::thread::Threads;
-use test_case_files::Case;
+
+/// The size of the largest block that is asked for.
+const LARGEST: usize = 1 << 46;
+
+/// How often it is halved, down to a block of sixteen bytes.
+const HALVINGS: u32 = 43;
+
+/// How many blocks are held at most. Each costs some 12 KB for its head and for the system's books of it, so all cost
+/// 240 MB. Blocks of half a machine's memory fill its address space where it has 16 GB.
+const BLOCKS: usize = 20_000;
+
+/// The pieces that are given back one by one, and the size of each.
+const PIECES: usize = 20_000;
+
+const PIECE: usize = 120;
 
 /// Of the pieces that were given back, one in so many more is given at the next time.
 const PARTS: usize = 1_000;
 
-/// The status for want of memory.
-const NO_MEMORY: u8 = 14;
+/// How much of the stack is touched before memory is taken: some times what a call needs.
+const STACK: usize = 1 << 20;
 
-/// How a call ended.
-#[derive(Clone, Copy)]
-enum End {
-    /// For want of memory, with no more done than is due.
-    Short,
-    /// As its case says.
-    Whole,
-    /// In another way, with this status.
-    Other(u8),
-}
+/// How the system counts what is asked for and not touched: by `2` it keeps account of it for all processes together.
+const COUNTING: &str = "/proc/sys/vm/overcommit_memory";
 
-/// How the calls of a case ended: whether memory was scarce, how many ended for want of it, and the last with
-/// which status, and whether as the case says.
-#[derive(Clone, Copy)]
-pub struct Found {
-    is_scarce: bool,
-    short: u32,
-    status: u8,
-    is_whole: bool,
-}
+/// Whether the first touch of a block takes a large page.
+const LARGE_PAGES: &str = "/sys/kernel/mm/transparent_hugepage/enabled";
 
-impl Found {
-    /// The last call ended as the case says. Where memory was made scarce, it ran short before.
-    fn is_well(&self) -> bool {
-        self.is_whole && (self.short > 0 || !self.is_scarce)
-    }
-
-    /// What is wrong, if that isn't so.
-    pub fn difference(&self, alloc: Global) -> Result<Option<String>, AllocError> {
-        if self.is_well() {
-            return Ok(None);
-        }
-        Ok(Some(format!(in alloc; "{self}")?))
+/// Whether a file of the system has a word.
+fn has_word<R: Files + AllocGlobal>(rt: &R, path: &str, word: &str) -> bool {
+    match fs::read_to_string(rt, path) {
+        Ok(text) => text.contains(word),
+        Err(_) => false,
     }
 }
 
-impl fmt::Display for Found {
-    fn fmt<W: fmt::Write>(&self, f: &mut fmt::Formatter<W>) -> fmt::Result {
-        let Found {
-            is_scarce,
-            short,
-            status,
-            is_whole,
-        } = self;
-        write!(
-            f,
-            "scarce {is_scarce}, short {short} times, then status {status}, as wanted {is_whole}"
-        )
-    }
+/// Whether all memory may be taken here for a moment: else others would be refused theirs, or too much would be touched.
+fn may_starve<R: Files + AllocGlobal>(rt: &R) -> bool {
+    (has_word(rt, COUNTING, "0") || has_word(rt, COUNTING, "1"))
+        && !has_word(rt, LARGE_PAGES, "[always]")
 }
 
-/// Each file is as it was or as it is wanted, and none is gone.
-fn are_in_order(case: &Case, files: &BTreeMap<String, Vec<u8>>) -> bool {
-    for (name, bytes) in files {
-        let is_old = case.files.get(name) == Some(bytes);
-        let is_wanted = case.wanted.files.get(name) == Some(bytes);
-        if !is_old && !is_wanted {
-            return false;
-        }
-    }
-    files.len() >= case.files.len()
+/// Touches the stack, and answers whether one of its bytes, at a place that isn't known before, is what all of them are set to. The system gives the
+/// stack more pages as it grows. Once all memory is taken it has none to give, nor room for them beneath the stack, and
+/// ends the program by a signal.
+fn has_stack(byte: u8, at: usize) -> bool {
+    let bytes = [byte; STACK];
+    bytes[at % STACK] == byte
 }
 
-/// How a call of the case ends.
-fn call<T: Threads + Wait + Sync>(
-    threads: &T,
-    alloc: Global,
-    table: &Table,
-    case: &Case,
-) -> Result<End, NoMemory> {
-    let mut source = MemSource::new(case.source.clone()?, Vec::new(alloc));
-    let mut sink = MemSink::new(alloc, case.room, Vec::new(alloc))?;
-    let mut shelf = shelf_of(alloc, &case.files, &[])?;
-    let outcome = outcome_of(
-        threads,
-        alloc,
-        table,
-        case,
-        &mut source,
-        &mut sink,
-        &mut shelf,
-    );
-    let status = outcome.status.number();
-    let wanted = &case.wanted;
-    if status == NO_MEMORY && sink.bytes().is_empty() && are_in_order(case, shelf.files()) {
-        return Ok(End::Short);
-    }
-    if status == wanted.status
-        && wanted.output.as_slice() == sink.bytes()
-        && wanted.files == *shelf.files()
-    {
-        return Ok(End::Whole);
-    }
-    Ok(End::Other(status))
-}
-
-/// Calls each case once, with ample memory.
-///
-/// # Errors
-///
-/// For want of memory.
-pub fn try_ample<T: Threads + Wait + Sync>(
-    threads: &T,
-    alloc: Global,
-    table: &Table,
-    cases: &[Case],
-) -> Result<Vec<Found>, NoMemory> {
-    let mut found = Vec::new(alloc);
-    for case in cases {
-        let (status, is_whole) = match call(threads, alloc, table, case)? {
-            End::Short => (NO_MEMORY, false),
-            End::Whole => (case.wanted.status, true),
-            End::Other(status) => (status, false),
+/// Takes blocks of a size until one is refused, or as many are held as may be.
+fn take(alloc: Global, size: usize, most: usize, blocks: &mut Vec<Vec<u8>>) {
+    for _ in blocks.len()..most {
+        let Ok(block) = Vec::with_capacity(alloc, size) else {
+            return;
         };
-        found.push(Found {
-            is_scarce: false,
-            short: 0,
-            status,
-            is_whole,
-        })?;
+        if blocks.push(block).is_err() {
+            return;
+        }
     }
-    Ok(found)
 }
 
-/// Calls a case again and again, with a little more memory each time, until it doesn't end for want of it.
-fn starve<T: Threads + Wait + Sync>(
-    threads: &T,
-    alloc: Global,
+/// Calls a case again and again, with a little more memory each time, until it doesn't end for want of it. It differs where it never did.
+fn feed<R: Print + AllocGlobal + Threads + Wait + Sync>(
+    rt: &R,
     table: &Table,
     case: &Case,
-    hoard: &mut Hoard,
-) -> Found {
-    let all = hoard.pieces();
-    let mut found = Found {
-        is_scarce: true,
-        short: 0,
-        status: NO_MEMORY,
-        is_whole: false,
-    };
+    pieces: &mut Vec<Vec<u8>>,
+) -> Ended {
+    let all = pieces.len();
+    let mut ran_short = false;
     for _ in 0..all {
-        let given = all.saturating_sub(hoard.pieces());
-        hoard.give(1 + given / PARTS);
-        match call(threads, alloc, table, case) {
-            Ok(End::Short) => found.short = found.short.saturating_add(1),
-            Ok(End::Whole) => {
-                found.status = case.wanted.status;
-                found.is_whole = true;
-                return found;
-            }
-            Ok(End::Other(status)) => {
-                found.status = status;
-                return found;
-            }
+        let left = pieces.len();
+        pieces.truncate(left.saturating_sub(1 + (all - left) / PARTS));
+        match call(rt, table, case) {
+            Ok(Ended::Short) => ran_short = true,
+            Ok(ended) if ran_short => return ended,
+            Ok(_) => return Ended::Otherwise,
             Err(NoMemory) => {}
         }
     }
-    found
+    Ended::Short
 }
 
-/// Calls each case that ended well with ample memory, while memory is scarce. Those calls have grown the stack as far as these
-/// need it, before all memory is taken. `None` where there is more memory than can be taken.
+/// Calls a case with ample memory and, where it ends as it should, while memory is scarce.
 ///
 /// # Errors
 ///
 /// For want of memory before any is taken.
-pub fn try_scarce<T: Threads + Wait + Sync>(
-    threads: &T,
-    alloc: Global,
+pub fn starve<R: Files + Print + AllocGlobal + Threads + Wait + Sync>(
+    rt: &R,
     table: &Table,
-    cases: &[Case],
-    ample: &[Found],
-) -> Result<Option<Vec<Found>>, AllocError> {
-    let mut found = Vec::with_capacity(alloc, cases.len())?;
-    let mut hoard = Hoard::new(alloc)?;
-    for (case, ample) in cases.iter().zip(ample) {
-        hoard.fill();
-        if !hoard.is_all() {
-            return Ok(None);
-        }
-        let next = if ample.is_whole {
-            starve(threads, alloc, table, case, &mut hoard)
-        } else {
-            *ample
-        };
-        found.push(next)?;
+    case: &Case,
+) -> Result<Ended, NoMemory> {
+    match call(rt, table, case)? {
+        Ended::Whole => {}
+        ended => return Ok(ended),
     }
-    Ok(Some(found))
+    if !may_starve(rt) || !has_stack(case.status, case.source.len()) {
+        return Ok(Ended::Ample);
+    }
+    let alloc = rt.alloc();
+    let mut blocks = Vec::with_capacity(alloc, BLOCKS)?;
+    let mut pieces = Vec::with_capacity(alloc, PIECES)?;
+    take(alloc, PIECE, PIECES, &mut pieces);
+    for halvings in 0..HALVINGS {
+        take(alloc, LARGEST >> halvings, BLOCKS, &mut blocks);
+    }
+    if blocks.len() == BLOCKS {
+        return Ok(Ended::Ample);
+    }
+    Ok(feed(rt, table, case, &mut pieces))
 }

@@ -1,4 +1,0 @@
-use Rattle.test_commands.proofs.fn.main.new+3.Goals as goal
-
-pub returns : goal.returns
-returns c = c.sum.ensures c.args._config.now c.args._position

@@ -1,4 +1,0 @@
-use Rattle.test_commands.proofs.fn.main.new.Goals as goal
-
-pub returns : goal.returns
-returns c = c.echo.ensures c.args._config.now c.args._position
