@@ -20,7 +20,7 @@ class Row:
     measure: typing.Callable
     unit: str = COUNT
     # The command that it wants, if any.
-    command: str | None = "valgrind"
+    command: typing.Optional[str] = "valgrind"
     # So many have to be there for the bound to be fair.
     processors: int = 1
 
@@ -101,8 +101,8 @@ def playing():
     yield "play-hold", Row(played(scenes.holding, 6_000, 18_000))
     yield "play-hold-held", Row(played(lambda budget: scenes.holding(budget, True), 6_000, 18_000))
     yield "reference-renamed", Row(by_references(scenes.renaming, 100, 1_400, 200))
-    yield "reference-destroyed", Row(by_references(scenes.destroying, 4, 10, 1))
-    yield "sweep-references", Row(each(lambda budget: scenes.sweeping(budget, "port", 20_000), 4, 1_000, 20_000))
+    yield "reference-destroyed", Row(by_references(scenes.destroying, 4, 5, 1))
+    yield "sweep-references", Row(each(lambda budget: scenes.sweeping(budget, "port", 20_000), 4, 204, 20_000))
     yield "boot-played", Row(played_beyond_check(halting, 10_000))
     yield "play-million", timed_row(million_played)
     yield "play-million-drawn", timed_row(million_at_random(4_000, 20))
