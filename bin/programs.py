@@ -35,6 +35,9 @@ def say(text):
 
 def refuse(what, fault):
     """Says why a script can't do what it is for, and gives its status."""
+    if isinstance(fault, shutil.Error):
+        # It lists the files of a folder that couldn't be copied: from where, to where, and why.
+        fault = fault.args[0][0][2]
     say(f"{what}: {fault.filename or OUT}: {fault.strerror}" if isinstance(fault, OSError) and fault.strerror else f"{what}: {fault}")
     return REFUSED
 
@@ -131,7 +134,11 @@ def keep(name, kind, sum, made):
     """Keeps a program that was built, and removes those of this name that were kept longest ago. Who calls this holds the lock of its kind."""
     path, new = OUT / f"{name}.{kind}-{sum}", OUT / f"new-{name}.{kind}"
     try:
-        shutil.copyfile(made, new)
+        with open(made, "rb") as source, open(new, "wb") as file:
+            shutil.copyfileobj(source, file)
+            # All of it lies on the disk before it has its name, whatever becomes of the machine.
+            file.flush()
+            os.fsync(file.fileno())
         os.chmod(new, 0o755)
         os.replace(new, path)
     finally:
