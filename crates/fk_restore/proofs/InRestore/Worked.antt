@@ -5,6 +5,7 @@ use Rattle.fk_model.specs.declared.stage.Stage.TheVariants.{SpaceRelease}
 use Rattle.fk_model.specs.declared.limits.TheConstants.{OWN_SPACE}
 use Rattle.fk_model.specs.declared.statuses.status.TheConstants.{OK}
 use Rattle.fk_image.specs.declared.image.image.Image.{Image}
+use Rattle.fk_image.specs.declared.image.image.SpaceRec.{SpaceRec}
 use Rattle.fk_image.specs.Image.Valid.{is_valid}
 use Rattle.laws_jobs.specs.Machines.{no_words, IsAtCall}
 use Rattle.laws_jobs.specs.Machines.Head.{Asks}
@@ -22,7 +23,7 @@ use Rattle.fk_restore.proofs.InOrders.Lefts as lefts
 use Rattle.fk_finish.specs.declared.finish.Finish.{Finish}
 use Rattle.fk_restore.specs.declared.restore.restore.Phase.{Phase}
 use Rattle.fk_restore.specs.declared.restore.restore.Phase.TheVariants as phases
-use Rattle.fk_restore.specs.Restore.Restores.{missing, goes_on, phase_of}
+use Rattle.fk_restore.specs.Restore.Restores.{missing, goes_on, phase_of, IsSoundPhase, is_built}
 use Rattle.fk_restore.proofs.InRestore.Heard.{heard}
 
 -- ---- whether an order stands there, as its call says
@@ -79,6 +80,14 @@ module _ (i : Image) (slot : ℕ) (pairs : List (ℕ × ℕ)) (p : Position) whe
       let step = lefts.stands i slot (bound_by pairs) p found.0 valid good found.1 in
       ap (λ os. head slot (states.Works os)) step.0 ∙ (λ j. Asks (sym found.2 j) (sym (given ∙ ap words_in found.1) j))
 
+  -- only the release is left exactly where no order stands there
+  pub is_built_there : is_valid i ≡ true → IsPosition i.spaces slot (bound_by pairs) p → is_empty p Here ≡ false → is_none Here ≡ is_built (states.Works Left)
+  is_built_there valid good full = by Here refl
+    where
+      by : (o : Option Order) → Here ≡ o → is_none o ≡ is_built (states.Works Left)
+      by None none = sym (ap (λ os. is_built (states.Works os)) (lefts.ends i.spaces slot (bound_by pairs) p (closed p Here full none) none))
+      by (Some o) some = sym (ap (λ os. is_built (states.Works os)) (lefts.stands i slot (bound_by pairs) p o valid good some).0)
+
   -- ---- the answer
 
   pub releases : is_empty p Here ≡ false → None ≡ option_map (stage_of slot) Here → (status : ℕ) (words : List ℕ) →
@@ -100,6 +109,33 @@ module _ (i : Image) (slot : ℕ) (pairs : List (ℕ × ℕ)) (p : Position) whe
   goes_well valid good stage some =
       let found = some_order slot stage Here some in
       (lefts.stands i slot (bound_by pairs) p found.0 valid good found.1).1
+
+-- ---- whether only the release is left
+
+pub works_asks : (i : Image) (slot : ℕ) (pairs : List (ℕ × ℕ)) (phase : Phase) (p : Position) (ss : List SpaceRec) (bound : List (ℕ × ℕ))
+    → IsSoundPhase i.spaces slot pairs phase → phase ≡ phases.Works p → ss ≡ i.spaces → bound ≡ pairs
+    → is_empty p (order_at ss slot (bound_by bound) p) ≡ false
+works_asks i slot pairs phase p ss bound sound works spaces bindings =
+    let good = subst (λ (x : Phase). IsSoundPhase i.spaces slot pairs x) works sound in
+    ap (λ (xs : List SpaceRec). is_empty p (order_at xs slot (bound_by bound) p)) spaces
+    ∙ ap (λ (ps : List (ℕ × ℕ)). is_empty p (order_at i.spaces slot (bound_by ps) p)) bindings ∙ good.1
+
+pub works_built : (i : Image) (slot : ℕ) (pairs : List (ℕ × ℕ)) (phase : Phase) (p : Position) (ss : List SpaceRec) (bound : List (ℕ × ℕ)) (over : Bool)
+    → is_valid i ≡ true → IsSoundPhase i.spaces slot pairs phase → phase ≡ phases.Works p → ss ≡ i.spaces → bound ≡ pairs
+    → over ≡ is_none (order_at ss slot (bound_by bound) p) → over ≡ is_built (phase_of i.spaces slot pairs phase)
+works_built i slot pairs phase p ss bound over valid sound works spaces bindings told =
+    let good = subst (λ (x : Phase). IsSoundPhase i.spaces slot pairs x) works sound in
+    told ∙ ap (λ (xs : List SpaceRec). is_none (order_at xs slot (bound_by bound) p)) spaces
+    ∙ ap (λ (ps : List (ℕ × ℕ)). is_none (order_at i.spaces slot (bound_by ps) p)) bindings
+    ∙ is_built_there i slot pairs p valid good.0 good.1
+    ∙ sym (ap (λ (x : Phase). is_built (phase_of i.spaces slot pairs x)) works)
+
+pub not_built : (i : Image) (slot : ℕ) (pairs : List (ℕ × ℕ)) (phase : Phase) → ((p : Position) → phase ≡ phases.Works p → ⊥)
+    → false ≡ is_built (phase_of i.spaces slot pairs phase)
+not_built i slot pairs (phases.Works p) none = absurd (none p refl)
+not_built i slot pairs phases.Makes none = refl
+not_built i slot pairs (phases.Clears dropped more port) none = refl
+not_built i slot pairs (phases.Over finish) none = refl
 
 -- where the space was made
 pub made_well : (s t : State) (status : ℕ) → status ≡ OK → s ≡ cond (status == OK) s t

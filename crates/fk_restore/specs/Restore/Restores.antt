@@ -1,5 +1,5 @@
 -- A restore in code as a state of the machine.
-use Rattle.std.specs.Prelude.{◌≡◌, ℕ, Bool, true, false, not, ◌&&◌, ◌==◌, suc, List, take, drop, Option, Some, None, if◌then◌else◌}
+use Rattle.std.specs.Prelude.{◌≡◌, ℕ, Bool, true, false, not, ◌&&◌, ◌==◌, suc, List, [], take, drop, Option, Some, None, if◌then◌else◌}
 use Rattle.fk_model.specs.declared.moves.Answer.{Answer}
 use Rattle.fk_finish.specs.declared.finish.Finish.{Finish}
 use Rattle.fk_finish.specs.declared.finish.Finish.TheVariants as finishes
@@ -78,3 +78,8 @@ IsSoundPhase ss slot pairs other = Unit {0}
 pub record IsSound (r : Restore) : Type 0 where
   pub job : IsRestoreJob r.slot r.image r.pairs
   pub phase : IsSoundPhase r.image.spaces r.slot r.pairs r.phase
+
+-- only the release is left of a restore that will be done
+abbrev pub is_built : State → Bool
+is_built (states.Works []) = true
+is_built other = false

@@ -13,7 +13,7 @@ ghost use Rattle.fk_model.specs.declared.stage.Stage.TheVariants as stages;
 ghost use Rattle.fk_restore.specs.Orders.Left.{image_of};
 ghost use Rattle.fk_restore.specs.Positions.Positions.{rest, IsPosition};
 ghost use Rattle.fk_restore.specs.declared.restore.restore.Phase.TheVariants as phases;
-ghost use Rattle.fk_restore.specs.Restore.Restores.{answered, clears, missing, goes_on, end_of, phase_of, state_of, IsEnd, IsOver, IsSoundPhase, IsSound};
+ghost use Rattle.fk_restore.specs.Restore.Restores.{answered, clears, missing, goes_on, end_of, phase_of, state_of, IsEnd, IsOver, IsSoundPhase, IsSound, is_built};
 
 use crate::orders::{Look, first, is_over, look_at, settled_from, words_at};
 use crate::positions::{Position, next_of, stage_at};
@@ -330,6 +330,21 @@ impl Restore {
         ensures none { IfNone result (IsOver self.now.phase) }
     {
         called(self.image.get(), self.slot, &self.pairs, &self.phase, words)
+    }
+
+    /// Whether all of the image is built, and only the release is left of a restore that will be done.
+    pub fn built(&self) -> bool
+        requires { IsSound self.now }
+        ensures { result ≡ is_built (state_of self.now) }
+    {
+        match &self.phase {
+            Phase::Works(at) => {
+                let spaces = self.image.get().spaces.as_slice();
+                let bound = self.pairs.as_slice();
+                is_over(spaces, self.slot, bound, *at)
+            }
+            _ => false,
+        }
     }
 
     /// Makes room for one answer, which takes none.
