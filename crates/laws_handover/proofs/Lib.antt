@@ -1,0 +1,4 @@
+pub mod Meets
+pub mod Kept
+pub mod Pieces
+pub mod Whys
