@@ -1,4 +1,4 @@
-use Rattle.std.proofs.Common.{◌≡◌, ◌≤◌, ℕ, Option, drop}
+use Rattle.std.proofs.Common.{◌≡◌, ℕ, Option, drop}
 use Rattle.fk_causes.specs.Shelf.{FileMap}
 use Rattle.fk_puts.specs.Puts.{PutImages, PutSomeImages}
 use Rattle.fk_puts.proofs.puts.put_images.Given as goal
