@@ -1,0 +1,13 @@
+pub mod Births
+pub mod Clearing
+pub mod Gathered
+pub mod Built
+pub mod Counting
+pub mod Nears
+pub mod Fars
+pub mod Migrates
+pub mod Readies
+pub mod Bounded
+pub mod Images
+pub mod Places
+pub mod FarBounded

@@ -1,0 +1,10 @@
+pub mod Births
+pub mod Clearing
+pub mod Gathered
+pub mod Built
+pub mod Migration
+pub mod Laws
+pub mod Readies
+pub mod Bounded
+pub mod Images
+pub mod Places
