@@ -10,6 +10,8 @@ from measuring.meter import TRIES, TRIES_OF_WORKERS
 from measuring.scenes import looping
 
 TRACE = b"fluke-trace 1\n"
+# So many events a turn of a worker has.
+TURN = 65
 # Instructions that stand between calls: a loop of as many as a call's registers take, and its jump.
 BETWEEN_CALLS = "next: " + "set r1, 256\n" * 7 + "jmp next"
 
@@ -39,8 +41,9 @@ def dear_event(make):
 
 
 def beside_crowd(**given):
-    """The same of a thread beside a crowd, once all of the crowd wait."""
-    return event(lambda budget: crowd(budget, **given), 60_000, 100_000)
+    """The same of a thread beside a crowd, once all of the crowd wait. The two budgets are whole turns of 65 events apart, so that the last turn of both is
+    equally long: one that the budget cuts off costs much more an event, and how long it is depends on when the crowd has come to wait."""
+    return event(lambda budget: crowd(budget, **given), 60_000, 60_000 + 640 * TURN)
 
 
 def played(make, few=20_000, many=60_000):
