@@ -21,7 +21,7 @@ HOLDS_AND_RELEASES = "next: " + call(13, r1=256, r2=201) + call(14, r1=256, r2=2
 
 def crowd(budget, kind=None, number=10_000, begins="", loops=LOOP):
     """A thread in the root that does the one and then loops over the other, beside a crowd in the spaces beneath slot 200. In slot 201 lies a space too."""
-    scene = Scene(budget).space("/", begins + loops, pages=[1, 2]).object("/0", "thread").space("/200").space("/201")
+    scene = Scene(budget).space("/", begins + loops).object("/0", "thread").space("/200").space("/201")
     for space in range(number // IN_SPACE if kind else 0):
         gather(scene, f"/200/{space}", kind)
     return scene

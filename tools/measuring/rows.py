@@ -7,7 +7,7 @@ from measuring.crowds import HOLDS_AND_RELEASES, HOLDS_CROWD, HOLDS_OTHER, clien
 from measuring.scenes import ELSEWHERE, SEVEN, SHORT, looping
 from measuring.ways import (
     asked_by_restore, asked_by_save, beside_crowd, beyond_check, by_references, by_workers, counted, dear_event, each, event, exec_instruction,
-    million_at_random, million_played, played, played_at_random, played_beyond_check, played_call, resident, resident_beyond, restored, run_timed, saved,
+    million_at_random, million_played, played, played_beyond_check, played_call, resident, resident_beyond, restored, run_timed, saved,
     shown, soaked, timed,
 )
 
@@ -92,8 +92,6 @@ def playing():
     yield "play-short", Row(played(lambda budget: looping(budget, SHORT)))
     yield "play-deep", Row(played(scenes.deep))
     yield "play-deep-held", Row(played(lambda budget: scenes.deep(budget, is_held=True)))
-    for threads, spaces in ((100, 1), (1_000, 5), (100, 100)):
-        yield f"play-drawn-{threads}-{spaces}", Row(played_at_random(threads, spaces))
     yield "play-make", Row(played_call(scenes.making, 12, 2))
     yield "play-make-220", Row(played_call(lambda budget: scenes.making(budget, 220), 12, 2))
     yield "play-rename", Row(played_call(scenes.renaming, 13, 2))

@@ -10,6 +10,8 @@ from measuring.meter import TRIES, TRIES_OF_WORKERS
 from measuring.scenes import looping
 
 TRACE = b"fluke-trace 1\n"
+# So many events a turn of a worker has.
+TURN = 65
 # Instructions that stand between calls: a loop of as many as a call's registers take, and its jump.
 BETWEEN_CALLS = "next: " + "set r1, 256\n" * 7 + "jmp next"
 
@@ -39,8 +41,9 @@ def dear_event(make):
 
 
 def beside_crowd(**given):
-    """The same of a thread beside a crowd, once all of the crowd wait."""
-    return event(lambda budget: crowd(budget, **given), 60_000, 100_000)
+    """The same of a thread beside a crowd, once all of the crowd wait. The two budgets are whole turns of 65 events apart, so that the last turn of both is
+    equally long: one that the budget cuts off costs much more an event, and how long it is depends on when the crowd has come to wait."""
+    return event(lambda budget: crowd(budget, **given), 60_000, 60_000 + 640 * TURN)
 
 
 def played(make, few=20_000, many=60_000):
@@ -67,43 +70,20 @@ def played_call(make, moves, calls):
     return measure
 
 
-def drawn(threads, spaces, seed=1):
-    """The places of threads that are drawn at random, move by move."""
-    draw = random.Random(seed).randrange
-    while True:
-        yield f"{1 + draw(spaces)}.{draw(threads // spaces)}\n"
-
-
-def random_trace(length, threads, spaces):
-    places = drawn(threads, spaces)
-    return TRACE + "".join(next(places) for _ in range(length)).encode()
-
-
-def played_at_random(threads, spaces, few=20_000, many=60_000):
-    """A move of `play`, from two lengths of a trace whose moves are drawn at random from so many threads."""
-
-    def measure(meter):
-        counts = []
-        for length in (few, many):
-            meter.write("t.trc", random_trace(length, threads, spaces))
-            counts.append(meter.count(["play", "t"], looping(1_000_000, scenes.SHORT, threads, spaces)))
-        return apart(*counts, many - few)
-
-    return measure
-
-
 def million_at_random(threads, spaces):
-    """The processor's time of `play` of a million such moves."""
+    """The processor's time of `play` of a million moves that are drawn at random from so many threads."""
 
     def measure(meter):
-        meter.write("t.trc", random_trace(1_000_000, threads, spaces))
+        draw = random.Random(1).randrange
+        places = (f"{1 + draw(spaces)}.{draw(threads // spaces)}\n" for _ in range(1_000_000))
+        meter.write("t.trc", TRACE + "".join(places).encode())
         return meter.best(["play", "t"], looping(1_000_000, scenes.SHORT, threads, spaces))
 
     return measure
 
 
 def million_played(meter):
-    """The same of the million moves that a run of one thread made."""
+    """The same of a million moves that a run of one thread made."""
     meter.call(["run", "--trace", "t"], looping(1_000_000))
     return meter.best(["play", "t"], looping(1_000_000))
 
