@@ -5,13 +5,14 @@ ghost use Rattle.std.specs.Prelude.{[], ◌∷◌, Some, None, replicate};
 ghost use Rattle.fk_model.specs.declared.stage.Stage.TheVariants.{Search, PageGive, PageTake, MutexLock};
 ghost use Rattle.fk_model.specs.declared.thread.Turn.TheVariants as turns;
 ghost use Rattle.fk_model.specs.Places.Ptr.{Null, Dead, At, Out};
+ghost use Rattle.fk_model.specs.Objects.Body.{Reference};
 ghost use Rattle.fk_model.specs.Objects.Peer.{Server, Parked};
 ghost use Rattle.fk_model.specs.Further.Onward.{Own};
 ghost use Rattle.fk_model.specs.Further.Touch.{Taken, Given, Filled, Handed, HandedWith, Left, FaultTaken, FaultDone, PageGiven, PageTaken};
 ghost use Rattle.fk_model.specs.Seen.Seen.{Onwards, Unseen, Other};
 ghost use Rattle.examples_moves.specs.Worked.{goes, picks, makes, accepts, gives, hands_over, running, calling, stopped, numbers_from};
-ghost use Rattle.examples_subtrees.specs.Seen.{LooksLike, Touches, IsInNoRow, outer_server, native_port, porter, inner_client, facing, at_9, at_10, parked_at};
-ghost use Rattle.examples_subtrees.specs.Seen.{sends_words, receives_into, server_receives, server_sends, waits, faulty, inner_server, talking_inside};
+ghost use Rattle.examples_subtrees.specs.Seen.{LooksLike, Touches, IsInNoRow, outer_server, native_port, porter, inner_client, facing, facing_beside, at_9, at_10};
+ghost use Rattle.examples_subtrees.specs.Seen.{parked_at, sends_words, receives_into, server_receives, server_sends, waits, faulty, inner_server, talking_inside};
 ghost use Rattle.examples_subtrees.specs.Cuts.{in_subtree, subtree};
 ghost use Rattle.examples_subtrees.specs.Seen.{hands_over_of, awaits_in, handing_in, sleeping_inside, waiting_inside, storing_in};
 
@@ -29,6 +30,16 @@ pub fn a_move_inside_is_the_subtrees_own()
         (Onwards (Own (0 ∷ []) None 0)) }
     ensures no_room { IsInNoRow (facing (server_receives 0) (at_9 turns.Client (sends_words 70))) (goes inner_client) }
     ensures picks_outside { LooksLike waiting_inside (picks inner_client outer_server) Other }
+{}
+
+/// A turn that a thread inside hands to the outside is the subtree's own move, with a pointer as without,
+/// whether it is awaited there or not.
+pub fn a_pointer_that_goes_out_is_the_subtrees_own()
+    ensures awaited { LooksLike (facing_beside (3 ∷ []) (Reference Null) (calling 30 (58 ∷ 0 ∷ 0 ∷ 0 ∷ 256 ∷ 3 ∷ 3 ∷ [])) (at_9 turns.Client (calling 20 (40 ∷ 2 ∷ []))))
+        (goes inner_client) (Onwards (Own (0 ∷ []) None 0)) }
+    ensures dropped { LooksLike (facing (server_receives 3) (at_9 turns.Client (calling 20 (40 ∷ 2 ∷ [])))) (goes inner_client) (Onwards (Own (0 ∷ []) None 0)) }
+    ensures native { LooksLike (facing (running 0 []) (at_10 turns.Client (calling 20 (40 ∷ 2 ∷ [])))) (goes inner_client) (Onwards (Own (0 ∷ []) None 0)) }
+    ensures refused { LooksLike (facing (server_receives 3) (at_9 turns.Client (calling 20 (40 ∷ 3 ∷ [])))) (goes inner_client) (Onwards (Own (0 ∷ []) None 0)) }
 {}
 
 /// A thread or a native server outside accepts a thread at its Connect. A parked talk that is taken
