@@ -81,7 +81,7 @@ fn feed<R: Print + AllocGlobal + Threads + Wait + Sync>(
     let mut ran_short = false;
     for _ in 0..all {
         let left = pieces.len();
-        pieces.truncate(left.saturating_sub(1 + (all - left) / PARTS));
+        pieces.truncate(left.saturating_sub(1 + all.saturating_sub(left) / PARTS));
         match call(rt, table, case) {
             Ok(Ended::Short) => ran_short = true,
             Ok(ended) if ran_short => return ended,
