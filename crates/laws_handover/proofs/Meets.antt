@@ -12,7 +12,7 @@ use Rattle.laws_handover.specs.Packets.Packet.{Piece, Ready, Refused, Gone, Canc
 use Rattle.laws_handover.specs.Handover.{Kernels, Pair, Event, saved_as, near_own, made_as, undone_as, far_own, near_told, listened, far_told, gives_up}
 use Rattle.laws_handover.specs.Handover.{delivered_far, delivered_near, next, run, first}
 use Rattle.laws_handover.specs.Handover.Event.{OfNear, OfFar, NearOwn, FarOwn, ToFar, ToNear, GiveUp}
-use Rattle.laws_handover.specs.Laws.{IsIn, IsExact, GatherExactly, is_let_go, Extends, near_asks, far_asks, is_over, AllCame}
+use Rattle.laws_handover.specs.Laws.{IsIn, IsExact, GatherExactly, is_let_go, Extends, near_asks, far_asks, is_over, AllCame, near_image, far_image}
 
 -- ---- lists
 
@@ -112,6 +112,20 @@ module _ {W E S V F T I P Y : Type 0} (k : Kernels W E S V F T I P Y) where
   IsOff (near.Failed why) = ⊥
   IsOff (near.Clears j more) = ⊥
 
+  -- cancelled, with this image
+  abbrev IsKept : I → NearSide → Type 0
+  IsKept i (near.Cancels j why) = j ≡ i
+  IsKept i (near.Cancelled j why) = j ≡ i
+  IsKept i (near.Cleared j) = ⊥
+  IsKept i (near.Waits j) = ⊥
+  IsKept i (near.Saves s) = ⊥
+  IsKept i (near.Failed why) = ⊥
+  IsKept i (near.Clears j more) = ⊥
+
+  abbrev IsEnded : Option I → NearSide → Type 0
+  IsEnded None n = IsOff n
+  IsEnded (Some i) n = IsKept i n
+
   abbrev Meet : NearSide → FarSide → Type 0
   Meet n (far.Listens got) = IsListening n got × (k.codec.reads got ≡ None)
   Meet n (far.Makes i t) = IsOpen i n
@@ -119,9 +133,22 @@ module _ {W E S V F T I P Y : Type 0} (k : Kernels W E S V F T I P Y) where
   Meet n (far.Releases i) = IsGone i n
   Meet n (far.Moved i) = IsGone i n
   Meet n (far.Refuses i why) = IsOpen i n
-  Meet n (far.Undoes i t) = IsOff n
-  Meet n (far.Clears i more ready) = IsOff n
-  Meet n (far.Ended ready) = IsOff n
+  Meet n (far.Undoes i t) = IsKept i n
+  Meet n (far.Clears i more ready) = IsKept i n
+  Meet n (far.Ended image ready) = IsEnded image n
+
+  kept_off : (i : I) (n : NearSide) → IsKept i n → IsOff n
+  kept_off i (near.Cancels j why) h = tt
+  kept_off i (near.Cancelled j why) h = tt
+  kept_off i (near.Cleared j) h = absurd h
+  kept_off i (near.Waits j) h = absurd h
+  kept_off i (near.Saves s) h = absurd h
+  kept_off i (near.Failed why) h = absurd h
+  kept_off i (near.Clears j more) h = absurd h
+
+  ended_off : (image : Option I) (n : NearSide) → IsEnded image n → IsOff n
+  ended_off None n h = h
+  ended_off (Some i) n h = kept_off i n h
 
   -- ---- the near porter's call
 
@@ -140,7 +167,7 @@ module _ {W E S V F T I P Y : Type 0} (k : Kernels W E S V F T I P Y) where
   saved_meet s x exact (far.Refuses i why) h = absurd h
   saved_meet s x exact (far.Undoes i t) h = absurd h
   saved_meet s x exact (far.Clears i more ready) h = absurd h
-  saved_meet s x exact (far.Ended ready) h = absurd h
+  saved_meet s x exact (far.Ended image ready) h = absurd (ended_off image (near.Saves s) h)
 
   -- a change of the near side that takes each of its kinds to itself
   record IsOn (n m : NearSide) : Type 0 where
@@ -149,6 +176,7 @@ module _ {W E S V F T I P Y : Type 0} (k : Kernels W E S V F T I P Y) where
     any : (i : I) → IsAny i n → IsAny i m
     gone : (i : I) → IsGone i n → IsGone i m
     off : IsOff n → IsOff m
+    kept : (i : I) → IsKept i n → IsKept i m
 
   goes_on : (n m : NearSide) → IsOn n m → (f : FarSide) → Meet n f → Meet m f
   goes_on n m on (far.Listens got) h = (on.listening got h.0, h.1)
@@ -157,12 +185,13 @@ module _ {W E S V F T I P Y : Type 0} (k : Kernels W E S V F T I P Y) where
   goes_on n m on (far.Releases i) h = on.gone i h
   goes_on n m on (far.Moved i) h = on.gone i h
   goes_on n m on (far.Refuses i why) h = on.still i h
-  goes_on n m on (far.Undoes i t) h = on.off h
-  goes_on n m on (far.Clears i more ready) h = on.off h
-  goes_on n m on (far.Ended ready) h = on.off h
+  goes_on n m on (far.Undoes i t) h = on.kept i h
+  goes_on n m on (far.Clears i more ready) h = on.kept i h
+  goes_on n m on (far.Ended None ready) h = on.off h
+  goes_on n m on (far.Ended (Some i) ready) h = on.kept i h
 
   same_on : (n : NearSide) → IsOn n n
-  same_on n = record { listening = λ got h. h; still = λ i h. h; any = λ i h. h; gone = λ i h. h; off = λ h. h }
+  same_on n = record { listening = λ got h. h; still = λ i h. h; any = λ i h. h; gone = λ i h. h; off = λ h. h; kept = λ i h. h }
 
   near_own_meet : (w : W) (n : NearSide) → Exactly (near_own k w n) → (f : FarSide) → Meet n f → Meet (near_own k w n) f
   near_own_meet w (near.Saves s) exact f h = saved_meet s (k.near.saved w s) exact f h
@@ -172,6 +201,7 @@ module _ {W E S V F T I P Y : Type 0} (k : Kernels W E S V F T I P Y) where
     any = λ j x. x;
     gone = λ j x. absurd x;
     off = λ x. absurd x;
+    kept = λ j x. absurd x;
   }) f h
   near_own_meet w (near.Clears i (suc more)) exact f h = goes_on (near.Clears i (suc more)) (near.Clears i more) (record {
     listening = λ got x. absurd x;
@@ -179,6 +209,7 @@ module _ {W E S V F T I P Y : Type 0} (k : Kernels W E S V F T I P Y) where
     any = λ j x. x;
     gone = λ j x. absurd x;
     off = λ x. absurd x;
+    kept = λ j x. absurd x;
   }) f h
   near_own_meet w (near.Cancels i why) exact f h = goes_on (near.Cancels i why) (near.Cancelled i why) (record {
     listening = λ got x. x;
@@ -186,6 +217,7 @@ module _ {W E S V F T I P Y : Type 0} (k : Kernels W E S V F T I P Y) where
     any = λ j x. x;
     gone = λ j x. absurd x;
     off = λ x. x;
+    kept = λ j x. x;
   }) f h
   near_own_meet w (near.Waits i) exact f h = h
   near_own_meet w (near.Cleared i) exact f h = h
@@ -201,6 +233,7 @@ module _ {W E S V F T I P Y : Type 0} (k : Kernels W E S V F T I P Y) where
     any = λ j x. x;
     gone = λ j x. absurd x;
     off = λ x. absurd x;
+    kept = λ j x. absurd x;
   }
 
   gives_up_meet : (n : NearSide) (f : FarSide) → Meet n f → Meet (gives_up k n) f
@@ -225,7 +258,7 @@ module _ {W E S V F T I P Y : Type 0} (k : Kernels W E S V F T I P Y) where
   made_meet (near.Clears j more) i far.Builds h = absurd h
   made_meet (near.Cleared j) i far.Builds h = absurd h
 
-  undone_meet : (n : NearSide) (i : I) (x : Made T Y) → IsOff n → Meet n (undone_as k i x)
+  undone_meet : (n : NearSide) (i : I) (x : Made T Y) → IsKept i n → Meet n (undone_as k i x)
   undone_meet n i (far.Goes t) h = h
   undone_meet n i (far.Fails why) h = h
   undone_meet n i far.Builds h = h
@@ -240,7 +273,7 @@ module _ {W E S V F T I P Y : Type 0} (k : Kernels W E S V F T I P Y) where
   far_own_meet v n (far.Built i) h = h
   far_own_meet v n (far.Moved i) h = h
   far_own_meet v n (far.Refuses i why) h = h
-  far_own_meet v n (far.Ended ready) h = h
+  far_own_meet v n (far.Ended image ready) h = h
 
   -- ---- to the near side
 
@@ -284,6 +317,15 @@ module _ {W E S V F T I P Y : Type 0} (k : Kernels W E S V F T I P Y) where
   off_told (near.Failed w) p h = absurd h
   off_told (near.Clears j more) p h = absurd h
 
+  kept_told : (n : NearSide) (i : I) (p : APacket) → IsKept i n → IsKept i (near_told k n p)
+  kept_told (near.Cancels j w) i p h = h
+  kept_told (near.Cancelled j w) i p h = h
+  kept_told (near.Cleared j) i p h = absurd h
+  kept_told (near.Waits j) i p h = absurd h
+  kept_told (near.Saves s) i p h = absurd h
+  kept_told (near.Failed w) i p h = absurd h
+  kept_told (near.Clears j more) i p h = absurd h
+
   near_told_meet : (n : NearSide) (f : FarSide) (p : APacket) (number : ℕ) → slice_get (sent_far f) number ≡ Some p → Meet n f → Meet (near_told k n p) f
   near_told_meet n (far.Listens got) p number e h = cc
   near_told_meet n (far.Makes i t) p number e h = cc
@@ -293,8 +335,9 @@ module _ {W E S V F T I P Y : Type 0} (k : Kernels W E S V F T I P Y) where
       subst (λ (q : APacket). IsOpen i (near_told k n q)) (one_sent (Refused why) p number e) (refused_meet n i why h)
   near_told_meet n (far.Releases i) p number e h = gone_told n i p h
   near_told_meet n (far.Moved i) p number e h = gone_told n i p h
-  near_told_meet n (far.Clears i more ready) p number e h = off_told n p h
-  near_told_meet n (far.Ended ready) p number e h = off_told n p h
+  near_told_meet n (far.Clears i more ready) p number e h = kept_told n i p h
+  near_told_meet n (far.Ended None ready) p number e h = off_told n p h
+  near_told_meet n (far.Ended (Some i) ready) p number e h = kept_told n i p h
 
   -- ---- to the far side
 
@@ -373,16 +416,34 @@ module _ {W E S V F T I P Y : Type 0} (k : Kernels W E S V F T I P Y) where
   piece_meet (near.Clears j more) got i q any is h = absurd h
   piece_meet (near.Cleared j) got i q any is h = absurd h
 
+  any_kept : (n : NearSide) (i : I) → IsOff n → IsAny i n → IsKept i n
+  any_kept (near.Cancels j w) i off h = h
+  any_kept (near.Cancelled j w) i off h = h
+  any_kept (near.Cleared j) i off h = absurd off
+  any_kept (near.Waits j) i off h = absurd off
+  any_kept (near.Saves s) i off h = absurd off
+  any_kept (near.Failed w) i off h = absurd off
+  any_kept (near.Clears j more) i off h = absurd off
+
+  open_kept : (n : NearSide) (i : I) → IsOff n → IsOpen i n → IsKept i n
+  open_kept (near.Cancels j w) i off h = h
+  open_kept (near.Cancelled j w) i off h = h
+  open_kept (near.Cleared j) i off h = absurd off
+  open_kept (near.Waits j) i off h = absurd off
+  open_kept (near.Saves s) i off h = absurd off
+  open_kept (near.Failed w) i off h = absurd off
+  open_kept (near.Clears j more) i off h = absurd off
+
   cancelled_meet : (n : NearSide) (f : FarSide) → IsOff n → Meet n f → Meet n (far_told k f Cancel)
   cancelled_meet n (far.Listens got) off h = off
-  cancelled_meet n (far.Makes i t) off h = off
-  cancelled_meet n (far.Built i) off h = off
+  cancelled_meet n (far.Makes i t) off h = open_kept n i off h
+  cancelled_meet n (far.Built i) off h = any_kept n i off h
   cancelled_meet n (far.Releases i) off h = h
   cancelled_meet n (far.Moved i) off h = h
   cancelled_meet n (far.Refuses i why) off h = h
   cancelled_meet n (far.Undoes i t) off h = h
   cancelled_meet n (far.Clears i more ready) off h = h
-  cancelled_meet n (far.Ended ready) off h = h
+  cancelled_meet n (far.Ended image ready) off h = h
 
   far_told_meet : (n : NearSide) (f : FarSide) (p : APacket) → IsSent n p → Meet n f → Meet n (far_told k f p)
   far_told_meet _ f _ (ACancel n off) h = cancelled_meet n f off h
@@ -394,7 +455,7 @@ module _ {W E S V F T I P Y : Type 0} (k : Kernels W E S V F T I P Y) where
   far_told_meet _ (far.Refuses i why) _ (AGone j) h = h
   far_told_meet _ (far.Undoes i t) _ (AGone j) h = h
   far_told_meet _ (far.Clears i more ready) _ (AGone j) h = h
-  far_told_meet _ (far.Ended ready) _ (AGone j) h = h
+  far_told_meet _ (far.Ended image ready) _ (AGone j) h = h
   far_told_meet _ (far.Listens got) _ (APiece n i q any is) h = piece_meet n got i q any is h.0
   far_told_meet _ (far.Makes i t) _ (APiece n j q any is) h = h
   far_told_meet _ (far.Built i) _ (APiece n j q any is) h = h
@@ -403,7 +464,7 @@ module _ {W E S V F T I P Y : Type 0} (k : Kernels W E S V F T I P Y) where
   far_told_meet _ (far.Refuses i why) _ (APiece n j q any is) h = h
   far_told_meet _ (far.Undoes i t) _ (APiece n j q any is) h = h
   far_told_meet _ (far.Clears i more ready) _ (APiece n j q any is) h = h
-  far_told_meet _ (far.Ended ready) _ (APiece n j q any is) h = h
+  far_told_meet _ (far.Ended image ready) _ (APiece n j q any is) h = h
 
   -- ---- over a list of events
 
@@ -451,6 +512,68 @@ module _ {W E S V F T I P Y : Type 0} (k : Kernels W E S V F T I P Y) where
   gone_is (near.Cancels m why) j i h e = absurd h
   gone_is (near.Cancelled m why) j i h e = absurd h
 
+  -- both sides have one image
+
+  abbrev Has : NearSide → I → Type 0
+  Has n i = near_image n ≡ Some i
+
+  abbrev has_image : I → Option I
+  has_image i = Some i
+
+  open_has : (n : NearSide) (i : I) → IsOpen i n → Has n i
+  open_has (near.Waits j) i h = ap has_image h
+  open_has (near.Cancels j why) i h = ap has_image h
+  open_has (near.Cancelled j why) i h = ap has_image h
+  open_has (near.Saves s) i h = absurd h
+  open_has (near.Failed why) i h = absurd h
+  open_has (near.Clears j more) i h = absurd h
+  open_has (near.Cleared j) i h = absurd h
+
+  any_has : (n : NearSide) (i : I) → IsAny i n → Has n i
+  any_has (near.Waits j) i h = ap has_image h
+  any_has (near.Cancels j why) i h = ap has_image h
+  any_has (near.Cancelled j why) i h = ap has_image h
+  any_has (near.Clears j more) i h = ap has_image h
+  any_has (near.Cleared j) i h = ap has_image h
+  any_has (near.Saves s) i h = absurd h
+  any_has (near.Failed why) i h = absurd h
+
+  gone_has : (n : NearSide) (i : I) → IsGone i n → Has n i
+  gone_has (near.Cleared j) i h = ap has_image h
+  gone_has (near.Waits j) i h = absurd h
+  gone_has (near.Cancels j why) i h = absurd h
+  gone_has (near.Cancelled j why) i h = absurd h
+  gone_has (near.Saves s) i h = absurd h
+  gone_has (near.Failed why) i h = absurd h
+  gone_has (near.Clears j more) i h = absurd h
+
+  kept_has : (n : NearSide) (i : I) → IsKept i n → Has n i
+  kept_has (near.Cancels j why) i h = ap has_image h
+  kept_has (near.Cancelled j why) i h = ap has_image h
+  kept_has (near.Cleared j) i h = absurd h
+  kept_has (near.Waits j) i h = absurd h
+  kept_has (near.Saves s) i h = absurd h
+  kept_has (near.Failed why) i h = absurd h
+  kept_has (near.Clears j more) i h = absurd h
+
+  both_have : (n : NearSide) (f : FarSide) (i : I) → Meet n f → far_image f ≡ Some i → Has n i
+  both_have n (far.Makes j t) i h e = open_has n j h ∙ e
+  both_have n (far.Built j) i h e = any_has n j h ∙ e
+  both_have n (far.Releases j) i h e = gone_has n j h ∙ e
+  both_have n (far.Moved j) i h e = gone_has n j h ∙ e
+  both_have n (far.Refuses j why) i h e = open_has n j h ∙ e
+  both_have n (far.Undoes j t) i h e = kept_has n j h ∙ e
+  both_have n (far.Clears j more ready) i h e = kept_has n j h ∙ e
+  both_have n (far.Ended (Some j) ready) i h e = kept_has n j h ∙ e
+  both_have n (far.Ended None ready) i h e = cc
+  both_have n (far.Listens got) i h e = cc
+
+  pub same_image : k.codec.reads [] ≡ None → (w : W) (v : V) (es : List (Event E F)) (i : I) → GatherExactly k (first k w v) es
+      → far_image (run k (first k w v) es).far ≡ Some i → near_image (run k (first k w v) es).near ≡ Some i
+  unfolding Meets
+  same_image nothing w v es i all e =
+      both_have (run k (first k w v) es).near (run k (first k w v) es).far i (run_meets (first k w v) es all (first_meets w v nothing)) e
+
   let_go : (n : NearSide) (f : FarSide) (i : I) → Meet n f → is_let_go f ≡ Some i → n ≡ near.Cleared i
   let_go n (far.Releases j) i h e = gone_is n j i h (let same : j ≡ i = cc in same)
   let_go n (far.Moved j) i h e = gone_is n j i h (let same : j ≡ i = cc in same)
@@ -460,7 +583,7 @@ module _ {W E S V F T I P Y : Type 0} (k : Kernels W E S V F T I P Y) where
   let_go n (far.Refuses j why) i h e = cc
   let_go n (far.Undoes j t) i h e = cc
   let_go n (far.Clears j more ready) i h e = cc
-  let_go n (far.Ended ready) i h e = cc
+  let_go n (far.Ended image ready) i h e = cc
 
   pub never_both : k.codec.reads [] ≡ None → (w : W) (v : V) (es : List (Event E F)) (i : I) → GatherExactly k (first k w v) es
       → is_let_go (run k (first k w v) es).far ≡ Some i → (run k (first k w v) es).near ≡ near.Cleared i
@@ -540,7 +663,7 @@ module _ {W E S V F T I P Y : Type 0} (k : Kernels W E S V F T I P Y) where
   far_own_longer v (far.Built i) = itself (Ready ∷ [])
   far_own_longer v (far.Moved i) = itself (Ready ∷ [])
   far_own_longer v (far.Refuses i why) = itself (Refused why ∷ [])
-  far_own_longer v (far.Ended ready) = itself (ready_sent ready)
+  far_own_longer v (far.Ended image ready) = itself (ready_sent ready)
 
   far_told_longer : (f : FarSide) (p : APacket) → LongerFar f (far_told k f p)
   far_told_longer (far.Listens got) p = from_none (far_told k (far.Listens got) p)
@@ -555,7 +678,7 @@ module _ {W E S V F T I P Y : Type 0} (k : Kernels W E S V F T I P Y) where
   far_told_longer (far.Moved i) p = itself (Ready ∷ [])
   far_told_longer (far.Refuses i why) p = itself (Refused why ∷ [])
   far_told_longer (far.Clears i more ready) p = itself (ready_sent ready)
-  far_told_longer (far.Ended ready) p = itself (ready_sent ready)
+  far_told_longer (far.Ended image ready) p = itself (ready_sent ready)
 
   abbrev LongerBoth : Both → Both → Type 0
   LongerBoth p q = Longer p.near q.near × LongerFar p.far q.far
@@ -618,7 +741,7 @@ module _ {W E S V F T I P Y : Type 0} (k : Kernels W E S V F T I P Y) where
   FarKnows n (far.Refuses i why) told = Unit {0}
   FarKnows n (far.Undoes i t) told = Unit {0}
   FarKnows n (far.Clears i more ready) told = Unit {0}
-  FarKnows n (far.Ended ready) told = Unit {0}
+  FarKnows n (far.Ended image ready) told = Unit {0}
 
   came_on : (n m : NearSide) (told : List ℕ) (Q : P → Type 0) → Longer n m → PiecesCame n told Q → PiecesCame m told Q
   unfolding Longer
@@ -635,7 +758,7 @@ module _ {W E S V F T I P Y : Type 0} (k : Kernels W E S V F T I P Y) where
   knows_on n m (far.Refuses i why) told longer h = tt
   knows_on n m (far.Undoes i t) told longer h = tt
   knows_on n m (far.Clears i more ready) told longer h = tt
-  knows_on n m (far.Ended ready) told longer h = tt
+  knows_on n m (far.Ended image ready) told longer h = tt
 
   Knows : Both → Type 0
   Knows p = NearKnows p.near p.told_near × FarKnows p.near p.far p.told_far
@@ -684,7 +807,7 @@ module _ {W E S V F T I P Y : Type 0} (k : Kernels W E S V F T I P Y) where
   far_own_knows v n (far.Built i) told h = h
   far_own_knows v n (far.Moved i) told h = tt
   far_own_knows v n (far.Refuses i why) told h = tt
-  far_own_knows v n (far.Ended ready) told h = tt
+  far_own_knows v n (far.Ended image ready) told h = tt
 
   -- whatever comes to the near side while it waits decides
   near_told_knows : (n : NearSide) (f : FarSide) (p : APacket) (number : ℕ) (told : List ℕ) → slice_get (sent_far f) number ≡ Some p → Meet n f
@@ -702,7 +825,7 @@ module _ {W E S V F T I P Y : Type 0} (k : Kernels W E S V F T I P Y) where
   near_told_knows (near.Saves s) (far.Moved j) p number told e h = absurd h
   near_told_knows (near.Saves s) (far.Refuses j why) p number told e h = absurd h
   near_told_knows (near.Saves s) (far.Clears j more ready) p number told e h = absurd h
-  near_told_knows (near.Saves s) (far.Ended ready) p number told e h = absurd h
+  near_told_knows (near.Saves s) (far.Ended image ready) p number told e h = absurd (ended_off image (near.Saves s) h)
   near_told_knows (near.Waits i) (far.Built j) p number told e h =
       subst (λ (q : APacket). NearKnows (near_told k (near.Waits i) q) (number ∷ told)) (one_sent Ready p number e) tt
   near_told_knows (near.Waits i) (far.Refuses j why) p number told e h =
@@ -710,7 +833,7 @@ module _ {W E S V F T I P Y : Type 0} (k : Kernels W E S V F T I P Y) where
   near_told_knows (near.Waits i) (far.Releases j) p number told e h = absurd h
   near_told_knows (near.Waits i) (far.Moved j) p number told e h = absurd h
   near_told_knows (near.Waits i) (far.Clears j more ready) p number told e h = absurd h
-  near_told_knows (near.Waits i) (far.Ended ready) p number told e h = absurd h
+  near_told_knows (near.Waits i) (far.Ended image ready) p number told e h = absurd (ended_off image (near.Waits i) h)
 
   came_too : (n : NearSide) (number : ℕ) (told : List ℕ) (q : P) (Q R : P → Type 0) → IsPieceAt n number q → R q → ((r : P) → Q r → R r)
       → PiecesCame n told Q → PiecesCame n (number ∷ told) R
@@ -724,7 +847,7 @@ module _ {W E S V F T I P Y : Type 0} (k : Kernels W E S V F T I P Y) where
   far_told_knows n (far.Refuses i why) p number told e sent h knows = tt
   far_told_knows n (far.Undoes i t) p number told e sent h knows = tt
   far_told_knows n (far.Clears i more ready) p number told e sent h knows = tt
-  far_told_knows n (far.Ended ready) p number told e sent h knows = tt
+  far_told_knows n (far.Ended image ready) p number told e sent h knows = tt
   far_told_knows _ (far.Listens got) _ number told e (ACancel n off) h knows = tt
   far_told_knows _ (far.Makes i t) _ number told e (ACancel n off) h knows = tt
   far_told_knows _ (far.Built i) _ number told e (ACancel n off) h knows = tt
@@ -850,7 +973,7 @@ module _ {W E S V F T I P Y : Type 0} (k : Kernels W E S V F T I P Y) where
   asks_at (near.Waits i) (far.Moved j) tn tf h near_knows far_knows all_near all_far over = absurd h
   asks_at (near.Waits i) (far.Undoes j t) tn tf h near_knows far_knows all_near all_far over = absurd h
   asks_at (near.Waits i) (far.Clears j more ready) tn tf h near_knows far_knows all_near all_far over = absurd h
-  asks_at (near.Waits i) (far.Ended ready) tn tf h near_knows far_knows all_near all_far over = absurd h
+  asks_at (near.Waits i) (far.Ended image ready) tn tf h near_knows far_knows all_near all_far over = absurd (ended_off image (near.Waits i) h)
   asks_at (near.Cleared i) (far.Listens got) tn tf h near_knows far_knows all_near all_far over = absurd h.0
   asks_at (near.Cleared i) (far.Makes j t) tn tf h near_knows far_knows all_near all_far over = absurd h
   asks_at (near.Cleared i) (far.Built j) tn tf h near_knows far_knows all_near all_far over = absurd (cleared_over i j tf far_knows all_far)
@@ -859,7 +982,8 @@ module _ {W E S V F T I P Y : Type 0} (k : Kernels W E S V F T I P Y) where
   asks_at (near.Cleared i) (far.Moved j) tn tf h near_knows far_knows all_near all_far over = cc
   asks_at (near.Cleared i) (far.Undoes j t) tn tf h near_knows far_knows all_near all_far over = absurd h
   asks_at (near.Cleared i) (far.Clears j more ready) tn tf h near_knows far_knows all_near all_far over = absurd h
-  asks_at (near.Cleared i) (far.Ended ready) tn tf h near_knows far_knows all_near all_far over = absurd h
+  asks_at (near.Cleared i) (far.Ended image ready) tn tf h near_knows far_knows all_near all_far over =
+      absurd (ended_off image (near.Cleared i) h)
 
   first_knows : (w : W) (v : V) → Knows (first k w v)
   unfolding Knows

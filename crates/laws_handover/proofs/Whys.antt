@@ -71,8 +71,8 @@ module _ {W E S V F T I P Y : Type 0} (k : Kernels W E S V F T I P Y) where
   refused_by (far.Moved i) y number e = ready_alone y number e
   refused_by (far.Clears i more true) y number e = ready_alone y number e
   refused_by (far.Clears i more false) y number e = none_sent y number e
-  refused_by (far.Ended true) y number e = ready_alone y number e
-  refused_by (far.Ended false) y number e = none_sent y number e
+  refused_by (far.Ended image true) y number e = ready_alone y number e
+  refused_by (far.Ended image false) y number e = none_sent y number e
   refused_by (far.Listens got) y number e = none_sent y number e
   refused_by (far.Makes i t) y number e = none_sent y number e
   refused_by (far.Undoes i t) y number e = none_sent y number e

@@ -35,7 +35,7 @@ is_let_go (far.Built i) = None
 is_let_go (far.Refuses i why) = None
 is_let_go (far.Undoes i t) = None
 is_let_go (far.Clears i more ready) = None
-is_let_go (far.Ended ready) = None
+is_let_go (far.Ended image ready) = None
 
 -- the copy is let go only where nothing is left of the near one, and it is made of the image that was gathered there
 abbrev pub NeverBoth : (W E S V F T I P Y : Type 0) → Type 0
@@ -73,7 +73,7 @@ far_asks (far.Listens got) = false
 far_asks (far.Built i) = false
 far_asks (far.Moved i) = false
 far_asks (far.Refuses i why) = false
-far_asks (far.Ended ready) = false
+far_asks (far.Ended image ready) = false
 
 -- the near one is kept and let go, or the copy is let go
 abbrev pub is_over : {S T I P Y : Type 0} → Near S I Y → Far T I P Y → Bool
@@ -128,3 +128,33 @@ abbrev pub CancelSaysWhy : (W E S V F T I P Y : Type 0) → Type 0
 CancelSaysWhy W E S V F T I P Y = (k : Kernels W E S V F T I P Y) (w : W) (v : V) (es : List (Event E F)) (why : Y) →
     why_cancelled (run k (first k w v) es).near ≡ Some why →
     ((why ≡ k.gave_up) × IsIn GiveUp es) ⊎ ((i : I) × ((run k (first k w v) es).far ≡ far.Refuses i why))
+
+-- ---- one image
+
+-- the image that the near side has gathered
+abbrev pub near_image : {S I Y : Type 0} → Near S I Y → Option I
+near_image (near.Waits i) = Some i
+near_image (near.Clears i more) = Some i
+near_image (near.Cleared i) = Some i
+near_image (near.Cancels i why) = Some i
+near_image (near.Cancelled i why) = Some i
+near_image (near.Saves s) = None
+near_image (near.Failed why) = None
+
+-- the image that the far side has read
+abbrev pub far_image : {T I P Y : Type 0} → Far T I P Y → Option I
+far_image (far.Makes i t) = Some i
+far_image (far.Built i) = Some i
+far_image (far.Releases i) = Some i
+far_image (far.Moved i) = Some i
+far_image (far.Refuses i why) = Some i
+far_image (far.Undoes i t) = Some i
+far_image (far.Clears i more ready) = Some i
+far_image (far.Ended image ready) = image
+far_image (far.Listens got) = None
+
+-- what is read is what was gathered
+abbrev pub SameImage : (W E S V F T I P Y : Type 0) → Type 0
+SameImage W E S V F T I P Y = (k : Kernels W E S V F T I P Y) → k.codec.reads [] ≡ None → (w : W) (v : V) (es : List (Event E F)) (i : I) →
+    GatherExactly k (first k w v) es →
+    far_image (run k (first k w v) es).far ≡ Some i → near_image (run k (first k w v) es).near ≡ Some i

@@ -46,16 +46,16 @@ pub record ListsEndSo : Type 0 where
   pub clears : (ends true moving).near ≡ near.Cleared 7
   -- it gives up before Ready was sent, and after: Cancel is packet 2
   pub gives_up_early : (ends true (NearOwn ∷ NearOwn ∷ GiveUp ∷ NearOwn ∷ ToFar 0 ∷ ToFar 1 ∷ FarOwn ∷ ToNear 0 ∷ ToFar 2 ∷ FarOwn ∷ FarOwn ∷ [])).far
-      ≡ far.Ended true
+      ≡ far.Ended (Some 7) true
   pub keeps_early : (ends true (NearOwn ∷ NearOwn ∷ GiveUp ∷ NearOwn ∷ ToFar 0 ∷ ToFar 1 ∷ FarOwn ∷ ToNear 0 ∷ [])).near ≡ near.Cancelled 7 9
   pub gives_up_late : (ends true (NearOwn ∷ NearOwn ∷ ToFar 0 ∷ ToFar 1 ∷ FarOwn ∷ GiveUp ∷ ToNear 0 ∷ NearOwn ∷ [])).near ≡ near.Cancelled 7 9
   -- Ready was taken: it can't be given up
   pub too_late : (ends true (NearOwn ∷ NearOwn ∷ ToFar 0 ∷ ToFar 1 ∷ FarOwn ∷ ToNear 0 ∷ GiveUp ∷ [])).near ≡ near.Clears 7 1
   -- Cancel comes before the pieces, and between them
-  pub cancels_first : (ends true (NearOwn ∷ NearOwn ∷ GiveUp ∷ ToFar 2 ∷ ToFar 0 ∷ ToFar 1 ∷ [])).far ≡ far.Ended false
-  pub cancels_between : (ends true (NearOwn ∷ NearOwn ∷ ToFar 0 ∷ GiveUp ∷ ToFar 2 ∷ ToFar 1 ∷ [])).far ≡ far.Ended false
+  pub cancels_first : (ends true (NearOwn ∷ NearOwn ∷ GiveUp ∷ ToFar 2 ∷ ToFar 0 ∷ ToFar 1 ∷ [])).far ≡ far.Ended None false
+  pub cancels_between : (ends true (NearOwn ∷ NearOwn ∷ ToFar 0 ∷ GiveUp ∷ ToFar 2 ∷ ToFar 1 ∷ [])).far ≡ far.Ended None false
   -- and while the restore works
-  pub undoes : (ends true (NearOwn ∷ NearOwn ∷ ToFar 0 ∷ ToFar 1 ∷ GiveUp ∷ ToFar 2 ∷ FarOwn ∷ FarOwn ∷ FarOwn ∷ [])).far ≡ far.Ended false
+  pub undoes : (ends true (NearOwn ∷ NearOwn ∷ ToFar 0 ∷ ToFar 1 ∷ GiveUp ∷ ToFar 2 ∷ FarOwn ∷ FarOwn ∷ FarOwn ∷ [])).far ≡ far.Ended (Some 7) false
   -- a restore that is refused
   pub refused : (ends false (NearOwn ∷ NearOwn ∷ ToFar 1 ∷ ToFar 0 ∷ FarOwn ∷ ToNear 0 ∷ NearOwn ∷ ToFar 2 ∷ [])).near ≡ near.Cancelled 7 5
   pub refuses : (ends false (NearOwn ∷ NearOwn ∷ ToFar 1 ∷ ToFar 0 ∷ FarOwn ∷ ToNear 0 ∷ NearOwn ∷ ToFar 2 ∷ [])).far ≡ far.Refuses 7 5

@@ -9,13 +9,18 @@
 //! (`Handover`), and the pieces of an image (`Pieces`).
 #![tactic(auto)]
 
-ghost use Rattle.laws_handover.specs.Laws.{NeverBoth, SentStays, GoesOn, KeptForEver, CancelSaysWhy};
+ghost use Rattle.laws_handover.specs.Laws.{NeverBoth, SentStays, GoesOn, KeptForEver, CancelSaysWhy, SameImage};
 ghost use Rattle.laws_handover.specs.Pieces.{PiecesAreExact};
 ghost use Rattle.laws_handover.specs.Worked.{ListsEndSo};
 
 /// The copy is let go only where nothing is left of the near one.
 pub fn never_both<W, E, S, V, F, T, I, P, Y>()
     ensures { NeverBoth W E S V F T I P Y }
+{}
+
+/// The image that the far side has read is the one that the near side has gathered.
+pub fn what_is_read_was_gathered<W, E, S, V, F, T, I, P, Y>()
+    ensures { SameImage W E S V F T I P Y }
 {}
 
 /// A packet keeps its number.

@@ -1,26 +1,34 @@
 -- The far porter's calls are few.
-use Rattle.std.proofs.Common.{◌≡◌, ℕ, ◌+◌, ◌*◌, ◌≤◌, true, List, [], ◌∷◌, Option, Some, None, sym, subst, arith}
+use Rattle.std.proofs.Common.{◌≡◌, ℕ, ◌+◌, ◌-◌, ◌*◌, ◌≤◌, true, false, List, [], ◌∷◌, Option, Some, None, refl, sym, subst, arith, ◌∙◌}
 use Rattle.fk_model.specs.declared.limits.TheConstants.{LAST_USER_SLOT}
 use Rattle.fk_model.specs.Places.{Path}
+use Rattle.fk_model.specs.Cut.{cut}
 use Rattle.fk_model.specs.World.{World}
 use Rattle.fk_image.specs.declared.image.image.Image.{Image}
 use Rattle.fk_image.specs.Image.Picture.{picture}
 use Rattle.fk_image.specs.Image.Valid.{is_valid}
 use Rattle.laws_jobs.specs.Machines.{LiesWithin}
+use Rattle.laws_checkpoint.specs.Bounded.{count_of}
 use Rattle.laws_restore.specs.Restore.Bounded.{count_of as count_in}
 use Rattle.laws_restore.specs.Restore.Restore as restores
 use Rattle.laws_restore.specs.Restore.Restore.{objects, beneath}
 use Rattle.laws_restore.specs.Restore.Rooms.{Room}
 use Rattle.laws_restore.specs.Rooms.Rooms.{rooms_of}
 use Rattle.laws_restore.proofs.InRooms.Restored.{image_restore_is_bounded}
+use Rattle.laws_handover.specs.FarSide as far
 use Rattle.laws_handover.specs.FarSide.{Far}
+use Rattle.laws_handover.specs.Packets.{Codec}
 use Rattle.laws_handover.specs.Handover.{run, first}
-use Rattle.laws_migrate.specs.Migration.{Why, Job, top, kernels, make_from, is_far_own, counted_from}
-use Rattle.laws_migrate.specs.Bounded.{far_image, FarIsBounded}
-use Rattle.laws_migrate.proofs.Nears.{image_job}
+use Rattle.laws_handover.specs.Laws.{far_image}
+use Rattle.laws_handover.proofs.Meets.{same_image}
+use Rattle.laws_migrate.specs.Migration.{Why, Job, top, kernels, Both, Step, make_from, is_near_own, is_far_own, counted_from}
+use Rattle.laws_migrate.specs.Bounded.{FarIsBounded, BothAreBounded}
+use Rattle.laws_migrate.specs.Laws.{Happens}
+use Rattle.laws_migrate.proofs.Bounded.{count_least, near_is_bounded}
+use Rattle.laws_migrate.proofs.Nears.{image_job, image_is_of}
 use Rattle.laws_migrate.proofs.Fars as fars
 use Rattle.laws_migrate.proofs.Fars.{FarAt, MakesAt}
-use Rattle.laws_migrate.proofs.Migrates.{stands_here}
+use Rattle.laws_migrate.proofs.Migrates.{Stands, stands_here, exactly}
 
 -- a stage of destroying is a body
 one_beneath : (q : Path) → beneath q ≤ 1
@@ -50,11 +58,12 @@ module _ (P : Type 0) (slot : ℕ) (low : slot ≤ LAST_USER_SLOT) where
   abbrev Few : ℕ → Image → Type 0
   Few n image = (d : ℕ) → LiesWithin (picture image) d → n ≤ 41 * ((count_in (rooms_of image) + 1) * (d + 1))
 
+  abbrev has_image : Image → Option Image
+  has_image i = Some i
+
   record IsFew (n : ℕ) (f : FarSide) : Type 0 where
-    image : Image
-    valid : is_valid image ≡ true
-    same : (i : Image) → far_image f ≡ Some i → i ≡ image
-    few : Few n image
+    none : far_image f ≡ None → n ≡ 0
+    some : (image : Image) → far_image f ≡ Some image → Few n image
 
   made_few : (image : Image) (n : ℕ) (w v : World) (t : restores.State) (d : ℕ) → is_valid image ≡ true → fars.Worked P slot low image w v t n
       → LiesWithin (picture image) d → n ≤ 40 * ((count_in (rooms_of image) + 1) * (d + 1))
@@ -72,72 +81,93 @@ module _ (P : Type 0) (slot : ℕ) (low : slot ≤ LAST_USER_SLOT) where
       clearing n calls (objects (rooms_of image)) (count_in (rooms_of image)) ((count_in (rooms_of image) + 1) * (d + 1))
       (made_few image calls w v t d valid work deep) spends (few_stages (rooms_of image)) (under (count_in (rooms_of image)) d)
 
-  abbrev some_image : Image → Option Image
-  some_image i = Some i
+  of_image : (n : ℕ) (f : FarSide) (image : Image) → far_image f ≡ Some image → Few n image → IsFew n f
+  of_image n f image is few = record { none = λ e. none (far_image f) is e; some = λ i e. some i (sym is ∙ e) }
+    where
+      none : (o : Option Image) → o ≡ Some image → o ≡ None → n ≡ 0
+      none None is e = cc
+      none (Some i) is e = cc
 
-  image_same : (image i : Image) → some_image image ≡ some_image i → i ≡ image
-  image_same image i e = let same : image ≡ i = cc in sym same
+      some : (i : Image) → has_image image ≡ has_image i → Few n i
+      some i e = let same : image ≡ i = cc in subst (λ (j : Image). Few n j) same few
 
-  makes_few : (image : Image) (n : ℕ) (o : Option World) (m v : World) (s : restores.State) → MakesAt P slot low image n o v s → o ≡ Some m
-      → (is_valid image ≡ true) × Few n image
-  makes_few image _ _ m _ _ (MakesAt.Begins v valid empty) e = cc
-  makes_few image _ _ m _ _ (MakesAt.Goes_on n w v s valid began work going works copy) e = (valid, work_few image n w v s valid work)
+  before : (f : FarSide) → far_image f ≡ None → IsFew 0 f
+  before f none_yet = record { none = λ e. refl; some = λ i e. absurd (never (far_image f) i none_yet e) }
+    where
+      never : (o : Option Image) (i : Image) → o ≡ None → o ≡ Some i → ⊥
+      never None i none_yet e = cc
+      never (Some j) i none_yet e = cc
 
-  is_few : (n : ℕ) (o : Option World) (m v : World) (f : FarSide) → FarAt P slot low n o v f → o ≡ Some m → IsFew n f
-  is_few _ _ m _ _ (FarAt.Making n o v image s makes) e =
-      let its = makes_few image n o m v s makes e in
-      record { image = image; valid = its.0; same = λ i is. image_same image i is; few = its.1 }
-  is_few _ _ m _ _ (FarAt.Undoing n o v image s makes) e =
-      let its = makes_few image n o m v s makes e in
-      record { image = image; valid = its.0; same = λ i is. image_same image i is; few = its.1 }
-  is_few _ _ m _ _ (FarAt.Standing n w v image stands) e = record {
-    image = image;
-    valid = stands.valid;
-    same = λ i is. image_same image i is;
-    few = work_few image n w v (restores.Works []) stands.valid stands.work;
-  }
-  is_few _ _ m _ _ (FarAt.Releasing n w v image stands) e = record {
-    image = image;
-    valid = stands.valid;
-    same = λ i is. image_same image i is;
-    few = work_few image n w v (restores.Works []) stands.valid stands.work;
-  }
-  is_few _ _ m _ _ (FarAt.Moved n w u v image valid began work sound) e = record {
-    image = image;
-    valid = valid;
-    same = λ i is. image_same image i is;
-    few = work_few image n w u (restores.Over restores.Done) valid work;
-  }
-  is_few _ _ m _ _ (FarAt.Refused n w v image end why ended says sound spent) e = record {
-    image = image;
-    valid = ended.valid;
-    same = λ i is. image_same image i is;
-    few = work_few image n w ended.last (restores.Over end) ended.valid ended.work;
-  }
-  is_few _ _ m _ _ (FarAt.Clearing n w v image more told its sound) e = record {
-    image = image;
-    valid = its.valid;
-    same = λ i is. image_same image i is;
-    few = clear_few image n its.calls w its.last (restores.Works []) its.valid its.work (let spends = its.spends in omega (arith, spends));
-  }
-  is_few _ _ m _ _ (FarAt.Undone n w v image end ended sound spent) e = record {
-    image = image;
-    valid = ended.valid;
-    same = λ i is. cc;
-    few = work_few image n w ended.last (restores.Over end) ended.valid ended.work;
-  }
-  is_few _ _ m _ _ (FarAt.Cleared n w v image told cleared sound spent) e = record {
-    image = image;
-    valid = cleared.valid;
-    same = λ i is. cc;
-    few = clear_few image n cleared.calls w cleared.last (restores.Works []) cleared.valid cleared.work (let spends = cleared.spends in omega (arith, spends));
-  }
-  is_few _ _ m _ _ (FarAt.Listening v got empty) e = cc
-  is_few _ _ m _ _ (FarAt.Never v sound) e = cc
+  makes_few : (image : Image) (n : ℕ) (o : Option World) (v : World) (s : restores.State) → MakesAt P slot low image n o v s → Few n image
+  makes_few image _ _ _ _ (MakesAt.Begins v valid empty) = λ d deep. omega arith
+  makes_few image _ _ _ _ (MakesAt.Goes_on n w v s valid began work going works copy) = work_few image n w v s valid work
+
+  is_few : (n : ℕ) (o : Option World) (v : World) (f : FarSide) → FarAt P slot low n o v f → IsFew n f
+  is_few _ _ _ _ (FarAt.Listening v got empty) = before (far.Listens got) refl
+  is_few _ _ _ _ (FarAt.Never v sound) = before (far.Ended None false) refl
+  is_few _ _ _ _ (FarAt.Making n o v image s makes) = of_image n _ image refl (makes_few image n o v s makes)
+  is_few _ _ _ _ (FarAt.Undoing n o v image s makes) = of_image n _ image refl (makes_few image n o v s makes)
+  is_few _ _ _ _ (FarAt.Standing n w v image stands) =
+      of_image n (far.Built image) image refl (work_few image n w v (restores.Works []) stands.valid stands.work)
+  is_few _ _ _ _ (FarAt.Releasing n w v image stands) =
+      of_image n (far.Releases image) image refl (work_few image n w v (restores.Works []) stands.valid stands.work)
+  is_few _ _ _ _ (FarAt.Moved n w u v image valid began work sound) =
+      of_image n (far.Moved image) image refl (work_few image n w u (restores.Over restores.Done) valid work)
+  is_few _ _ _ _ (FarAt.Refused n w v image end why ended says sound spent) =
+      of_image n (far.Refuses image why) image refl (work_few image n w ended.last (restores.Over end) ended.valid ended.work)
+  is_few _ _ _ _ (FarAt.Clearing n w v image more told its sound) =
+      of_image n (far.Clears image more told) image refl
+      (clear_few image n its.calls w its.last (restores.Works []) its.valid its.work (let spends = its.spends in omega (arith, spends)))
+  is_few _ _ _ _ (FarAt.Undone n w v image end ended sound spent) =
+      of_image n (far.Ended (Some image) false) image refl (work_few image n w ended.last (restores.Over end) ended.valid ended.work)
+  is_few _ _ _ _ (FarAt.Cleared n w v image told cleared sound spent) =
+      of_image n (far.Ended (Some image) told) image refl
+      (clear_few image n cleared.calls w cleared.last (restores.Works []) cleared.valid cleared.work (let spends = cleared.spends in omega (arith, spends)))
+
+wider : (a b d : ℕ) → a ≤ b → (a + 1) * (d + 1) ≤ (b + 1) * (d + 1)
+wider a b d less =
+    let more : b ≡ a + (b - a) = omega (arith, less) in
+    subst (λ (m : ℕ). (a + 1) * (d + 1) ≤ (m + 1) * (d + 1)) (sym more) (omega arith)
+
+within : (n small big : ℕ) → n ≤ 41 * small → small ≤ big → n ≤ 41 * big
+within n small big few less = omega (arith, few, less)
+
+none_more : (n bound : ℕ) → n ≡ 0 → n ≤ bound
+none_more n bound none = omega (arith, none)
+
+together : (near far bound : ℕ) → near ≤ 101 * bound → far ≤ 41 * bound → near + far ≤ 142 * bound
+together near far bound one two = omega (arith, one, two)
+
+module _ {P : Type 0} (codec : Codec Image P) (slot : ℕ) (w v : World) (es : List (Step codec slot)) (h : World) (its : Happens codec slot w v es h) where
+  abbrev q : Both codec slot
+  q = run (kernels codec slot) (first (kernels codec slot) w v) es
+
+  abbrev made : Option World
+  made = make_from codec slot None (first (kernels codec slot) w v) es
+
+  abbrev calls : ℕ
+  calls = counted_from is_far_own 0 es
+
+  stands : Stands codec slot its.may.low its.good (counted_from is_near_own 0 es) calls (Some h) made q
+  stands = stands_here codec slot its.may.low its.good w v es h its
+
+  few : IsFew P slot its.may.low calls q.far
+  few = is_few P slot its.may.low calls made q.far_world q.far stands.far
+
+  few_by : (d : ℕ) → LiesWithin (cut h top slot) d → (o : Option Image) → far_image q.far ≡ o → calls ≤ 41 * ((count_of (cut h top slot) + 1) * (d + 1))
+  few_by d deep None e = none_more calls (41 * ((count_of (cut h top slot) + 1) * (d + 1))) (few.none e)
+  few_by d deep (Some image) e =
+      let gathered = same_image (kernels codec slot) its.good.nothing w v es image (exactly codec slot its.may.low its.good w v es h its) e in
+      let of = image_is_of slot its.may.low (counted_from is_near_own 0 es) (Some h) h q.near_world q.near image stands.near refl gathered in
+      within calls ((count_in (rooms_of image) + 1) * (d + 1)) ((count_of (cut h top slot) + 1) * (d + 1))
+      (few.some image e d (subst (λ (c : World). LiesWithin c d) (sym of.pictured) deep))
+      (wider (count_in (rooms_of image)) (count_of (cut h top slot)) d (count_least slot its.may.low h image of))
 
 pub far_is_bounded : {P : Type 0} → FarIsBounded P
-far_is_bounded {P} codec slot w v es h m its made_there =
-    let q = run (kernels codec slot) (first (kernels codec slot) w v) es in
-    let few = is_few P slot its.may.low (counted_from is_far_own 0 es) (make_from codec slot None (first (kernels codec slot) w v) es) m q.far_world q.far
-    (stands_here codec slot its.may.low its.good w v es h its).far made_there in
-    (few.image, few.valid, few.same, few.few)
+far_is_bounded codec slot w v es h d its deep =
+    few_by codec slot w v es h its d deep (far_image (run (kernels codec slot) (first (kernels codec slot) w v) es).far) refl
+
+pub both_are_bounded : {P : Type 0} → BothAreBounded P
+both_are_bounded codec slot w v es h d its deep =
+    together (counted_from is_near_own 0 es) (counted_from is_far_own 0 es) ((count_of (cut h top slot) + 1) * (d + 1))
+    (near_is_bounded codec slot w v es h d its deep) (far_is_bounded codec slot w v es h d its deep)

@@ -157,10 +157,11 @@ module _ (P : Type 0) (slot : ℕ) (low : slot ≤ LAST_USER_SLOT) where
         → FarAt n o v (far.Undoes image (job_of image s))
     Clearing : (n : ℕ) (w v : World) (image : Image) (more : ℕ) (ready : Bool) → IsClearing n w image more v → IsSound v
         → FarAt n (Some w) v (far.Clears image more ready)
-    Never : (v : World) → IsSound v → FarAt 0 None v (far.Ended false)
+    Never : (v : World) → IsSound v → FarAt 0 None v (far.Ended None false)
     Undone : (n : ℕ) (w v : World) (image : Image) (end : restores.End) → HasEnded n w image end → IsSound v → IsSpentCopy w v
-        → FarAt n (Some w) v (far.Ended false)
-    Cleared : (n : ℕ) (w v : World) (image : Image) (ready : Bool) → IsCleared n w image → IsSound v → IsSpentCopy w v → FarAt n (Some w) v (far.Ended ready)
+        → FarAt n (Some w) v (far.Ended (Some image) false)
+    Cleared : (n : ℕ) (w v : World) (image : Image) (ready : Bool) → IsCleared n w image → IsSound v → IsSpentCopy w v
+        → FarAt n (Some w) v (far.Ended (Some image) ready)
 
   -- ---- the copy stays while its porter holds it
 
@@ -346,7 +347,7 @@ module _ (P : Type 0) (slot : ℕ) (low : slot ≤ LAST_USER_SLOT) where
   abbrev undone_so : Image → Made Job Why → FarSide
   undone_so i (far.Goes j) = far.Undoes i j
   undone_so i far.Builds = far.Clears i (objects (rooms_of i)) false
-  undone_so i (far.Fails why) = far.Ended false
+  undone_so i (far.Fails why) = far.Ended (Some i) false
 
   goes_so : (image : Image) → is_valid image ≡ true → (n : ℕ) (w v : World) (t : restores.State) → Began_far w → Worked image w v t n → Lands image w v t
       → made t ≡ goes t → IsAtCall (machine image) t → MakesAt image n (Some w) v t
@@ -540,19 +541,19 @@ module _ (P : Type 0) (slot : ℕ) (low : slot ≤ LAST_USER_SLOT) where
   moved_so v (far.Built i) = v
   moved_so v (far.Moved i) = v
   moved_so v (far.Refuses i why) = v
-  moved_so v (far.Ended ready) = v
+  moved_so v (far.Ended image ready) = v
 
   abbrev own_so : World → FarSide → FarSide
   own_so v (far.Makes i j) = made_so i (of_job j.image (made (told (machine j.image) v j.state (restores.head slot j.state))))
   own_so v (far.Releases i) = far.Moved i
   own_so v (far.Undoes i j) = undone_so i (of_job j.image (made (told (machine j.image) v j.state (restores.head slot j.state))))
-  own_so v (far.Clears i zero ready) = far.Ended ready
+  own_so v (far.Clears i zero ready) = far.Ended (Some i) ready
   own_so v (far.Clears i (suc more) ready) = far.Clears i more ready
   own_so v (far.Listens got) = far.Listens got
   own_so v (far.Built i) = far.Built i
   own_so v (far.Moved i) = far.Moved i
   own_so v (far.Refuses i why) = far.Refuses i why
-  own_so v (far.Ended ready) = far.Ended ready
+  own_so v (far.Ended image ready) = far.Ended image ready
 
   pub far_own : (n : ℕ) (o : Option World) (v : World) (f : FarSide) → IsFarReady slot v f → HasRoom v → FarAt n o v f
       → FarAt (suc n) (Some (hold_or o v)) (moved_so v f) (own_so v f)
@@ -621,11 +622,11 @@ module _ (P : Type 0) (slot : ℕ) (low : slot ≤ LAST_USER_SLOT) where
       by _ _ _ _ (Cleared n w v i ready cleared sound spent) e = cc
 
   pub to_listen : (n : ℕ) (o : Option World) (v : World) (got more : List P) → FarAt n o v (far.Listens got)
-      → FarAt n o v (far.Listens more) × FarAt n o v (far.Ended false)
+      → FarAt n o v (far.Listens more) × FarAt n o v (far.Ended None false)
   to_listen n o v got more at = by n o v (far.Listens got) at refl
     where
       by : (n : ℕ) (o : Option World) (v : World) (f : FarSide) → FarAt n o v f → f ≡ far.Listens got
-          → FarAt n o v (far.Listens more) × FarAt n o v (far.Ended false)
+          → FarAt n o v (far.Listens more) × FarAt n o v (far.Ended None false)
       by _ _ _ _ (Listening v other empty) e = (Listening v more empty, Never v empty.sound)
       by _ _ _ _ (Making n o v i s makes) e = cc
       by _ _ _ _ (Standing n w v i stands) e = cc

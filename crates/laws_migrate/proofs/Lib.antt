@@ -3,6 +3,7 @@ pub mod Clearing
 pub mod Gathered
 pub mod Built
 pub mod Counting
+pub mod Listed
 pub mod Nears
 pub mod Fars
 pub mod Migrates

@@ -92,7 +92,7 @@ module _ {P : Type 0} (codec : Codec Image P) (slot : ℕ) (low : slot ≤ LAST_
   far_call d m v (far.Built i) ready room at = absurd ready
   far_call d m v (far.Moved i) ready room at = absurd ready
   far_call d m v (far.Refuses i why) ready room at = absurd ready
-  far_call d m v (far.Ended told) ready room at = absurd ready
+  far_call d m v (far.Ended image told) ready room at = absurd ready
 
   -- ---- deliveries
 
@@ -144,7 +144,7 @@ module _ {P : Type 0} (codec : Codec Image P) (slot : ℕ) (low : slot ≤ LAST_
   far_hears d m v (far.Refuses i why) p at = at
   far_hears d m v (far.Undoes i j) p at = at
   far_hears d m v (far.Clears i more told) p at = at
-  far_hears d m v (far.Ended told) p at = at
+  far_hears d m v (far.Ended image told) p at = at
 
   -- ---- both sides, at each event
 
@@ -265,7 +265,7 @@ module _ {P : Type 0} (codec : Codec Image P) (slot : ℕ) (low : slot ≤ LAST_
   valid_waits _ _ _ _ i (NearAt.Clearing n w v image more number m u began of named sound left before spends) e = cc
   valid_waits _ _ _ _ i (NearAt.Cleared n w v image number m u began of named sound spent before spends) e = cc
   valid_waits _ _ _ _ i (NearAt.Cancelling n w v image why began work) e = cc
-  valid_waits _ _ _ _ i (NearAt.Cancelled n w u v image why began work sound) e = cc
+  valid_waits _ _ _ _ i (NearAt.Cancelled n w u v image why began of work sound) e = cc
   valid_waits _ _ _ _ i (NearAt.Failed n w u v end why began work is sound) e = cc
 
   gather_exactly : (c d : ℕ) (h m : Option World) (p : Pairs) (es : List Events) → AreReady codec slot p es → Stands c d h m p → GatherExactly k p es
@@ -369,7 +369,7 @@ module _ {P : Type 0} (codec : Codec Image P) (slot : ℕ) (low : slot ≤ LAST_
   all_gone _ _ h _ _ image (NearAt.Waiting n w v i began work) e is = cc
   all_gone _ _ h _ _ image (NearAt.Clearing n w v i more number m u began of named sound left before spends) e is = cc
   all_gone _ _ h _ _ image (NearAt.Cancelling n w v i why began work) e is = cc
-  all_gone _ _ h _ _ image (NearAt.Cancelled n w u v i why began work sound) e is = cc
+  all_gone _ _ h _ _ image (NearAt.Cancelled n w u v i why began of work sound) e is = cc
   all_gone _ _ h _ _ image (NearAt.Failed n w u v end why began work is2 sound) e is = cc
 
   pub never_both_free : (w v : World) (es : List Events) (h m : World) (number copy : ℕ) → Happens codec slot w v es h → birth_at h root ≡ Some number
@@ -436,7 +436,7 @@ module _ {P : Type 0} (codec : Codec Image P) (slot : ℕ) (low : slot ≤ LAST_
   released_own _ _ h _ _ image why (NearAt.Waiting n w v i began work) e is ready room = cc
   released_own _ _ h _ _ image why (NearAt.Clearing n w v i more number m u began of named sound left before spends) e is ready room = cc
   released_own _ _ h _ _ image why (NearAt.Cleared n w v i number m u began of named sound spent before spends) e is ready room = cc
-  released_own _ _ h _ _ image why (NearAt.Cancelled n w u v i other began work sound) e is ready room = cc
+  released_own _ _ h _ _ image why (NearAt.Cancelled n w u v i other began of work sound) e is ready room = cc
   released_own _ _ h _ _ image why (NearAt.Failed n w u v end other began work is2 sound) e is ready room = cc
 
   pub kept_is_same : (w v : World) (es : List Events) (h : World) (image : Image) (why : Why) → Happens codec slot w v es h
@@ -472,7 +472,7 @@ module _ {P : Type 0} (codec : Codec Image P) (slot : ℕ) (low : slot ≤ LAST_
   foreign_own _ _ h _ _ place (NearAt.Clearing n w v i more number m u began of named sound left before spends) e is ready room = cc
   foreign_own _ _ h _ _ place (NearAt.Cleared n w v i number m u began of named sound spent before spends) e is ready room = cc
   foreign_own _ _ h _ _ place (NearAt.Cancelling n w v i other began work) e is ready room = cc
-  foreign_own _ _ h _ _ place (NearAt.Cancelled n w u v i other began work sound) e is ready room = cc
+  foreign_own _ _ h _ _ place (NearAt.Cancelled n w u v i other began of work sound) e is ready room = cc
   foreign_own _ _ h _ _ place (NearAt.Failed n w u v end other began work is2 sound) e is ready room = cc
 
   pub foreign_is_same : (w v : World) (es : List Events) (h : World) (place : Place) → Happens codec slot w v es h
@@ -507,7 +507,7 @@ module _ {P : Type 0} (codec : Codec Image P) (slot : ℕ) (low : slot ≤ LAST_
   failed_says _ _ h _ _ why (NearAt.Clearing n w v i more number m u began of named sound left before spends) e is = cc
   failed_says _ _ h _ _ why (NearAt.Cleared n w v i number m u began of named sound spent before spends) e is = cc
   failed_says _ _ h _ _ why (NearAt.Cancelling n w v i other began work) e is = cc
-  failed_says _ _ h _ _ why (NearAt.Cancelled n w u v i other began work sound) e is = cc
+  failed_says _ _ h _ _ why (NearAt.Cancelled n w u v i other began of work sound) e is = cc
 
   pub failed_says_why : (w v : World) (es : List Events) (h : World) (why : Why) → Happens codec slot w v es h → (run k (first k w v) es).near ≡ near.Failed why
       → SaysWhy h slot why

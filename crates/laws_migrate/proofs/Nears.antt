@@ -1,5 +1,6 @@
 -- The near side of a migration, at each event.
-use Rattle.std.proofs.Common.{◌≡◌, ℕ, zero, suc, ◌+◌, ◌≤◌, Bool, true, false, ◌⊎◌, inl, inr, is_some, List, [], ◌∷◌, ◌++◌, Option, Some, None, option_map}
+use Rattle.std.proofs.Common.{◌≡◌, ℕ, zero, suc, ◌+◌, ◌≤◌, Bool, true, false, ◌⊎◌, inl, inr, is_some, IsSome, List, [], ◌∷◌, ◌++◌, Option, Some, None}
+use Rattle.std.proofs.Common.{option_map}
 use Rattle.std.proofs.Common.{refl, sym, ap, subst, arith, ◌∙◌}
 use Rattle.fk_model.specs.declared.limits.TheConstants.{OWN_SPACE, LAST_USER_SLOT, LAST_PORTER_SLOT}
 use Rattle.fk_model.specs.declared.moves.Ask.{Ask}
@@ -12,6 +13,8 @@ use Rattle.fk_model.specs.Places.{Path, Ptr}
 use Rattle.fk_model.specs.Objects.{Body, holds, is_served, kind_of}
 use Rattle.fk_model.specs.Objects.Body.{Mutex, Cond, Mapping, Region, Port, Portset, Space, Thread_of, Reference}
 use Rattle.fk_model.specs.Cut.{cut}
+use Rattle.fk_model.specs.Searches.{objects as all_objects}
+use Rattle.fk_model.proofs.walks.Members.{IsIn}
 use Rattle.fk_model.specs.Runs.{Event, after, run}
 use Rattle.fk_model.specs.Objects.{reference_of, and_then}
 use Rattle.fk_model.specs.Whole.{stands_in}
@@ -57,12 +60,14 @@ use Rattle.laws_checkpoint.proofs.Working.Phase.{AtOver}
 use Rattle.laws_checkpoint.proofs.Ended.{Came, came}
 use Rattle.laws_checkpoint.proofs.Ended.Came.{NeverHeld, InPhase}
 use Rattle.laws_checkpoint.proofs.Ended.{checkpoint_is_tidy}
+use Rattle.laws_checkpoint.proofs.Imaged.{in_cut}
 use Rattle.laws_restore.specs.Restore.Restore.{objects}
 use Rattle.laws_restore.specs.Rooms.Rooms.{rooms_of}
 use Rattle.laws_restore.specs.Rooms.Restoring.{bound_by, IsRestoreJob}
 use Rattle.laws_restore.proofs.InRooms.Restored.{roomed}
 use Rattle.laws_handover.specs.NearSide as near
 use Rattle.laws_handover.specs.NearSide.{Near, Saved}
+use Rattle.laws_handover.specs.Laws.{near_image}
 use Rattle.laws_migrate.specs.Births.{IsSpent}
 use Rattle.laws_migrate.specs.Clearing.{destroying}
 use Rattle.laws_migrate.specs.Gathered.{Gathered}
@@ -254,6 +259,8 @@ module _ (slot : ℕ) (low : slot ≤ LAST_USER_SLOT) where
   pub record IsImageOf (w : World) (image : Image) : Type 0 where
     pub valid : is_valid image ≡ true
     pub pictured : picture image ≡ cut w top slot
+    -- the walk of the cut comes to every body
+    pub listed : (q : Path) → IsSome ((cut w top slot).body q) → IsIn q ([] ∷ all_objects (cut w top slot))
 
   abbrev NearSide : Type 0
   NearSide = Near checks.State Image Why
@@ -278,7 +285,7 @@ module _ (slot : ℕ) (low : slot ≤ LAST_USER_SLOT) where
         → NearAt n (Some w) v (near.Cleared image)
     Cancelling : (n : ℕ) (w v : World) (image : Image) (why : Why) → Began w → Worked w v (checks.Releases (checks.Done image)) n
         → NearAt n (Some w) v (near.Cancels image why)
-    Cancelled : (n : ℕ) (w u v : World) (image : Image) (why : Why) → Began w → Worked w u (checks.Over (checks.Done image)) n → IsSound v
+    Cancelled : (n : ℕ) (w u v : World) (image : Image) (why : Why) → Began w → IsImageOf w image → Worked w u (checks.Over (checks.Done image)) n → IsSound v
         → NearAt n (Some w) v (near.Cancelled image why)
     Failed : (n : ℕ) (w u v : World) (end : checks.End) (why : Why) → Began w → Worked w u (checks.Over end) n → checked_end end ≡ fails why × IsNone end
         → IsSound v → NearAt n (Some w) v (near.Failed why)
@@ -329,7 +336,8 @@ module _ (slot : ℕ) (low : slot ≤ LAST_USER_SLOT) where
   near_others _ _ v _ e its (Cleared n w _ image number m u began of named sound spent before spends) =
       Cleared n w (after v e) image number m u began of named (sound_by_others v e sound its)
       (spent_stays v e number sound.whole.valid sound.whole.few its.moves.fit spent) before spends
-  near_others _ _ v _ e its (Cancelled n w u _ image why began work sound) = Cancelled n w u (after v e) image why began work (sound_by_others v e sound its)
+  near_others _ _ v _ e its (Cancelled n w u _ image why began of work sound) =
+      Cancelled n w u (after v e) image why began of work (sound_by_others v e sound its)
   near_others _ _ v _ e its (Failed n w u _ end why began work is sound) = Failed n w u (after v e) end why began work is (sound_by_others v e sound its)
 
   -- ---- where a call has come to
@@ -446,6 +454,38 @@ module _ (slot : ℕ) (low : slot ≤ LAST_USER_SLOT) where
       lands 1 v _ _ began (count_begins (checkpoint slot) top v checks.Holds _ _ refl ready (owed_sound v _ _ owed fresh.sound room))
       (λ image is. not_done slot checks.Holds _ [] image refl is)
 
+  -- ---- what it has gathered
+
+  pub record HasGathered (w v : World) (image : Image) : Type 0 where
+    pub number : ℕ
+    pub named : birth_at w root ≡ Some number
+    pub it : Gathered w top slot number image v
+
+  pub has_gathered : (n : ℕ) (w v : World) (image : Image) → Began w → Worked w v (checks.Releases (checks.Done image)) n → HasGathered w v image
+  has_gathered n w v image began work =
+      let space = held_space slot began.birth w top low began.may v (checks.Releases (checks.Done image)) (checks.Done image)
+      (came slot began.birth w top low began.may v (checks.Releases (checks.Done image)) work.work) refl in
+      let its = birth_is w root space in
+      record {
+        number = its.0;
+        named = its.1;
+        it = gathered_image_is_subtree slot began.birth its.0 w v top image low began.may (save_of w began space) its.1 work.work;
+      }
+
+  pub gathered_image : (n : ℕ) (w v : World) (image : Image) → Began w → Worked w v (checks.Releases (checks.Done image)) n → IsImageOf w image
+  gathered_image n w v image began work =
+      let got = has_gathered n w v image began work in
+      let space = held_space slot began.birth w top low began.may v (checks.Releases (checks.Done image)) (checks.Done image)
+      (came slot began.birth w top low began.may v (checks.Releases (checks.Done image)) work.work) refl in
+      let save = save_of w began space in
+      record {
+        valid = got.it.valid;
+        pictured = got.it.pictured;
+        listed = λ q live. in_cut w top slot began.may.sound began.may.clean save.uncut save.users got.it.closed q live;
+      }
+
+  -- ---- its stages of destroying
+
   destroy_owed : (v : World) → IsOwedCall v top (Destroy OWN_SPACE slot) no_words
   unfolding is_fit
   destroy_owed v = record { proper = record { fit = refl; words = refl }; owes = le-leb slot LAST_SCRATCH_SLOT (omega (arith, low)); unpicking = refl }
@@ -486,30 +526,15 @@ module _ (slot : ℕ) (low : slot ≤ LAST_USER_SLOT) where
       before (omega (arith, spends))
   near_own _ _ _ _ ready room (Cancelling n w v image why began work) =
       let on = worked_own n w v (checks.Releases (checks.Done image)) (SpaceRelease OWN_SPACE slot) no_words began work refl ready room in
-      Cancelled (suc n) w (after v (release top slot)) (after v (release top slot)) image why began on
+      Cancelled (suc n) w (after v (release top slot)) (after v (release top slot)) image why began
+      (gathered_image n w v image began work) on
       (now_sound (checkpoint slot) top w checks.Holds (after v (release top slot)) (checks.Over (checks.Done image)) on.work)
   near_own _ _ _ _ ready room (Waiting n w v image began work) = absurd ready
   near_own _ _ _ _ ready room (Cleared n w v image number m u began of named sound spent before spends) = absurd ready
-  near_own _ _ _ _ ready room (Cancelled n w u v image why began work sound) = absurd ready
+  near_own _ _ _ _ ready room (Cancelled n w u v image why began of work sound) = absurd ready
   near_own _ _ _ _ ready room (Failed n w u v end why began work is sound) = absurd ready
 
   -- ---- what it decides
-
-  pub record HasGathered (w v : World) (image : Image) : Type 0 where
-    pub number : ℕ
-    pub named : birth_at w root ≡ Some number
-    pub it : Gathered w top slot number image v
-
-  pub has_gathered : (n : ℕ) (w v : World) (image : Image) → Began w → Worked w v (checks.Releases (checks.Done image)) n → HasGathered w v image
-  has_gathered n w v image began work =
-      let space = held_space slot began.birth w top low began.may v (checks.Releases (checks.Done image)) (checks.Done image)
-      (came slot began.birth w top low began.may v (checks.Releases (checks.Done image)) work.work) refl in
-      let its = birth_is w root space in
-      record {
-        number = its.0;
-        named = its.1;
-        it = gathered_image_is_subtree slot began.birth its.0 w v top image low began.may (save_of w began space) its.1 work.work;
-      }
 
   pub image_job : (image : Image) → is_valid image ≡ true → IsRestoreJob slot image []
   image_job image valid = record { low = low; users = refl; valid = valid }
@@ -521,7 +546,7 @@ module _ (slot : ℕ) (low : slot ≤ LAST_USER_SLOT) where
       let mine : Worked w v (checks.Releases (checks.Done image)) n = subst (λ (i : Image). Worked w v (checks.Releases (checks.Done i)) n) same work in
       let got = has_gathered n w v image began mine in
       let job = image_job image got.it.valid in
-      Clearing n w v image (objects (rooms_of image)) got.number n v began (record { valid = got.it.valid; pictured = got.it.pictured }) got.named
+      Clearing n w v image (objects (rooms_of image)) got.number n v began (gathered_image n w v image began mine) got.named
       (now_sound (checkpoint slot) top w checks.Holds v (checks.Releases (checks.Done image)) mine.work)
       (begun top slot got.number (bound_by []) (picture image) (rooms_of image) (roomed slot image [] job) v got.it.may_clear) mine refl
   to_clear _ _ _ _ image e (Fresh v fresh) = cc
@@ -529,7 +554,7 @@ module _ (slot : ℕ) (low : slot ≤ LAST_USER_SLOT) where
   to_clear _ _ _ _ image e (Clearing n w v i more number m u began of named sound left before spends) = cc
   to_clear _ _ _ _ image e (Cleared n w v i number m u began of named sound spent before spends) = cc
   to_clear _ _ _ _ image e (Cancelling n w v i why began work) = cc
-  to_clear _ _ _ _ image e (Cancelled n w u v i why began work sound) = cc
+  to_clear _ _ _ _ image e (Cancelled n w u v i why began of work sound) = cc
   to_clear _ _ _ _ image e (Failed n w u v end why began work is sound) = cc
 
   pub to_cancel : (c : ℕ) (h : Option World) (v : World) (n : NearSide) (image : Image) (why : Why) → n ≡ near.Waits image → NearAt c h v n
@@ -542,5 +567,30 @@ module _ (slot : ℕ) (low : slot ≤ LAST_USER_SLOT) where
   to_cancel _ _ _ _ image why e (Clearing n w v i more number m u began of named sound left before spends) = cc
   to_cancel _ _ _ _ image why e (Cleared n w v i number m u began of named sound spent before spends) = cc
   to_cancel _ _ _ _ image why e (Cancelling n w v i other began work) = cc
-  to_cancel _ _ _ _ image why e (Cancelled n w u v i other began work sound) = cc
+  to_cancel _ _ _ _ image why e (Cancelled n w u v i other began of work sound) = cc
   to_cancel _ _ _ _ image why e (Failed n w u v end other began work is sound) = cc
+
+  -- ---- its image
+
+  abbrev has_image : Image → Option Image
+  has_image i = Some i
+
+  image_so : (w h : World) (image i : Image) → IsImageOf w image → w ≡ h → has_image image ≡ has_image i → IsImageOf h i
+  image_so w h image i of here is =
+      let same : image ≡ i = cc in
+      subst (λ (x : World). IsImageOf x i) here (subst (λ (j : Image). IsImageOf w j) same of)
+
+  pub image_is_of : (c : ℕ) (o : Option World) (h v : World) (n : NearSide) (image : Image) → NearAt c o v n → o ≡ Some h → near_image n ≡ Some image
+      → IsImageOf h image
+  image_is_of _ _ h _ _ image (Waiting n w v i began work) e is =
+      image_so w h i image (gathered_image n w v i began work) (let here : w ≡ h = cc in here) is
+  image_is_of _ _ h _ _ image (Clearing n w v i more number m u began of named sound left before spends) e is =
+      image_so w h i image of (let here : w ≡ h = cc in here) is
+  image_is_of _ _ h _ _ image (Cleared n w v i number m u began of named sound spent before spends) e is =
+      image_so w h i image of (let here : w ≡ h = cc in here) is
+  image_is_of _ _ h _ _ image (Cancelling n w v i why began work) e is =
+      image_so w h i image (gathered_image n w v i began work) (let here : w ≡ h = cc in here) is
+  image_is_of _ _ h _ _ image (Cancelled n w u v i why began of work sound) e is = image_so w h i image of (let here : w ≡ h = cc in here) is
+  image_is_of _ _ h _ _ image (Fresh v fresh) e is = cc
+  image_is_of _ _ h _ _ image (Saving n w v s began work going works) e is = cc
+  image_is_of _ _ h _ _ image (Failed n w u v end why began work says sound) e is = cc

@@ -152,7 +152,7 @@ module _ {P : Type 0} (codec : Codec Image P) (slot : ℕ) (low : slot ≤ LAST_
   near_ready _ _ u _ (NearAt.Fresh _ fresh) held calm asks = absurd (held refl)
   near_ready _ _ u _ (NearAt.Waiting n w _ image began work) held calm asks = cc
   near_ready _ _ u _ (NearAt.Cleared n w _ image number m x began of named sound spent before spends) held calm asks = cc
-  near_ready _ _ u _ (NearAt.Cancelled n w x _ image why began work sound) held calm asks = cc
+  near_ready _ _ u _ (NearAt.Cancelled n w x _ image why began of work sound) held calm asks = cc
   near_ready _ _ u _ (NearAt.Failed n w x _ end why began work is sound) held calm asks = cc
 
   makes_ready : (image : Image) (n : ℕ) (o : Option World) (u : World) (s : restores.State) → MakesAt P slot low image n o u s

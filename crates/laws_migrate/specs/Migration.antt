@@ -160,7 +160,7 @@ IsFarReady slot v (far.Listens got) = ⊥
 IsFarReady slot v (far.Built image) = ⊥
 IsFarReady slot v (far.Moved image) = ⊥
 IsFarReady slot v (far.Refuses image why) = ⊥
-IsFarReady slot v (far.Ended ready) = ⊥
+IsFarReady slot v (far.Ended image ready) = ⊥
 
 abbrev pub may_give_up : Near checks.State Image Why → Type 0
 may_give_up (near.Waits image) = Unit {0}

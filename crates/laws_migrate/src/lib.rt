@@ -8,7 +8,7 @@
 //!
 //! It doesn't say that one of them is let go in the end: where the near one is gone and the last packet is lost, the copy stays held.
 //! Nor does it say that no move of a user takes the far root's porter away before the copy is made: `a_migration_is_ready` supposes that
-//! it stands. The far porter's calls are bounded by the image that was read, and not by the subtree at the hold.
+//! it stands.
 #![tactic(auto)]
 
 ghost use Rattle.laws_migrate.specs.Births.{SpentStays};
@@ -18,7 +18,7 @@ ghost use Rattle.laws_migrate.specs.Images.{ImagesAreRead};
 ghost use Rattle.laws_migrate.specs.Laws.{NeverBothFree, MovedIsSame, KeptIsSame, ForeignIsSame, FailedSaysWhy, RefusedSaysWhy};
 ghost use Rattle.laws_migrate.specs.Places.{CallsHavePlaces};
 ghost use Rattle.laws_migrate.specs.Readies.{FirstIsReady, MigrationIsReady};
-ghost use Rattle.laws_migrate.specs.Bounded.{NearIsBounded, FarIsBounded};
+ghost use Rattle.laws_migrate.specs.Bounded.{NearIsBounded, FarIsBounded, BothAreBounded};
 ghost use Rattle.laws_migrate.specs.Clearing.{SubtreeIsDestroyed, ClearingIsReady};
 
 /// A birth number that was given and that no space has is never given again.
@@ -121,8 +121,12 @@ pub fn calls_have_places<P>()
     ensures { CallsHavePlaces P }
 {}
 
-/// Ended or not, the far porter makes at most 41 (n + 1) (d + 1) calls, where the image that was read has n bodies and pages, none deeper
-/// than d.
+/// Ended or not, the far porter makes at most 41 (n + 1) (d + 1) calls.
 pub fn the_far_porter_is_bounded<P>()
     ensures { FarIsBounded P }
+{}
+
+/// Both porters together make at most 142 (n + 1) (d + 1) calls.
+pub fn both_porters_are_bounded<P>()
+    ensures { BothAreBounded P }
 {}
