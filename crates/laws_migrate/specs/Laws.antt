@@ -1,10 +1,10 @@
 -- What a migration comes to, over every list of ready events.
-use Rattle.std.specs.Prelude.{◌≡◌, ℕ, true, IsSome, List, [], ◌∷◌, Some, None}
+use Rattle.std.specs.Prelude.{◌≡◌, ℕ, true, ◌⊎◌, IsSome, List, [], ◌∷◌, ◌++◌, Some, None}
 use Rattle.fk_model.specs.Closed.{Place, open_place}
 use Rattle.laws_jobs.specs.Holds.{IsSpaceAt}
 use Rattle.laws_checkpoint.specs.Checkpoint.State.{Releases}
 use Rattle.laws_checkpoint.specs.Checkpoint.End.{Foreign as OpenAt}
-use Rattle.laws_migrate.specs.Migration.Why.{Dead, Foreign, Occupied, NoPort}
+use Rattle.laws_migrate.specs.Migration.Why.{Dead, Foreign, Occupied, NoPort, GaveUp}
 use Rattle.fk_model.specs.Cut.{cut}
 use Rattle.fk_model.specs.Valid.{birth_at}
 use Rattle.fk_model.specs.World.{World}
@@ -20,7 +20,7 @@ use Rattle.laws_handover.specs.NearSide as near
 use Rattle.laws_handover.specs.FarSide as far
 use Rattle.laws_handover.specs.Handover as handover
 use Rattle.laws_handover.specs.Handover.{next, run, first}
-use Rattle.laws_handover.specs.Laws.{IsExact}
+use Rattle.laws_handover.specs.Laws.{IsIn, IsExact, is_kept, why_cancelled}
 use Rattle.laws_migrate.specs.Births.{HasNone}
 use Rattle.laws_migrate.specs.Migration.{Why, top, kernels, Step, IsReadyIn, AreReady, hold_from, make_from, MayMigrate, MakesCopy, IsFree}
 
@@ -92,3 +92,19 @@ abbrev pub RefusedSaysWhy : Type 0 → Type 0
 RefusedSaysWhy P = (codec : Codec Image P) (slot : ℕ) (w v : World) (es : List (Step codec slot)) (h m : World) (image : Image) (why : Why) →
     Happens codec slot w v es h → make_from codec slot None (first (kernels codec slot) w v) es ≡ Some m →
     (run (kernels codec slot) (first (kernels codec slot) w v) es).far ≡ far.Refuses image why → RefusesSo m slot image why
+
+-- ---- kept
+
+-- once the near one is kept no copy is ever free, whatever comes after it
+abbrev pub KeptIsAlone : Type 0 → Type 0
+KeptIsAlone P = (codec : Codec Image P) (slot : ℕ) (w v : World) (es more : List (Step codec slot)) (h m : World) (copy : ℕ) →
+    Happens codec slot w v (es ++ more) h → is_kept (run (kernels codec slot) (first (kernels codec slot) w v) es).near ≡ true →
+    make_from codec slot None (first (kernels codec slot) w v) (es ++ more) ≡ Some m → MakesCopy slot m copy →
+    IsFree (run (kernels codec slot) (first (kernels codec slot) w v) (es ++ more)).far_world copy → ⊥
+
+-- one that was cancelled was given up, or the far restore has ended without a copy, for the reason that it says
+abbrev pub CancelledSaysWhy : Type 0 → Type 0
+CancelledSaysWhy P = (codec : Codec Image P) (slot : ℕ) (w v : World) (es : List (Step codec slot)) (h : World) (why : Why) → Happens codec slot w v es h →
+    why_cancelled (run (kernels codec slot) (first (kernels codec slot) w v) es).near ≡ Some why →
+    ((why ≡ GaveUp) × IsIn handover.GiveUp es) ⊎
+    ((m : World) × (image : Image) × (make_from codec slot None (first (kernels codec slot) w v) es ≡ Some m) × RefusesSo m slot image why)
