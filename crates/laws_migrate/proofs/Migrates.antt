@@ -1,5 +1,5 @@
 -- Both sides of a migration together, over every list of ready events.
-use Rattle.std.proofs.Common.{◌≡◌, ℕ, zero, suc, ◌≤◌, true, List, [], ◌∷◌, ◌++◌, Option, Some, None, refl, sym, ap, subst, ◌∙◌}
+use Rattle.std.proofs.Common.{◌≡◌, ℕ, zero, suc, ◌≤◌, true, List, [], ◌∷◌, ◌++◌, Option, Some, None, refl, sym, ap, subst, ◌∙◌, ◌⊎◌, inl, inr}
 use Rattle.std.specs.List.{slice_get}
 use Rattle.fk_model.specs.declared.limits.TheConstants.{OWN_SPACE, LAST_USER_SLOT, LAST_PORTER_SLOT}
 use Rattle.fk_model.specs.declared.stage.Stage.TheVariants.{SpaceRelease}
@@ -39,8 +39,10 @@ use Rattle.laws_handover.specs.Handover as handover
 use Rattle.laws_handover.specs.Handover.{next, run, first, near_own as near_step, near_moved, far_own as far_step, far_moved, near_told, far_told, listened}
 use Rattle.laws_handover.specs.Handover.{gives_up}
 use Rattle.laws_handover.specs.Handover.{delivered_near, delivered_far}
-use Rattle.laws_handover.specs.Laws.{GatherExactly, is_let_go}
+use Rattle.laws_handover.specs.Laws.{IsIn, GatherExactly, is_let_go, is_kept, why_cancelled}
 use Rattle.laws_handover.proofs.Meets.{never_both}
+use Rattle.laws_handover.proofs.Kept.{kept_for_ever}
+use Rattle.laws_handover.proofs.Whys.{cancel_says_why}
 use Rattle.laws_migrate.specs.Births.{HasNone, IsSpent}
 use Rattle.laws_migrate.specs.Migration.{Why, Job, top, kernels, Both, Step, HasRoom, IsNearReady, IsFarReady, IsReadyIn, AreReady, noted, near_asked}
 use Rattle.laws_migrate.specs.Migration.{far_asked, hold_from, make_from}
@@ -561,3 +563,49 @@ module _ {P : Type 0} (codec : Codec Image P) (slot : ℕ) (low : slot ≤ LAST_
       let q = run k (first k w v) es in
       refused_so (counted_from is_far_own 0 es) (make_from codec slot None (first k w v) es) m q.far_world q.far image why
       (stands_here w v es h its).far made_there is
+
+  -- ---- kept
+
+  pub kept_is_alone : (w v : World) (es more : List Events) (h m : World) (copy : ℕ) → Happens codec slot w v (es ++ more) h
+      → is_kept (run k (first k w v) es).near ≡ true → make_from codec slot None (first k w v) (es ++ more) ≡ Some m → MakesCopy slot m copy
+      → IsFree (run k (first k w v) (es ++ more)).far_world copy → ⊥
+  kept_is_alone w v es more h m copy its kept made_there made_it free =
+      let q = run k (first k w v) (es ++ more) in
+      let let_it = free_is_let_go (counted_from is_far_own 0 (es ++ more)) (make_from codec slot None (first k w v) (es ++ more)) m q.far_world q.far copy
+      (stands_here w v (es ++ more) h its).far made_there made_it free in
+      let none = kept_for_ever k good.nothing w v es more (exactly w v (es ++ more) h its) kept in
+      let both = sym let_it.1 ∙ none in
+      never let_it.0 both
+    where
+      never : (i : Image) → Some i ≡ None → ⊥
+      never i e = cc
+
+  made_at : (n : ℕ) (o : Option World) (v : World) (f : FarSide) (image : Image) (why : Why) → Fars n o v f → f ≡ far.Refuses image why
+      → (m : World) × (o ≡ Some m)
+  made_at _ _ _ _ image why (FarAt.Refused n w v other end reason ended says sound spent) is = (w, refl)
+  made_at _ _ _ _ image why (FarAt.Listening v got empty) is = cc
+  made_at _ _ _ _ image why (FarAt.Making n o v i s makes) is = cc
+  made_at _ _ _ _ image why (FarAt.Standing n w v i stands) is = cc
+  made_at _ _ _ _ image why (FarAt.Releasing n w v i stands) is = cc
+  made_at _ _ _ _ image why (FarAt.Moved n w u v i valid began work sound) is = cc
+  made_at _ _ _ _ image why (FarAt.Undoing n o v i s makes) is = cc
+  made_at _ _ _ _ image why (FarAt.Clearing n w v i more told its sound) is = cc
+  made_at _ _ _ _ image why (FarAt.Never v sound) is = cc
+  made_at _ _ _ _ image why (FarAt.Undone n w v i end ended sound spent) is = cc
+  made_at _ _ _ _ image why (FarAt.Cleared n w v i told cleared sound spent) is = cc
+
+  pub cancelled_says_why : (w v : World) (es : List Events) (h : World) (why : Why) → Happens codec slot w v es h
+      → why_cancelled (run k (first k w v) es).near ≡ Some why
+      → ((why ≡ GaveUp) × IsIn handover.GiveUp es) ⊎
+      ((m : World) × (image : Image) × (make_from codec slot None (first k w v) es ≡ Some m) × RefusesSo m slot image why)
+  cancelled_says_why w v es h why its e = by (cancel_says_why k w v es why e)
+    where
+      by : ((why ≡ GaveUp) × IsIn handover.GiveUp es) ⊎ ((i : Image) × ((run k (first k w v) es).far ≡ far.Refuses i why))
+          → ((why ≡ GaveUp) × IsIn handover.GiveUp es) ⊎
+          ((m : World) × (image : Image) × (make_from codec slot None (first k w v) es ≡ Some m) × RefusesSo m slot image why)
+      by (inl up) = inl up
+      by (inr so) =
+          let q = run k (first k w v) es in
+          let here = made_at (counted_from is_far_own 0 es) (make_from codec slot None (first k w v) es) q.far_world q.far so.0 why
+          (stands_here w v es h its).far so.1 in
+          inr (here.0, so.0, here.1, refused_says_why w v es h here.0 so.0 why its here.1 so.1)

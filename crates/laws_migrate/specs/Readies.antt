@@ -10,10 +10,10 @@ use Rattle.laws_jobs.specs.Calls.{IsCalm}
 use Rattle.laws_jobs.specs.Machines.{no_words, call_of, IsReadyAt}
 use Rattle.laws_handover.specs.Packets.{Codec}
 use Rattle.laws_handover.specs.Handover as handover
-use Rattle.laws_handover.specs.Handover.{Pair, run, first}
+use Rattle.laws_handover.specs.Handover.{Pair}
 use Rattle.laws_handover.specs.Laws.{AllCame, is_over}
 use Rattle.laws_migrate.specs.Migration.{top, kernels, Both, Step, HasRoom, IsReadyIn}
-use Rattle.laws_migrate.specs.Laws.{Happens}
+use Rattle.laws_migrate.specs.Laws.{Happens, pair_after}
 
 -- a restore's first call is ready wherever its porter stands and nothing outside its slot is held
 abbrev pub FirstIsReady : Type 0
@@ -30,7 +30,7 @@ pub record IsQuiet {P : Type 0} (codec : Codec Image P) (slot : ℕ) (p : Both c
 
 abbrev pub MigrationIsReady : Type 0 → Type 0
 MigrationIsReady P = (codec : Codec Image P) (slot : ℕ) (w v : World) (es : List (Step codec slot)) (h : World) → Happens codec slot w v es h →
-    IsQuiet codec slot (run (kernels codec slot) (first (kernels codec slot) w v) es) →
-    is_over (run (kernels codec slot) (first (kernels codec slot) w v) es).near (run (kernels codec slot) (first (kernels codec slot) w v) es).far ≡ false →
-    IsReadyIn codec slot (run (kernels codec slot) (first (kernels codec slot) w v) es) handover.NearOwn ⊎
-    IsReadyIn codec slot (run (kernels codec slot) (first (kernels codec slot) w v) es) handover.FarOwn
+    IsQuiet codec slot (pair_after codec slot w v es) →
+    is_over (pair_after codec slot w v es).near (pair_after codec slot w v es).far ≡ false →
+    IsReadyIn codec slot (pair_after codec slot w v es) handover.NearOwn ⊎
+    IsReadyIn codec slot (pair_after codec slot w v es) handover.FarOwn

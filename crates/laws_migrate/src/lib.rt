@@ -15,7 +15,8 @@ ghost use Rattle.laws_migrate.specs.Births.{SpentStays};
 ghost use Rattle.laws_migrate.specs.Gathered.{GatheredImageIsSubtree, SavedIsHeld};
 ghost use Rattle.laws_migrate.specs.Built.{UnboundIsSame, BuiltIsCopy, MadeIsHeld};
 ghost use Rattle.laws_migrate.specs.Images.{ImagesAreRead};
-ghost use Rattle.laws_migrate.specs.Laws.{NeverBothFree, MovedIsSame, KeptIsSame, ForeignIsSame, FailedSaysWhy, RefusedSaysWhy};
+ghost use Rattle.laws_migrate.specs.Laws.{NeverBothFree, MovedIsSame, KeptIsSame, KeptIsAlone, ForeignIsSame};
+ghost use Rattle.laws_migrate.specs.Laws.{FailedSaysWhy, RefusedSaysWhy, CancelledSaysWhy};
 ghost use Rattle.laws_migrate.specs.Places.{CallsHavePlaces};
 ghost use Rattle.laws_migrate.specs.Readies.{FirstIsReady, MigrationIsReady};
 ghost use Rattle.laws_migrate.specs.Bounded.{NearIsBounded, FarIsBounded, BothAreBounded};
@@ -109,6 +110,16 @@ pub fn what_is_foreign_is_the_same<P>()
 /// A checkpoint that has failed says why, as it was at the hold.
 pub fn what_has_failed_says_why<P>()
     ensures { FailedSaysWhy P }
+{}
+
+/// Once the near one is kept, whatever comes after it, no copy that the far restore has made is ever free.
+pub fn what_is_kept_is_alone<P>()
+    ensures { KeptIsAlone P }
+{}
+
+/// One that was cancelled was given up; or the far restore has ended without a copy, for the reason that it says.
+pub fn what_is_cancelled_says_why<P>()
+    ensures { CancelledSaysWhy P }
 {}
 
 /// A far restore that has ended without a copy says why: its slot was taken, or there was no port in a slot to which the image leads out.
