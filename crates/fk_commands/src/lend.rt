@@ -1,6 +1,7 @@
 //! A scenario and an image, lent to who looks at them.
 ghost use Rattle.std.specs.Prelude.{◌≡◌, ◌≤◌, true, length, map, string_bytes};
 ghost use Rattle.fk_model.specs.Answers.{answer, reply_words};
+ghost use Rattle.fk_responders.specs.Notes.{note_of, watches};
 ghost use Rattle.fk_image.specs.Image.Valid.{is_valid};
 ghost use Rattle.fk_image.specs.declared.image.image.Image.{Image};
 ghost use Rattle.fk_image.specs.Format.Reading.{image_reading};
@@ -17,12 +18,15 @@ use crate::scenario::scenario_in;
 use crate::status::Status;
 use fk_image::Image;
 use fk_model::{Reply, Rule};
-use fk_responders::{Responder, Table, reply_by, rule_name};
+use fk_responders::{Note, Observer, Responder, Table, Watch, reply_by, rule_name, watches};
 use fk_scenario::Scenario;
 use std::alloc::Global;
 
 /// The rules that have a responder.
 const RULES: [Rule; 3] = [Rule::Echo, Rule::Feed, Rule::Sum];
+
+/// The watches, each of which has an observer.
+const WATCHES: [Watch; 3] = [Watch::All, Watch::Replies, Watch::Said];
 
 /// Who looks at a scenario. What a call may make of it, from the reader before to the reader after, its two members say. Who lends knows no more of
 /// them, so a clause by them says that the call was made.
@@ -59,7 +63,7 @@ pub trait ImageReader {
         ensures { hears self.old status.now self.new };
 }
 
-/// Lends the scenario that a text is, by a table of the three responders; or says why the text is none, as `scenario_in` has it.
+/// Lends the scenario that a text is, by a table of the three responders and the three observers; or says why the text is none, as `scenario_in` has it.
 pub fn lend_scenario<W: ScenarioReader>(alloc: Global, text: &[u8], reader: &mut W)
     ensures { IsLent (λ scenario. W.looks reader.old scenario reader.new) (λ status. W.hears reader.old status reader.new)
         IsScenarioFail (scenario_reading server_rules text.now) }
@@ -83,7 +87,22 @@ pub fn lend_scenario<W: ScenarioReader>(alloc: Global, text: &[u8], reader: &mut
             return reader.refused(&Status::NoMemory);
         }
     }
-    let table = Table { list };
+    let mut observers = Vec::new(alloc);
+    for watch in &WATCHES {
+        let watch = *watch;
+        let Ok(call) = Box::new(
+            alloc,
+            move |note: &Note| -> bool
+                ensures { result ≡ watches watch (note_of note.now) }
+            { watches(watch, note) },
+        ) else {
+            return reader.refused(&Status::NoMemory);
+        };
+        if observers.push(Observer::new(watch, call)).is_err() {
+            return reader.refused(&Status::NoMemory);
+        }
+    }
+    let table = Table { list, observers };
     match scenario_in(alloc, &table, text) {
         Ok(scenario) => reader.scenario(&table, &scenario),
         Err(status) => reader.refused(&status),

@@ -7,6 +7,9 @@
 //! replies by its rule when its client hands over, gives the reply and hands back; a talk that is taken up
 //! has an empty request, and at the server's turn the reply to that without the words that were moved. So one reply is what the
 //! server's rule answers, and services that are alike answer alike (`specs/Answers.antt`). Memory lacks for a console's words alone.
+//!
+//! A service may also be a tap, which keeps notes of what passes at the server in it, or a replay, which gives the replies of a list. The
+//! definition says of these too what they ask for and what becomes of them. Their code stands in other crates.
 #![tactic(auto)]
 
 mod answers;
@@ -18,5 +21,5 @@ mod service;
 pub use answers::{alike_services_answer_alike, alike_services_take_up_alike, replies_are_by_rule};
 pub use console::Console;
 pub use native::Native;
-pub use server::Server;
+pub use server::{Server, give};
 pub use service::{Heard, Service, Side};

@@ -29,9 +29,9 @@ const EMPTY: Reply = Reply {
     len: 0,
 };
 
-/// Gives what is left, or hands over.
+/// What a server asks for at its turn: it gives what is left of its reply, or hands over.
 #[tactic(auto, using(crate::proofs::Asked::gives_some))]
-fn give(left: &Reply) -> Ask
+pub fn give(left: &Reply) -> Ask
     ensures { result ≡ gives_left (reply_words left.now) }
 {
     let words = words_of(left);
@@ -108,7 +108,7 @@ impl Service for Server {
                 self.request = EMPTY;
                 self.reply(table, usize::from(*moved));
             }
-            Heard::Words(reply) => self.take_words(words_of(reply)),
+            Heard::Words(reply) => self.take_words(table, words_of(reply)),
             Heard::Over => match self.side {
                 Side::Client => self.reply(table, 0),
                 _ => self.rest(Side::Client),
@@ -118,7 +118,7 @@ impl Service for Server {
         }
     }
 
-    fn take_words(&mut self, words: &[u64]) {
+    fn take_words(&mut self, _table: &Table, words: &[u64]) {
         append(&mut self.request, words);
     }
 

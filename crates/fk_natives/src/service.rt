@@ -46,14 +46,14 @@ pub trait Service {
         ensures same { meaning self.new ≡ meaning self.old }
         ensures room { OnOk result (has_room self.new ≡ true) };
 
-    /// Is told something. That uses up its room.
+    /// Is told something. That uses up its room. The table has its responder and its observer.
     fn absorb(&mut self, table: &Table, heard: &Heard)
         requires fits { DoesFit (map (λ r. r.rule) table.now.list.items) (meaning self.old) }
         requires room { has_room self.old ≡ true }
         ensures { meaning self.new ≡ hears (meaning self.old) (news_of heard.now) };
 
     /// Is told that its client has sent these words. That uses up its room.
-    fn take_words(&mut self, words: &[u64])
+    fn take_words(&mut self, table: &Table, words: &[u64])
         requires few { length words.now ≤ 64 }
         requires room { has_room self.old ≡ true }
         ensures { meaning self.new ≡ hears (meaning self.old) (Words words.now) };

@@ -1,5 +1,5 @@
 -- Acts: what servers ask for.
-use Rattle.std.proofs.Common.{◌≡◌, ℕ, suc, ◌<◌, Bool, true, false, if◌then◌else◌, List, [], ◌∷◌, length, Option, Some, None, IfSome, refl, subst, arith}
+use Rattle.std.proofs.Common.{◌≡◌, ℕ, suc, ◌<◌, Bool, true, false, if◌then◌else◌, List, [], ◌∷◌, length, Option, Some, None, refl, subst, arith}
 use Rattle.std.specs.List.{slice_get}
 use Rattle.fk_model.specs.declared.moves.Ask.{Ask}
 use Rattle.fk_model.specs.declared.moves.Ask.TheVariants as asks
@@ -14,7 +14,7 @@ use Rattle.fk_model.specs.Valid.{is_fit, is_served_port}
 use Rattle.fk_model.specs.Who.{named}
 use Rattle.fk_model.specs.World.{World}
 use Rattle.fk_natives.specs.declared.service.Side.TheVariants as sides
-use Rattle.fk_natives.specs.Natives.{State, OfConsole, OfServer, asks_for, gives_left}
+use Rattle.fk_natives.specs.Natives.{State, OfConsole, OfServer, OfReplay, OfTap, asks_for, gives_left}
 use Rattle.fk_store.specs.Store.Names.{same_who}
 use Rattle.fk_store_graph.proofs.InLeads.NameLaws.{same_who_eq}
 use Rattle.laws_moves.specs.Frozen.Users.{is_users}
@@ -38,6 +38,11 @@ fit-state w x (OfServer index rule config position request left sides.Idle) ask 
 fit-state w x (OfServer index rule config position request left sides.Client) ask is = absurd (cc)
 fit-state w x (OfServer index rule config position request left sides.Own) ask is =
     let same : gives_left left ≡ ask = cc in subst (λ a. is_fit w x a ≡ true) same (fit-left w x left)
+fit-state w x (OfReplay replies left sides.Idle) ask is = let same : asks.Accept ≡ ask = cc in subst (λ a. is_fit w x a ≡ true) same refl
+fit-state w x (OfReplay replies left sides.Client) ask is = absurd (cc)
+fit-state w x (OfReplay replies left sides.Own) ask is =
+    let same : gives_left left ≡ ask = cc in subst (λ a. is_fit w x a ≡ true) same (fit-left w x left)
+fit-state w x (OfTap watch noted inner) ask is = fit-state w x inner ask is
 
 pub fit-asked : (services : Services) (w : World) (who : Who) (ask : Ask) (x : Path) → asked services w who ≡ Some ask → is_fit w x ask ≡ true
 unfolding is_fit
@@ -78,6 +83,11 @@ state-calls (OfServer index rule config position request left sides.Idle) stage 
 state-calls (OfServer index rule config position request left sides.Client) stage words is = cc
 state-calls (OfServer index rule config position request left sides.Own) stage words is =
     no-call left stage words (let same : gives_left left ≡ asks.Call stage words = cc in same)
+state-calls (OfReplay replies left sides.Idle) stage words is = cc
+state-calls (OfReplay replies left sides.Client) stage words is = cc
+state-calls (OfReplay replies left sides.Own) stage words is =
+    no-call left stage words (let same : gives_left left ≡ asks.Call stage words = cc in same)
+state-calls (OfTap watch noted inner) stage words is = state-calls inner stage words is
 
 pub never-calls : (services : Services) (w : World) (who : Who) (stage : Stage) (words : List ℕ) → asked services w who ≡ Some (asks.Call stage words) → ⊥
 never-calls services w who stage words is = by (is_served_port w (At (named w who))) (serving services who) is
@@ -130,6 +140,10 @@ state_asks (OfConsole alias words sides.Own) ask e = same_ask asks.Over ask e re
 state_asks (OfServer index rule config position request left sides.Idle) ask e = same_ask asks.Accept ask e refl
 state_asks (OfServer index rule config position request left sides.Client) ask e = cc
 state_asks (OfServer index rule config position request left sides.Own) ask e = same_ask (gives_left left) ask e (given left)
+state_asks (OfReplay replies left sides.Idle) ask e = same_ask asks.Accept ask e refl
+state_asks (OfReplay replies left sides.Client) ask e = cc
+state_asks (OfReplay replies left sides.Own) ask e = same_ask (gives_left left) ask e (given left)
+state_asks (OfTap watch noted inner) ask e = state_asks inner ask e
 
 served_asks : (o : Option State) (ask : Ask) → asked_of o ≡ Some ask → is_users ask ≡ true
 served_asks None ask e = same_ask asks.Run ask e refl

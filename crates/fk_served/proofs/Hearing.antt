@@ -1,5 +1,5 @@
 -- Hearing: what a move tells servers by names is what the machine tells them by paths.
-use Rattle.std.proofs.Common.{◌≡◌, ℕ, Bool, true, false, if◌then◌else◌, List, [], ◌∷◌, map, Option, Some, None, refl, sym, ap, subst, ◌∙◌}
+use Rattle.std.proofs.Common.{◌≡◌, ℕ, List, [], ◌∷◌, map, Option, Some, None, refl, sym, ap, subst, ◌∙◌}
 use Rattle.fk_model.specs.declared.moves.Rule.{Rule}
 use Rattle.fk_model.specs.declared.moves.Said as says_of
 use Rattle.fk_model.specs.declared.moves.Said.TheVariants as says
@@ -12,7 +12,7 @@ use Rattle.fk_model.specs.Runs.{Event, after}
 use Rattle.fk_model.specs.Who.{named}
 use Rattle.fk_natives.specs.declared.service.Side.TheVariants as sides
 use Rattle.fk_natives.specs.Natives as natives
-use Rattle.fk_natives.specs.Natives.{State, OfConsole, OfServer, News, hears, DoesFit}
+use Rattle.fk_natives.specs.Natives.{State, OfConsole, OfServer, OfReplay, OfTap, News, hears, DoesFit}
 use Rattle.fk_kernel.specs.Kernels.{Kept}
 use Rattle.fk_store.specs.Store.Moves.{said_by}
 use Rattle.fk_kernel.specs.Kernels.{path_of as path}
@@ -70,6 +70,17 @@ fit-heard rules (OfServer index rule config position request left sides.Client) 
 fit-heard rules (OfServer index rule config position request left sides.Own) natives.Over fits = fits
 fit-heard rules (OfServer index rule config position request left side) (natives.Given count) fits = fits
 fit-heard rules (OfServer index rule config position request left side) natives.Ended fits = fits
+fit-heard rules (OfReplay replies left side) (natives.Taken turns.Client count) fits = tt
+fit-heard rules (OfReplay [] left side) (natives.Taken turns.Server count) fits = tt
+fit-heard rules (OfReplay (r ∷ rs) left side) (natives.Taken turns.Server count) fits = tt
+fit-heard rules (OfReplay replies left side) (natives.Words more) fits = tt
+fit-heard rules (OfReplay replies left sides.Idle) natives.Over fits = tt
+fit-heard rules (OfReplay [] left sides.Client) natives.Over fits = tt
+fit-heard rules (OfReplay (r ∷ rs) left sides.Client) natives.Over fits = tt
+fit-heard rules (OfReplay replies left sides.Own) natives.Over fits = tt
+fit-heard rules (OfReplay replies left side) (natives.Given count) fits = tt
+fit-heard rules (OfReplay replies left side) natives.Ended fits = tt
+fit-heard rules (OfTap watch noted inner) news fits = fit-heard rules inner news fits
 
 pub fit-after : (rules : List Rule) (state : State) (news : Option News) → DoesFit rules state → DoesFit rules (after_news news state)
 fit-after rules state None fits = fits

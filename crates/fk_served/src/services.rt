@@ -26,8 +26,11 @@ pub struct Services<S: Service + Drop> {
 impl<S: Service + Drop> Model for Services<S> {
     ghost use Rattle.std.specs.Prelude.{◌≡◌, true, false, not, map};
     ghost use Rattle.fk_served.specs.Served as served;
+    ghost use Rattle.fk_served.specs.Coding.{housed_code};
 
     ghost Value = { served.Housed };
+
+    ghost coded = { housed_code };
 
     ghost view = { λ s. record { list = served.shown S.meaning s.list.items; ready = not s.used } };
 
@@ -114,25 +117,25 @@ fn tell_in<S: Service>(list: &mut Vec<(Who, S)>, table: &Table, what: &Told)
 }
 
 /// Tells a server that its client has sent these words, if its port is this one.
-fn say_one<S: Service>(entry: &mut (Who, S), port: Who, words: &[u64])
+fn say_one<S: Service>(entry: &mut (Who, S), table: &Table, port: Who, words: &[u64])
     requires few { length words.now ≤ 64 }
     requires room { S.has_room entry.old.1 ≡ true }
     ensures who { entry.new.0 ≡ entry.old.0 }
     ensures told { S.meaning entry.new.1 ≡ after_news (words_at_port port words.now entry.old.0) (S.meaning entry.old.1) }
 {
     if entry.0 == port {
-        entry.1.take_words(words);
+        entry.1.take_words(table, words);
     }
 }
 
 /// Tells the server of a port that its client has sent these words.
-fn say_in<S: Service>(list: &mut Vec<(Who, S)>, port: Who, words: &[u64])
+fn say_in<S: Service>(list: &mut Vec<(Who, S)>, table: &Table, port: Who, words: &[u64])
     requires few { length words.now ≤ 64 }
     requires room { HaveRoom S.has_room list.old.items }
     ensures { shown S.meaning list.new.items ≡ map (sent_at_port port words.now) (shown S.meaning list.old.items) }
 {
     for at in 0..list.len() {
-        say_one(&mut list[at], port, words);
+        say_one(&mut list[at], table, port, words);
     }
 }
 
@@ -188,12 +191,12 @@ impl<S: Service + Drop> Services<S> {
     }
 
     /// Tells the server of a port that its client has sent the first words of these.
-    pub fn hear_words(&mut self, port: Who, sent: &Reply)
+    pub fn hear_words(&mut self, table: &Table, port: Who, sent: &Reply)
         requires ready { self.old.ready ≡ true }
         ensures { self.new.list ≡ map (told (says.Words port sent.now.words sent.now.len) None) self.old.list }
     {
         self.used = true;
-        say_in(&mut self.list, port, words_of(sent));
+        say_in(&mut self.list, table, port, words_of(sent));
     }
 
     /// How many there are.

@@ -9,13 +9,15 @@
 ghost use Rattle.std.specs.Prelude.{◌≡◌, ◌≤◌, length};
 ghost use Rattle.fk_model.specs.Answers.{answer, reply_words};
 ghost use Rattle.fk_model.specs.declared.moves.Rule.TheVariants as rules;
+ghost use Rattle.fk_responders.specs.Notes.{note_of, watches};
+ghost use Rattle.fk_responders.specs.declared.note.Watch.TheVariants as sights;
 
 mod progress;
 
 use crate::progress::Progress;
 use fk_causes::{FolderShelf, StdSink, StdSource};
 use fk_model::{Reply, Rule};
-use fk_responders::{Responder, Table, echo, feed, sum};
+use fk_responders::{Note, Observer, Responder, Table, Watch, echo, feed, sum, watches};
 use fk_run::{Outcome, Status, fault_line, fluke_top};
 use std::alloc::AllocError;
 use std::env::Env;
@@ -68,7 +70,7 @@ fn status_by<T: Threads + Wait + Sync>(rt: &HostRuntime, threads: &T, table: &Ta
     status
 }
 
-/// The same, with a table of the three responders.
+/// The same, with a table of the three responders and the three observers.
 fn status_of_call<T: Threads + Wait + Sync>(
     rt: &HostRuntime,
     threads: &T,
@@ -106,7 +108,35 @@ fn status_of_call<T: Threads + Wait + Sync>(
             { sum(request) },
         )?,
     ))?;
-    Ok(status_by(rt, threads, &Table { list }))
+    let mut observers = Vec::new(alloc);
+    observers.push(Observer::new(
+        Watch::All,
+        Box::new(
+            alloc,
+            |note: &Note| -> bool
+                ensures { result ≡ watches sights.All (note_of note.now) }
+            { watches(Watch::All, note) },
+        )?,
+    ))?;
+    observers.push(Observer::new(
+        Watch::Replies,
+        Box::new(
+            alloc,
+            |note: &Note| -> bool
+                ensures { result ≡ watches sights.Replies (note_of note.now) }
+            { watches(Watch::Replies, note) },
+        )?,
+    ))?;
+    observers.push(Observer::new(
+        Watch::Said,
+        Box::new(
+            alloc,
+            |note: &Note| -> bool
+                ensures { result ≡ watches sights.Said (note_of note.now) }
+            { watches(Watch::Said, note) },
+        )?,
+    ))?;
+    Ok(status_by(rt, threads, &Table { list, observers }))
 }
 
 fn main(rt: HostRuntime) -> ExitCode {

@@ -37,6 +37,42 @@ fn shelf_of(alloc: Global, case: &Case) -> Result<MemShelf, NoMemory> {
     Ok(shelf)
 }
 
+/// The source of a case.
+fn source_of(alloc: Global, case: &Case) -> Result<PieceSource, NoMemory> {
+    let fails = case.fails_of(alloc, 0, 0)?;
+    Ok(PieceSource {
+        source: MemSource::new(case.source.clone()?, fails),
+        is_slow: case.is_slow,
+    })
+}
+
+/// The sink of a case.
+fn sink_of(alloc: Global, case: &Case) -> Result<PieceSink, NoMemory> {
+    Ok(PieceSink {
+        sink: MemSink::new(alloc, case.room, case.fails_of(alloc, 1, 0)?)?,
+        is_slow: case.is_slow,
+    })
+}
+
+/// What a command is called over.
+#[derive(Drop)]
+struct Outside {
+    source: PieceSource,
+    sink: PieceSink,
+    shelf: MemShelf,
+}
+
+/// What the command of a case is called over.
+fn outside_of(alloc: Global, case: &Case) -> Result<Outside, NoMemory> {
+    let source = source_of(alloc, case)?;
+    let sink = sink_of(alloc, case)?;
+    Ok(Outside {
+        source,
+        sink,
+        shelf: shelf_of(alloc, case)?,
+    })
+}
+
 /// Whether a report has these moves, as a trace, and then this end.
 fn is_report(alloc: Global, report: &Report, wanted: &[u8]) -> Result<bool, NoMemory> {
     let end = match report.end {
@@ -83,11 +119,12 @@ fn ending_of<R: Print>(
     alloc: Global,
     case: &Case,
     outcome: &Outcome,
-    output: &[u8],
-    files: &FileMap,
+    outside: &Outside,
     watch: &Watch,
 ) -> Result<Ended, NoMemory> {
     let status = outcome.status.number();
+    let output = outside.sink.sink.bytes();
+    let files = outside.shelf.files();
     let is_done = status == case.status && case.output.as_slice() == output && case.after == *files;
     if is_done
         && fault_line(alloc, &outcome.status)? == case.error
@@ -98,10 +135,9 @@ fn ending_of<R: Print>(
     if status == NO_MEMORY && output.is_empty() && are_in_order(case, files) {
         return Ok(Ended::Short);
     }
-    let name = case.name.as_str();
     let text = str::from_utf8(output).unwrap_or("no text");
     // Who can't write this can't write the counts, and ends with that.
-    let _ = println!(rt; "case {name}: status {status}, output {text:?}");
+    let _ = println!(rt; "status {status}, output {text:?}");
     Ok(Ended::Otherwise)
 }
 
@@ -111,12 +147,19 @@ fn outcome_of<R: Threads + Wait + Sync>(
     alloc: Global,
     table: &Table,
     case: &Case,
-    source: &mut PieceSource,
-    sink: &mut PieceSink,
-    shelf: &mut MemShelf,
+    outside: &mut Outside,
     watch: &Watch,
 ) -> Outcome {
-    fluke_top(rt, alloc, &case.words, table, source, sink, shelf, watch)
+    fluke_top(
+        rt,
+        alloc,
+        &case.words,
+        table,
+        &mut outside.source,
+        &mut outside.sink,
+        &mut outside.shelf,
+        watch,
+    )
 }
 
 /// Makes the call of a case.
@@ -126,33 +169,8 @@ pub fn call<R: Print + AllocGlobal + Threads + Wait + Sync>(
     case: &Case,
 ) -> Result<Ended, NoMemory> {
     let alloc = rt.alloc();
-    let mut source = PieceSource {
-        source: MemSource::new(case.source.clone()?, case.fails_of(alloc, 0, 0)?),
-        is_slow: case.is_slow,
-    };
-    let mut sink = PieceSink {
-        sink: MemSink::new(alloc, case.room, case.fails_of(alloc, 1, 0)?)?,
-        is_slow: case.is_slow,
-    };
-    let mut shelf = shelf_of(alloc, case)?;
+    let mut outside = outside_of(alloc, case)?;
     let watch = Watch::new(case.holds);
-    let outcome = outcome_of(
-        rt,
-        alloc,
-        table,
-        case,
-        &mut source,
-        &mut sink,
-        &mut shelf,
-        &watch,
-    );
-    ending_of(
-        rt,
-        alloc,
-        case,
-        &outcome,
-        sink.sink.bytes(),
-        shelf.files(),
-        &watch,
-    )
+    let outcome = outcome_of(rt, alloc, table, case, &mut outside, &watch);
+    ending_of(rt, alloc, case, &outcome, &outside, &watch)
 }

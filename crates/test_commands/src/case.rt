@@ -9,7 +9,6 @@
 //!
 //! Content are lines `|TEXT` for a text and a line feed, `.TEXT` for a text alone, `=DIGITS` for bytes in hexadecimal, and `*COUNT LINE` for
 //! another line of content so many times.
-use anyhow::{Context, bail};
 use std::alloc::{AllocError, Global};
 use std::collections::BTreeMap;
 
@@ -71,40 +70,35 @@ fn place_of(list: &str, word: &str) -> usize {
     place
 }
 
-/// Adds what a line of content stands for, but for one that repeats.
-fn add_once(alloc: Global, content: &mut Vec<u8>, line: &str) -> anyhow::Result<()> {
+/// Adds what a line of content stands for, but for one that repeats. `None` where it isn't well formed, and for want of memory.
+fn add_once(alloc: Global, content: &mut Vec<u8>, line: &str) -> Option<()> {
     if let Some(digits) = line.strip_prefix('=') {
-        content.extend_from_slice(&hex::decode(alloc, digits)?)?;
-    } else if let Some(text) = line.strip_prefix('|') {
-        content.extend_from_slice(text.as_bytes())?;
-        content.push(b'\n')?;
-    } else {
-        let text = line.strip_prefix('.').context("no content")?;
-        content.extend_from_slice(text.as_bytes())?;
+        let bytes = hex::decode(alloc, digits).ok()?;
+        return content.extend_from_slice(&bytes).ok();
     }
-    Ok(())
+    if let Some(text) = line.strip_prefix('|') {
+        content.extend_from_slice(text.as_bytes()).ok()?;
+        return content.push(b'\n').ok();
+    }
+    content
+        .extend_from_slice(line.strip_prefix('.')?.as_bytes())
+        .ok()
 }
 
-/// Adds what a line of content stands for; false where it is none.
-///
-/// # Errors
-///
-/// Where it isn't well formed, and for want of memory.
-pub fn add(alloc: Global, content: &mut Vec<u8>, line: &str) -> anyhow::Result<bool> {
+/// Adds what a line of content stands for; false where it is none. `None` where it isn't well formed, and for want of memory.
+pub fn add(alloc: Global, content: &mut Vec<u8>, line: &str) -> Option<bool> {
     if line.starts_with(&['|', '.', '=']) {
         add_once(alloc, content, line)?;
-        return Ok(true);
+        return Some(true);
     }
     let Some(rest) = line.strip_prefix('*') else {
-        return Ok(false);
+        return Some(false);
     };
-    let (count, line) = rest.split_once(' ').context("a count and a line")?;
-    let mut one = Vec::new(alloc);
-    add_once(alloc, &mut one, line)?;
-    for _ in 0..count.parse::<u32>()? {
-        content.extend_from_slice(&one)?;
+    let (count, line) = rest.split_once(' ')?;
+    for _ in 0..count.parse::<u32>().ok()? {
+        add_once(alloc, content, line)?;
     }
-    Ok(true)
+    Some(true)
 }
 
 /// Makes bytes what they are to be.
@@ -171,49 +165,54 @@ impl Case {
     }
 
     /// Takes which calls of an object fail.
-    fn take_fails(&mut self, text: &str) -> anyhow::Result<()> {
-        let (word, calls) = text.split_once(' ').context("which calls fail")?;
+    fn take_fails(&mut self, text: &str) -> Option<()> {
+        let (word, calls) = text.split_once(' ')?;
         let object = place_of(OBJECTS, word);
         let (first, last) = calls.split_once("..").unwrap_or((calls, calls));
-        for call in first.parse::<u64>()?..last.parse::<u64>()?.saturating_add(1) {
-            self.fails.push(Fail { object, call })?;
+        let end = last.parse::<u64>().ok()?.saturating_add(1);
+        for call in first.parse::<u64>().ok()?..end {
+            self.fails.push(Fail { object, call }).ok()?;
         }
-        Ok(())
+        Some(())
     }
 
-    /// Takes what a heading says, with the content beneath it.
-    ///
-    /// # Errors
-    ///
-    /// Where it isn't well formed, and for want of memory.
-    pub fn take(&mut self, alloc: Global, heading: &str, content: &[u8]) -> anyhow::Result<()> {
+    /// Takes what a heading says, with the content beneath it. `None` where it isn't well formed, and for want of memory.
+    pub fn take(&mut self, alloc: Global, heading: &str, content: &[u8]) -> Option<()> {
         let (word, rest) = heading.split_once(' ').unwrap_or((heading, ""));
         match place_of(HEADINGS, word) {
             0 => {
                 self.words.clear();
                 self.source.clear();
                 self.files.clear();
-                self.begin(rest)?;
+                self.begin(rest).ok()
             }
-            1 => self.begin(rest)?,
-            2 => self.take_words(alloc, rest)?,
-            3 => self.take_word(alloc, rest)?,
-            4 => fill(&mut self.source, content)?,
+            1 => self.begin(rest).ok(),
+            2 => self.take_words(alloc, rest).ok(),
+            3 => self.take_word(alloc, rest).ok(),
+            4 => fill(&mut self.source, content).ok(),
             5 => {
-                put(alloc, &mut self.files, rest, content)?;
-                self.after = self.files.clone()?;
+                put(alloc, &mut self.files, rest, content).ok()?;
+                put(alloc, &mut self.after, rest, content).ok()
             }
-            6 => self.room = rest.parse::<u32>()?,
-            7 => self.take_fails(rest)?,
-            8 => self.holds = rest.parse::<u8>()?,
-            9 => self.status = rest.parse::<u8>()?,
-            10 => self.error.push_str(rest)?,
-            11 => fill(&mut self.output, content)?,
-            12 => fill(&mut self.report, content)?,
-            13 => put(alloc, &mut self.after, rest, content)?,
-            _ => bail!("no section of a case is headed by this"),
+            6 => {
+                self.room = rest.parse::<u32>().ok()?;
+                Some(())
+            }
+            7 => self.take_fails(rest),
+            8 => {
+                self.holds = rest.parse::<u8>().ok()?;
+                Some(())
+            }
+            9 => {
+                self.status = rest.parse::<u8>().ok()?;
+                Some(())
+            }
+            10 => self.error.push_str(rest).ok(),
+            11 => fill(&mut self.output, content).ok(),
+            12 => fill(&mut self.report, content).ok(),
+            13 => put(alloc, &mut self.after, rest, content).ok(),
+            _ => None,
         }
-        Ok(())
     }
 
     /// The numbers of an object's calls that fail, behind so many others.

@@ -20,6 +20,10 @@
 //! differs, and where a file has none. It promises no more than that it always ends.
 #![tactic(auto)]
 
+ghost use Rattle.std.specs.Prelude.{◌≡◌};
+ghost use Rattle.fk_responders.specs.Notes.{note_of, watches};
+ghost use Rattle.fk_responders.specs.declared.note.Watch.TheVariants as sights;
+
 mod call;
 mod case;
 mod pieces;
@@ -29,142 +33,176 @@ mod watch;
 use crate::call::{Ended, call};
 use crate::case::{Case, add};
 use crate::scarce::starve;
-use anyhow::{Context, ensure};
-use fk_responders::Table;
+use anyhow::{bail, ensure};
+use fk_responders::{Note, Observer, Table, Watch, watches};
 use std::fs;
 use std::rt::Files;
 use std::sync::Wait;
 use std::thread::Threads;
 
-/// How many calls were made, how many of them differ from what their case says, and for how many memory was to be scarce and wasn't.
+/// What the calls of all files have in common, the case that is read and the content beneath its last heading, how many calls were made, how many of
+/// them differ from what their case says, and for how many memory was to be scarce and wasn't.
 #[derive(Drop)]
-struct Tally {
+struct Play {
+    table: Table,
+    case: Case,
+    content: Vec<u8>,
     calls: u32,
     differ: u32,
     ample: u32,
 }
 
-/// Makes the call of a case, and says whether it differs.
+/// Makes the call of the case that was read, and says whether it differs.
 fn try_case<R: Files + Print + AllocGlobal + Threads + Wait + Sync>(
     rt: &R,
-    table: &Table,
-    tally: &mut Tally,
-    case: &Case,
+    play: &mut Play,
     is_short: bool,
-) -> anyhow::Result<()> {
+) {
     let ended = if is_short {
-        starve(rt, table, case)
+        starve(rt, &play.table, &play.case)
     } else {
-        call(rt, table, case)
+        call(rt, &play.table, &play.case)
     };
-    tally.calls = tally.calls.saturating_add(1);
-    match ended.ok().context("no memory")? {
-        Ended::Whole => {}
-        Ended::Ample => tally.ample = tally.ample.saturating_add(1),
+    play.calls = play.calls.saturating_add(1);
+    match ended {
+        Ok(Ended::Whole) => {}
+        Ok(Ended::Ample) => play.ample = play.ample.saturating_add(1),
         _ => {
-            tally.differ = tally.differ.saturating_add(1);
-            let name = case.name.as_str();
-            println!(rt; "case {name} differs")?;
+            play.differ = play.differ.saturating_add(1);
+            let name = play.case.name.as_str();
+            // Who can't write this can't write the counts, and ends with that.
+            let _ = println!(rt; "case {name} differs");
         }
     }
-    Ok(())
 }
 
-/// Makes the calls of the cases in a text, which ends with a line where another would begin. A heading is taken once its content is read.
+/// Makes the calls of the cases in the text of a file, which ends with a line where another would begin. A heading is taken once its content is read.
 fn try_text<R: Files + Print + AllocGlobal + Threads + Wait + Sync>(
     rt: &R,
-    table: &Table,
-    tally: &mut Tally,
-    case: &mut Case,
-    content: &mut Vec<u8>,
+    play: &mut Play,
+    path: &str,
     text: &str,
     is_short: bool,
 ) -> anyhow::Result<()> {
     let alloc = rt.alloc();
-    let mut heading = "";
+    let before = play.calls;
+    // A case without a name, which is not called.
+    let mut heading = "again ";
     for line in text.lines() {
-        if line.is_empty() || line.starts_with('#') || add(alloc, content, line)? {
+        if line.is_empty() || line.starts_with('#') {
             continue;
         }
-        if !heading.is_empty() {
-            case.take(alloc, heading, content)
-                .context(format_args!("at {heading}"))?;
-            if line.starts_with("case ") || line.starts_with("again ") {
-                try_case(rt, table, tally, case, is_short)?;
-            }
+        match add(alloc, &mut play.content, line) {
+            Some(true) => continue,
+            Some(false) => {}
+            None => bail!("{path}: {line}"),
+        }
+        if play.case.take(alloc, heading, &play.content).is_none() {
+            bail!("{path}: {heading}");
+        }
+        if !play.case.name.is_empty() && (line.starts_with("case ") || line.starts_with("again ")) {
+            try_case(rt, play, is_short);
         }
         heading = line;
-        content.clear();
+        play.content.clear();
     }
+    ensure!(play.calls > before, "{path}: no case was found");
     Ok(())
 }
 
 /// Makes the calls of all cases of a file.
 fn try_file<R: Files + Print + AllocGlobal + Threads + Wait + Sync>(
     rt: &R,
-    table: &Table,
-    tally: &mut Tally,
+    play: &mut Play,
     path: &str,
     is_short: bool,
 ) -> anyhow::Result<()> {
-    let alloc = rt.alloc();
     let mut text = fs::read_to_string(rt, path)?;
     text.push_str("\ncase \n")?;
-    let mut case = Case::none(alloc);
-    case.is_slow = path.starts_with("slow-");
-    let mut content = Vec::new(alloc);
-    let before = tally.calls;
-    try_text(
-        rt,
-        table,
-        tally,
-        &mut case,
-        &mut content,
-        text.as_str(),
-        is_short,
-    )?;
-    ensure!(tally.calls > before, "no case was found");
-    Ok(())
+    play.case.is_slow = path.starts_with("slow-");
+    try_text(rt, play, path, text.as_str(), is_short)
 }
 
 /// Makes the calls of the files of cases in the folder for which memory is scarce, or of all others.
 fn try_files<R: Files + Print + AllocGlobal + Clone + Drop + Threads + Wait + Sync>(
     rt: &R,
-    table: &Table,
-    tally: &mut Tally,
+    play: &mut Play,
     is_short: bool,
 ) -> anyhow::Result<()> {
     for entry in fs::read_dir(rt, ".")? {
         let entry = entry?;
         let path = entry.file_name();
         if path.ends_with(".cases") && path.starts_with("short-") == is_short {
-            try_file(rt, table, tally, path, is_short).context(format_args!("{path}"))?;
+            try_file(rt, play, path, is_short)?;
         }
     }
     Ok(())
 }
 
+/// Makes the calls of all files: first those for which memory is scarce, while what is given back in small pieces still lies in one row.
+fn try_all<R: Files + Print + Eprint + AllocGlobal + Clone + Drop + Threads + Wait + Sync>(
+    rt: &R,
+    play: &mut Play,
+) -> anyhow::Result<()> {
+    try_files(rt, play, true)?;
+    try_files(rt, play, false)?;
+    let Play {
+        calls,
+        differ,
+        ample,
+        ..
+    } = &*play;
+    if *ample > 0 {
+        eprintln!(rt; "{ample} cases were called with ample memory alone")?;
+    }
+    println!(rt; "{calls} calls, {differ} differ")?;
+    ensure!(
+        *calls > 0 && *differ == 0,
+        "of {calls} calls {differ} differ"
+    );
+    Ok(())
+}
+
 fn main(rt: HostRuntime) -> anyhow::Result<()> {
-    let table = Table {
-        list: Vec::new(rt.alloc()),
-    };
-    let mut tally = Tally {
+    let alloc = rt.alloc();
+    let mut observers = Vec::new(alloc);
+    observers.push(Observer::new(
+        Watch::All,
+        Box::new(
+            alloc,
+            |note: &Note| -> bool
+                ensures { result ≡ watches sights.All (note_of note.now) }
+            { watches(Watch::All, note) },
+        )?,
+    ))?;
+    observers.push(Observer::new(
+        Watch::Replies,
+        Box::new(
+            alloc,
+            |note: &Note| -> bool
+                ensures { result ≡ watches sights.Replies (note_of note.now) }
+            { watches(Watch::Replies, note) },
+        )?,
+    ))?;
+    observers.push(Observer::new(
+        Watch::Said,
+        Box::new(
+            alloc,
+            |note: &Note| -> bool
+                ensures { result ≡ watches sights.Said (note_of note.now) }
+            { watches(Watch::Said, note) },
+        )?,
+    ))?;
+    let mut play = Play {
+        table: Table {
+            list: Vec::new(alloc),
+            observers,
+        },
+        case: Case::none(alloc),
+        content: Vec::new(alloc),
         calls: 0,
         differ: 0,
         ample: 0,
     };
-    try_files(&rt, &table, &mut tally, true)?;
-    try_files(&rt, &table, &mut tally, false)?;
-    let Tally {
-        calls,
-        differ,
-        ample,
-    } = tally;
-    if ample > 0 {
-        eprintln!(rt; "{ample} cases were called with ample memory alone")?;
-    }
-    println!(rt; "{calls} calls, {differ} differ")?;
-    ensure!(calls > 0, "no case was found");
-    ensure!(differ == 0, "{differ} calls differ");
-    Ok(())
+    try_all(&rt, &mut play)
 }

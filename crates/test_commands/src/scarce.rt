@@ -70,6 +70,15 @@ fn take(alloc: Global, size: usize, most: usize, blocks: &mut Vec<Vec<u8>>) {
     }
 }
 
+/// Takes all memory that is left: small pieces first, then large blocks and ever smaller ones. Whether nothing is left for anybody.
+fn take_all(alloc: Global, pieces: &mut Vec<Vec<u8>>, blocks: &mut Vec<Vec<u8>>) -> bool {
+    take(alloc, PIECE, PIECES, pieces);
+    for halvings in 0..HALVINGS {
+        take(alloc, LARGEST >> halvings, BLOCKS, blocks);
+    }
+    blocks.len() < BLOCKS
+}
+
 /// Calls a case again and again, with a little more memory each time, until it doesn't end for want of it. It differs where it never did.
 fn feed<R: Print + AllocGlobal + Threads + Wait + Sync>(
     rt: &R,
@@ -112,12 +121,9 @@ pub fn starve<R: Files + Print + AllocGlobal + Threads + Wait + Sync>(
     let alloc = rt.alloc();
     let mut blocks = Vec::with_capacity(alloc, BLOCKS)?;
     let mut pieces = Vec::with_capacity(alloc, PIECES)?;
-    take(alloc, PIECE, PIECES, &mut pieces);
-    for halvings in 0..HALVINGS {
-        take(alloc, LARGEST >> halvings, BLOCKS, &mut blocks);
-    }
-    if blocks.len() == BLOCKS {
-        return Ok(Ended::Ample);
-    }
-    Ok(feed(rt, table, case, &mut pieces))
+    Ok(if take_all(alloc, &mut pieces, &mut blocks) {
+        feed(rt, table, case, &mut pieces)
+    } else {
+        Ended::Ample
+    })
 }

@@ -254,7 +254,7 @@ impl<S: Service + Drop, W: Worker + Drop> Core<S, W> {
         ensures budget { self.new.budget ≡ self.old.budget }
         ensures jobs { self.new.jobs.jobs ≡ self.old.jobs.jobs }
     {
-        if self.go_said(m) {
+        if self.go_said(table, m) {
             return Ok(true);
         }
         self.go_asked(table, m)
@@ -263,7 +263,7 @@ impl<S: Service + Drop, W: Worker + Drop> Core<S, W> {
     /// Makes a send of words to a native server, where that is what a move is and where it is ready, and answers whether it did; else, and
     /// for want of memory, all is as before. The words are laid where they are heard; what other moves tell is handed on, which takes more.
     #[inline(never)]
-    fn go_said(&mut self, m: &Move) -> bool
+    fn go_said(&mut self, table: &Table, m: &Move) -> bool
         requires other { is_porter self.old.jobs m.now.who ≡ false }
         requires few { self.old.events < self.old.budget }
         ensures made { OnTrue result (IsAdvanced self.old.jobs.jobs self.old.budget (run_core self.old) (Some m.now) (run_core self.new)) }
@@ -289,7 +289,7 @@ impl<S: Service + Drop, W: Worker + Drop> Core<S, W> {
             return false;
         };
         words.len = sent.len;
-        self.services.hear_words(sent.port, &words);
+        self.services.hear_words(table, sent.port, &words);
         self.events += 1;
         self.last = Some(m.who);
         self.rounds.hear(Some(sent.port));

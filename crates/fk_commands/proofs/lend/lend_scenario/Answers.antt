@@ -10,5 +10,5 @@ returns-in-Ok-scenario_in g c =
     inl (
       scenario,
       subst (λ rules. scenario_reading rules c.args.text.now ≡ Ok scenario) table c.in-Ok-scenario_in.ensures.read,
-      subst (λ reader. g.W.ScenarioReader.looks reader scenario c.scenario.new.self) c.loop-rule.invariant.0 c.scenario.ensures,
+      subst (λ reader. g.W.ScenarioReader.looks reader scenario c.scenario.new.self) c.loop-watch.invariant.0 c.scenario.ensures,
     )
