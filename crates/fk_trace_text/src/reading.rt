@@ -1,7 +1,8 @@
 //! Reading a trace, line by line.
-ghost use Rattle.std.specs.Prelude.{◌≡◌, ◌==◌, ◌++◌, position, ⊤, IfSome, IfNone};
+ghost use Rattle.std.specs.Prelude.{◌≡◌, ◌==◌, ◌++◌, List, position, ⊤, IfSome, IfNone};
+ghost use Rattle.fk_model.specs.declared.moves.Move as moves_of;
 ghost use Rattle.std.specs.Option.{option_map};
-ghost use Rattle.fk_trace_text.specs.Trace.{first_line, BeginsWith, BeginsWithNone, HasNoFirstLine};
+ghost use Rattle.fk_trace_text.specs.Trace.{first_line, BeginsWith, BeginsWithNone, HasNoFirstLine, IsFirstBad, Spells};
 ghost use Rattle.fk_trace_text.specs.Reading as steps;
 
 use crate::numbers::number_before;
@@ -15,7 +16,7 @@ fn index_of(byte: u8, text: &[u8]) -> Option<usize>
 
 /// What stands before and after the first such byte.
 #[tactic(auto, unfolding(crate::specs::Reading::cut_at))]
-fn cut_at(byte: u8, text: &[u8]) -> Option<(&[u8], &[u8])>
+pub fn cut_at(byte: u8, text: &[u8]) -> Option<(&[u8], &[u8])>
     ensures { option_map (λ parts. (parts.0.now, parts.1.now)) result ≡ steps.cut_at byte text.now }
 {
     let at = index_of(byte, text)?;
@@ -91,4 +92,24 @@ pub fn first_move(text: &[u8]) -> Option<(Move, &[u8])>
         Some(first) => Some(first),
         None => first_any(text),
     }
+}
+
+/// The index of the first move whose line is misspelled, whatever the moves are; 0 where the first line of the text is. None where the text is a
+/// trace.
+pub fn misspelled(trace: &[u8]) -> Option<u64>
+    ensures some { IfSome result (λ index. IsFirstBad (λ _ _. ⊤) trace.now index) }
+    ensures none { IfNone result ((moves : List moves_of.Move) × Spells (λ _ _. ⊤) trace.now moves) }
+{
+    let Some(mut rest) = after_first_line(trace) else {
+        return Some(0);
+    };
+    let mut index = 0u64;
+    while !rest.is_empty() {
+        let Some((_, after)) = first_move(rest) else {
+            return Some(index);
+        };
+        index += 1;
+        rest = after;
+    }
+    None
 }

@@ -1,0 +1,115 @@
+//! Replays.
+ghost use Rattle.std.specs.Prelude.{◌≡◌, [], map, IsOk};
+ghost use Rattle.fk_model.specs.Answers.{reply_words};
+ghost use Rattle.fk_natives.specs.Natives.{replays, OfReplay};
+ghost use Rattle.fk_natives.specs.declared.service.Side.TheVariants as sides;
+ghost use Rattle.fk_trace.specs.Taps.{replay_of, to_come};
+
+use fk_model::{Ask, NoMemory, Reply, Turn};
+use fk_natives::{Heard, Service, Side, give};
+use fk_responders::{Table, without};
+
+/// Gives the replies of a list in order, and empty ones behind its end.
+#[derive(Drop)]
+pub struct Replay {
+    pub replies: Vec<Reply>,
+    /// The place of the next reply in the list.
+    pub next: usize,
+    /// What is left of the reply that it gives.
+    pub left: Reply,
+    pub side: Side,
+}
+
+const EMPTY: Reply = Reply {
+    words: [0; 64],
+    len: 0,
+};
+
+impl Replay {
+    /// A replay of these replies.
+    pub fn new(replies: Vec<Reply>) -> Replay
+        ensures { replay_of result ≡ OfReplay (map reply_words replies.items) [] sides.Idle }
+    {
+        Replay {
+            replies,
+            next: 0,
+            left: EMPTY,
+            side: Side::Idle,
+        }
+    }
+
+    /// It takes its next reply.
+    #[tactic(auto, using(crate::proofs::Replies::next_there, crate::proofs::Replies::none_there))]
+    fn reply(&mut self)
+        ensures { replay_of self.new ≡ replays (to_come self.old.replies.items self.old.next) }
+    {
+        self.left = EMPTY;
+        if let Some(reply) = self.replies.get(self.next) {
+            self.left = *reply;
+            self.next += 1;
+        }
+        self.side = Side::Own;
+    }
+
+    /// Nothing is left of its reply, and it stands on this side of its talk.
+    fn rest(&mut self, side: Side)
+        ensures { replay_of self.new ≡ OfReplay (to_come self.old.replies.items self.old.next) [] side }
+    {
+        self.left = EMPTY;
+        self.side = side;
+    }
+}
+
+impl Service for Replay {
+    ghost use Rattle.std.specs.Prelude as std_words;
+    ghost use Rattle.fk_trace.specs.Taps as taps;
+
+    ghost meaning = { λ r. taps.replay_of r };
+
+    ghost has_room = { λ r. std_words.true };
+
+    fn ask(&self) -> Option<Ask> {
+        match self.side {
+            Side::Idle => Some(Ask::Accept),
+            Side::Client => None,
+            Side::Own => Some(give(&self.left)),
+        }
+    }
+
+    fn reserve(&mut self) -> Result<(), NoMemory>
+        ensures same { replay_of self.new ≡ replay_of self.old }
+        ensures done { IsOk result }
+    {
+        Ok(())
+    }
+
+    fn absorb(&mut self, _table: &Table, heard: &Heard) {
+        match heard {
+            Heard::Taken {
+                turn: Turn::Client,
+                ..
+            } => self.rest(Side::Client),
+            Heard::Taken {
+                turn: Turn::Server,
+                ..
+            } => self.reply(),
+            Heard::Words(_) => {}
+            Heard::Over => match self.side {
+                Side::Client => self.reply(),
+                _ => self.rest(Side::Client),
+            },
+            Heard::Given(count) => self.left = without(&self.left, usize::from(*count)),
+            Heard::Ended => self.rest(Side::Idle),
+        }
+    }
+
+    fn take_words(&mut self, _table: &Table, _words: &[u64]) {}
+
+    fn alias(&self) -> Option<&str> {
+        None
+    }
+
+    fn printed(&self) -> &[u64] {
+        &[]
+    }
+}
