@@ -1,6 +1,5 @@
 //! The verbs that watch a run.
-ghost use Rattle.std.specs.Prelude.{⊤, map};
-ghost use Rattle.fk_scenario.specs.Scenario.Kept.{KeepsScenario, HasRules};
+ghost use Rattle.std.specs.Prelude.{⊤};
 
 use crate::images::Files;
 use crate::shows::{Show, show_of};
@@ -27,10 +26,7 @@ impl<H: Shelf> ScenarioReader for Run<'_, '_, H> {
 
     ghost hears = { λ _ _ _. ⊤ };
 
-    fn scenario(&mut self, table: &Table, scenario: &Scenario)
-        requires keeps { KeepsScenario scenario.now }
-        requires rules { HasRules (map (λ r. r.rule) table.now.list.items) scenario.now }
-    {
+    fn scenario(&mut self, table: &Table, scenario: &Scenario) {
         let (sheet, asked) = (self.files.sheet, self.asked);
         let trace = Trace {
             bytes: self.bytes,
