@@ -52,7 +52,8 @@ fn may_starve<R: Files + AllocGlobal>(rt: &R) -> bool {
 
 /// Touches the stack, and answers whether one of its bytes, at a place that isn't known before, is what all of them are set to. The system gives the
 /// stack more pages as it grows. Once all memory is taken it has none to give, nor room for them beneath the stack, and
-/// ends the program by a signal.
+/// ends the program by a signal. It is a call of its own: within its caller's frame those bytes would lie above what a later call touches.
+#[inline(never)]
 fn has_stack(byte: u8, at: usize) -> bool {
     let bytes = [byte; STACK];
     bytes[at % STACK] == byte
