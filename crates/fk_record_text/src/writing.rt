@@ -56,7 +56,8 @@ fn push_note(text: &mut String, note: &Note) -> Result<(), AllocError>
 
 /// Appends the line of a note at the port with this path.
 fn push_line(text: &mut String, port: &str, note: &Note) -> Result<(), AllocError>
-    ensures { OnOk result (string_bytes text.new ≡ string_bytes text.old ++ spelling.ended_line (port.now ++ (codes " " ++ spelling.note_text (note_of note.now)))) }
+    ensures { OnOk result (string_bytes text.new ≡ string_bytes text.old
+        ++ spelling.ended_line (port.now ++ (codes " " ++ spelling.note_text (note_of note.now)))) }
 {
     text.push_str(port)?;
     text.push_str(" ")?;
