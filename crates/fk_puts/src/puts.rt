@@ -187,6 +187,33 @@ fn put_run<H: Shelf>(
     put_named(alloc, trace, report, shelf)
 }
 
+/// Puts the record of a run under a name.
+fn put_record<H: Shelf>(
+    alloc: Global,
+    name: &str,
+    report: &Report,
+    shelf: &mut H,
+) -> Result<(), ShelfFail>
+{
+    let file = format!(in alloc; "{name}.rec")?;
+    match &report.record {
+        Some(record) => shelf.put(file.as_str(), record.as_str().as_bytes()),
+        None => Ok(()),
+    }
+}
+
+/// Puts what a run leaves that was recorded: the images that its jobs have made, then its trace, and then its record.
+fn put_recorded<H: Shelf>(
+    alloc: Global,
+    name: &str,
+    report: &Report,
+    shelf: &mut H,
+) -> Result<(), ShelfFail>
+{
+    put_run(alloc, Some(name), report, shelf)?;
+    put_record(alloc, name, report, shelf)
+}
+
 /// Puts what a command puts of its run, and says of each command what is put.
 fn put_of<H: Shelf>(
     alloc: Global,
@@ -212,6 +239,11 @@ fn put_of<H: Shelf>(
         Command::Play(_) => Ok(()),
         Command::Show(_) => Ok(()),
         Command::Soak(_) => Ok(()),
+        Command::Record(name, _) => match report {
+            Some(report) => put_recorded(alloc, name, report, shelf),
+            None => Ok(()),
+        },
+        Command::Replay(_) => Ok(()),
     }
 }
 

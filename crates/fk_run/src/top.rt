@@ -24,6 +24,8 @@ use fk_plays::play::play;
 use fk_plays::run::run;
 use fk_plays::soak::soak;
 use fk_puts::put_files;
+use fk_recordings::record::record;
+use fk_recordings::replay::replay;
 use fk_responders::Table;
 use fk_words::{Command, command_of, shared_command};
 use std::alloc::Global;
@@ -61,6 +63,10 @@ fn prepare_alone<R: Source, H: Shelf>(
         Command::Check => check(alloc, table, &source_text(alloc, source)?),
         Command::Play(name) => play(alloc, table, name, &source_text(alloc, source)?, shelf),
         Command::Show(name) => show(alloc, name, shelf),
+        Command::Record(_, watch) => {
+            record(alloc, table, watch, &source_text(alloc, source)?, shelf)
+        }
+        Command::Replay(name) => replay(alloc, table, name, &source_text(alloc, source)?, shelf),
         Command::Run(_) => unreachable!(),
         Command::Soak(_) => unreachable!(),
     }
@@ -102,6 +108,8 @@ fn prepare_shared<T: Threads + Wait + Sync, R: Source, H: Shelf, G: Gate + Sync>
         Command::Check => unreachable!(),
         Command::Play(_) => unreachable!(),
         Command::Show(_) => unreachable!(),
+        Command::Record(..) => unreachable!(),
+        Command::Replay(_) => unreachable!(),
     }
 }
 

@@ -3,6 +3,7 @@ ghost use Rattle.std.specs.Prelude.{◌≡◌, ◌≤◌, ⊤, map, option_map, 
 ghost use Rattle.fk_words.specs.Commands as commands;
 
 use fk_model::{is_name, plain_number_up_to};
+use fk_responders::Watch;
 
 /// What the words of the command line ask for.
 #[derive(Clone, Copy)]
@@ -19,6 +20,10 @@ pub enum Command<'a> {
     Show(&'a str),
     /// Runs the scenario with so many processes by itself, and tells its line.
     Soak(u32),
+    /// Runs the source's scenario by itself, and puts its trace under a name and the record of what an observer sees.
+    Record(&'a str, Watch),
+    /// Runs the source's scenario by the moves of the trace with this name, and its servers reply what the record with this name says.
+    Replay(&'a str),
 }
 
 /// The number of processes that a word says: 1 to 100.
@@ -70,20 +75,48 @@ fn command_with<'a>(word: &str, given: &'a str) -> Option<Command<'a>>
         } else {
             None
         }
+    } else if word == "replay" {
+        if is_name(given.as_bytes()) {
+            Some(Command::Replay(given))
+        } else {
+            None
+        }
+    } else {
+        None
+    }
+}
+
+/// The watch that a word says.
+fn watch_of(word: &str) -> Option<Watch> {
+    if word == "all" {
+        Some(Watch::All)
+    } else if word == "replies" {
+        Some(Watch::Replies)
+    } else if word == "said" {
+        Some(Watch::Said)
+    } else {
+        None
+    }
+}
+
+/// The command of a word with a name and a watch.
+fn command_watched<'a>(word: &str, name: &'a str, watch: &str) -> Option<Command<'a>> {
+    if word == "record" && is_name(name.as_bytes()) {
+        Some(Command::Record(name, watch_of(watch)?))
     } else {
         None
     }
 }
 
 /// The command of a word with an option and a name.
-fn command_traced<'a>(word: &str, option: &str, name: &'a str) -> Option<Command<'a>>
+fn command_traced<'a>(word: &str, option: &'a str, name: &'a str) -> Option<Command<'a>>
     ensures value { option_map commands.seen result ≡ commands.command_traced word.now option.now name.now }
     ensures count { IfSome result (λ command. commands.HasCount (commands.seen command)) }
 {
     if word == "run" && option == "--trace" && is_name(name.as_bytes()) {
         Some(Command::Run(Some(name)))
     } else {
-        None
+        command_watched(word, option, name)
     }
 }
 
@@ -110,6 +143,14 @@ pub fn shared_command(words: &[String]) -> Option<Command<'_>>
     match command_of(words) {
         Some(Command::Run(trace)) => Some(Command::Run(trace)),
         Some(Command::Soak(count)) => Some(Command::Soak(count)),
-        Some(Command::Exec | Command::Check | Command::Play(_) | Command::Show(_)) | None => None,
+        Some(
+            Command::Exec
+            | Command::Check
+            | Command::Play(_)
+            | Command::Show(_)
+            | Command::Record(..)
+            | Command::Replay(_),
+        )
+        | None => None,
     }
 }

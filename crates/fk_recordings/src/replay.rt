@@ -1,0 +1,62 @@
+//! The command `replay`: a scenario is run by the moves of a trace, and its native servers reply what a record says.
+use crate::replaying::replay_first;
+use fk_causes::Shelf;
+use fk_commands::{Prepared, Status, file_of, scenario_in};
+use fk_finish::ValidImage;
+use fk_plays::images::images_for;
+use fk_plays::play::trace_of;
+use fk_responders::Table;
+use fk_scenario::Scenario;
+use fk_trace_text::misspelled;
+use std::alloc::Global;
+
+/// The trace that the shelf has under a name, each line of which is spelled.
+fn spelled_trace<H: Shelf>(alloc: Global, shelf: &mut H, name: &str) -> Result<Vec<u8>, Status> {
+    let trace = trace_of(alloc, shelf, name)?;
+    match misspelled(&trace) {
+        Some(index) => Err(Status::BadTrace { index }),
+        None => Ok(trace),
+    }
+}
+
+/// The record that the shelf has under a name.
+fn record_of<H: Shelf>(alloc: Global, shelf: &mut H, name: &str) -> Result<Vec<u8>, Status> {
+    let file = format!(in alloc; "{name}.rec")?;
+    file_of(alloc, shelf, file.as_str(), name)
+}
+
+/// Plays the trace with this name by the record with this name, which the shelf has, from the first core of a scenario, with images for its jobs.
+fn replay_with<H: Shelf>(
+    alloc: Global,
+    table: &Table,
+    name: &str,
+    scenario: &Scenario,
+    images: &[Option<ValidImage>],
+    shelf: &mut H,
+) -> Result<Prepared, Status> {
+    let trace = spelled_trace(alloc, shelf, name)?;
+    let record = record_of(alloc, shelf, name)?;
+    replay_first(alloc, table, scenario, images, &trace, &record)
+}
+
+/// Plays the trace with this name, which the shelf has, from the first core of the scenario that a text is, with the images of the shelf that its
+/// jobs need, and with a replay of the record with this name in the place of each server that is no console.
+///
+/// # Errors
+///
+/// `BadScenario` for a text that is no scenario by the rules of the table. `Absent` and `BadImage` of the first image that is needed and
+/// isn't there or isn't spelled; then `Absent` where the shelf has no such trace, `BadTrace` with the index of its first line that is misspelled;
+/// then `Absent` where it has no such record, `BadRecord` with the number of its first line that is bad; and `ShelfFault` where a get of these
+/// failed, all of them only for a text that is a scenario. `BadTrace` with the index of the first move that isn't ready or stands at the budget.
+/// `NoMemory` where there is no memory for any of it.
+pub fn replay<H: Shelf>(
+    alloc: Global,
+    table: &Table,
+    name: &str,
+    text: &[u8],
+    shelf: &mut H,
+) -> Result<Prepared, Status> {
+    let scenario = scenario_in(alloc, table, text)?;
+    let images = images_for(alloc, shelf, scenario.jobs.as_slice())?;
+    replay_with(alloc, table, name, &scenario, images.as_slice(), shelf)
+}
