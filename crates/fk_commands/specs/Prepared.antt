@@ -10,7 +10,7 @@ use Rattle.fk_image.specs.declared.image.image.Image.{Image}
 use Rattle.fk_scenario.specs.declared.scenario.scenario.Scenario.{Scenario}
 use Rattle.fk_commands.specs.declared.prepared.Prepared.{Prepared}
 use Rattle.fk_commands.specs.declared.status.Status.{Status}
-use Rattle.fk_commands.specs.declared.status.Status.TheVariants.{Ok as Done, Usage, TooLong, BadText, BadScenario, Absent, BadImage, BadTrace, JobRefused, Budget, ReadFault, WriteFault, ShelfFault, NoMemory}
+use Rattle.fk_commands.specs.declared.status.Status.TheVariants.{Ok as Done, Usage, TooLong, BadText, BadScenario, Absent, BadImage, BadTrace, JobRefused, Budget, ReadFault, WriteFault, ShelfFault, NoMemory, BadRecord}
 use Rattle.fk_commands.specs.declared.outcome.Outcome.{Outcome}
 use Rattle.fk_commands.specs.Outcomes.{without_report}
 use Rattle.fk_commands.specs.Status.{was_cut_short, progress_of, Finished}
@@ -42,6 +42,7 @@ IsRefusal AtSource AtShelf ReadFault = AtSource
 IsRefusal AtSource AtShelf WriteFault = ⊥
 IsRefusal AtSource AtShelf ShelfFault = AtShelf
 IsRefusal AtSource AtShelf NoMemory = ⊤
+IsRefusal AtSource AtShelf (BadRecord line) = ⊤
 
 -- ---- why a part of a command gives nothing: each has only the statuses that are listed
 

@@ -1,7 +1,7 @@
 -- How a call of the program ends: its number, what standard error says of it, and how far it came.
 use Rattle.std.specs.Prelude.{ℕ, Bool, true, false, List, [], ◌++◌, codes, decimal}
 use Rattle.fk_commands.specs.declared.status.Status.{Status}
-use Rattle.fk_commands.specs.declared.status.Status.TheVariants.{Ok, Usage, TooLong, BadText, BadScenario, Absent, BadImage, BadTrace, JobRefused, Budget, ReadFault, WriteFault, ShelfFault, NoMemory}
+use Rattle.fk_commands.specs.declared.status.Status.TheVariants.{Ok, Usage, TooLong, BadText, BadScenario, Absent, BadImage, BadTrace, JobRefused, Budget, ReadFault, WriteFault, ShelfFault, NoMemory, BadRecord}
 
 -- the status with which the process exits
 abbrev pub status_number : Status → ℕ
@@ -19,6 +19,7 @@ status_number ReadFault = 11
 status_number WriteFault = 12
 status_number ShelfFault = 13
 status_number NoMemory = 14
+status_number (BadRecord line) = 16
 
 -- the line on standard error, without its line feed; nothing where all went well
 abbrev pub fault_line_of : Status → List ℕ
@@ -38,6 +39,7 @@ fault_line_of ReadFault = codes "fluke: read fault"
 fault_line_of WriteFault = codes "fluke: write fault"
 fault_line_of ShelfFault = codes "fluke: shelf fault"
 fault_line_of NoMemory = codes "fluke: no memory"
+fault_line_of (BadRecord line) = codes "fluke: bad record line " ++ decimal line
 
 -- whether the outside or the memory failed
 abbrev pub was_cut_short : Status → Bool
@@ -55,6 +57,7 @@ was_cut_short ReadFault = true
 was_cut_short WriteFault = true
 was_cut_short ShelfFault = true
 was_cut_short NoMemory = true
+was_cut_short (BadRecord line) = false
 
 -- ---- which part of the outside failed
 
@@ -73,6 +76,7 @@ is_read_fault ReadFault = true
 is_read_fault WriteFault = false
 is_read_fault ShelfFault = false
 is_read_fault NoMemory = false
+is_read_fault (BadRecord line) = false
 
 abbrev pub is_write_fault : Status → Bool
 is_write_fault Ok = false
@@ -89,6 +93,7 @@ is_write_fault ReadFault = false
 is_write_fault WriteFault = true
 is_write_fault ShelfFault = false
 is_write_fault NoMemory = false
+is_write_fault (BadRecord line) = false
 
 abbrev pub is_shelf_fault : Status → Bool
 is_shelf_fault Ok = false
@@ -105,6 +110,7 @@ is_shelf_fault ReadFault = false
 is_shelf_fault WriteFault = false
 is_shelf_fault ShelfFault = true
 is_shelf_fault NoMemory = false
+is_shelf_fault (BadRecord line) = false
 
 -- ---- how far a call came
 
@@ -135,6 +141,7 @@ progress_of ReadFault = Reading
 progress_of WriteFault = Writing
 progress_of ShelfFault = Refusing
 progress_of NoMemory = Reading
+progress_of (BadRecord line) = Refusing
 
 -- whether what can be read was read
 abbrev pub is_past_reading : Progress → Bool

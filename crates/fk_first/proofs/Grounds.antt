@@ -5,7 +5,7 @@ use Rattle.fk_boot.specs.FirstWorld.{booted}
 use Rattle.fk_core.specs.Cores.Cores.{RunCore}
 use Rattle.fk_core.specs.Cores.Goings.{HasCome}
 use Rattle.fk_core.proofs.InCores.Histories.{begun}
-use Rattle.fk_first.specs.First.{IsFirst}
+use Rattle.fk_first.specs.First.{IsBegun, IsFirst}
 use Rattle.fk_image.specs.declared.image.image.Image.{Image}
 use Rattle.fk_scenario.specs.declared.scenario.scenario.Scenario.{Scenario}
 use Rattle.fk_scenario.specs.Scenario.Kept.{KeepsScenario}
@@ -16,7 +16,10 @@ use Rattle.laws_house.specs.Houses.{Job, jobs_of}
 use Rattle.laws_house.specs.Laws.{NameUsersSlots}
 use Rattle.laws_jobs.specs.Jobs.{IsClean}
 
-pub has-come : (s : Scenario) (given : List (Option Image)) (c : RunCore) (jobs : List Job) (budget : ℕ) → KeepsScenario s → IsFirst s c
+pub first-begun : (s : Scenario) (c : RunCore) → IsFirst s c → IsBegun s c
+first-begun s c is = record { world = is.world; sound = is.sound; ends = is.ends; work = is.work; events = is.events }
+
+pub has-come : (s : Scenario) (given : List (Option Image)) (c : RunCore) (jobs : List Job) (budget : ℕ) → KeepsScenario s → IsBegun s c
     → jobs ≡ jobs_of s.jobs given → budget ≡ s.budget → HasCome jobs budget c
 has-come s given c jobs budget keeps is same_jobs same_budget =
     let ground = first_world_is_ground s keeps in

@@ -7,6 +7,14 @@ use Rattle.fk_core.specs.Cores.Cores.{RunCore}
 use Rattle.fk_scenario.specs.declared.scenario.scenario.Scenario.{Scenario}
 use Rattle.laws_moves.specs.Savable.Savable.{IsSound}
 
+-- its first world, which is sound, and no job has begun, whatever its servers are
+pub record IsBegun (s : Scenario) (c : RunCore) : Type 0 where
+  pub world : c.world ≡ booted s
+  pub sound : IsSound c.world
+  pub ends : c.ends ≡ []
+  pub work : c.work ≡ None
+  pub events : c.events ≡ 0
+
 -- its first world, which is sound, and its servers as they are at first, each at its port; no job has begun
 pub record IsFirst (s : Scenario) (c : RunCore) : Type 0 where
   pub world : c.world ≡ booted s

@@ -31,7 +31,8 @@ pub fn first_jobs(
     ensures work { IfOk result (λ jobs. jobs.work ≡ None) }
 {
     let plans = plans_of(alloc, scenario.jobs.as_slice(), images)?;
-    Ok(Jobs::new(alloc, plans)?)
+    let jobs = Jobs::new(alloc, plans)?;
+    Ok(jobs)
 }
 
 /// The core with which a scenario begins. An image is given for each of its jobs, or none; one that an earlier job makes needs none. A table

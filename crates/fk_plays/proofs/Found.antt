@@ -7,7 +7,7 @@ use Rattle.fk_causes.specs.Causes.{Rose}
 use Rattle.fk_causes.specs.Shelf.{FileMap}
 use Rattle.fk_commands.specs.declared.prepared.Prepared.{Prepared}
 use Rattle.fk_commands.specs.declared.status.Status.{Status}
-use Rattle.fk_commands.specs.declared.status.Status.TheVariants.{Ok as Done, Usage, TooLong, BadText, BadScenario, Absent, BadImage, BadTrace, JobRefused, Budget, ReadFault, WriteFault, ShelfFault, NoMemory}
+use Rattle.fk_commands.specs.declared.status.Status.TheVariants.{Ok as Done, Usage, TooLong, BadText, BadScenario, Absent, BadImage, BadTrace, JobRefused, Budget, ReadFault, WriteFault, ShelfFault, NoMemory, BadRecord}
 use Rattle.fk_commands.specs.Prepared.{IsRefusal}
 use Rattle.fk_commands.specs.Status.{was_cut_short}
 use Rattle.fk_image.specs.declared.image.image.Image.{Image}
@@ -34,6 +34,7 @@ refused-of P Q R f ReadFault h = h
 refused-of P Q R f WriteFault h = h
 refused-of P Q R f ShelfFault h = f h
 refused-of P Q R f NoMemory h = h
+refused-of P Q R f (BadRecord line) h = h
 
 pub unless-of : (P Q : Type 0) → (P → Q) → (status : Status) → UnlessFailed status P → UnlessFailed status Q
 unless-of P Q f status h = by (was_cut_short status) h

@@ -1,4 +1,12 @@
 //! The command `record`: a scenario runs by itself, and what passes at its native servers is recorded.
+ghost use Rattle.std.specs.Prelude.{◌≡◌, IfErr, map, string_bytes};
+ghost use Rattle.fk_causes.specs.Causes.{Rose, StandsUnless};
+ghost use Rattle.fk_commands.specs.Prepared.{ComesTo, IsRefusal};
+ghost use Rattle.fk_commands.specs.Status.{is_shelf_fault};
+ghost use Rattle.fk_plays.specs.Play.{IsScenarioWithImages};
+ghost use Rattle.fk_recordings.specs.Recording.{watch_place, IsWholeRecord};
+ghost use Rattle.fk_scenario.specs.Scenario.Reading.{scenario_reading};
+
 use crate::recording::record_first;
 use fk_causes::Shelf;
 use fk_commands::{Prepared, Status, scenario_in};
@@ -18,8 +26,15 @@ pub fn record<H: Shelf>(
     watch: Watch,
     text: &[u8],
     shelf: &mut H,
-) -> Result<Prepared, Status> {
+) -> Result<Prepared, Status>
+    ensures comes { ComesTo (IsWholeRecord (watch_place watch) (H.files shelf.old) (scenario_reading (map (λ r. (string_bytes r.name, r.rule)) table.now.list.items) text.now)) result }
+    ensures refusal { IfErr result (IsRefusal ⊥ (Rose (H.failed_gets shelf.old) (H.failed_gets shelf.new)
+        × IsScenarioWithImages (scenario_reading (map (λ r. (string_bytes r.name, r.rule)) table.now.list.items) text.now))) }
+    ensures kept_gets { StandsUnless is_shelf_fault (H.failed_gets shelf.old) (H.failed_gets shelf.new) result }
+    ensures same_files { H.files shelf.new ≡ H.files shelf.old }
+    ensures same_puts { H.failed_puts shelf.new ≡ H.failed_puts shelf.old }
+{
     let scenario = scenario_in(alloc, table, text)?;
     let images = images_for(alloc, shelf, scenario.jobs.as_slice())?;
-    Ok(record_first(alloc, table, &scenario, images.as_slice(), watch)?)
+    record_first(alloc, table, &scenario, images.as_slice(), watch)
 }

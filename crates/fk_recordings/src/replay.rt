@@ -1,4 +1,17 @@
 //! The command `replay`: a scenario is run by the moves of a trace, and its native servers reply what a record says.
+ghost use Rattle.std.specs.Prelude.{◌≡◌, ◌≤◌, ⊤, List, Some, IfOk, IfErr, map, string_bytes};
+ghost use Rattle.fk_causes.specs.Causes.{Rose, StandsUnless};
+ghost use Rattle.fk_causes.specs.Shelf.{HasAt};
+ghost use Rattle.fk_commands.specs.Files.{record_name, trace_name};
+ghost use Rattle.fk_commands.specs.Prepared.{ComesTo, IsRefusal, IsFileFail};
+ghost use Rattle.fk_commands.specs.Status.{is_shelf_fault};
+ghost use Rattle.fk_model.specs.declared.moves.Move.{Move};
+ghost use Rattle.fk_plays.specs.Play.{IsScenario};
+ghost use Rattle.fk_recordings.specs.Replaying.{IsReplay, IsReplayedWith, IsTraceFail};
+ghost use Rattle.fk_scenario.specs.Scenario.Kept.{KeepsScenario, HasRules};
+ghost use Rattle.fk_scenario.specs.Scenario.Reading.{scenario_reading};
+ghost use Rattle.fk_trace_text.specs.Trace as traces;
+
 use crate::replaying::replay_first;
 use fk_causes::Shelf;
 use fk_commands::{Prepared, Status, file_of, scenario_in};
@@ -11,7 +24,15 @@ use fk_trace_text::misspelled;
 use std::alloc::Global;
 
 /// The trace that the shelf has under a name, each line of which is spelled.
-fn spelled_trace<H: Shelf>(alloc: Global, shelf: &mut H, name: &str) -> Result<Vec<u8>, Status> {
+fn spelled_trace<H: Shelf>(alloc: Global, shelf: &mut H, name: &str) -> Result<Vec<u8>, Status>
+    ensures found { IfOk result (λ trace. HasAt (H.files shelf.old) (trace_name name.now) (Some trace.items)
+        × ((moves : List Move) × traces.Spells (λ _ _. ⊤) trace.items moves)) }
+    ensures fail { IfErr result (IsTraceFail name.now (H.files shelf.old) (H.failed_gets shelf.old) (H.failed_gets shelf.new)) }
+    ensures later { H.failed_gets shelf.old ≤ H.failed_gets shelf.new }
+    ensures kept_gets { StandsUnless is_shelf_fault (H.failed_gets shelf.old) (H.failed_gets shelf.new) result }
+    ensures same_files { H.files shelf.new ≡ H.files shelf.old }
+    ensures same_puts { H.failed_puts shelf.new ≡ H.failed_puts shelf.old }
+{
     let trace = trace_of(alloc, shelf, name)?;
     match misspelled(&trace) {
         Some(index) => Err(Status::BadTrace { index }),
@@ -20,7 +41,13 @@ fn spelled_trace<H: Shelf>(alloc: Global, shelf: &mut H, name: &str) -> Result<V
 }
 
 /// The record that the shelf has under a name.
-fn record_of<H: Shelf>(alloc: Global, shelf: &mut H, name: &str) -> Result<Vec<u8>, Status> {
+fn record_of<H: Shelf>(alloc: Global, shelf: &mut H, name: &str) -> Result<Vec<u8>, Status>
+    ensures found { IfOk result (λ bytes. HasAt (H.files shelf.old) (record_name name.now) (Some bytes.items)) }
+    ensures fail { IfErr result (IsFileFail (record_name name.now) name.now (H.files shelf.old) (H.failed_gets shelf.old) (H.failed_gets shelf.new)) }
+    ensures kept_gets { StandsUnless is_shelf_fault (H.failed_gets shelf.old) (H.failed_gets shelf.new) result }
+    ensures same_files { H.files shelf.new ≡ H.files shelf.old }
+    ensures same_puts { H.failed_puts shelf.new ≡ H.failed_puts shelf.old }
+{
     let file = format!(in alloc; "{name}.rec")?;
     file_of(alloc, shelf, file.as_str(), name)
 }
@@ -33,7 +60,15 @@ fn replay_with<H: Shelf>(
     scenario: &Scenario,
     images: &[Option<ValidImage>],
     shelf: &mut H,
-) -> Result<Prepared, Status> {
+) -> Result<Prepared, Status>
+    requires keeps { KeepsScenario scenario.now }
+    requires rules { HasRules (map (λ r. r.rule) table.now.list.items) scenario.now }
+    ensures comes { ComesTo (IsReplayedWith name.now (H.files shelf.old) scenario.now images.now) result }
+    ensures refusal { IfErr result (IsRefusal ⊥ (Rose (H.failed_gets shelf.old) (H.failed_gets shelf.new))) }
+    ensures kept_gets { StandsUnless is_shelf_fault (H.failed_gets shelf.old) (H.failed_gets shelf.new) result }
+    ensures same_files { H.files shelf.new ≡ H.files shelf.old }
+    ensures same_puts { H.failed_puts shelf.new ≡ H.failed_puts shelf.old }
+{
     let trace = spelled_trace(alloc, shelf, name)?;
     let record = record_of(alloc, shelf, name)?;
     replay_first(alloc, table, scenario, images, &trace, &record)
@@ -55,7 +90,14 @@ pub fn replay<H: Shelf>(
     name: &str,
     text: &[u8],
     shelf: &mut H,
-) -> Result<Prepared, Status> {
+) -> Result<Prepared, Status>
+    ensures comes { ComesTo (IsReplay name.now (H.files shelf.old) (scenario_reading (map (λ r. (string_bytes r.name, r.rule)) table.now.list.items) text.now)) result }
+    ensures refusal { IfErr result (IsRefusal ⊥ (Rose (H.failed_gets shelf.old) (H.failed_gets shelf.new)
+        × IsScenario (scenario_reading (map (λ r. (string_bytes r.name, r.rule)) table.now.list.items) text.now))) }
+    ensures kept_gets { StandsUnless is_shelf_fault (H.failed_gets shelf.old) (H.failed_gets shelf.new) result }
+    ensures same_files { H.files shelf.new ≡ H.files shelf.old }
+    ensures same_puts { H.failed_puts shelf.new ≡ H.failed_puts shelf.old }
+{
     let scenario = scenario_in(alloc, table, text)?;
     let images = images_for(alloc, shelf, scenario.jobs.as_slice())?;
     replay_with(alloc, table, name, &scenario, images.as_slice(), shelf)

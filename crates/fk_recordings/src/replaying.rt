@@ -1,4 +1,12 @@
 //! A trace that is played with replays in the place of servers, from a scenario on.
+ghost use Rattle.std.specs.Prelude.{◌≡◌, ◌×◌, List, length, map, IfOk, IfErr};
+ghost use Rattle.fk_commands.specs.Prepared.{ComesTo, IsRefusal};
+ghost use Rattle.fk_record_text.specs.Record.{Entry as Noted, Spells};
+ghost use Rattle.fk_recordings.specs.Ports as definitions;
+ghost use Rattle.fk_recordings.specs.Replaying.{replies_by, IsReplayedBy, IsRecordFail};
+ghost use Rattle.fk_scenario.specs.Scenario.Kept.{KeepsScenario, HasRules};
+ghost use Rattle.fk_trace.specs.Posts.{words_of_all};
+
 use crate::cores::replaying_core;
 use crate::ports::ports_of;
 use fk_commands::{Prepared, Status};
@@ -20,7 +28,11 @@ fn replies_in(
     alloc: Global,
     scenario: &Scenario,
     record: &[u8],
-) -> Result<Vec<Vec<Reply>>, Status> {
+) -> Result<Vec<Vec<Reply>>, Status>
+    ensures found { IfOk result (λ lists. (entries : List Noted) × Spells (definitions.ports_of scenario.now.servers) record.now entries
+        × (words_of_all lists.items ≡ replies_by scenario.now entries)) }
+    ensures fail { IfErr result (IsRecordFail (definitions.ports_of scenario.now.servers) record.now) }
+{
     let ports = ports_of(alloc, scenario.servers.as_slice())?;
     let entries: Vec<Entry> = match read_record(alloc, ports.as_slice(), record) {
         Ok(entries) => entries,
@@ -44,7 +56,12 @@ pub fn replay_first(
     images: &[Option<ValidImage>],
     trace: &[u8],
     record: &[u8],
-) -> Result<Prepared, Status> {
+) -> Result<Prepared, Status>
+    requires keeps { KeepsScenario scenario.now }
+    requires rules { HasRules (map (λ r. r.rule) table.now.list.items) scenario.now }
+    ensures comes { ComesTo (IsReplayedBy scenario.now images.now trace.now record.now) result }
+    ensures refusal { IfErr result (IsRefusal ⊥ ⊥) }
+{
     let lists = replies_in(alloc, scenario, record)?;
     let core = replaying_core(alloc, scenario, images, lists)?;
     play_core(alloc, core, scenario.jobs.as_slice(), images, table, trace)

@@ -18,7 +18,7 @@ read-keeps rules bytes s read = by (tree_of bytes) read
     by (Some ms) read = scenario_kept rules ms s read
 
 has : (rules : Rules) (report : Report) → HasHeadline rules report
-has rules report = λ bytes s given first read is_first is. reports_have_the_headline s given first report (read-keeps rules bytes s read) is_first is
+has rules report = λ bytes s given first read is_begun is. reports_have_the_headline s given first report (read-keeps rules bytes s read) is_begun is
 
 pub holds : (rules : Rules) (report : Option Report) → HoldsOf rules report
 holds rules None = tt

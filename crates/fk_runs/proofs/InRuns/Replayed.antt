@@ -37,4 +37,5 @@ plays-again specs given first budget status report text ranges ran =
       record { legal = legal specs given budget first report.history is.last is.run ranges is.within; spelled = refl },
       ran.0,
       ran.2,
+      ran.3,
     )
