@@ -13,7 +13,7 @@ pub struct Report {
     pub images: Items<Text>,
     pub end: End,
     /// The record of its native servers, where the run was recorded.
-    pub record: Option<Text>,
+    pub recorded: Option<Text>,
 }
 
 /// What a call comes to.

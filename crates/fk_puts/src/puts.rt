@@ -196,8 +196,8 @@ fn put_record<H: Shelf>(
 ) -> Result<(), ShelfFail>
 {
     let file = format!(in alloc; "{name}.rec")?;
-    match &report.record {
-        Some(record) => shelf.put(file.as_str(), record.as_str().as_bytes()),
+    match &report.recorded {
+        Some(told) => shelf.put(file.as_str(), told.as_str().as_bytes()),
         None => Ok(()),
     }
 }

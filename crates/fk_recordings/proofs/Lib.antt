@@ -1,8 +1,10 @@
 pub mod Small
 pub mod Paths
-pub mod Ports
-pub mod Firsts
-pub mod Written
+pub mod SamePorts
+pub mod Beginnings
+pub mod Lines
 pub mod Carried
-pub mod Recorded
-pub mod Replayed
+pub mod Apart
+pub mod WithTaps
+pub mod Refusals
+pub mod Again

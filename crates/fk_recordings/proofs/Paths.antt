@@ -15,7 +15,7 @@ decimal_path : (n : ℕ) → n < 2 ^ 64 → IsPath (decimal n)
 decimal_path n small = All-weaker (λ b. nat_le b 32 ≡ false) (λ b. 32 < b) (λ b no. leb-false b 32 no) (decimal n)
     (All-from_recursion (λ b. nat_le b 32 ≡ false) (decimal n) (decimal_avoids (λ b. nat_le b 32) high n small))
 
-all_high : (path : List ℕ) → All (λ slot. slot < 256) path → IsPath (down_text path)
+pub all_high : (path : List ℕ) → All (λ slot. slot < 256) path → IsPath (down_text path)
 all_high [] are = All-nil (λ b. 32 < b)
 all_high (s ∷ ss) are =
     let low = All-head (λ slot. slot < 256) s ss are in

@@ -28,11 +28,11 @@ ReplaysPlayAgain = (s : Scenario) (given : Images) (first : RunCore) (trace : Li
 
 -- the same report without its record
 abbrev pub without_record : Report → Report
-without_record report = record report { record = None }
+without_record report = record report { recorded = None }
 
 -- a run that was recorded, with an observer of all notes or of the replies, comes to the same by its trace and its record
 abbrev pub RecordPlaysAgain : Type 0
 RecordPlaysAgain = (s : Scenario) (given : Images) (watch : ℕ) (status : Status) (report : Report) (text record_ : List ℕ) → KeepsScenario s →
-    (watch ≡ 0) ⊎ (watch ≡ 1) → All IsMove report.history → report.record ≡ Some record_ →
+    (watch ≡ 0) ⊎ (watch ≡ 1) → All IsMove report.history → report.recorded ≡ Some record_ →
     IsRecordedFrom watch s given (record { status = status; report = Some report }) text →
     IsReplayedBy s given (trace_text report.history) record_ (record { status = status; report = Some (without_record report) }) text

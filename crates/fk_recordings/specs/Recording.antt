@@ -48,7 +48,7 @@ seen_in watch specs given first budget report is =
 -- the record of that, and each of these notes is as small as its types
 pub record IsRecord (watch : ℕ) (specs : List JobSpec) (given : Images) (first : RunCore) (budget : ℕ) (report : Report)
     (is : IsReported specs given first budget report) : Type 0 where
-  pub text : report.record ≡ Some (record_of (seen_in watch specs given first budget report is))
+  pub text : report.recorded ≡ Some (record_of (seen_in watch specs given first budget report is))
   pub small : All (λ s. All IsNote s.1) (seen_in watch specs given first budget report is)
 
 -- a run by itself, of which the record is made, goes on while a move is left

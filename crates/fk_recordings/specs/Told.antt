@@ -18,7 +18,7 @@ shown c = record { jobs = c.jobs.jobs; budget = c.budget; core = run_core c }
 -- a report with a record
 abbrev pub with_record : List ℕ → Option Report → Option Report
 with_record text None = None
-with_record text (Some report) = Some (record report { record = Some text })
+with_record text (Some report) = Some (record report { recorded = Some text })
 
 abbrev pub recorded_by : List ℕ → Prepared → Prepared
 recorded_by text made = record made { report = with_record text made.report }

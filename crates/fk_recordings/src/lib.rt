@@ -10,12 +10,14 @@
 #![tactic(auto)]
 
 mod cores;
+mod laws;
 mod ports;
-pub mod record;
+pub mod record_command;
 mod recording;
-pub mod replay;
+pub mod replay_command;
 mod replaying;
 mod texts;
 
+pub use laws::{a_record_plays_again, replays_play_again};
 pub use recording::record_first;
 pub use replaying::replay_first;

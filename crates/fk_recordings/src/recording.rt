@@ -59,8 +59,8 @@ fn finished(
 }
 
 /// What is prepared of a run, with its record.
-fn with_record(made: Prepared, record: Text) -> Prepared
-    ensures { result ≡ recorded_by record made }
+fn with_record(made: Prepared, told: Text) -> Prepared
+    ensures { result ≡ recorded_by told made }
 {
     let Prepared {
         status,
@@ -73,7 +73,7 @@ fn with_record(made: Prepared, record: Text) -> Prepared
             jobs: report.jobs,
             images: report.images,
             end: report.end,
-            record: Some(record),
+            recorded: Some(told),
         }),
         None => None,
     };
@@ -109,9 +109,9 @@ fn recorded_of(
     ensures { IfOk result (λ made. IsTold scenario.now images.now (run_core book.core) book.boot.budget book.history made) }
 {
     let (core, history) = book.into_parts();
-    let record = record_of(alloc, &core, scenario)?;
+    let told = record_of(alloc, &core, scenario)?;
     let made = prepared(alloc, core, scenario.jobs.as_slice(), images, history)?;
-    Ok(with_record(made, record))
+    Ok(with_record(made, told))
 }
 
 /// Runs the first core of a scenario that was read by the rules of a table, by itself, with images for its jobs and a tap of each server that is no

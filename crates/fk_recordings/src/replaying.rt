@@ -27,14 +27,14 @@ use std::alloc::Global;
 fn replies_in(
     alloc: Global,
     scenario: &Scenario,
-    record: &[u8],
+    told: &[u8],
 ) -> Result<Vec<Vec<Reply>>, Status>
-    ensures found { IfOk result (λ lists. (entries : List Noted) × Spells (definitions.ports_of scenario.now.servers) record.now entries
+    ensures found { IfOk result (λ lists. (entries : List Noted) × Spells (definitions.ports_of scenario.now.servers) told.now entries
         × (words_of_all lists.items ≡ replies_by scenario.now entries)) }
-    ensures fail { IfErr result (IsRecordFail (definitions.ports_of scenario.now.servers) record.now) }
+    ensures fail { IfErr result (IsRecordFail (definitions.ports_of scenario.now.servers) told.now) }
 {
     let ports = ports_of(alloc, scenario.servers.as_slice())?;
-    let entries: Vec<Entry> = match read_record(alloc, ports.as_slice(), record) {
+    let entries: Vec<Entry> = match read_record(alloc, ports.as_slice(), told) {
         Ok(entries) => entries,
         Err(RecordFail::Record { line }) => return Err(Status::BadRecord { line }),
         Err(RecordFail::NoMemory) => return Err(Status::NoMemory),
@@ -55,14 +55,14 @@ pub fn replay_first(
     scenario: &Scenario,
     images: &[Option<ValidImage>],
     trace: &[u8],
-    record: &[u8],
+    told: &[u8],
 ) -> Result<Prepared, Status>
     requires keeps { KeepsScenario scenario.now }
     requires rules { HasRules (map (λ r. r.rule) table.now.list.items) scenario.now }
-    ensures comes { ComesTo (IsReplayedBy scenario.now images.now trace.now record.now) result }
+    ensures comes { ComesTo (IsReplayedBy scenario.now images.now trace.now told.now) result }
     ensures refusal { IfErr result (IsRefusal ⊥ ⊥) }
 {
-    let lists = replies_in(alloc, scenario, record)?;
+    let lists = replies_in(alloc, scenario, told)?;
     let core = replaying_core(alloc, scenario, images, lists)?;
     play_core(alloc, core, scenario.jobs.as_slice(), images, table, trace)
 }

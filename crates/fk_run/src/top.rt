@@ -24,8 +24,8 @@ use fk_plays::play::play;
 use fk_plays::run::run;
 use fk_plays::soak::soak;
 use fk_puts::put_files;
-use fk_recordings::record::record;
-use fk_recordings::replay::replay;
+use fk_recordings::record_command::record_command;
+use fk_recordings::replay_command::replay_command;
 use fk_responders::Table;
 use fk_words::{Command, command_of, shared_command};
 use std::alloc::Global;
@@ -64,9 +64,11 @@ fn prepare_alone<R: Source, H: Shelf>(
         Command::Play(name) => play(alloc, table, name, &source_text(alloc, source)?, shelf),
         Command::Show(name) => show(alloc, name, shelf),
         Command::Record(_, watch) => {
-            record(alloc, table, watch, &source_text(alloc, source)?, shelf)
+            record_command(alloc, table, watch, &source_text(alloc, source)?, shelf)
         }
-        Command::Replay(name) => replay(alloc, table, name, &source_text(alloc, source)?, shelf),
+        Command::Replay(name) => {
+            replay_command(alloc, table, name, &source_text(alloc, source)?, shelf)
+        },
         Command::Run(_) => unreachable!(),
         Command::Soak(_) => unreachable!(),
     }

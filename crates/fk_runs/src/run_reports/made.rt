@@ -67,7 +67,7 @@ fn concluded(
     ensures status { IfOk result (λ made. made.status ≡ status_of_end budget jobs end) }
     ensures finished { IfOk result (λ made. progress_of made.status ≡ Finished) }
     ensures report { IfOk result (λ made. made.report
-        ≡ Some (record { history = history; jobs = jobs; images = map definitions.image_of specs.now; end = end; record = None })) }
+        ≡ Some (record { history = history; jobs = jobs; images = map definitions.image_of specs.now; end = end; recorded = None })) }
     ensures output { IfOk result (λ made. string_bytes made.output ≡ string_bytes output) }
 {
     let status = status_of(end, budget, jobs.as_slice())?;
@@ -79,7 +79,7 @@ fn concluded(
             jobs,
             images,
             end,
-            record: None,
+            recorded: None,
         }),
         output,
     })

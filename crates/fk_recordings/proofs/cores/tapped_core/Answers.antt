@@ -4,7 +4,7 @@ use Rattle.fk_core.specs.Cores.Kernels.{world_of as world}
 use Rattle.fk_first.proofs.Grounds.{has-come}
 use Rattle.fk_first.proofs.Servers.{all-fit}
 use Rattle.fk_first.specs.Served.{AllFit}
-use Rattle.fk_recordings.proofs.Firsts.{first-with, begun-with, fits-tapped}
+use Rattle.fk_recordings.proofs.Beginnings.{first-with, begun-with, fits-tapped}
 use Rattle.fk_trace.specs.Posts.{all_tapped, plain_seen}
 use Rattle.laws_house.specs.Houses.{jobs_of}
 use Rattle.fk_recordings.proofs.cores.tapped_core.Goals as goal

@@ -1,7 +1,7 @@
 use Rattle.std.proofs.Common.{map}
 use Rattle.fk_recordings.specs.Recording.{watch_place}
 use Rattle.fk_recordings.specs.Told.{shown}
-use Rattle.fk_recordings.proofs.Recorded.{recorded-first}
+use Rattle.fk_recordings.proofs.WithTaps.{recorded-first}
 use Rattle.fk_recordings.proofs.recording.record_first.Goals as goal
 
 pub finished-requires-clause-fits : goal.finished-requires-clause-fits

@@ -30,11 +30,11 @@ returns c =
     let last = run_core c.args.book.core in
     let here = ap run_core parts.core in
     let plain = c.in_ok-made.made in
-    let text = c.in_ok-record.ensures.text in
+    let text = c.in_ok-told.ensures.text in
     record {
       plain = plain;
       is_made = made_of (IsText s.jobs) s.jobs c.args.images.now _ _ _ _ _ _ plain here
           (ap (λ core. core.budget) parts.core ∙ parts.kept.budget) parts.history (rw c.as_slice.ensures at c.in_ok-made.ensures);
       told = c.with_record.ensures ∙ ap (λ t. recorded_by t plain) (text ∙ ap (λ (d : RunCore). written_of (ports_of s.servers) d.servers) here);
-      small = subst (λ (d : RunCore). AreSmallTaps d.servers) here c.in_ok-record.ensures.small;
+      small = subst (λ (d : RunCore). AreSmallTaps d.servers) here c.in_ok-told.ensures.small;
     }

@@ -2,7 +2,7 @@ use Rattle.std.proofs.Common.{◌≡◌, Ok, map, string_bytes}
 use Rattle.fk_recordings.specs.Recording.{watch_place, IsRecordedFrom, IsWholeRecord}
 use Rattle.fk_commands.proofs.Comes.{comes-also}
 use Rattle.fk_scenario.specs.Scenario.Reading.{scenario_reading}
-use Rattle.fk_recordings.proofs.record.record.Goals as goal
+use Rattle.fk_recordings.proofs.record_command.record_command.Goals as goal
 
 pub returns-clause-comes : goal.returns-clause-comes
 returns-clause-comes g c =

@@ -70,8 +70,8 @@ fn replay_with<H: Shelf>(
     ensures same_puts { H.failed_puts shelf.new ≡ H.failed_puts shelf.old }
 {
     let trace = spelled_trace(alloc, shelf, name)?;
-    let record = record_of(alloc, shelf, name)?;
-    replay_first(alloc, table, scenario, images, &trace, &record)
+    let told = record_of(alloc, shelf, name)?;
+    replay_first(alloc, table, scenario, images, &trace, &told)
 }
 
 /// Plays the trace with this name, which the shelf has, from the first core of the scenario that a text is, with the images of the shelf that its
@@ -84,7 +84,7 @@ fn replay_with<H: Shelf>(
 /// then `Absent` where it has no such record, `BadRecord` with the number of its first line that is bad; and `ShelfFault` where a get of these
 /// failed, all of them only for a text that is a scenario. `BadTrace` with the index of the first move that isn't ready or stands at the budget.
 /// `NoMemory` where there is no memory for any of it.
-pub fn replay<H: Shelf>(
+pub fn replay_command<H: Shelf>(
     alloc: Global,
     table: &Table,
     name: &str,

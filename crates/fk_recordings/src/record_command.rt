@@ -20,7 +20,7 @@ use std::alloc::Global;
 ///
 /// `BadScenario` for a text that is no scenario by the rules of the table. `Absent` and `BadImage` of the first image that is needed and
 /// isn't there or isn't spelled, and `ShelfFault` where the get of one failed. `NoMemory` where there is no memory for any of it.
-pub fn record<H: Shelf>(
+pub fn record_command<H: Shelf>(
     alloc: Global,
     table: &Table,
     watch: Watch,

@@ -4,7 +4,7 @@ use Rattle.fk_plays.specs.Play.{IsScenario}
 use Rattle.fk_recordings.specs.Replaying.{IsReplay, IsReplayedWith}
 use Rattle.fk_plays.proofs.Found.{refused-with}
 use Rattle.fk_scenario.specs.Scenario.Reading.{scenario_reading}
-use Rattle.fk_recordings.proofs.replay.replay.Goals as goal
+use Rattle.fk_recordings.proofs.replay_command.replay_command.Goals as goal
 
 pub returns-clause-comes : goal.returns-clause-comes
 returns-clause-comes g c =

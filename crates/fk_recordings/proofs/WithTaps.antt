@@ -20,8 +20,8 @@ use Rattle.fk_recordings.specs.Recording.{port_of, seen_in, IsRecord, IsRecorded
 use Rattle.fk_recordings.specs.Told.{with_record, recorded_by, IsTold}
 use Rattle.fk_recordings.specs.Written.{written_of, AreSmallTaps}
 use Rattle.fk_recordings.proofs.Carried.{carried, reported}
-use Rattle.fk_recordings.proofs.Ports.{same-ports}
-use Rattle.fk_recordings.proofs.Written.{seen-at, come-to, are-lines, are-small}
+use Rattle.fk_recordings.proofs.SamePorts.{same-ports}
+use Rattle.fk_recordings.proofs.Lines.{seen-at, come-to, are-lines, are-small}
 use Rattle.fk_report.specs.declared.end.End.{End}
 use Rattle.fk_report.specs.declared.end.End.TheVariants as ends
 use Rattle.fk_responders.specs.Notes.{Note}
@@ -85,7 +85,7 @@ module _ (s : Scenario) (given : Images) (watch : ℕ) (first : RunCore) (is_fir
 
   -- the report, with the record
   abbrev report : Report
-  report = record (report_of s.jobs last history is.end) { record = Some text }
+  report = record (report_of s.jobs last history is.end) { recorded = Some text }
 
   tapped-reported : IsReported s.jobs given (core_with first (all_tapped watch first.servers)) s.budget report
   tapped-reported = record {
