@@ -47,7 +47,7 @@ abbrev cut_of : ℕ → List ℕ → Option (List ℕ × List ℕ)
 cut_of a [] = None
 cut_of a (c ∷ cs) = Some (decimal a, decimal c ++ down_text cs)
 
-rest-cut : (a : ℕ) (as : List ℕ) → a ≤ 239 → cut_at 47 (decimal a ++ down_text as) ≡ cut_of a as
+rest-cut : (a : ℕ) (ks : List ℕ) → a ≤ 239 → cut_at 47 (decimal a ++ down_text ks) ≡ cut_of a ks
 rest-cut a [] low = ap (cut_at 47) (append-nil (decimal a)) ∙ cut_at-none 47 (decimal a) (digits a low)
 rest-cut a (c ∷ cs) low = cut_at-at 47 (decimal a) (decimal c ++ down_text cs) (digits a low)
 
@@ -66,17 +66,17 @@ cut-rest (Some parts) = 47 ∷ parts.1
 pub one-path : (p q : List ℕ) → AreSlots p → AreSlots q → down_text p ≡ down_text q → p ≡ q
 one-path [] [] one other same = refl
 one-path [] (b ∷ bs) one other same = absurd (cc)
-one-path (a ∷ as) [] one other same = absurd (cc)
-one-path (a ∷ as) (b ∷ bs) one other same =
-    let low = All-head (λ slot. slot ≤ 239) a as one in
+one-path (a ∷ ks) [] one other same = absurd (cc)
+one-path (a ∷ ks) (b ∷ bs) one other same =
+    let low = All-head (λ slot. slot ≤ 239) a ks one in
     let low2 = All-head (λ slot. slot ≤ 239) b bs other in
-    let tails : decimal a ++ down_text as ≡ decimal b ++ down_text bs = ap tail-of same in
-    let cuts : cut_of a as ≡ cut_of b bs = sym (rest-cut a as low) ∙ (ap (cut_at 47) tails ∙ rest-cut b bs low2) in
-    by as bs (All-tail (λ slot. slot ≤ 239) a as one) (All-tail (λ slot. slot ≤ 239) b bs other) low low2 tails cuts
-    (λ rests. one-path as bs (All-tail (λ slot. slot ≤ 239) a as one) (All-tail (λ slot. slot ≤ 239) b bs other) rests)
+    let tails : decimal a ++ down_text ks ≡ decimal b ++ down_text bs = ap tail-of same in
+    let cuts : cut_of a ks ≡ cut_of b bs = sym (rest-cut a ks low) ∙ (ap (cut_at 47) tails ∙ rest-cut b bs low2) in
+    by ks bs (All-tail (λ slot. slot ≤ 239) a ks one) (All-tail (λ slot. slot ≤ 239) b bs other) low low2 tails cuts
+    (λ rests. one-path ks bs (All-tail (λ slot. slot ≤ 239) a ks one) (All-tail (λ slot. slot ≤ 239) b bs other) rests)
   where
-    by : (as bs : List ℕ) → AreSlots as → AreSlots bs → a ≤ 239 → b ≤ 239 → decimal a ++ down_text as ≡ decimal b ++ down_text bs → cut_of a as ≡ cut_of b bs
-        → (down_text as ≡ down_text bs → as ≡ bs) → a ∷ as ≡ b ∷ bs
+    by : (ks bs : List ℕ) → AreSlots ks → AreSlots bs → a ≤ 239 → b ≤ 239 → decimal a ++ down_text ks ≡ decimal b ++ down_text bs → cut_of a ks ≡ cut_of b bs
+        → (down_text ks ≡ down_text bs → ks ≡ bs) → a ∷ ks ≡ b ∷ bs
     by [] [] one other low low2 tails cuts rest =
         ap (λ n. n ∷ []) (same-number a b low low2 (sym (append-nil (decimal a)) ∙ (tails ∙ append-nil (decimal b))))
     by [] (d ∷ ds) one other low low2 tails cuts rest = absurd (cc)

@@ -7,7 +7,8 @@ use Rattle.fk_model.specs.declared.job.JobSpec.{JobSpec}
 use Rattle.fk_natives.specs.Natives.{State}
 use Rattle.fk_report.specs.declared.end.End.{End}
 use Rattle.fk_report.specs.declared.end.End.TheVariants as ends
-use Rattle.fk_report.specs.Report.{out_line, out_of, run_text}
+use Rattle.fk_report.specs.Jobs.{lines_from}
+use Rattle.fk_report.specs.Report.{end_lines, out_line, out_of, thread_line}
 use Rattle.fk_runs.specs.RunReports.Made.{Images, IsEnd, IsText}
 use Rattle.fk_runs.specs.Runs.Runs.{IsReported, IsWritten}
 use Rattle.fk_served.specs.Served.{Services, servers}
@@ -25,7 +26,7 @@ same-lines es ds same = lines es ∙ (ap (flat_map (λ p. out_of p.0 p.1)) same 
 
 module _ (specs : List JobSpec) (given : Images) (first : RunCore) (budget : ℕ) (report : Report) (text : List ℕ) (is : IsReported specs given first budget report)
     (written : IsText specs is.last report text) (u v : Services) (with : IsRunWith is.run servers u v) (same : printed_of v ≡ printed_of is.last.servers) where
-  ends-so : (end : End) → IsEnd (jobs_of specs given) budget is.last end → IsEnd (jobs_of specs given) budget (core_with is.last v) end
+  pub ends-so : (end : End) → IsEnd (jobs_of specs given) budget is.last end → IsEnd (jobs_of specs given) budget (core_with is.last v) end
   ends-so ends.Halted e = (λ any. e.0 (any.0, with.as_ready any.0 any.1), e.1)
   ends-so ends.Quiet e = (λ any. e.0 (any.0, with.as_ready any.0 any.1), e.1)
   ends-so ends.Budget e = ((e.0.0, with.ready e.0.0 e.0.1), e.1)
@@ -45,7 +46,9 @@ module _ (specs : List JobSpec) (given : Images) (first : RunCore) (budget : ℕ
   text-so = record {
     threads = written.threads;
     are = written.are;
-    written = written.written ∙ ap (λ outs. _) (same-lines is.last.servers v (sym same));
+    written = written.written
+        ∙ ap (λ outs. end_lines (length report.history) report.end ++ (lines_from report.jobs 0 specs ++ (outs ++ flat_map thread_line written.threads)))
+        (same-lines is.last.servers v (sym same));
   }
 
   pub carried : IsWritten (IsText specs) specs given (core_with first u) budget report text

@@ -1,5 +1,6 @@
 -- What comes of a record, a trace and their refusals.
 use Rattle.std.proofs.Common.{◌≡◌, ◌≤◌, ℕ, List, [], Option, Some, None, Result, Ok, Err, IfErr, refl, ap, subst, inl, inr}
+use Rattle.std.specs.Prelude.{⊤}
 use Rattle.fk_causes.specs.Causes.{Rose}
 use Rattle.fk_causes.specs.Shelf.{FileMap, HasAt}
 use Rattle.fk_commands.specs.declared.prepared.Prepared.{Prepared}
@@ -44,7 +45,7 @@ module _ (s : Scenario) (given : Images) (trace record_ : List ℕ) where
   bad-record WriteFault fail = absurd fail
   bad-record ShelfFault fail = absurd fail
   bad-record NoMemory fail = tt
-  bad-record (BadRecord line) fail = inl (line, fail, refl, refl)
+  bad-record (BadRecord line) fail = inl (line, fail, (refl, refl))
 
   pub bad-refusal : (status : Status) → IsRecordFail (ports_of s.servers) record_ status → IsRefusal ⊥ ⊥ status
   bad-refusal Done fail = fail
@@ -89,7 +90,7 @@ module _ (name : List ℕ) (files : Option FileMap) (before now : ℕ) (s : Scen
   no-trace (BadScenario rule section index) fail = absurd fail
   no-trace (Absent told_name) fail = (None, fail.1, told-absent told_name name fail.0)
   no-trace (BadImage told_name offset reason) fail = absurd fail
-  no-trace (BadTrace index) fail = (Some fail.0, fail.1, inl (index, fail.2, refl, refl))
+  no-trace (BadTrace index) fail = (Some fail.0, fail.1, inl (index, fail.2, (refl, refl)))
   no-trace (JobRefused job) fail = absurd fail
   no-trace (Budget budget) fail = absurd fail
   no-trace ReadFault fail = absurd fail
@@ -123,7 +124,7 @@ module _ (name : List ℕ) (files : Option FileMap) (before now : ℕ) (s : Scen
     no-record TooLong fail = absurd fail
     no-record (BadText line reason) fail = absurd fail
     no-record (BadScenario rule section index) fail = absurd fail
-    no-record (Absent told_name) fail = (Some trace, there, inr (moves, spells, None, fail.1, told-absent told_name name fail.0))
+    no-record (Absent told_name) fail = (Some trace, there, inr (moves, spells, (None, fail.1, told-absent told_name name fail.0)))
     no-record (BadImage told_name offset reason) fail = absurd fail
     no-record (BadTrace index) fail = absurd fail
     no-record (JobRefused job) fail = absurd fail
@@ -138,4 +139,4 @@ module _ (name : List ℕ) (files : Option FileMap) (before now : ℕ) (s : Scen
         → ComesTo (IsReplayedBy s given trace bytes) r → ComesTo (IsReplayedWith name files s given) r
     with-record bytes r has comes =
         comes-also (IsReplayedBy s given trace bytes) (IsReplayedWith name files s given)
-        (λ outcome text is. (Some trace, there, inr (moves, spells, Some bytes, has, is))) r comes
+        (λ outcome text is. (Some trace, there, inr (moves, spells, (Some bytes, has, is)))) r comes

@@ -51,9 +51,11 @@ bare-tapped watch [] = refl
 bare-tapped watch (e ∷ es) = λ i. (e.0, sym (bare-tap watch e.1) i) ∷ bare-tapped watch es i
 
 tapped-come : (watch : ℕ) (told : Who → List News) (es : Services)
-    → map (λ e. (e.0, after e.1 (told e.0))) (all_tapped watch es) ≡ map (λ e. (e.0, after (tapped_as watch e.1) (told e.0))) es
+    → map {B = Who × State} (λ e. (e.0, after e.1 (told e.0))) (all_tapped watch es) ≡ map (λ e. (e.0, after (tapped_as watch e.1) (told e.0))) es
 tapped-come watch told [] = refl
-tapped-come watch told (e ∷ es) = ap (λ rest. (e.0, after (tapped_as watch e.1) (told e.0)) ∷ rest) (tapped-come watch told es)
+tapped-come watch told (e ∷ es) =
+    let first : Who × State = (e.0, after (tapped_as watch e.1) (told e.0)) in
+    ap (λ (rest : Services). first ∷ rest) (tapped-come watch told es)
 
 -- ---- a run with taps
 
