@@ -167,10 +167,7 @@ texts done [] slots new = (λ i j d below within. absurd (omega (arith, within))
 texts done (s ∷ ss) slots new =
     by s.service (texts (done ++ s.port ∷ []) ss (All-append AreSlots done (s.port ∷ []) slots (All-cons AreSlots s.port [] new.0 (All-nil AreSlots))) new.2)
   where
-    abbrev Later : Type 0
-    Later = AllPairs Differ (ports_of ss) × All (IsNone (done ++ s.port ∷ [])) (ports_of ss)
-
-    by : (service : ServiceSpec) → Later
+    by : (service : ServiceSpec) → AllPairs Differ (ports_of ss) × All (IsNone (done ++ s.port ∷ [])) (ports_of ss)
         → AllPairs Differ (with_port service (down_text s.port) (ports_of ss)) × All (IsNone done) (with_port service (down_text s.port) (ports_of ss))
     by (Console alias) later = (later.0, All-weaker (IsNone (done ++ s.port ∷ [])) (IsNone done) (λ text none. others-differ done s.port text none) (ports_of ss) later.1)
     by (Listed index rule config) later = (

@@ -1,5 +1,5 @@
 -- What is prepared of a run with taps is what `record` comes to with the scenario's own servers.
-use Rattle.std.proofs.Common.{◌≡◌, ◌≤◌, ℕ, List, [], ◌∷◌, map, length, Option, Some, None, Ok, refl, sym, ap, subst, ◌∙◌, string_bytes}
+use Rattle.std.proofs.Common.{◌≡◌, ◌≤◌, ℕ, List, [], ◌∷◌, ◌++◌, map, length, Option, Some, None, Ok, refl, sym, ap, subst, ◌∙◌, string_bytes}
 use Rattle.std.specs.List.{All}
 use Rattle.fk_commands.specs.declared.outcome.Report.{Report}
 use Rattle.fk_commands.specs.declared.prepared.Prepared.{Prepared}
@@ -11,7 +11,7 @@ use Rattle.fk_model.specs.declared.moves.Move.{Move}
 use Rattle.fk_model.specs.declared.names.Who.{Who}
 use Rattle.fk_natives.specs.Answers.{after}
 use Rattle.fk_natives.specs.Natives.{State, OfConsole, OfServer, OfReplay, OfTap, News, seen_of}
-use Rattle.fk_record_text.specs.Record.{IsNote}
+use Rattle.fk_record_text.specs.Record.{IsNote, first_line}
 use Rattle.fk_record_text.specs.Whole as whole
 use Rattle.fk_record_text.specs.Whole.{record_of}
 use Rattle.fk_recordings.specs.Firsts.{IsFirstWith}
@@ -78,7 +78,7 @@ module _ (s : Scenario) (given : Images) (watch : ℕ) (first : RunCore) (is_fir
   is-record : text ≡ record_of seen
   is-record =
       ap (λ es. written_of (ports_of s.servers) es) come
-      ∙ ap (λ lines. _)
+      ∙ ap (λ lines. first_line ++ lines)
       (are-lines (ports_of s.servers) watch (port_of first.world) told first.servers 0
       (sym (same-ports first.world (λ e. seen_of watch (noted_of e.1 (told e.0))) first.servers s.servers is_first.servers)))
 

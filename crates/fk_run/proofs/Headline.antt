@@ -9,7 +9,7 @@ use Rattle.fk_scenario.specs.declared.scenario.scenario.Scenario.{Scenario}
 use Rattle.fk_scenario.specs.Scenario.Kept.{KeepsScenario}
 use Rattle.fk_scenario.specs.Scenario.Reading.{scenario_in, scenario_reading, tree_of}
 
-read-keeps : (rules : Rules) (bytes : List ℕ) (s : Scenario) → scenario_reading rules bytes ≡ Ok s → KeepsScenario s
+pub read-keeps : (rules : Rules) (bytes : List ℕ) (s : Scenario) → scenario_reading rules bytes ≡ Ok s → KeepsScenario s
 unfolding scenario_reading
 read-keeps rules bytes s read = by (tree_of bytes) read
   where

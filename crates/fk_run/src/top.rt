@@ -69,7 +69,7 @@ fn prepare_alone<R: Source, H: Shelf>(
         }
         Command::Replay(name) => {
             replay_command(alloc, table, name, &source_text(alloc, source)?, shelf)
-        },
+        }
         Command::Run(_) => unreachable!(),
         Command::Soak(_) => unreachable!(),
     }

@@ -86,8 +86,22 @@ fn command_with<'a>(word: &str, given: &'a str) -> Option<Command<'a>>
     }
 }
 
-/// The watch that a word says.
-fn watch_of(word: &str) -> Option<Watch> {
+/// The command of a word with an option and a name.
+fn command_traced<'a>(word: &str, option: &str, name: &'a str) -> Option<Command<'a>>
+    ensures value { option_map commands.seen result ≡ commands.command_traced word.now option.now name.now }
+    ensures count { IfSome result (λ command. commands.HasCount (commands.seen command)) }
+{
+    if word == "run" && option == "--trace" && is_name(name.as_bytes()) {
+        Some(Command::Run(Some(name)))
+    } else {
+        None
+    }
+}
+
+/// The observer that a word names.
+fn watch_of(word: &str) -> Option<Watch>
+    ensures { result ≡ commands.watch_of word.now }
+{
     if word == "all" {
         Some(Watch::All)
     } else if word == "replies" {
@@ -99,24 +113,32 @@ fn watch_of(word: &str) -> Option<Watch> {
     }
 }
 
-/// The command of a word with a name and a watch.
-fn command_watched<'a>(word: &str, name: &'a str, watch: &str) -> Option<Command<'a>> {
-    if word == "record" && is_name(name.as_bytes()) {
-        Some(Command::Record(name, watch_of(watch)?))
-    } else {
-        None
+/// The command `record` with a name and an observer.
+fn record_with<'a>(name: &'a str, watch: Option<Watch>) -> Option<Command<'a>>
+    ensures value { option_map commands.seen result ≡ commands.record_with name.now watch }
+    ensures count { IfSome result (λ command. commands.HasCount (commands.seen command)) }
+{
+    match watch {
+        Some(watch) => {
+            if is_name(name.as_bytes()) {
+                Some(Command::Record(name, watch))
+            } else {
+                None
+            }
+        }
+        None => None,
     }
 }
 
-/// The command of a word with an option and a name.
-fn command_traced<'a>(word: &str, option: &'a str, name: &'a str) -> Option<Command<'a>>
-    ensures value { option_map commands.seen result ≡ commands.command_traced word.now option.now name.now }
+/// The command of three words.
+fn command_of_three<'a>(word: &str, second: &'a str, third: &'a str) -> Option<Command<'a>>
+    ensures value { option_map commands.seen result ≡ commands.command_of_three word.now second.now third.now }
     ensures count { IfSome result (λ command. commands.HasCount (commands.seen command)) }
 {
-    if word == "run" && option == "--trace" && is_name(name.as_bytes()) {
-        Some(Command::Run(Some(name)))
+    if word == "record" {
+        record_with(second, watch_of(third))
     } else {
-        command_watched(word, option, name)
+        command_traced(word, second, third)
     }
 }
 
@@ -128,7 +150,9 @@ pub fn command_of(words: &[String]) -> Option<Command<'_>>
     match words {
         [word] => command_alone(word.as_str()),
         [word, given] => command_with(word.as_str(), given.as_str()),
-        [word, option, name] => command_traced(word.as_str(), option.as_str(), name.as_str()),
+        [word, second, third] => {
+            command_of_three(word.as_str(), second.as_str(), third.as_str())
+        }
         _ => None,
     }
 }
