@@ -1,5 +1,5 @@
 -- The ports of a scenario's servers are apart, and so are their texts.
-use Rattle.std.proofs.Common.{◌≡◌, ℕ, ◌<◌, ◌≤◌, ◌^◌, ◌==◌, Bool, true, false, not, ◌&&◌, cond, List, [], ◌∷◌, ◌++◌, map, Option, Some, None, Ok, decimal, refl, sym, ap, subst, ◌∙◌, append-nil, arith}
+use Rattle.std.proofs.Common.{◌≡◌, ℕ, ◌<◌, ◌≤◌, ◌^◌, ◌==◌, Bool, true, false, not, ◌&&◌, ◌||◌, cond, List, [], ◌∷◌, ◌++◌, map, Option, Some, None, Ok, decimal, refl, sym, ap, subst, ◌∙◌, append-nil, arith}
 use Rattle.std.proofs.lemmas.Bool.{and_parts}
 use Rattle.std.proofs.lemmas.List.Elements.{All-nil, All-cons, All-head, All-tail, All-append, All-weaker}
 use Rattle.std.proofs.lemmas.List.Kept.{AllPairs-cons}
@@ -97,7 +97,7 @@ object-slots spaces before (o ∷ os) path keeps is =
   where
     by : (t : Bool) → Decides t (o.path ≡ path) → is_one is_lone_port (cond t (Some o) (object_with os path)) ≡ true
         → (is_one is_lone_port (object_with os path) ≡ true → AreSlots path) → AreSlots path
-    by true same is rest = subst AreSlots same keeps.0.slots
+    by true same is rest = subst AreSlots (same.0 refl) keeps.0.slots
     by false same is rest = rest is
 
 -- servers behind some whose ports these are: each port has such slots, and is none of those before it
@@ -109,10 +109,10 @@ not-among : (done : List (List ℕ)) (port : List ℕ) → has_key done port ≡
 not-among [] port none = All-nil (λ d. d ≡ port → ⊥)
 not-among (d ∷ ds) port none = by (bytes_eq d port) (bytes_eq-Decides d port) none (not-among ds port)
   where
-    by : (t : Bool) → Decides t (d ≡ port) → cond t true (list_any (λ k. bytes_eq k port) ds) ≡ false
+    by : (t : Bool) → Decides t (d ≡ port) → (t || list_any (λ k. bytes_eq k port) ds) ≡ false
         → (has_key ds port ≡ false → All (λ d. d ≡ port → ⊥) ds) → All (λ d. d ≡ port → ⊥) (d ∷ ds)
     by true same none rest = absurd (cc)
-    by false same none rest = All-cons (λ d. d ≡ port → ⊥) d ds same (rest none)
+    by false same none rest = All-cons (λ d. d ≡ port → ⊥) d ds (λ is. (let no : false ≡ true = same.1 is in cc)) (rest none)
 
 are-new : (spaces : List SpaceEntry) (objects : List ObjectEntry) (done aliases : List (List ℕ)) (servers : List ServerEntry) → EachAfter (KeepsObject spaces) [] objects
     → serving_from objects done aliases servers ≡ Ok tt → AreNew done servers

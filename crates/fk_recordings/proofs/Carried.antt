@@ -42,7 +42,7 @@ module _ (specs : List JobSpec) (given : Images) (first : RunCore) (budget : ℕ
     images = is.images;
   }
 
-  text-so : IsText specs (core_with is.last v) report text
+  pub text-so : IsText specs (core_with is.last v) report text
   text-so = record {
     threads = written.threads;
     are = written.are;
@@ -51,5 +51,5 @@ module _ (specs : List JobSpec) (given : Images) (first : RunCore) (budget : ℕ
         (same-lines is.last.servers v (sym same));
   }
 
-  pub carried : IsWritten (IsText specs) specs given (core_with first u) budget report text
+  abbrev pub carried : IsWritten (IsText specs) specs given (core_with first u) budget report text
   carried = (reported, text-so)
