@@ -9,19 +9,19 @@ use Rattle.fk_model.specs.declared.stage.Stage.{Stage}
 use Rattle.fk_model.specs.Places.{Path}
 use Rattle.fk_model.specs.Cut.{cut, IsPlain}
 use Rattle.fk_model.specs.Further.{Onward, Told, IsFurther}
+use Rattle.fk_model.specs.Sound.{IsClean, are_user_pairs}
 use Rattle.fk_image.specs.declared.image.image.Image.{Image}
 use Rattle.fk_image.specs.Image.Picture.{picture}
 use Rattle.fk_image.specs.Image.Valid.{is_valid}
 use Rattle.laws_subtrees.specs.Further.Runs.{IsSeenRun}
 use Rattle.laws_jobs.specs.Machines.{LiesWithin}
-use Rattle.laws_jobs.specs.Jobs.{IsClean}
 use Rattle.laws_checkpoint.specs.Checkpoint as checkpoints
 use Rattle.laws_checkpoint.specs.Checkpoint.End.{Done}
 use Rattle.laws_checkpoint.specs.Bounded.{count_of}
 use Rattle.laws_restore.specs.Restore.Restore as restores
 use Rattle.laws_restore.specs.Restore.Bounded as made
 use Rattle.laws_restore.specs.Rooms.Rooms.{rooms_of}
-use Rattle.laws_restore.specs.Rooms.Restoring.{bound_by, are_user_pairs}
+use Rattle.laws_restore.specs.Rooms.Restoring.{bound_by}
 use Rattle.laws_runs.specs.Cores.{JobEnd, Servers, Work, Core, IsRun, world_at}
 use Rattle.laws_runs.specs.Cores.Unmoved.{NoImage}
 use Rattle.laws_runs.specs.Cores.JobEnd.{Worked, Idle}
