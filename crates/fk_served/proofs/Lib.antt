@@ -1,3 +1,4 @@
 pub mod Lists
 pub mod Acts
+pub mod Idle
 pub mod Hearing

@@ -22,49 +22,10 @@ use Rattle.laws_runs.specs.Cores.{IsOtherReady}
 use Rattle.fk_jobs.specs.Jobs.{Queue}
 use Rattle.fk_jobs.specs.Turns.{core_of}
 use Rattle.fk_served.specs.Served.{Services, serving, asked, asked_of}
-use Rattle.fk_core.specs.Moment.Moments.{RunCore, house, is_act, is_porter, AreUsersIdle, IsOthersMove, HasNoAct, HaveNoActs}
+use Rattle.fk_core.specs.Moment.Moments.{RunCore, house, is_porter, AreUsersIdle, IsOthersMove, HaveNoActs}
 use Rattle.fk_served.proofs.Acts.{found, never-calls, runs}
+use Rattle.fk_served.specs.Acts.{is_act, HasNoAct}
 use Rattle.fk_core.proofs.InMoment.Asking.{IsAsked, asked_other, other_name, runs_move}
-
--- who needs no pick has none
-no-pick : (w : World) (x p : Path) (o : Outcome) → GoesAllowed w x (with_pick false (Some p) o) → ⊥
-no-pick w x p (Refused status) h = h
-no-pick w x p Waits h = h
-no-pick w x p (Goes changes said) h = h
-
-unpicked-ready : (w : World) (x p : Path) (ask : Ask) → is_act ask ≡ true → (ask ≡ asks.Accept → ⊥) → IsReady w x (Some p) ask → ⊥
-unfolding outcome
-unpicked-ready w x p asks.Run act other h = cc
-unpicked-ready w x p (asks.Call stage words) act other h = cc
-unpicked-ready w x p asks.Accept act other h = other refl
-unpicked-ready w x p (asks.Give words len) act other h = no-pick w x p _ h
-unpicked-ready w x p asks.Over act other h = no-pick w x p _ h
-
-pub no-act : (c : RunCore) (port : Who) (ask : Ask) → asked c.servers c.world port ≡ Some ask → (ask ≡ asks.Accept → ⊥)
-    → (IsReadyAt c.world (event_of c.world ask (record { who = port; pick = None })) → ⊥) → HasNoAct c port
-no-act c port ask is other unready m asked_for who asks_it act ready = by m.pick refl
-  where
-    same : asked_for ≡ ask
-    same = let e : Some asked_for ≡ Some ask = sym asks_it ∙ is in let f : asked_for ≡ ask = cc in f
-
-    at : (pick : Option Who) → Move
-    at pick = record { who = port; pick = pick }
-
-    there : (pick : Option Who) → m.pick ≡ pick → IsReadyAt c.world (event_of c.world ask (record { who = port; pick = pick }))
-    there pick e =
-        let whole : IsReadyAt c.world (event_of c.world ask (record { who = m.who; pick = m.pick })) = subst
-        (λ a. IsReadyAt c.world (event_of c.world a m)) same ready in
-        subst (λ k. IsReadyAt c.world (event_of c.world ask (record { who = k; pick = pick }))) who
-        (subst (λ p. IsReadyAt c.world (event_of c.world ask (record { who = m.who; pick = p }))) e whole)
-
-    by : (pick : Option Who) → m.pick ≡ pick → ⊥
-    by None e = unready (there None e)
-    by (Some p) e =
-        unpicked-ready c.world (named c.world port) (named c.world p) ask (subst (λ a. is_act a ≡ true) same act) other (there (Some p) e)
-
-pub if-none : {A : Type 0} (o : Option A) (X Y : Type 0) → (X → Y) → IfNone o X → IfNone o Y
-if-none None X Y f h = f h
-if-none (Some a) X Y f h = tt
 
 -- ---- one server after the other
 
@@ -79,17 +40,17 @@ least k at high other = by (nat_lt k at) refl
     by false e = let above = ltb-false k at e in omega (arith, high, above)
 
 pub one-more : (q : Queue) (c : RunCore) (from at : ℕ) (port : Who) → option_map (λ (s : Who × State). s.0) (slice_get c.servers at) ≡ Some port →
-    (is_porter q port ≡ false → HasNoAct c port) → HaveNoActs q c from at → HaveNoActs q c from (at + 1)
+    (is_porter q port ≡ false → HasNoAct c.servers c.world port) → HaveNoActs q c from at → HaveNoActs q c from (at + 1)
 one-more q c from at port is none before k served low high there other = by (nat_lt k at) refl
   where
-    by : (t : Bool) → nat_lt k at ≡ t → HasNoAct c served.0
+    by : (t : Bool) → nat_lt k at ≡ t → HasNoAct c.servers c.world served.0
     by true e = before k served low ((Decides-ltb k at).0 e) there other
     by false e =
         let here : k ≡ at = least k at high (λ less. let no = (Decides-ltb k at).1 less in cc) in
         let name : Some served.0 ≡ Some port = sym (ap (option_map (λ (s : Who × State). s.0)) (subst (λ j. slice_get c.servers j ≡ Some served) here there))
         ∙ is in
         let same : served.0 ≡ port = cc in
-        subst (HasNoAct c) (sym same) (none (subst (λ w. is_porter q w ≡ false) same other))
+        subst (HasNoAct c.servers c.world) (sym same) (none (subst (λ w. is_porter q w ≡ false) same other))
 
 -- ---- no move is left
 

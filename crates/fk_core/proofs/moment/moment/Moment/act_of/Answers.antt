@@ -1,11 +1,9 @@
-use Rattle.std.proofs.Common.{◌∙◌, sym}
-use Rattle.fk_core.specs.Moment.Moments.{seen}
-use Rattle.fk_core.proofs.InMoment.Acting.{no-act, if-none}
+use Rattle.fk_served.specs.Kernels.{world_of as world}
+use Rattle.fk_core.proofs.InMoment.Asking.{asked_act}
 use Rattle.fk_core.proofs.moment.moment.Moment.act_of.Goals as goal
 
-pub returns-in_default-clause-none : goal.returns-in_default-clause-none
-returns-in_default-clause-none g c =
-    if-none c.unpicked.result _ _
-    (no-act (seen c.args.self.now) c.args.port c.in_ok-ask.ask
-    (sym c.ask.ensures.asked ∙ c.in_ok-ask.was) c.in_default.not-Accept)
-    c.unpicked.ensures.none
+pub returns-clause-ready : goal.returns-clause-ready
+returns-clause-ready g c =
+    let self = c.args.self.now in
+    asked_act self.jobs.now (world self.kernel.now) self.services.now.list self.events c.args.port c.ready_act.result
+    c.ready_act.ensures.who c.ready_act.ensures.words c.ready_act.ensures.ready
