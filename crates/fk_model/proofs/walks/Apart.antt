@@ -4,18 +4,23 @@ use Rattle.std.specs.List.{list_any}
 use Rattle.std.proofs.lemmas.Bool.{and_parts}
 use Rattle.fk_model.specs.Sound.{are_apart}
 
+off : (b : Bool) → not b ≡ true → b ≡ false
+off true h = cc
+off false h = refl
+
+either-first : (a b : Bool) → (a || b) ≡ false → a ≡ false
+either-first true b h = h
+either-first false b h = refl
+
+either-later : (a b : Bool) → (a || b) ≡ false → b ≡ false
+either-later true b h = absurd (cc)
+either-later false b h = h
+
 module _ {A : Type 0} where
   pub any_push : (test : A → Bool) (xs : List A) (x : A) → list_any test xs ≡ false → test x ≡ false → list_any test (xs ++ x ∷ []) ≡ false
-  any_push test [] x none off = rw off refl
-  any_push test (y ∷ ys) x none off = by (test y) refl none
-    where
-      by : (b : Bool) → test y ≡ b → (b || list_any test ys) ≡ false → (b || list_any test (ys ++ x ∷ [])) ≡ false
-      by true e h = h
-      by false e h = any_push test ys x h off
-
-  off : (b : Bool) → not b ≡ true → b ≡ false
-  off true h = cc
-  off false h = refl
+  any_push test [] x none none-last = rw none-last refl
+  any_push test (y ∷ ys) x none none-last =
+      rw (either-first (test y) (list_any test ys) none, any_push test ys x (either-later (test y) (list_any test ys) none) none-last) refl
 
   pub apart_push : (alike : A → A → Bool) (xs : List A) (x : A) → are_apart alike xs ≡ true → list_any (λ y. alike y x) xs ≡ false
       → are_apart alike (xs ++ x ∷ []) ≡ true
@@ -23,9 +28,6 @@ module _ {A : Type 0} where
   apart_push alike [] x apart none = refl
   apart_push alike (y ∷ ys) x apart none =
       let both = and_parts (not (list_any (alike y) ys)) (are_apart alike ys) apart in
-      by (alike y x) refl none both.0 both.1
-    where
-      by : (b : Bool) → alike y x ≡ b → (b || list_any (λ z. alike z x) ys) ≡ false → not (list_any (alike y) ys) ≡ true → are_apart alike ys ≡ true
-          → (not (list_any (alike y) (ys ++ x ∷ [])) && are_apart alike (ys ++ x ∷ [])) ≡ true
-      by true e h first later = absurd (cc)
-      by false e h first later = rw (any_push (alike y) ys x (off (list_any (alike y) ys) first) e, apart_push alike ys x later h) refl
+      let first = either-first (alike y x) (list_any (λ z. alike z x) ys) none in
+      let later = either-later (alike y x) (list_any (λ z. alike z x) ys) none in
+      rw (any_push (alike y) ys x (off (list_any (alike y) ys) both.0) first, apart_push alike ys x both.1 later) refl
