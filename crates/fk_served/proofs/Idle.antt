@@ -1,5 +1,8 @@
--- Idle: a server has no ready act where the one that it asks for isn't ready without a pick.
-use Rattle.std.proofs.Common.{◌≡◌, Bool, true, false, Option, Some, None, IfNone, refl, sym, subst, ◌∙◌}
+-- Idle: where servers have no ready act, and where nobody but jobs has a move.
+use Rattle.std.proofs.Common.{◌≡◌, ℕ, ◌+◌, ◌<◌, Bool, true, false, if◌then◌else◌, nat_lt, length, Option, Some, None, option_map, IfNone, refl, sym, ap, subst, ◌∙◌, arith}
+use Rattle.std.proofs.lemmas.Bool.{ltb-false}
+use Rattle.std.proofs.lemmas.Bool.Decides.{Decides-ltb}
+use Rattle.std.specs.List.{slice_get}
 use Rattle.fk_model.specs.declared.moves.Ask.{Ask}
 use Rattle.fk_model.specs.declared.moves.Ask.TheVariants as asks
 use Rattle.fk_model.specs.declared.moves.Move.{Move}
@@ -11,8 +14,13 @@ use Rattle.fk_model.specs.Places.{Path}
 use Rattle.fk_model.specs.Who.{named, event_of}
 use Rattle.fk_model.specs.World.{World}
 use Rattle.laws_jobs.specs.Machines.{IsReadyAt}
-use Rattle.fk_served.specs.Acts.{is_act, HasNoAct}
-use Rattle.fk_served.specs.Served.{Services, asked}
+use Rattle.fk_kernel.specs.Events.{is_who}
+use Rattle.fk_natives.specs.Natives.{State}
+use Rattle.fk_served.specs.Acts.{is_act, HasNoAct, HaveNoActs, IsReadyAsked, IsReadyFor}
+use Rattle.fk_served.specs.Served.{Services, asked, asked_of, serving}
+use Rattle.fk_served.proofs.Acts.{found, never-calls}
+use Rattle.fk_model.specs.Places.Ptr.{At}
+use Rattle.fk_model.specs.Valid.{is_served_port}
 
 -- who needs no pick has none
 no-pick : (w : World) (x p : Path) (o : Outcome) → GoesAllowed w x (with_pick false (Some p) o) → ⊥
@@ -53,3 +61,59 @@ no-act services w port ask is other unready m asked_for who asks_it act ready = 
 pub if-none : {A : Type 0} (o : Option A) (X Y : Type 0) → (X → Y) → IfNone o X → IfNone o Y
 if-none None X Y f h = f h
 if-none (Some a) X Y f h = tt
+
+-- ---- one server after the other
+
+pub no-acts : (services : Services) (w : World) (but : Option Who) (from : ℕ) → HaveNoActs services w but from from
+no-acts services w but from k served low high is other = absurd (omega (arith, low, high))
+
+least : (k at : ℕ) → k < at + 1 → (k < at → ⊥) → k ≡ at
+least k at high other = by (nat_lt k at) refl
+  where
+    by : (t : Bool) → nat_lt k at ≡ t → k ≡ at
+    by true e = absurd (other ((Decides-ltb k at).0 e))
+    by false e = let above = ltb-false k at e in omega (arith, high, above)
+
+pub one-more : (services : Services) (w : World) (but : Option Who) (from at : ℕ) (port : Who) → option_map (λ (s : Who × State). s.0) (slice_get services at) ≡ Some port →
+    (is_who but port ≡ false → HasNoAct services w port) → HaveNoActs services w but from at → HaveNoActs services w but from (at + 1)
+one-more services w but from at port is none before k served low high there other = by (nat_lt k at) refl
+  where
+    by : (t : Bool) → nat_lt k at ≡ t → HasNoAct services w served.0
+    by true e = before k served low ((Decides-ltb k at).0 e) there other
+    by false e =
+        let here : k ≡ at = least k at high (λ less. let no = (Decides-ltb k at).1 less in cc) in
+        let name : Some served.0 ≡ Some port = sym (ap (option_map (λ (s : Who × State). s.0)) (subst (λ j. slice_get services j ≡ Some served) here there))
+        ∙ is in
+        let same : served.0 ≡ port = cc in
+        subst (HasNoAct services w) (sym same) (none (subst (λ (k : Who). is_who but k ≡ false) same other))
+
+-- ---- no move is left
+
+pub no-asked : (services : Services) (w : World) (but : Option Who) → ((m : Move) → is_who but m.who ≡ false → IsReadyAt w (event_of w asks.Run m) → ⊥) →
+    HaveNoActs services w but 0 (length services) → (m : Move) → is_who but m.who ≡ false → IsReadyAsked services w m → ⊥
+no-asked services w but users acts m other ready = by_asked (asked services w m.who) refl ready
+  where
+    run : (ask : Ask) → is_act ask ≡ true → Some asks.Run ≡ Some ask → ⊥
+    run ask is e = let same : asks.Run ≡ ask = cc in let not : is_act asks.Run ≡ true = subst (λ a. is_act a ≡ true) (sym same) is in cc
+
+    act : (ask : Ask) → is_act ask ≡ true → asked services w m.who ≡ Some ask → IsReadyAt w (event_of w ask m) → ⊥
+    act ask is wants ready = by (is_served_port w (At (named w m.who))) (serving services m.who) refl wants
+      where
+        by : (port : Bool) (state : Option State) → serving services m.who ≡ state → (if port then asked_of state else Some asks.Run) ≡ Some ask → ⊥
+        by true (Some state) serves e =
+            let there = found services m.who state serves in
+            acts there.0 there.1 (omega arith) there.3 there.2 (subst (λ (k : Who). is_who but k ≡ false) (sym there.4) other)
+            m ask (sym there.4) (subst (λ k. asked services w k ≡ Some ask) (sym there.4) wants) is ready
+        by true None serves e = run ask is e
+        by false state serves e = run ask is e
+
+    by_ask : (ask : Ask) → asked services w m.who ≡ Some ask → IsReadyAt w (event_of w ask m) → ⊥
+    by_ask asks.Run wants ready = users m other ready
+    by_ask (asks.Call stage words) wants ready = never-calls services w m.who stage words wants
+    by_ask asks.Accept wants ready = act asks.Accept refl wants ready
+    by_ask (asks.Give words len) wants ready = act (asks.Give words len) refl wants ready
+    by_ask asks.Over wants ready = act asks.Over refl wants ready
+
+    by_asked : (o : Option Ask) → asked services w m.who ≡ o → IsReadyFor w m o → ⊥
+    by_asked None e ready = ready
+    by_asked (Some ask) e ready = by_ask ask e ready

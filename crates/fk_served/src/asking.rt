@@ -1,8 +1,9 @@
 //! What whoever moves asks for, and which acts of servers are ready.
-ghost use Rattle.std.specs.Prelude.{◌≡◌, ◌↔◌, IsTrue, None, IfSome, IfNone, true};
+ghost use Rattle.std.specs.Prelude.{◌≡◌, ◌↔◌, ◌≤◌, IsTrue, None, IfSome, IfNone, true, false, length};
+ghost use Rattle.fk_kernel.specs.Events.{is_who};
 ghost use Rattle.fk_kernel.specs.Kernels.{world_of as world};
 ghost use Rattle.fk_model.specs.Who.{event_of};
-ghost use Rattle.fk_served.specs.Acts.{HasNoAct, IsReadyAsked};
+ghost use Rattle.fk_served.specs.Acts.{HasNoAct, HaveNoActs, IsReadyAsked};
 ghost use Rattle.fk_served.specs.Served.{asked};
 ghost use Rattle.laws_jobs.specs.Machines.{IsReadyAt};
 ghost use Rattle.laws_moves.specs.Whole.Runnable.{has_all_words};
@@ -57,7 +58,7 @@ pub fn ready_act<S: Service + Drop>(
 ) -> Option<Move>
     ensures who { IfSome result (λ m. m.who ≡ port) }
     ensures ready { IfSome result (λ m. IsReadyAsked services.now.list (world kernel.now) m) }
-    ensures words { IfSome (asked services.now.list (world kernel.now) port) (λ ask. has_all_words ask ≡ true) }
+    ensures words { IfSome result (λ m. IfSome (asked services.now.list (world kernel.now) m.who) (λ ask. has_all_words ask ≡ true)) }
     ensures none { IfNone result (HasNoAct services.now.list (world kernel.now) port) }
 {
     match asked_by(kernel, services, port)? {
@@ -68,4 +69,44 @@ pub fn ready_act<S: Service + Drop>(
         }),
         ask => unpicked(kernel, port, &ask),
     }
+}
+
+/// A ready act of a server from a place up to another, but of one that stands by a name. There is none exactly where none of them has one.
+pub fn find_act<S: Service + Drop>(
+    kernel: &Kernel,
+    services: &Services<S>,
+    but: Option<Who>,
+    from: usize,
+    to: usize,
+) -> Option<Move>
+    requires { to ≤ length services.now.list }
+    ensures other { IfSome result (λ m. is_who but m.who ≡ false) }
+    ensures ready { IfSome result (λ m. IsReadyAsked services.now.list (world kernel.now) m) }
+    ensures words { IfSome result (λ m. IfSome (asked services.now.list (world kernel.now) m.who) (λ ask. has_all_words ask ≡ true)) }
+    ensures none { IfNone result (HaveNoActs services.now.list (world kernel.now) but from to) }
+{
+    for at in from..to {
+        if let Some(m) = act_unless(kernel, services, but, services.port(at)) {
+            return Some(m);
+        }
+    }
+    None
+}
+
+/// A ready act of the server of a port, where the port doesn't stand by a name.
+pub fn act_unless<S: Service + Drop>(
+    kernel: &Kernel,
+    services: &Services<S>,
+    but: Option<Who>,
+    port: Who,
+) -> Option<Move>
+    ensures other { IfSome result (λ m. is_who but m.who ≡ false) }
+    ensures ready { IfSome result (λ m. IsReadyAsked services.now.list (world kernel.now) m) }
+    ensures words { IfSome result (λ m. IfSome (asked services.now.list (world kernel.now) m.who) (λ ask. has_all_words ask ≡ true)) }
+    ensures none { IfNone result (is_who but port ≡ false → HasNoAct services.now.list (world kernel.now) port) }
+{
+    if but == Some(port) {
+        return None;
+    }
+    ready_act(kernel, services, port)
 }

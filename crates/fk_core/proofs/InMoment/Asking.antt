@@ -232,11 +232,16 @@ module _ (q : Queue) (w : World) (services : Services) (events : ℕ) where
       by (Some ask) words = ap (λ (b : Bool). IsReadyBy (house q.jobs) (core_of w services q events) m (if b then Others ask else Nobody)) (sym words)
 
   -- an act that is ready for what the server of its port asks for
-  pub asked_act : (port : Who) (act : Option Move) → IfSome act (λ m. m.who ≡ port) → IfSome (asked services w port) (λ ask. has_all_words ask ≡ true) →
-      IfSome act (IsReadyAsked services w) → IfSome act (IsAskedMove q.jobs (core_of w services q events))
-  asked_act port None who words ready = tt
-  asked_act port (Some m) who words ready =
-      subst (λ (T : Type 0). T) (as_asked m (subst (λ k. IfSome (asked services w k) (λ ask. has_all_words ask ≡ true)) (sym who) words)) ready
+  pub ready_act : (act : Option Move) → IfSome act (λ m. is_porter q m.who ≡ false) →
+      IfSome act (λ m. IfSome (asked services w m.who) (λ ask. has_all_words ask ≡ true)) → IfSome act (IsReadyAsked services w) →
+      IfSome act (IsReadyMove q.jobs (core_of w services q events))
+  ready_act None other words ready = tt
+  ready_act (Some m) other words ready = asked_ready m other (subst (λ (T : Type 0). T) (as_asked m words) ready)
+
+  pub other_act : (act : Option Move) → IfSome act (λ m. is_porter q m.who ≡ false) → IfSome act (IsReadyMove q.jobs (core_of w services q events)) →
+      IfSome act (IsOthersMove q.jobs (core_of w services q events))
+  other_act None other ready = tt
+  other_act (Some m) other ready = ready_other m other ready
 
   pub runs_move : (m : Move) → is_porter q m.who ≡ false → asked services w m.who ≡ Some asks.Run → IsReadyAt w (event_of w asks.Run m) →
       IsOthersMove q.jobs (core_of w services q events) m

@@ -20,7 +20,7 @@ use Rattle.laws_house.specs.Houses.{Job, End}
 use Rattle.laws_jobs.specs.Machines.{IsReadyAt}
 use Rattle.laws_runs.specs.Cores.{House, Core, IsReadyIn, IsReadyBy, IsDueJob, asker, others_ask}
 use Rattle.laws_runs.specs.Cores.Asker.{Others}
-use Rattle.fk_served.specs.Acts.{HasNoAct, IsReadyFor}
+use Rattle.fk_served.specs.Acts.{IsReadyFor}
 use Rattle.fk_served.specs.Served.{Services, asked, servers}
 use Rattle.fk_core.specs.declared.moment.moment.Moment as moments
 
@@ -100,11 +100,6 @@ IsFirstDue q budget c chosen = c.events % 2 ≡ 0 → c.events < budget → (m :
     → IfSome chosen (λ m. is_porter q m.who ≡ true)
 
 -- ---- acts of servers
-
--- the servers from a place up to another have no ready act, but one that stands by the name of a job's porter
-abbrev pub HaveNoActs : Queue → RunCore → ℕ → ℕ → Type 0
-HaveNoActs q c from to = (k : ℕ) (served : Who × State) → from ≤ k → k < to → slice_get c.servers k ≡ Some served →
-    is_porter q served.0 ≡ false → HasNoAct c.servers c.world served.0
 
 -- no user's move is ready, but maybe the porter's whose job's turn it is
 abbrev pub AreUsersIdle : Queue → World → Type 0

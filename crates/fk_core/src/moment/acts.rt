@@ -1,7 +1,8 @@
 //! Acts of servers.
 ghost use Rattle.std.specs.Prelude.{◌≡◌, ◌≤◌, false, IfSome, IfNone, length};
-ghost use Rattle.fk_core.specs.Moment.Moments.{seen, is_porter, IsReadyNow, IsAskedMove, IsOthersMove, HaveNoActs};
-ghost use Rattle.fk_served.specs.Acts.{HasNoAct};
+ghost use Rattle.fk_core.specs.Moment.Moments.{seen, is_porter, porter_of, IsReadyNow, IsOthersMove};
+ghost use Rattle.fk_jobs.specs.Jobs.{current};
+ghost use Rattle.fk_served.specs.Acts.{HasNoAct, HaveNoActs};
 ghost use Rattle.fk_served.specs.Kernels.{world_of as world};
 
 use crate::moment::moment::Moment;
@@ -9,28 +10,16 @@ use fk_jobs::Worker;
 use fk_links::connecting_to;
 use fk_model::{Move, Who};
 use fk_natives::Service;
-use fk_served::asking::ready_act;
+use fk_served::asking::{act_unless, find_act};
 
 impl<'a, S: Service + Drop, W: Worker + Drop> Moment<'a, S, W> {
-    /// A ready act of the server of a port.
-    fn act_of(&self, port: Who) -> Option<Move>
-        ensures who { IfSome result (λ m. m.who ≡ port) }
-        ensures ready { IfSome result (λ m. IsAskedMove self.now.jobs.now.jobs (seen self.now) m) }
-        ensures none { IfNone result (HasNoAct self.now.services.now.list (world self.now.kernel.now) port) }
-    {
-        ready_act(self.kernel, self.services, port)
-    }
-
-    /// One where the port isn't the name of the porter whose job's turn it is.
+    /// A ready act of the server of a port that isn't the name of the porter whose job's turn it is.
     pub fn act_besides(&self, port: Who) -> Option<Move>
         ensures ready { IfSome result (λ m. IsReadyNow self.now m) }
         ensures other { IfSome result (λ m. IsOthersMove self.now.jobs.now.jobs (seen self.now) m) }
         ensures none { IfNone result (is_porter self.now.jobs.now port ≡ false → HasNoAct self.now.services.now.list (world self.now.kernel.now) port) }
     {
-        if self.is_porter(port) {
-            return None;
-        }
-        self.act_of(port)
+        act_unless(self.kernel, self.services, self.porter(), port)
     }
 
     /// A ready act of a server from a place up to another.
@@ -38,14 +27,9 @@ impl<'a, S: Service + Drop, W: Worker + Drop> Moment<'a, S, W> {
         requires { to ≤ length self.now.services.now.list }
         ensures ready { IfSome result (λ m. IsReadyNow self.now m) }
         ensures other { IfSome result (λ m. IsOthersMove self.now.jobs.now.jobs (seen self.now) m) }
-        ensures none { IfNone result (HaveNoActs self.now.jobs.now (seen self.now) from to) }
+        ensures none { IfNone result (HaveNoActs self.now.services.now.list (world self.now.kernel.now) (porter_of (current self.now.jobs.now)) from to) }
     {
-        for at in from..to {
-            if let Some(m) = self.act_besides(self.services.port(at)) {
-                return Some(m);
-            }
-        }
-        None
+        find_act(self.kernel, self.services, self.porter(), from, to)
     }
 
     /// A ready act of the server at a place, where there is one.
@@ -64,7 +48,7 @@ impl<'a, S: Service + Drop, W: Worker + Drop> Moment<'a, S, W> {
         requires { to ≤ length self.now.services.now.list }
         ensures ready { IfSome result (λ m. IsReadyNow self.now m) }
         ensures other { IfSome result (λ m. IsOthersMove self.now.jobs.now.jobs (seen self.now) m) }
-        ensures none { IfNone result (HaveNoActs self.now.jobs.now (seen self.now) 0 to) }
+        ensures none { IfNone result (HaveNoActs self.now.services.now.list (world self.now.kernel.now) (porter_of (current self.now.jobs.now)) 0 to) }
     {
         match self.met() {
             Some(m) => Some(m),
