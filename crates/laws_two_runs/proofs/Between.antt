@@ -67,7 +67,7 @@ does_as_seen jobs servers first c past run headline k n low nester slot came pla
     let on = headline.goes_on k n low nester slot plain (no_other nester slot (world_at run k) (between run k n) came seen) in (
       on.told,
       subst (λ (ms : List Onward). IsFurther (cut (world_at run k) nester slot) ms on.told (cut (world_at run (k + n)) nester slot)) (sym (on.only came seen))
-      on.further,
+          on.further,
     )
 
 pub copies_tell_the_same : {V U : Type 0} → CopiesTellTheSame V U
