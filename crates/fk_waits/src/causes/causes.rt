@@ -209,9 +209,7 @@ impl Causes {
         ensures ready { self.new.ready ≡ self.old.ready }
         ensures seats { self.new.seats ≡ self.old.seats }
     {
-        let left = self.queues.queue_of(key);
-        self.queues.turn(key, head);
-        left
+        self.queues.turn(key, head)
     }
 
     /// A thread goes. The queue that it leaves may be empty then.
@@ -224,9 +222,7 @@ impl Causes {
         ensures ready { self.new.ready ≡ self.old.ready }
         ensures seats { self.new.seats ≡ self.old.seats }
     {
-        let left = self.queues.queue_of(key);
-        self.queues.leave(key);
-        left
+        self.queues.leave(key)
     }
 
     /// A queue goes where nobody stands in it, unless it is the one of the ready.
