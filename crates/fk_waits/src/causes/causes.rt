@@ -179,7 +179,7 @@ impl Causes {
         ensures ready { self.new.ready ≡ self.old.ready }
         ensures seats { self.new.seats ≡ self.old.seats }
     {
-        match self.names.find(name) {
+        match self.names.find_near(name) {
             Some(head) => head,
             None => {
                 let head = self.queues.open(name);
