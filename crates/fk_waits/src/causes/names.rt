@@ -113,7 +113,10 @@ fn key_in(items: &[Name], at: usize, who: Who) -> Option<usize>
 
 /// Which of so many hints is a name's. Any would do.
 fn hint_of(hints: usize, who: Who) -> usize {
-    let rank = who.space.wrapping_mul(256).wrapping_add(u32::from(who.slot));
+    let rank = who
+        .space
+        .wrapping_mul(256)
+        .wrapping_add(u32::from(who.slot));
     let mixed = u64::from(rank.wrapping_mul(0x9e37_79b1));
     (mixed.wrapping_mul(hints as u64) >> 32) as usize
 }
