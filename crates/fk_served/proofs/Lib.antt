@@ -1,3 +1,5 @@
 pub mod Lists
 pub mod Acts
 pub mod Hearing
+pub mod Growing
+pub mod Foretelling
