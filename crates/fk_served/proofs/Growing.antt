@@ -34,9 +34,9 @@ or-true true = refl
 or-true false = refl
 
 -- who grows by what it hears grows by what is told
-pub told-room : (said : says_of.Said) (ended : Option Who) (who : Who) (state : State) (news : News) → Some news ≡ news_to said ended who →
+pub told_room : (said : says_of.Said) (ended : Option Who) (who : Who) (state : State) (news : News) → Some news ≡ news_to said ended who →
     grows state news ≡ true → grows_told said ended (who, state) ≡ true
-told-room said ended who state news is grow = by (is_who ended who) refl
+told_room said ended who state news is grow = by (is_who ended who) refl
   where
     by : (b : Bool) → is_who ended who ≡ b → grows_told said ended (who, state) ≡ true
     by true e =

@@ -114,7 +114,7 @@ fn some_told<S: Service>(list: &[(Who, S)], what: &Told) -> bool
 
 /// Tells a server what a move tells it. What that is takes much room, so it is looked at only where there may be any.
 #[inline(never)]
-#[tactic(auto, using(crate::proofs::Growing::told-room))]
+#[tactic(auto, using(crate::proofs::Growing::told_room))]
 fn tell_heard<S: Service>(entry: &mut (Who, S), table: &Table, what: &Told)
     requires fits { DoesFit (map (λ r. r.rule) table.now.list.items) (S.meaning entry.old.1) }
     requires room { grows_told what.now.said what.now.ended (entry.old.0, S.meaning entry.old.1) ≡ true → S.has_room entry.old.1 ≡ true }
