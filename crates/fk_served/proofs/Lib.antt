@@ -2,3 +2,5 @@ pub mod Lists
 pub mod Acts
 pub mod Idle
 pub mod Hearing
+pub mod Growing
+pub mod Foretelling
