@@ -24,3 +24,4 @@ pub mod Top
 pub mod Again
 pub mod Jobs
 pub mod Complete
+pub mod Theorem
