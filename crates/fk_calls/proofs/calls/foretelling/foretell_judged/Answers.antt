@@ -1,7 +1,7 @@
-use Rattle.std.proofs.Common.{◌∙◌, ap, sym, subst, refl}
+use Rattle.std.proofs.Common.{◌∙◌, ap, sym, subst, refl, option_map}
 use Rattle.fk_model.specs.Moves.{Step}
 use Rattle.fk_store.specs.Store.Named.{Each}
-use Rattle.fk_store.specs.Store.Paths.{path, HasOwnPath}
+use Rattle.fk_store.specs.Store.Paths.{path, place, HasOwnPath}
 use Rattle.fk_store.specs.Store.World.{world}
 use Rattle.fk_plans.specs.Endings.Clients.{IsEnding}
 use Rattle.fk_plans.specs.Plans.Hearers.{to_servers}
@@ -30,6 +30,6 @@ returns-clause-told c =
     record {
       said = ap (λ (s : Step). to_servers s.said) step ∙ c.foretell.ensures.said words;
       heard = own-heard (path m) c.foretell.result (subst (Each (HasOwnPath (path m))) (sym c.foretell.ensures.port) c.apart.ensures);
-      ending = subst (λ (s : Step). IsEnding (world m) s.world _) (sym step) (c.ended_by.ensures.ending words);
+      ending = subst (λ (s : Step). IsEnding (world m) s.world (option_map (place (path m)) c.ended_by.result)) (sym step) (c.ended_by.ensures.ending words);
       apart = c.ended_by.ensures.apart;
     }
