@@ -2,4 +2,4 @@ pub mod Lists
 pub mod Acts
 pub mod Hearing
 pub mod Growing
-pub mod Foretelling
+pub mod Foreseen
