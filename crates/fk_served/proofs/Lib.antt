@@ -3,4 +3,4 @@ pub mod Acts
 pub mod Idle
 pub mod Hearing
 pub mod Growing
-pub mod Foretelling
+pub mod Foreseen

@@ -1,5 +1,5 @@
 use Rattle.fk_kernel.specs.Kernels.{store_of}
-use Rattle.fk_served.proofs.Foretelling.{fit-move, foretold-event, unready-event}
+use Rattle.fk_served.proofs.Foreseen.{fit-move, foretold-event, unready-event}
 use Rattle.fk_served.proofs.foretelling.foretell.Goals as goal
 
 pub foretell-requires-clause-valid : goal.foretell-requires-clause-valid

@@ -1,4 +1,4 @@
--- Foretelling: what a move would tell, as an event.
+-- Foreseen: what a move would tell, as an event.
 use Rattle.std.proofs.Common.{◌≡◌, ◌≤◌, ℕ, Bool, true, false, ◌&&◌, is_some, is_none, Option, Some, None, IfSome, IfNone, option_map, refl, sym, ap, subst, ◌∙◌}
 use Rattle.fk_model.specs.declared.moves.Ask.{Ask}
 use Rattle.fk_model.specs.declared.moves.Move.{Move}
