@@ -119,7 +119,7 @@ set-touches : (w : World) (at : Path) (c : Change) (x : Path) (r : Reason) (sets
 set-touches w at c x r sets stuck apart =
     let mutex = mutex-is (w.body at) sets.there in
     subst (λ c. IsUntouched w c x r) (sym sets.is)
-      (lock-touches w at sets.locked mutex.0 mutex.1 x r stuck (subst (λ c. IsApartFrom at c x r) sets.is apart))
+    (lock-touches w at sets.locked mutex.0 mutex.1 x r stuck (subst (λ c. IsApartFrom at c x r) sets.is apart))
 
 mild-touches : (w : World) (at : Path) (c : Change) (x : Path) (r : Reason) → IsMild w at c → IsStuck w x r → IsApartFrom at c x r → IsUntouched w c x r
 mild-touches w at c x r (inl calm) stuck apart = calm-touches w at c x r calm stuck (apart-place at c x r apart)

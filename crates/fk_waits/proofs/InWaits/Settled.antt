@@ -334,7 +334,7 @@ unused_queue t cause unused none_idle = by (key_at t.causes.names.0 cause) refl
         let known = p.known cause h e in
         let off : h ≢ t.causes.idle = λ (same : h ≡ t.causes.idle). known.1 (same ∙ none_idle) in
         let there = sym (among_rest h t.causes.idle (heads standing.places) off)
-            ∙ sym (among_rest h t.causes.ready (t.causes.idle ∷ heads standing.places) known.1) ∙ p.full h (cause, known.0) known.1 in
+        ∙ sym (among_rest h t.causes.ready (t.causes.idle ∷ heads standing.places) known.1) ∙ p.full h (cause, known.0) known.1 in
         let not_so = unlike h t.causes.ready known.1 in
         let is : cause_of t.causes h ≡ Some cause = rw not_so (ap who_shown known.0) in
         let waited = queue_waits t.causes h cause is standing.places there in
