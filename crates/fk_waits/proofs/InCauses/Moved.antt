@@ -75,7 +75,8 @@ module _ (c : Causes) (q : Queues) (same : SameHeads c.queues.lines q.lines) whe
     full = λ g is off.
         ap (λ (l : List ℕ). among g (p.head ∷ c.idle ∷ l)) (heads_moved a b (at_head p head)) ∙ sym (among_moved g head p.head (c.idle ∷ heads a) (heads b))
         ∙ ap (λ (l : List ℕ). among g (head ∷ c.idle ∷ l)) (sym (heads_split a p b)) ∙ placed.full g (same.none g is) off;
-    count = placed.count ∙ ap (λ (l : List ℕ). kinds c.ready (head ∷ c.idle ∷ l)) (heads_split a p b) ∙ kinds_moved c.ready head p.head (c.idle ∷ heads a) (heads b)
+    count = placed.count ∙ ap (λ (l : List ℕ). kinds c.ready (head ∷ c.idle ∷ l)) (heads_split a p b)
+        ∙ kinds_moved c.ready head p.head (c.idle ∷ heads a) (heads b)
         ∙ ap (λ (l : List ℕ). kinds c.ready (p.head ∷ c.idle ∷ l)) (sym (heads_moved a b (at_head p head)));
     order = let long = long_moved a b p (at_head p head) in omega (arith, order, placed.order, long);
     lines = let long = long_moved a b p (at_head p head) in omega (arith, lines, placed.lines, long);
@@ -94,7 +95,8 @@ module _ (c : Causes) (q : Queues) (same : SameHeads c.queues.lines q.lines) whe
     found = stays.found_stays placed.found;
     full = λ g is off.
         ap (λ (l : List ℕ). among g (p.head ∷ c.idle ∷ l)) (keys_split head_of a b) ∙ sym (among_middle g (c.idle ∷ heads a) p.head (heads b))
-        ∙ ap (λ (k : List ℕ). among g (c.idle ∷ k)) (sym (heads_split a p b)) ∙ sym (among_rest g c.ready (c.idle ∷ heads (a ++ p ∷ b)) off) ∙ placed.full g (same.none g is) off;
+        ∙ ap (λ (k : List ℕ). among g (c.idle ∷ k)) (sym (heads_split a p b))
+        ∙ sym (among_rest g c.ready (c.idle ∷ heads (a ++ p ∷ b)) off) ∙ placed.full g (same.none g is) off;
     count = placed.count ∙ kinds_besides c.ready (c.idle ∷ heads (a ++ p ∷ b)) ∙ ap (λ (k : List ℕ). kinds c.ready (c.idle ∷ k)) (heads_split a p b)
         ∙ kinds_middle c.ready (c.idle ∷ heads a) p.head (heads b) ∙ ap (λ (l : List ℕ). kinds c.ready (p.head ∷ c.idle ∷ l)) (sym (keys_split head_of a b));
     order = let long = long_left a b p in omega (arith, order, placed.order, long);
@@ -115,8 +117,10 @@ module _ (c : Causes) (q : Queues) (same : SameHeads c.queues.lines q.lines) whe
     found = stays.found_stays placed.found;
     full = λ g is off.
         among_more g c.ready (c.idle ∷ heads (l ++ p ∷ []))
-        (ap (λ (k : List ℕ). among g (c.idle ∷ k)) (keys_split head_of l (p ∷ [])) ∙ among_last g (c.idle ∷ heads l) p.head ∙ placed.full g (same.none g is) off);
-    count = placed.count ∙ sym (kinds_last c.ready (c.idle ∷ heads l) p.head) ∙ ap (λ (k : List ℕ). kinds c.ready (c.idle ∷ k)) (sym (keys_split head_of l (p ∷ [])))
+        (ap (λ (k : List ℕ). among g (c.idle ∷ k)) (keys_split head_of l (p ∷ []))
+        ∙ among_last g (c.idle ∷ heads l) p.head ∙ placed.full g (same.none g is) off);
+    count = placed.count ∙ sym (kinds_last c.ready (c.idle ∷ heads l) p.head)
+        ∙ ap (λ (k : List ℕ). kinds c.ready (c.idle ∷ k)) (sym (keys_split head_of l (p ∷ [])))
         ∙ sym (kinds_besides c.ready (c.idle ∷ heads (l ++ p ∷ [])));
     order = let long = long_last l p in omega (arith, order, placed.order, long);
     lines = let long = long_last l p in omega (arith, lines, placed.lines, long);

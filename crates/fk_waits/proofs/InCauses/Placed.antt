@@ -120,7 +120,8 @@ module _ (c : Causes) (l : List Place) where
     known = p.known;
     found = p.found;
     full = λ g head other. among_more g h (c.idle ∷ heads l) (stood g head other);
-    count = p.count ∙ kinds_besides c.ready (c.idle ∷ heads l) ∙ sym (kinds_same c.ready h (c.idle ∷ heads l) (or_right (h == c.ready) (among h (c.idle ∷ heads l)) (stood h is off)));
+    count = p.count ∙ kinds_besides c.ready (c.idle ∷ heads l)
+        ∙ sym (kinds_same c.ready h (c.idle ∷ heads l) (or_right (h == c.ready) (among h (c.idle ∷ heads l)) (stood h is off)));
     order = p.order;
     lines = p.lines;
     few = p.few;
@@ -139,7 +140,8 @@ module _ (c : Causes) (l : List Place) where
     known = p.known;
     found = p.found;
     full = λ g head other. among_more g c.ready (c.idle ∷ heads l) (among_twice g h (c.idle ∷ heads l) there (p.full g head other));
-    count = p.count ∙ kinds_same c.ready h (c.idle ∷ heads l) (or_right (h == c.ready) (among h (c.idle ∷ heads l)) there) ∙ sym (kinds_besides c.ready (c.idle ∷ heads l));
+    count = p.count ∙ kinds_same c.ready h (c.idle ∷ heads l) (or_right (h == c.ready) (among h (c.idle ∷ heads l)) there)
+        ∙ sym (kinds_besides c.ready (c.idle ∷ heads l));
     order = p.order;
     lines = p.lines;
     few = p.few;

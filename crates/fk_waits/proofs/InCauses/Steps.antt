@@ -12,7 +12,8 @@ use Rattle.fk_waits.proofs.InQueues.Places.{filed_middle}
 use Rattle.fk_waits.proofs.InQueues.Turned.{all_without}
 use Rattle.fk_waits.proofs.InQueues.Heads.{all_before, all_behind}
 use Rattle.fk_waits.proofs.InQueues.Walk.{head_is}
-use Rattle.fk_waits.specs.Causes.Causes.{among, cause_of, first_of, front_of, heads, recaused, standing_of, ArePlaced, AreStanding, HasSeat, IsRoomy, Stand, Standing}
+use Rattle.fk_waits.specs.Causes.Causes.{among, cause_of, first_of, front_of, heads, recaused, standing_of, ArePlaced, AreStanding}
+use Rattle.fk_waits.specs.Causes.Causes.{HasSeat, IsRoomy, Stand, Standing}
 use Rattle.fk_waits.specs.declared.causes.causes.Causes.{Causes}
 use Rattle.fk_waits.proofs.InCauses.Numbers.{among_first, among_more, among_swap, kinds_besides, kinds_swap, unlike}
 use Rattle.fk_waits.proofs.InCauses.Placed.{alike, alike_but, closed, freed, names_few, names_fewer, none_first, opened, settled, some_first, vacant_heads}

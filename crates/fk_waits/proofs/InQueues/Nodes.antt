@@ -6,7 +6,8 @@ use Rattle.slab.proofs.SlabLemmas.{Updates-with_value}
 use Rattle.fk_waits.specs.Queues.Chains.{put_at, IsList, IsNoneOf}
 use Rattle.fk_waits.specs.Queues.Nodes.{next_in, prev_in, next_of, prev_of, AreDisjoint, IsListed}
 use Rattle.fk_waits.specs.declared.queues.lists.Node.{Node}
-use Rattle.fk_waits.proofs.InQueues.Chains.{put-same, put-swap, same_everywhere, joins_last, leaves_list, list_agrees, others_stay, last_is, before_is, behind_is}
+use Rattle.fk_waits.proofs.InQueues.Chains.{put-same, put-swap, same_everywhere, joins_last, leaves_list, list_agrees, others_stay, last_is, before_is}
+use Rattle.fk_waits.proofs.InQueues.Chains.{behind_is}
 
 -- one node stands right before another now
 pub record AreLinked (old new : Slab Node) (before behind : ℕ) : Type 0 where

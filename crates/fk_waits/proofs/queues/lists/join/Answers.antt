@@ -1,4 +1,4 @@
-use Rattle.std.proofs.Common.{◌≡◌, ap, ◌∙◌}
+use Rattle.std.proofs.Common.{ap, ◌∙◌}
 use Rattle.fk_waits.specs.Queues.Chains.{put_at}
 use Rattle.fk_waits.proofs.InQueues.Chains.{same_everywhere}
 use Rattle.fk_waits.proofs.InQueues.Nodes.{joined, joined_elsewhere}

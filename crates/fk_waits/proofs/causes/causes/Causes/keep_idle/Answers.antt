@@ -1,4 +1,3 @@
-use Rattle.std.proofs.Common.{sym}
 use Rattle.fk_waits.proofs.InCauses.Steps.{idle_so, swapped_so}
 use Rattle.fk_waits.proofs.causes.causes.Causes.keep_idle.Goals as goal
 

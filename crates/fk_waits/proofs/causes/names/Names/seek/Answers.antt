@@ -12,5 +12,5 @@ returns c =
     let there = rw c.deref.ensures.value at c.key_in.ensures.there in
     let none = rw c.deref.ensures.value at c.key_in.ensures.none in
     let is : l ≡ c.args.self.now.0 = ap (λ (p : List Name × ℕ). p.0) c.self.view_is in
-    place_found l c.place_of.result c.args.who c.key_in.result (rw c.deref-2.ensures.value at place) c.self.invariant there none
+    place_found l c.place_of.result c.args.who c.key_in.result (rw c.deref-2.ensures.value at place) c.self.invariant.0 there none
     ∙ ap (λ (k : List Name). key_at k c.args.who) is
