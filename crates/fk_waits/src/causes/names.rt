@@ -128,16 +128,6 @@ fn key_in(items: &[Name], at: usize, who: Who) -> Option<usize>
     }
 }
 
-<<<<<<< HEAD
-/// Which of so many hints is a name's. Any would do.
-fn hint_of(hints: usize, who: Who) -> usize {
-    let rank = who
-        .space
-        .wrapping_mul(256)
-        .wrapping_add(u32::from(who.slot));
-    let mixed = u64::from(rank.wrapping_mul(0x9e37_79b1));
-    (mixed.wrapping_mul(hints as u64) >> 32) as usize
-=======
 /// Which of so many hints is a name's.
 #[inline]
 fn hint_of(hints: usize, who: Who) -> usize
@@ -187,7 +177,6 @@ fn hints_for(alloc: Global, many: usize, items: &[Name]) -> Result<Vec<usize>, N
         set_hint(&mut hints, items[at].who, at);
     }
     Ok(hints)
->>>>>>> 985164cd3789d07a0d41255a38ee79b8922ce06d
 }
 
 impl Names {
