@@ -1,6 +1,7 @@
 -- A run may begin in a first core.
 use Rattle.std.proofs.Common.{◌≡◌, ℕ, ◌≤◌, List, [], Option, refl, sym, ap, subst, arith}
 use Rattle.fk_model.specs.World.{World}
+use Rattle.fk_model.specs.Sound.{IsClean}
 use Rattle.fk_boot.specs.FirstWorld.{booted}
 use Rattle.fk_core.specs.Cores.Cores.{RunCore}
 use Rattle.fk_core.specs.Cores.Goings.{HasCome}
@@ -14,7 +15,6 @@ use Rattle.laws_first.proofs.First.{first_world_is_ground}
 use Rattle.laws_first.proofs.Users.{scenario_jobs_name_users_slots}
 use Rattle.laws_house.specs.Houses.{Job, jobs_of}
 use Rattle.laws_house.specs.Laws.{NameUsersSlots}
-use Rattle.laws_jobs.specs.Jobs.{IsClean}
 
 pub first-begun : (s : Scenario) (c : RunCore) → IsFirst s c → IsBegun s c
 first-begun s c is = record { world = is.world; sound = is.sound; ends = is.ends; work = is.work; events = is.events }
