@@ -3,3 +3,4 @@ pub mod Fields
 pub mod Entries
 pub mod Objects
 pub mod Documents
+pub mod Keys
