@@ -4,3 +4,4 @@ pub mod Entries
 pub mod Objects
 pub mod Documents
 pub mod Keys
+pub mod Said
