@@ -5,3 +5,6 @@ pub mod Objects
 pub mod Documents
 pub mod Keys
 pub mod Said
+pub mod SaidObjects
+pub mod SaidWork
+pub mod Scenarios

@@ -23,7 +23,7 @@ use Rattle.fk_scenario.specs.Sections.Spaces.{is_no_name, may_stand, has_room_fo
 use Rattle.laws_scenario_faults.specs.Asked.{AreKept, Section, AllKeep}
 use Rattle.laws_scenario_faults.specs.Asked.AllKeep.{NoEntry, Entry}
 use Rattle.laws_scenario_faults.specs.Tables.{table_of, is_table, is_text, is_so_if, has, may_have, text, text_at, is_slot, slot, is_path, path, pieces}
-use Rattle.laws_scenario_faults.specs.Entries.{program_asks, program_says, is_program_if, keys_of_space_ask, space_of}
+use Rattle.laws_scenario_faults.specs.Entries.{program_asks, program_says, is_program_if, keys_of_space_ask, space_asks, space_of, space_says}
 use Rattle.laws_scenario_faults.specs.Keys.{At, AtOr, AtIf, OfTable, IsText, IsPath}
 use Rattle.laws_scenario_faults.specs.Scenarios.{EachSays, SaysProgram, IsProgram, SaysSpace}
 use Rattle.laws_scenario_faults.proofs.Keys.{both, text-is, table-is, there, text-at, text-at-told, path-at, path-at-told, flag-or, flag-or-told}
@@ -193,8 +193,8 @@ few-told done written s same is few = by (length s.path == 0) (bytes_eq written 
     by false false is_none is_root =
         lt-ltb (count_beneath done) 255 (omega (arith, few, count-last done s, ap added is_none))
 
-pub space-says : (ps : List Program) (done : List SpaceEntry) (ms : Members) → AreKept (keys_of_space_ask ps done ms) → SaysSpace ps done ms (space_of ps ms)
-space-says ps done ms (keys, (path_is, (program_is, (pages_are, (nester_is, (pages_in, (room, (is_path_text, (named, (stands, (there_is, _))))))))))) = record {
+space-keys-say : (ps : List Program) (done : List SpaceEntry) (ms : Members) → AreKept (keys_of_space_ask ps done ms) → SaysSpace ps done ms (space_of ps ms)
+space-keys-say ps done ms (keys, (path_is, (program_is, (pages_are, (nester_is, (pages_in, (room, (is_path_text, (named, (stands, (there_is, _))))))))))) = record {
   keys = keys;
   path = path-at (codes "path") ms path_is is_path_text;
   program = program-if ps ms program_is named there_is;
@@ -208,9 +208,9 @@ space-same : (s : SpaceEntry) (path : List ℕ) (program : Option ℕ) (pages : 
     pages ≡ s.pages → nester ≡ s.nester → (record { path = path; program = program; pages = pages; nester = nester }) ≡ s
 space-same s path program pages nester a b c d = rw (a, b, c, d) refl
 
-pub space-told : (ps : List Program) (done : List SpaceEntry) (ms : Members) (s : SpaceEntry) → SaysSpace ps done ms s →
+space-keys-told : (ps : List Program) (done : List SpaceEntry) (ms : Members) (s : SpaceEntry) → SaysSpace ps done ms s →
     AreKept (keys_of_space_ask ps done ms) × (space_of ps ms ≡ s)
-space-told ps done ms s say =
+space-keys-told ps done ms s say =
     let (path_is, is_path_text, path_same) = path-at-told (codes "path") ms s.path say.path in
     let (program_is, named, there_is, program_same) = program-if-told ps ms s.program say.program in
     let (pages_are, pages_in, pages_same) = numbers-or-told (codes "pages") ms 0 255 s.pages say.pages in
@@ -219,3 +219,14 @@ space-told ps done ms s say =
     let stands = subst (λ p. may_stand done p ≡ true) (sym path_same) say.stands in
     ((say.keys, (path_is, (program_is, (pages_are, (nester_is, (pages_in, (room, (is_path_text, (named, (stands, (there_is, tt))))))))))),
     space-same s _ _ _ _ path_same program_same pages_same nester_same)
+
+module _ (ps : List Program) (done : List SpaceEntry) (value : Data) where
+  pub space-says : AreKept (space_asks ps done value) → OfTable (SaysSpace ps done) value (space_says ps done value)
+  unfolding space_asks space_says
+  space-says (is, keep) = (table_of value, table-is value is, space-keys-say ps done (table_of value) keep)
+
+  pub space-told : (s : SpaceEntry) → OfTable (SaysSpace ps done) value s → AreKept (space_asks ps done value) × (space_says ps done value ≡ s)
+  unfolding space_asks space_says
+  space-told s (ms, is, say) =
+      let (keep, same) = space-keys-told ps done ms s say in
+      subst (λ (d : Data). AreKept (space_asks ps done d) × (space_says ps done d ≡ s)) (sym is) ((refl, keep), same)
