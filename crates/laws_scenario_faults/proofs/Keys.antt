@@ -10,7 +10,8 @@ use Rattle.laws_scenario_faults.specs.Tables as told
 use Rattle.laws_scenario_faults.specs.Tables.{table_of, each, is_so, is_so_if, has, may_have, is_text, is_flag, is_integer, is_array, is_table, is_array_of}
 use Rattle.laws_scenario_faults.specs.Tables.{items, members, integer_of, integers, integers_at, is_in, is_in_if, number, number_or, is_path, path, is_path_if}
 use Rattle.laws_scenario_faults.specs.Tables.{path_if, text, text_at, entries}
-use Rattle.laws_scenario_faults.specs.Keys.{IsText, IsFlag, IsNumber, IsName, IsPath, AreEach, AreValues, AreMembers, OfTable, At, IsAbsent, AtOr, AtIf}
+use Rattle.laws_scenario_faults.proofs.Paths.{path-written, path-back}
+use Rattle.laws_scenario_faults.specs.Keys.{path_text, IsText, IsFlag, IsNumber, IsName, IsPath, AreEach, AreValues, AreMembers, OfTable, At, IsAbsent, AtOr, AtIf}
 
 pub both : (a b : Bool) → (a && b) ≡ true → (a ≡ true) × (b ≡ true)
 both true b h = (refl, h)
@@ -103,12 +104,16 @@ module _ (key : List ℕ) (ms : Members) where
       let (h, same) = text-at-told x (value, at, is) in (h, subst (λ text. is_name text ≡ true) (sym same) n, same)
 
   pub path-at : has is_text key ms ≡ true → is_path (text_at key ms) ≡ true → At IsPath key ms (path (text_at key ms))
-  path-at h p = let (value, at, is) = text-at h in (value, at, (text_at key ms, is, p, refl))
+  path-at h p =
+      let (value, at, is) = text-at h in
+      let (same, slots) = path-written (text_at key ms) p in
+      (value, at, (is ∙ ap string same, slots))
 
   pub path-at-told : (x : List ℕ) → At IsPath key ms x → (has is_text key ms ≡ true) × (is_path (text_at key ms) ≡ true) × (path (text_at key ms) ≡ x)
-  path-at-told x (value, at, (text, is, p, same)) =
-      let (h, here) = text-at-told text (value, at, is) in
-      (h, subst (λ text. is_path text ≡ true) (sym here) p, ap path here ∙ sym same)
+  path-at-told x (value, at, (is, slots)) =
+      let (p, same) = path-back x slots in
+      let (h, here) = text-at-told (path_text x) (value, at, is) in
+      (h, subst (λ text. is_path text ≡ true) (sym here) p, ap path here ∙ same)
 
   pub path-if : may_have is_text key ms ≡ true → is_path_if (text key ms) ≡ true → AtIf IsPath key ms (path_if (text key ms))
   path-if h p = by (get_member key ms) refl h p
@@ -117,7 +122,8 @@ module _ (key : List ℕ) (ms : Members) where
           AtIf IsPath key ms (path_if text)
       some d at None read t p = absurd (cc)
       some d at (Some text) read t p =
-          (d, at, (text, text-is d (ap is_some read) ∙ ap (λ (o : Option (List ℕ)). string (unwrap_or o [])) read, p, refl))
+          let (same, slots) = path-written text p in
+          (d, at, (text-is d (ap is_some read) ∙ (ap (λ (o : Option (List ℕ)). string (unwrap_or o [])) read ∙ ap string same), slots))
 
       by : (o : Option Data) → get_member key ms ≡ o → is_so_if is_text o ≡ true → is_path_if (option_and_then as_str o) ≡ true →
           AtIf IsPath key ms (path_if (option_and_then as_str o))
@@ -129,9 +135,10 @@ module _ (key : List ℕ) (ms : Members) where
   path-if-told None at =
       subst (λ (o : Option Data). (is_so_if is_text o ≡ true) × (is_path_if (option_and_then as_str o) ≡ true) × (path_if (option_and_then as_str o) ≡ None))
       (sym at) (refl, refl, refl)
-  path-if-told (Some x) (value, at, (text, is, p, same)) =
+  path-if-told (Some x) (value, at, (is, slots)) =
+      let (p, same) = path-back x slots in
       there (λ (o : Option Data). (is_so_if is_text o ≡ true) × (is_path_if (option_and_then as_str o) ≡ true)
-      × (path_if (option_and_then as_str o) ≡ Some x)) value (string text) at is (refl, p, ap Some (sym same))
+      × (path_if (option_and_then as_str o) ≡ Some x)) value (string (path_text x)) at is (refl, p, ap Some same)
 
   pub flag-or : may_have is_flag key ms ≡ true → AtOr false IsFlag key ms (unwrap_or (told.flag key ms) false)
   flag-or h = by (get_member key ms) refl h

@@ -3,6 +3,7 @@ pub mod Fields
 pub mod Entries
 pub mod Objects
 pub mod Documents
+pub mod Paths
 pub mod Keys
 pub mod Said
 pub mod SaidObjects

@@ -6,7 +6,7 @@ use Rattle.std.proofs.lemmas.Bool.{leb-true, le-leb, ltb-true, lt-ltb, and_from}
 use Rattle.std.proofs.lemmas.List.{append-nil, append_assoc}
 use Rattle.std.proofs.lemmas.List.Sums.{sum_by_push}
 use Rattle.std.proofs.lemmas.Slice.Eq.{bytes_eq-Decides}
-use Rattle.std.specs.List.{list_all, slice_split, onto_first, AllZip}
+use Rattle.std.specs.List.{list_all, AllZip}
 use Rattle.std.specs.Str.{bytes_eq}
 use Rattle.std.specs.Result.{result_ok}
 use Rattle.toml.specs.Data.{Data, Items, no_items, item, Members, no_members, string, integer, array, table, get_member, as_str, as_integer, as_array}
@@ -24,8 +24,9 @@ use Rattle.laws_scenario_faults.specs.Asked.{AreKept, Section, AllKeep}
 use Rattle.laws_scenario_faults.specs.Asked.AllKeep.{NoEntry, Entry}
 use Rattle.laws_scenario_faults.specs.Tables.{table_of, is_table, is_text, is_so_if, has, may_have, text, text_at, is_slot, slot, is_path, path, pieces}
 use Rattle.laws_scenario_faults.specs.Entries.{program_asks, program_says, is_program_if, keys_of_space_ask, space_asks, space_of, space_says}
-use Rattle.laws_scenario_faults.specs.Keys.{At, AtOr, AtIf, OfTable, IsText, IsPath}
+use Rattle.laws_scenario_faults.specs.Keys.{path_text, At, AtOr, AtIf, OfTable, IsText, IsPath}
 use Rattle.laws_scenario_faults.specs.Scenarios.{EachSays, SaysProgram, IsProgram, SaysSpace}
+use Rattle.laws_scenario_faults.proofs.Paths.{path-written}
 use Rattle.laws_scenario_faults.proofs.Keys.{both, text-is, table-is, there, text-at, text-at-told, path-at, path-at-told, flag-or, flag-or-told}
 use Rattle.laws_scenario_faults.proofs.Keys.{numbers-or, numbers-or-told}
 
@@ -135,20 +136,9 @@ module _ (ps : List Program) (ms : Members) where
       × (is_program_if ps (option_and_then as_str o) ≡ true) × (option_and_then (position_of ps) (option_and_then as_str o) ≡ Some index))
       value (string name) at is (refl, ap (λ t. not (not t)) n, ap is_some found, found)
 
-split-some : (test : ℕ → Bool) (text : List ℕ) → map slot (slice_split test text) ≡ [] → ⊥
-split-some test [] h = absurd (cc)
-split-some test (byte ∷ text) h = by (test byte) (slice_split test text) h
-  where
-    by : (t : Bool) (parts : List (List ℕ)) → map slot (cond t ([] ∷ parts) (onto_first byte parts)) ≡ [] → ⊥
-    by true parts h = absurd (cc)
-    by false [] h = absurd (cc)
-    by false (part ∷ parts) h = absurd (cc)
-
 -- the text of the root's path is a slash
 root-text : (text : List ℕ) → is_path text ≡ true → path text ≡ [] → bytes_eq text (codes "/") ≡ true
-root-text [] h same = absurd (cc)
-root-text (byte ∷ []) h same = let (is, none) = both (is_slash byte) true h in and_from (byte == 47) true is refl
-root-text (byte ∷ more ∷ text) h same = absurd (split-some is_slash (more ∷ text) same)
+root-text text h same = (bytes_eq-Decides text (codes "/")).1 ((path-written text h).0 ∙ ap path_text same)
 
 root-path : (text : List ℕ) → bytes_eq text (codes "/") ≡ true → path text ≡ []
 root-path text h = let same : text ≡ codes "/" = (bytes_eq-Decides text (codes "/")).0 h in rw same refl

@@ -181,7 +181,7 @@ module _ (rules : List (List ℕ × Rule)) (ms : Members) where
       let (is, same) = values-or-told key ms es at in
       (is, subst (λ (es : List Data). AllKeep section [] es xs) (sym same) (section-told section (λ before. OfTable (SaysOne before)) one [] es xs say))
 
-  said-document : (s : Scenario) → Says rules ms s → scenario_of rules ms ≡ Ok s
+  pub said-document : (s : Scenario) → Says rules ms s → scenario_of rules ms ≡ Ok s
   unfolding scenario_of second_round sections_in top_in top_asks
   said-document s say =
       let (b_is, b_in, b_same) = number-at-told (codes "budget") ms 1 1000000 s.budget say.budget in

@@ -1,9 +1,10 @@
 -- What is written at the keys of a table, and what that stands for.
-use Rattle.std.specs.Prelude.{◌≡◌, ◌≤◌, ◌⊎◌, ℕ, pos, Bool, true, List, Option, Some, None}
+use Rattle.std.specs.Prelude.{◌≡◌, ◌≤◌, ◌⊎◌, ℕ, pos, Bool, true, List, [], ◌∷◌, ◌++◌, flat_map, Option, Some, None, codes, decimal}
 use Rattle.std.specs.List.{AllZip}
 use Rattle.toml.specs.Data.{Data, Items, Members, string, integer, boolean, array, table, get_member}
 use Rattle.fk_model.specs.Names.{is_name}
-use Rattle.laws_scenario_faults.specs.Tables.{items, members, is_path, path}
+use Rattle.fk_scenario.specs.Entries.Kept.{AreSlots}
+use Rattle.laws_scenario_faults.specs.Tables.{items, members}
 
 -- ---- values
 
@@ -21,9 +22,13 @@ IsNumber low high value n = (value ≡ integer (pos n)) × (low ≤ n) × (n ≤
 abbrev pub IsName : Data → List ℕ → Type 0
 IsName value name = (value ≡ string name) × (is_name name ≡ true)
 
--- the text of a path
+-- the text of a path: a slash, or a slash and a slot in decimal, repeated
+abbrev pub path_text : List ℕ → List ℕ
+path_text [] = codes "/"
+path_text (slot ∷ slots) = flat_map (λ s. codes "/" ++ decimal s) (slot ∷ slots)
+
 abbrev pub IsPath : Data → List ℕ → Type 0
-IsPath value slots = (text : List ℕ) × (value ≡ string text) × (is_path text ≡ true) × (slots ≡ path text)
+IsPath value slots = (value ≡ string (path_text slots)) × AreSlots slots
 
 -- an array, each value of which says what is in its place
 abbrev pub AreEach : {X : Type 0} → (Data → X → Type 0) → Data → List X → Type 0
