@@ -8,7 +8,7 @@
 //! makes of it, that `attempt` does both, judging once, and tells which native server lost its client,
 //! that `run` makes an instruction and tells whether the thread runs on, `stage` a stage that tells nothing,
 //! that `say` does the same of words for a native server, which it lays into the caller's room, and `call` of a porter's answer,
-//! that each of them tells which objects the move touched,
+//! that each of them tells which objects the move touched, that `foretell` tells what a move would tell native servers,
 //! that `is_fit` tells which moves may be made at all, that `may_move` tells cheaply of whom no move is ready, and that
 //! `may_pick` tells whom a user may pick.
 
@@ -16,6 +16,7 @@ mod answering;
 mod codes;
 mod doing;
 mod fitting;
+mod foretelling;
 mod judging;
 mod moves;
 mod picking;
@@ -26,6 +27,7 @@ mod straight;
 
 pub use answering::call;
 pub use fitting::is_fit;
+pub use foretelling::foretell;
 pub use judging::may_move;
 pub use moves::{Ran, Told, attempt, ready, run, take};
 pub use picking::{Picks, may_pick};

@@ -1,6 +1,7 @@
 -- A run may begin in a first core.
 use Rattle.std.proofs.Common.{◌≡◌, ℕ, ◌≤◌, List, [], Option, refl, sym, ap, subst, arith}
 use Rattle.fk_model.specs.World.{World}
+use Rattle.fk_model.specs.Sound.{IsClean}
 use Rattle.fk_boot.specs.FirstWorld.{booted}
 use Rattle.fk_core.specs.Cores.Cores.{RunCore}
 use Rattle.fk_core.specs.Cores.Goings.{HasCome}
@@ -14,7 +15,6 @@ use Rattle.laws_first.proofs.First.{first_world_is_ground}
 use Rattle.laws_first.proofs.Users.{scenario_jobs_name_users_slots}
 use Rattle.laws_house.specs.Houses.{Job, jobs_of}
 use Rattle.laws_house.specs.Laws.{NameUsersSlots}
-use Rattle.laws_jobs.specs.Jobs.{IsClean}
 
 pub has-come : (s : Scenario) (given : List (Option Image)) (c : RunCore) (jobs : List Job) (budget : ℕ) → KeepsScenario s → IsFirst s c
     → jobs ≡ jobs_of s.jobs given → budget ≡ s.budget → HasCome jobs budget c

@@ -9,7 +9,9 @@ use Rattle.laws_jobs.specs.Machines.Head.{Stops, Asks}
 use Rattle.laws_checkpoint.specs.Checkpoint.End.{Gone}
 use Rattle.laws_house.specs.Houses as houses
 use Rattle.laws_house.specs.Houses.{Job, State, End, machine, begins}
+use Rattle.laws_house.specs.Houses.State.{Checking, Restoring}
 use Rattle.laws_house.specs.Houses.End.{Checked}
+use Rattle.laws_restore.specs.Restore.Restore.State.{Makes}
 use Rattle.laws_runs.specs.Cores as runs
 use Rattle.laws_runs.specs.Cores.{JobEnd, Work, work_of}
 use Rattle.laws_runs.specs.Cores.JobEnd.{Worked, Idle}
@@ -76,6 +78,17 @@ call_with (Some stage) words = Some (asks.Call stage words)
 abbrev pub asked_by : Option State → Option Ask
 asked_by None = None
 asked_by (Some s) = call_at (machine.head s)
+
+-- by the answer to its next call a job's memory grows: by each of a checkpoint's, which gathers an image, and by the first of a restore's, before which the
+-- restore is made
+abbrev pub grows : State → Bool
+grows (Checking slot s) = true
+grows (Restoring slot pairs image Makes) = true
+grows (Restoring slot pairs image other) = false
+
+abbrev pub grows_by : Option State → Bool
+grows_by None = false
+grows_by (Some s) = grows s
 
 -- with what a machine ends
 abbrev pub end_at : Head End → End

@@ -1,11 +1,12 @@
 -- Calls that are fit wherever they are made, and pick nobody.
-use Rattle.std.specs.Prelude.{◌≡◌, ℕ, Bool, true, false, not, Some, IfSome}
+use Rattle.std.specs.Prelude.{◌≡◌, ℕ, Bool, true, false, not, ◌&&◌, Some, IfSome}
 use Rattle.fk_model.specs.declared.moves.Ask.{Ask}
 use Rattle.fk_model.specs.declared.moves.Ask.TheVariants as asks
 use Rattle.fk_model.specs.declared.stage.Stage.{Stage}
-use Rattle.fk_model.specs.declared.stage.Stage.TheVariants.{Wait, CondSignal, LinkSet, LinkPark, FaultSet, FaultPark}
 use Rattle.fk_model.specs.Moves.{chooses}
 use Rattle.fk_model.specs.Places.{Path}
+use Rattle.fk_model.specs.StageFacts.{Rebuilt, facts_of}
+use Rattle.fk_model.specs.StageFacts.Rebuilt.{Rebuilds_nothing, A_talk, A_fault, A_hold, A_space}
 use Rattle.fk_model.specs.Valid.{is_fit}
 use Rattle.fk_model.specs.World.{World}
 use Rattle.laws_checkpoint.specs.Checkpoint as checkpoints
@@ -13,15 +14,17 @@ use Rattle.laws_house.specs.Houses.{machine}
 use Rattle.laws_house.specs.Houses.State.{Checking}
 use Rattle.fk_jobs.specs.Jobs.{Queue, call_at, asked_by, state_of}
 
+-- neither a talk nor a fault
+abbrev pub is_other : Rebuilt → Bool
+is_other A_talk = false
+is_other A_fault = false
+is_other A_hold = true
+is_other A_space = true
+is_other Rebuilds_nothing = true
+
 -- none that picks somebody, and none that makes a talk or a fault again
 abbrev pub is_plain_stage : Stage → Bool
-is_plain_stage (Wait set) = false
-is_plain_stage (CondSignal cond) = false
-is_plain_stage (LinkSet s x port server) = false
-is_plain_stage (LinkPark s x port) = false
-is_plain_stage (FaultSet s x port taker) = false
-is_plain_stage (FaultPark s x port taken) = false
-is_plain_stage other = true
+is_plain_stage stage = not (chooses stage) && is_other (facts_of stage).rebuilds
 
 abbrev pub is_plain : Ask → Bool
 is_plain (asks.Call stage words) = is_plain_stage stage

@@ -1,14 +1,14 @@
 //! How jobs begin.
-ghost use Rattle.std.specs.Prelude.{◌≡◌, ◌≤◌, true, IfOk, map, length, option_map, is_some};
+ghost use Rattle.std.specs.Prelude.{◌≡◌, ◌≤◌, true, IfOk, OnErr, map, length, option_map, is_some};
 ghost use Rattle.std.specs.List.{slice_get};
 ghost use Rattle.laws_house.specs.Houses.{valid_one, sourced, image_made, begins};
 ghost use Rattle.laws_house.specs.Houses.State.{Restoring};
 ghost use Rattle.laws_house.specs.Laws.{NamesUsersSlots, NameUsersSlots};
 ghost use Rattle.laws_restore.specs.Restore.Restore.State.{Makes};
-ghost use Rattle.laws_restore.specs.Rooms.Restoring.{are_user_pairs};
 ghost use Rattle.fk_model.specs.declared.limits.TheConstants.{LAST_USER_SLOT};
+ghost use Rattle.fk_model.specs.Sound.{are_user_pairs};
 ghost use Rattle.laws_jobs.specs.Machines.{no_words};
-ghost use Rattle.fk_jobs.specs.Jobs.{job_of, source_of, task_of, call_with, asked_by, first_of, shown_ends};
+ghost use Rattle.fk_jobs.specs.Jobs.{job_of, source_of, task_of, call_with, asked_by, first_of, grows_by, shown_ends};
 
 use crate::jobs::Ended;
 use crate::plan::{Plan, Source, Task};
@@ -120,7 +120,8 @@ fn make_so<W: Worker + Drop>(
     ends: &[Ended<W>],
 ) -> Result<Option<W>, NoMemory>
     requires { NamesUsersSlots (task_of plan.now.task) }
-    ensures { IfOk result (λ made. option_map W.state made ≡ begins (job_of plan.now) (shown_ends W.state ends.now)) }
+    ensures made { IfOk result (λ made. option_map W.state made ≡ begins (job_of plan.now) (shown_ends W.state ends.now)) }
+    ensures grows { OnErr result (grows_by (begins (job_of plan.now) (shown_ends W.state ends.now)) ≡ true) }
 {
     match &plan.task {
         Task::Checkpoint { slot } => Ok(Some(W::checkpoint(alloc, *slot))),
@@ -146,8 +147,10 @@ pub fn make<W: Worker + Drop>(
     ends: &[Ended<W>],
 ) -> Result<Option<W>, NoMemory>
     requires { NameUsersSlots (map job_of plans.now) }
-    ensures { IfOk result (λ made. option_map W.state made
+    ensures made { IfOk result (λ made. option_map W.state made
         ≡ first_of (shown_ends W.state ends.now) (slice_get (map job_of plans.now) (length (shown_ends W.state ends.now)))) }
+    ensures grows { OnErr result (grows_by
+        (first_of (shown_ends W.state ends.now) (slice_get (map job_of plans.now) (length (shown_ends W.state ends.now)))) ≡ true) }
 {
     match planned(plans, ends) {
         Some(plan) => make_so(alloc, plan, ends),

@@ -5,7 +5,7 @@ ghost use Rattle.std.specs.List.{slice_get};
 ghost use Rattle.fk_model.specs.declared.moves.Ask.TheVariants as asks;
 ghost use Rattle.laws_house.specs.Laws.{NameUsersSlots};
 ghost use Rattle.laws_jobs.specs.Machines.{no_words};
-ghost use Rattle.fk_jobs.specs.Jobs.{job_of, unmoved_of, current, first_of, state_of, call_with, asked_by, begun_from, hears, passed, with_idle};
+ghost use Rattle.fk_jobs.specs.Jobs.{job_of, unmoved_of, current, first_of, state_of, grows_by, call_with, asked_by, begun_from, hears, passed, with_idle};
 ghost use Rattle.fk_jobs.specs.Jobs.{shown_end, shown_ends, made_state};
 ghost use Rattle.laws_runs.specs.Cores.JobEnd.{Idle};
 ghost use Rattle.fk_jobs.specs.Plain.{picks_nobody};
@@ -113,6 +113,8 @@ fn make_new<W: Worker + Drop>(
     ensures made { OnOk result (option_map W.state worker.new
         ≡ first_of (shown_ends W.state ends.now) (slice_get (map job_of plans.now) (length (shown_ends W.state ends.now)))) }
     ensures lacking { OnErr result (worker.new ≡ worker.old) }
+    ensures grows { OnErr result (grows_by
+        (first_of (shown_ends W.state ends.now) (slice_get (map job_of plans.now) (length (shown_ends W.state ends.now)))) ≡ true) }
 {
     *worker = make(alloc, plans, ends)?;
     Ok(())
@@ -129,6 +131,8 @@ fn make_in<W: Worker + Drop>(
     ensures made { OnOk result (option_map W.state worker.new
         ≡ made_state W.state worker.old (first_of (shown_ends W.state ends.now) (slice_get (map job_of plans.now) (length (shown_ends W.state ends.now))))) }
     ensures lacking { OnErr result (worker.new ≡ worker.old) }
+    ensures grows { OnErr result (grows_by (made_state W.state worker.old
+        (first_of (shown_ends W.state ends.now) (slice_get (map job_of plans.now) (length (shown_ends W.state ends.now))))) ≡ true) }
 {
     if worker.is_none() {
         make_new(alloc, plans, ends, worker)?;
@@ -140,6 +144,7 @@ fn make_in<W: Worker + Drop>(
 fn reserve_in<W: Worker>(worker: &mut Option<W>) -> Result<(), NoMemory>
     ensures same { option_map W.state worker.new ≡ option_map W.state worker.old }
     ensures room { OnOk result (IfSome worker.new W.has_room) }
+    ensures grows { OnErr result (grows_by (option_map W.state worker.old) ≡ true) }
 {
     match worker {
         Some(worker) => worker.reserve(),
@@ -227,6 +232,7 @@ impl<W: Worker + Drop> Jobs<W> {
         ensures ends { self.new.ends ≡ self.old.ends }
         ensures work { self.new.work ≡ self.old.work }
         ensures ready { OnOk result (self.new.ready ≡ true) }
+        ensures grows { OnErr result (grows_by (state_of self.old) ≡ true) }
     {
         if self.used {
             make_in(

@@ -1,5 +1,5 @@
 //! What a job's code has to promise.
-ghost use Rattle.std.specs.Prelude.{◌≡◌, Some, IfSome, OnOk, is_some, option_map, take};
+ghost use Rattle.std.specs.Prelude.{◌≡◌, true, Some, IfSome, OnOk, OnErr, is_some, option_map, take};
 ghost use Rattle.fk_model.specs.declared.moves.Ask.TheVariants as asks;
 ghost use Rattle.laws_checkpoint.specs.Checkpoint.State.{Holds};
 ghost use Rattle.laws_house.specs.Houses.{State, machine, image_of_end};
@@ -7,7 +7,7 @@ ghost use Rattle.laws_house.specs.Houses.State.{Checking, Restoring};
 ghost use Rattle.laws_restore.specs.Restore.Restore.State.{Makes};
 ghost use Rattle.laws_restore.specs.Rooms.Restoring.{IsRestoreJob};
 ghost use Rattle.laws_jobs.specs.Machines.{no_words};
-ghost use Rattle.fk_jobs.specs.Jobs.{call_at, call_with, end_at};
+ghost use Rattle.fk_jobs.specs.Jobs.{call_at, call_with, end_at, grows};
 ghost use Rattle.fk_jobs.specs.Plain.{CheckpointsAskPlainly, JobsPickNobody, PlainIsFit};
 ghost use Rattle.fk_jobs.specs.Turns.{JobMovesSo, JobEndsSo};
 
@@ -50,7 +50,8 @@ pub trait Worker {
     /// Makes room for one answer, and changes nothing else.
     fn reserve(&mut self) -> Result<(), NoMemory>
         ensures same { state self.new ≡ state self.old }
-        ensures room { OnOk result (has_room self.new) };
+        ensures room { OnOk result (has_room self.new) }
+        ensures grows { OnErr result (grows (state self.old) ≡ true) };
 
     /// Takes the answer to its next call. That uses up its room.
     fn absorb(&mut self, answer: &Answer)

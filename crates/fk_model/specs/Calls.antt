@@ -3,10 +3,11 @@
 -- A calling thread keeps, in place of its 16 registers, the stages that it has before it and what else stands in the
 -- registers. The first register holds the code that names this list of stages. So a thread's whole state can be read
 -- and set between any two stages, and it goes on from there.
-use Rattle.std.specs.Prelude.{ℕ, ◌+◌, true, ◌==◌, nat_lt, ◌≡◌, List, [], ◌∷◌, length, Option, Some, None, if◌then◌else◌, slice_index, slice_set}
+use Rattle.std.specs.Prelude.{ℕ, ◌+◌, true, ◌==◌, nat_lt, ◌≡◌, List, [], ◌∷◌, ◌++◌, length, Option, Some, None, if◌then◌else◌, slice_index, slice_set}
 use Rattle.std.specs.List.{flat_map}
 use Rattle.fk_model.specs.declared.stage.Stage.{Stage}
 use Rattle.fk_model.specs.StageFacts.{facts_of}
+use Rattle.fk_model.specs.declared.call.TheConstants.{CREATE, DESTROY, RENAME, SEARCH, POINT, CLEAR, LOCATE, COUNT_IN, GET_STATE, SET_STATE, GET_PTR, SET_PTR, SPACE_HOLD, SPACE_RELEASE, THREAD_STOP, THREAD_GO, PAGE_GIVE, PAGE_TAKE, PAGE_READ, PAGE_NEXT, MUTEX_LOCK, MUTEX_TRYLOCK, MUTEX_UNLOCK, COND_WAIT, COND_ASLEEP, COND_SIGNAL, COND_BROADCAST, CONNECT, CONNECT_SEND_OVER_RECEIVE, CLIENT_SEND_OVER_RECEIVE, CLIENT_OVER_RECEIVE, CLIENT_RECEIVE, CLIENT_SEND, CLIENT_OVER, DISCONNECT, CLIENT_OVER_REF, CLIENT_RECEIVE_REF, WAIT, WAIT_RECEIVE, SERVER_RECEIVE, SERVER_SEND, SERVER_OVER, SERVER_SEND_OVER_RECEIVE, SERVER_OVER_RECEIVE, SERVER_END, FAULT_DONE, SERVER_OVER_REF, SERVER_RECEIVE_REF, LINK_SET, LINK_PARK, FAULT_SET, FAULT_PARK, HOLD_SET, SPACE_MAKE_HELD}
 use Rattle.fk_model.specs.declared.stage.Todo.{Todo}
 use Rattle.fk_model.specs.declared.stage.Todo.TheVariants.{One, Two, Three, Four}
 use Rattle.fk_model.specs.declared.stage.Stage.TheVariants.{Create, Destroy, Rename, Search, Point, Clear, Locate, CountIn, GetState, SetState, GetPtr, SetPtr, SpaceHold, SpaceRelease, ThreadStop, ThreadGo, PageGive, PageTake, PageRead, PageNext, MutexLock, MutexTrylock, MutexUnlock, CondWait, CondAsleep, CondSignal, CondBroadcast, Connect, ClientReceive, ClientSend, ClientOver, Disconnect, ClientOverRef, ClientReceiveRef, Wait, ServerReceive, ServerSend, ServerOver, ServerEnd, FaultDone, ServerOverRef, ServerReceiveRef, LinkSet, LinkPark, FaultSet, FaultPark, HoldSet, SpaceMakeHeld}
@@ -18,12 +19,12 @@ code_of_stage stage = (facts_of stage).code
 -- the code of a list of stages; 0 where no call has these stages
 unfoldable pub code_of : List Stage → ℕ
 code_of (stage ∷ []) = code_of_stage stage
-code_of (Connect h ∷ ClientSend address count ∷ ClientOver ∷ ClientReceive into room ∷ []) = 33
-code_of (ClientSend address count ∷ ClientOver ∷ ClientReceive into room ∷ []) = 34
-code_of (ClientOver ∷ ClientReceive into room ∷ []) = 35
-code_of (Wait set ∷ ServerReceive into room ∷ []) = 49
-code_of (ServerSend address count ∷ ServerOver ∷ ServerReceive into room ∷ []) = 53
-code_of (ServerOver ∷ ServerReceive into room ∷ []) = 54
+code_of (Connect h ∷ ClientSend address count ∷ ClientOver ∷ ClientReceive into room ∷ []) = CONNECT_SEND_OVER_RECEIVE
+code_of (ClientSend address count ∷ ClientOver ∷ ClientReceive into room ∷ []) = CLIENT_SEND_OVER_RECEIVE
+code_of (ClientOver ∷ ClientReceive into room ∷ []) = CLIENT_OVER_RECEIVE
+code_of (Wait set ∷ ServerReceive into room ∷ []) = WAIT_RECEIVE
+code_of (ServerSend address count ∷ ServerOver ∷ ServerReceive into room ∷ []) = SERVER_SEND_OVER_RECEIVE
+code_of (ServerOver ∷ ServerReceive into room ∷ []) = SERVER_OVER_RECEIVE
 code_of other = 0
 
 -- the list is that of a call
@@ -137,64 +138,88 @@ r5 g = slice_index g 5
 abbrev pub r6 : List ℕ → ℕ
 r6 g = slice_index g 6
 
+-- calls on objects and what they point to, and on spaces as a whole
+abbrev pub object_calls : List Call
+object_calls =
+    call CREATE (λ g. Create (r1 g) (r2 g) (r3 g) ∷ []) ∷
+    call DESTROY (λ g. Destroy (r1 g) (r2 g) ∷ []) ∷
+    call RENAME (λ g. Rename (r1 g) (r2 g) (r3 g) ∷ []) ∷
+    call SEARCH (λ g. Search (r1 g) (r2 g) ∷ []) ∷
+    call POINT (λ g. Point (r1 g) (r2 g) (r3 g) (r4 g) ∷ []) ∷
+    call CLEAR (λ g. Clear (r1 g) (r2 g) ∷ []) ∷
+    call LOCATE (λ g. Locate (r1 g) (r2 g) ∷ []) ∷
+    call COUNT_IN (λ g. CountIn (r1 g) (r2 g) (r3 g) ∷ []) ∷
+    call GET_STATE (λ g. GetState (r1 g) (r2 g) (r3 g) ∷ []) ∷
+    call SET_STATE (λ g. SetState (r1 g) (r2 g) (r3 g) ∷ []) ∷
+    call GET_PTR (λ g. GetPtr (r1 g) (r2 g) (r3 g) (r4 g) ∷ []) ∷
+    call SET_PTR (λ g. SetPtr (r1 g) (r2 g) (r3 g) (r4 g) ∷ []) ∷
+    call SPACE_HOLD (λ g. SpaceHold (r1 g) (r2 g) ∷ []) ∷
+    call SPACE_RELEASE (λ g. SpaceRelease (r1 g) (r2 g) ∷ []) ∷
+    []
+
+-- calls on threads, pages, mutexes and conditions
+abbrev pub thread_calls : List Call
+thread_calls =
+    call THREAD_STOP (λ g. ThreadStop (r1 g) ∷ []) ∷
+    call THREAD_GO (λ g. ThreadGo (r1 g) ∷ []) ∷
+    call PAGE_GIVE (λ g. PageGive (r1 g) (r2 g) (r3 g) ∷ []) ∷
+    call PAGE_TAKE (λ g. PageTake (r1 g) (r2 g) (r3 g) ∷ []) ∷
+    call PAGE_READ (λ g. PageRead (r1 g) (r2 g) (r3 g) ∷ []) ∷
+    call PAGE_NEXT (λ g. PageNext (r1 g) (r2 g) ∷ []) ∷
+    call MUTEX_LOCK (λ g. MutexLock (r1 g) ∷ []) ∷
+    call MUTEX_TRYLOCK (λ g. MutexTrylock (r1 g) ∷ []) ∷
+    call MUTEX_UNLOCK (λ g. MutexUnlock (r1 g) ∷ []) ∷
+    call COND_WAIT (λ g. CondWait (r1 g) (r2 g) ∷ []) ∷
+    call COND_ASLEEP (λ g. CondAsleep (r1 g) (r2 g) ∷ []) ∷
+    call COND_SIGNAL (λ g. CondSignal (r1 g) ∷ []) ∷
+    call COND_BROADCAST (λ g. CondBroadcast (r1 g) ∷ []) ∷
+    []
+
+-- a client's calls
+abbrev pub client_calls : List Call
+client_calls =
+    call CONNECT (λ g. Connect (r1 g) ∷ []) ∷
+    call CONNECT_SEND_OVER_RECEIVE (λ g. Connect (r1 g) ∷ ClientSend (r2 g) (r3 g) ∷ ClientOver ∷ ClientReceive (r4 g) (r5 g) ∷ []) ∷
+    call CLIENT_SEND_OVER_RECEIVE (λ g. ClientSend (r2 g) (r3 g) ∷ ClientOver ∷ ClientReceive (r4 g) (r5 g) ∷ []) ∷
+    call CLIENT_OVER_RECEIVE (λ g. ClientOver ∷ ClientReceive (r4 g) (r5 g) ∷ []) ∷
+    call CLIENT_RECEIVE (λ g. ClientReceive (r4 g) (r5 g) ∷ []) ∷
+    call CLIENT_SEND (λ g. ClientSend (r2 g) (r3 g) ∷ []) ∷
+    call CLIENT_OVER (λ g. ClientOver ∷ []) ∷
+    call DISCONNECT (λ g. Disconnect ∷ []) ∷
+    call CLIENT_OVER_REF (λ g. ClientOverRef (r1 g) ∷ []) ∷
+    call CLIENT_RECEIVE_REF (λ g. ClientReceiveRef (r4 g) (r5 g) (r6 g) ∷ []) ∷
+    []
+
+-- a server's calls, and those of who takes faults
+abbrev pub server_calls : List Call
+server_calls =
+    call WAIT (λ g. Wait (r1 g) ∷ []) ∷
+    call WAIT_RECEIVE (λ g. Wait (r1 g) ∷ ServerReceive (r4 g) (r5 g) ∷ []) ∷
+    call SERVER_RECEIVE (λ g. ServerReceive (r4 g) (r5 g) ∷ []) ∷
+    call SERVER_SEND (λ g. ServerSend (r2 g) (r3 g) ∷ []) ∷
+    call SERVER_OVER (λ g. ServerOver ∷ []) ∷
+    call SERVER_SEND_OVER_RECEIVE (λ g. ServerSend (r2 g) (r3 g) ∷ ServerOver ∷ ServerReceive (r4 g) (r5 g) ∷ []) ∷
+    call SERVER_OVER_RECEIVE (λ g. ServerOver ∷ ServerReceive (r4 g) (r5 g) ∷ []) ∷
+    call SERVER_END (λ g. ServerEnd ∷ []) ∷
+    call FAULT_DONE (λ g. FaultDone ∷ []) ∷
+    call SERVER_OVER_REF (λ g. ServerOverRef (r1 g) ∷ []) ∷
+    call SERVER_RECEIVE_REF (λ g. ServerReceiveRef (r4 g) (r5 g) (r6 g) ∷ []) ∷
+    []
+
+-- calls by which a porter builds a saved subtree again
+abbrev pub rebuilding_calls : List Call
+rebuilding_calls =
+    call LINK_SET (λ g. LinkSet (r1 g) (r2 g) (r3 g) (r4 g) ∷ []) ∷
+    call LINK_PARK (λ g. LinkPark (r1 g) (r2 g) (r3 g) ∷ []) ∷
+    call FAULT_SET (λ g. FaultSet (r1 g) (r2 g) (r3 g) (r4 g) ∷ []) ∷
+    call FAULT_PARK (λ g. FaultPark (r1 g) (r2 g) (r3 g) (r4 g) ∷ []) ∷
+    call HOLD_SET (λ g. HoldSet (r1 g) (r2 g) (r3 g) ∷ []) ∷
+    call SPACE_MAKE_HELD (λ g. SpaceMakeHeld (r1 g) ∷ []) ∷
+    []
+
 -- every call
 abbrev pub calls : List Call
-calls =
-    call 1 (λ g. Create (r1 g) (r2 g) (r3 g) ∷ []) ∷
-    call 2 (λ g. Destroy (r1 g) (r2 g) ∷ []) ∷
-    call 3 (λ g. Rename (r1 g) (r2 g) (r3 g) ∷ []) ∷
-    call 4 (λ g. Search (r1 g) (r2 g) ∷ []) ∷
-    call 5 (λ g. Point (r1 g) (r2 g) (r3 g) (r4 g) ∷ []) ∷
-    call 6 (λ g. Clear (r1 g) (r2 g) ∷ []) ∷
-    call 7 (λ g. Locate (r1 g) (r2 g) ∷ []) ∷
-    call 8 (λ g. CountIn (r1 g) (r2 g) (r3 g) ∷ []) ∷
-    call 9 (λ g. GetState (r1 g) (r2 g) (r3 g) ∷ []) ∷
-    call 10 (λ g. SetState (r1 g) (r2 g) (r3 g) ∷ []) ∷
-    call 11 (λ g. GetPtr (r1 g) (r2 g) (r3 g) (r4 g) ∷ []) ∷
-    call 12 (λ g. SetPtr (r1 g) (r2 g) (r3 g) (r4 g) ∷ []) ∷
-    call 13 (λ g. SpaceHold (r1 g) (r2 g) ∷ []) ∷
-    call 14 (λ g. SpaceRelease (r1 g) (r2 g) ∷ []) ∷
-    call 15 (λ g. ThreadStop (r1 g) ∷ []) ∷
-    call 16 (λ g. ThreadGo (r1 g) ∷ []) ∷
-    call 17 (λ g. PageGive (r1 g) (r2 g) (r3 g) ∷ []) ∷
-    call 18 (λ g. PageTake (r1 g) (r2 g) (r3 g) ∷ []) ∷
-    call 19 (λ g. PageRead (r1 g) (r2 g) (r3 g) ∷ []) ∷
-    call 20 (λ g. PageNext (r1 g) (r2 g) ∷ []) ∷
-    call 21 (λ g. MutexLock (r1 g) ∷ []) ∷
-    call 22 (λ g. MutexTrylock (r1 g) ∷ []) ∷
-    call 23 (λ g. MutexUnlock (r1 g) ∷ []) ∷
-    call 24 (λ g. CondWait (r1 g) (r2 g) ∷ []) ∷
-    call 25 (λ g. CondAsleep (r1 g) (r2 g) ∷ []) ∷
-    call 26 (λ g. CondSignal (r1 g) ∷ []) ∷
-    call 27 (λ g. CondBroadcast (r1 g) ∷ []) ∷
-    call 32 (λ g. Connect (r1 g) ∷ []) ∷
-    call 33 (λ g. Connect (r1 g) ∷ ClientSend (r2 g) (r3 g) ∷ ClientOver ∷ ClientReceive (r4 g) (r5 g) ∷ []) ∷
-    call 34 (λ g. ClientSend (r2 g) (r3 g) ∷ ClientOver ∷ ClientReceive (r4 g) (r5 g) ∷ []) ∷
-    call 35 (λ g. ClientOver ∷ ClientReceive (r4 g) (r5 g) ∷ []) ∷
-    call 36 (λ g. ClientReceive (r4 g) (r5 g) ∷ []) ∷
-    call 37 (λ g. ClientSend (r2 g) (r3 g) ∷ []) ∷
-    call 38 (λ g. ClientOver ∷ []) ∷
-    call 39 (λ g. Disconnect ∷ []) ∷
-    call 40 (λ g. ClientOverRef (r1 g) ∷ []) ∷
-    call 41 (λ g. ClientReceiveRef (r4 g) (r5 g) (r6 g) ∷ []) ∷
-    call 48 (λ g. Wait (r1 g) ∷ []) ∷
-    call 49 (λ g. Wait (r1 g) ∷ ServerReceive (r4 g) (r5 g) ∷ []) ∷
-    call 50 (λ g. ServerReceive (r4 g) (r5 g) ∷ []) ∷
-    call 51 (λ g. ServerSend (r2 g) (r3 g) ∷ []) ∷
-    call 52 (λ g. ServerOver ∷ []) ∷
-    call 53 (λ g. ServerSend (r2 g) (r3 g) ∷ ServerOver ∷ ServerReceive (r4 g) (r5 g) ∷ []) ∷
-    call 54 (λ g. ServerOver ∷ ServerReceive (r4 g) (r5 g) ∷ []) ∷
-    call 55 (λ g. ServerEnd ∷ []) ∷
-    call 56 (λ g. FaultDone ∷ []) ∷
-    call 57 (λ g. ServerOverRef (r1 g) ∷ []) ∷
-    call 58 (λ g. ServerReceiveRef (r4 g) (r5 g) (r6 g) ∷ []) ∷
-    call 60 (λ g. LinkSet (r1 g) (r2 g) (r3 g) (r4 g) ∷ []) ∷
-    call 61 (λ g. LinkPark (r1 g) (r2 g) (r3 g) ∷ []) ∷
-    call 62 (λ g. FaultSet (r1 g) (r2 g) (r3 g) (r4 g) ∷ []) ∷
-    call 63 (λ g. FaultPark (r1 g) (r2 g) (r3 g) (r4 g) ∷ []) ∷
-    call 64 (λ g. HoldSet (r1 g) (r2 g) (r3 g) ∷ []) ∷
-    call 65 (λ g. SpaceMakeHeld (r1 g) ∷ []) ∷
-    []
+calls = object_calls ++ thread_calls ++ client_calls ++ server_calls ++ rebuilding_calls
 
 -- the stages that a code names, read from the registers
 abbrev pub named_by : List Call → ℕ → List ℕ → Option (List Stage)

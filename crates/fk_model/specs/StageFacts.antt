@@ -1,5 +1,6 @@
 -- What there is to know of a stage besides its row: one line a stage. All tables of facts about calls are read from it.
 use Rattle.std.specs.Prelude.{ℕ, Bool, true, false, Option, Some, None}
+use Rattle.fk_model.specs.declared.call.TheConstants.{CREATE, DESTROY, RENAME, SEARCH, POINT, CLEAR, LOCATE, COUNT_IN, GET_STATE, SET_STATE, GET_PTR, SET_PTR, SPACE_HOLD, SPACE_RELEASE, THREAD_STOP, THREAD_GO, PAGE_GIVE, PAGE_TAKE, PAGE_READ, PAGE_NEXT, MUTEX_LOCK, MUTEX_TRYLOCK, MUTEX_UNLOCK, COND_WAIT, COND_ASLEEP, COND_SIGNAL, COND_BROADCAST, CONNECT, CLIENT_RECEIVE, CLIENT_SEND, CLIENT_OVER, DISCONNECT, CLIENT_OVER_REF, CLIENT_RECEIVE_REF, WAIT, SERVER_RECEIVE, SERVER_SEND, SERVER_OVER, SERVER_END, FAULT_DONE, SERVER_OVER_REF, SERVER_RECEIVE_REF, LINK_SET, LINK_PARK, FAULT_SET, FAULT_PARK, HOLD_SET, SPACE_MAKE_HELD}
 use Rattle.fk_model.specs.declared.stage.Stage.{Stage}
 use Rattle.fk_model.specs.declared.stage.Stage.TheVariants.{Create, Destroy, Rename, Search, Point, Clear, Locate, CountIn, GetState, SetState, GetPtr, SetPtr, SpaceHold, SpaceRelease, ThreadStop, ThreadGo, PageGive, PageTake, PageRead, PageNext, MutexLock, MutexTrylock, MutexUnlock, CondWait, CondAsleep, CondSignal, CondBroadcast, Connect, ClientReceive, ClientSend, ClientOver, Disconnect, ClientOverRef, ClientReceiveRef, Wait, ServerReceive, ServerSend, ServerOver, ServerEnd, FaultDone, ServerOverRef, ServerReceiveRef, LinkSet, LinkPark, FaultSet, FaultPark, HoldSet, SpaceMakeHeld}
 use Rattle.fk_model.specs.declared.thread.Turn.{Turn}
@@ -91,56 +92,56 @@ of_porters code acts makes rebuilds = record {
 
 abbrev pub facts_of : Stage → Facts
 -- of anybody: whether it waits, picks, acts, what it makes, who peeks by it
-facts_of (Create s x kind) = of_anybody 1 false false true An_object Everybody_peeks
-facts_of (Destroy s x) = of_anybody 2 false false true Makes_nothing Everybody_peeks
-facts_of (Rename s x y) = of_anybody 3 false false true Makes_nothing Everybody_peeks
-facts_of (Search s from) = of_anybody 4 false false true Makes_nothing Nobody_peeks
-facts_of (Point s x s2 x2) = of_anybody 5 false false true Makes_nothing Nobody_peeks
-facts_of (Clear s x) = of_anybody 6 false false true Makes_nothing Nobody_peeks
-facts_of (Locate reference s) = of_anybody 7 false false true Makes_nothing Nobody_peeks
-facts_of (GetState s x address) = of_anybody 9 false false true Makes_nothing Everybody_peeks
-facts_of (SetState s x address) = of_anybody 10 false false true Makes_nothing Everybody_peeks
-facts_of (GetPtr s x field reference) = of_anybody 11 false false true Makes_nothing Everybody_peeks
-facts_of (SetPtr s x field reference) = of_anybody 12 false false true Makes_nothing Everybody_peeks
-facts_of (SpaceHold s x) = of_anybody 13 true false false Makes_nothing Everybody_peeks
-facts_of (SpaceRelease s x) = of_anybody 14 false false true Makes_nothing Everybody_peeks
-facts_of (ThreadStop h) = of_anybody 15 false false true Makes_nothing Nobody_peeks
-facts_of (ThreadGo h) = of_anybody 16 false false true Makes_nothing Nobody_peeks
-facts_of (PageGive s page address) = of_anybody 17 false false true A_page Everybody_peeks
-facts_of (PageTake s page address) = of_anybody 18 false false true Makes_nothing Everybody_peeks
-facts_of (PageRead s page address) = of_anybody 19 false false true Makes_nothing Everybody_peeks
-facts_of (PageNext s from) = of_anybody 20 false false true Makes_nothing Everybody_peeks
-facts_of (Wait set) = of_anybody 48 true true false Makes_nothing Roots_peek
-facts_of FaultDone = of_anybody 56 true false false Makes_nothing Nobody_peeks
+facts_of (Create s x kind) = of_anybody CREATE false false true An_object Everybody_peeks
+facts_of (Destroy s x) = of_anybody DESTROY false false true Makes_nothing Everybody_peeks
+facts_of (Rename s x y) = of_anybody RENAME false false true Makes_nothing Everybody_peeks
+facts_of (Search s from) = of_anybody SEARCH false false true Makes_nothing Nobody_peeks
+facts_of (Point s x s2 x2) = of_anybody POINT false false true Makes_nothing Nobody_peeks
+facts_of (Clear s x) = of_anybody CLEAR false false true Makes_nothing Nobody_peeks
+facts_of (Locate reference s) = of_anybody LOCATE false false true Makes_nothing Nobody_peeks
+facts_of (GetState s x address) = of_anybody GET_STATE false false true Makes_nothing Everybody_peeks
+facts_of (SetState s x address) = of_anybody SET_STATE false false true Makes_nothing Everybody_peeks
+facts_of (GetPtr s x field reference) = of_anybody GET_PTR false false true Makes_nothing Everybody_peeks
+facts_of (SetPtr s x field reference) = of_anybody SET_PTR false false true Makes_nothing Everybody_peeks
+facts_of (SpaceHold s x) = of_anybody SPACE_HOLD true false false Makes_nothing Everybody_peeks
+facts_of (SpaceRelease s x) = of_anybody SPACE_RELEASE false false true Makes_nothing Everybody_peeks
+facts_of (ThreadStop h) = of_anybody THREAD_STOP false false true Makes_nothing Nobody_peeks
+facts_of (ThreadGo h) = of_anybody THREAD_GO false false true Makes_nothing Nobody_peeks
+facts_of (PageGive s page address) = of_anybody PAGE_GIVE false false true A_page Everybody_peeks
+facts_of (PageTake s page address) = of_anybody PAGE_TAKE false false true Makes_nothing Everybody_peeks
+facts_of (PageRead s page address) = of_anybody PAGE_READ false false true Makes_nothing Everybody_peeks
+facts_of (PageNext s from) = of_anybody PAGE_NEXT false false true Makes_nothing Everybody_peeks
+facts_of (Wait set) = of_anybody WAIT true true false Makes_nothing Roots_peek
+facts_of FaultDone = of_anybody FAULT_DONE true false false Makes_nothing Nobody_peeks
 -- of users alone: the side of a talk, whether it waits, picks, acts
-facts_of (MutexLock m) = of_users 21 None true false false
-facts_of (MutexTrylock m) = of_users 22 None false false true
-facts_of (MutexUnlock m) = of_users 23 None false false true
-facts_of (CondWait c m) = of_users 24 None false false false
-facts_of (CondAsleep c m) = of_users 25 None true false false
-facts_of (CondSignal c) = of_users 26 None true true false
-facts_of (CondBroadcast c) = of_users 27 None false false false
-facts_of (Connect h) = of_users 32 None true false false
-facts_of (ClientReceive into room) = of_users 36 (Some turns.Client) true false false
-facts_of (ClientSend address count) = of_users 37 (Some turns.Client) true false false
-facts_of ClientOver = of_users 38 (Some turns.Client) true false false
-facts_of Disconnect = of_users 39 None false false true
-facts_of (ClientOverRef reference) = of_users 40 (Some turns.Client) true false false
-facts_of (ClientReceiveRef into room reference) = of_users 41 (Some turns.Client) true false false
-facts_of (ServerReceive into room) = of_users 50 (Some turns.Server) true false false
-facts_of (ServerSend address count) = of_users 51 (Some turns.Server) true false false
-facts_of ServerOver = of_users 52 (Some turns.Server) true false false
-facts_of ServerEnd = of_users 55 None false false false
-facts_of (ServerOverRef reference) = of_users 57 (Some turns.Server) true false false
-facts_of (ServerReceiveRef into room reference) = of_users 58 (Some turns.Server) true false false
+facts_of (MutexLock m) = of_users MUTEX_LOCK None true false false
+facts_of (MutexTrylock m) = of_users MUTEX_TRYLOCK None false false true
+facts_of (MutexUnlock m) = of_users MUTEX_UNLOCK None false false true
+facts_of (CondWait c m) = of_users COND_WAIT None false false false
+facts_of (CondAsleep c m) = of_users COND_ASLEEP None true false false
+facts_of (CondSignal c) = of_users COND_SIGNAL None true true false
+facts_of (CondBroadcast c) = of_users COND_BROADCAST None false false false
+facts_of (Connect h) = of_users CONNECT None true false false
+facts_of (ClientReceive into room) = of_users CLIENT_RECEIVE (Some turns.Client) true false false
+facts_of (ClientSend address count) = of_users CLIENT_SEND (Some turns.Client) true false false
+facts_of ClientOver = of_users CLIENT_OVER (Some turns.Client) true false false
+facts_of Disconnect = of_users DISCONNECT None false false true
+facts_of (ClientOverRef reference) = of_users CLIENT_OVER_REF (Some turns.Client) true false false
+facts_of (ClientReceiveRef into room reference) = of_users CLIENT_RECEIVE_REF (Some turns.Client) true false false
+facts_of (ServerReceive into room) = of_users SERVER_RECEIVE (Some turns.Server) true false false
+facts_of (ServerSend address count) = of_users SERVER_SEND (Some turns.Server) true false false
+facts_of ServerOver = of_users SERVER_OVER (Some turns.Server) true false false
+facts_of ServerEnd = of_users SERVER_END None false false false
+facts_of (ServerOverRef reference) = of_users SERVER_OVER_REF (Some turns.Server) true false false
+facts_of (ServerReceiveRef into room reference) = of_users SERVER_RECEIVE_REF (Some turns.Server) true false false
 -- of porters alone: whether it acts, what it makes, what it builds again
-facts_of (CountIn base s x) = of_porters 8 true Makes_nothing Rebuilds_nothing
-facts_of (LinkSet s x port server) = of_porters 60 false Makes_nothing A_talk
-facts_of (LinkPark s x port) = of_porters 61 false Makes_nothing A_talk
-facts_of (FaultSet s x port taker) = of_porters 62 false Makes_nothing A_fault
-facts_of (FaultPark s x port taken) = of_porters 63 false Makes_nothing A_fault
-facts_of (HoldSet s x thread) = of_porters 64 false Makes_nothing A_hold
-facts_of (SpaceMakeHeld x) = of_porters 65 false An_object A_space
+facts_of (CountIn base s x) = of_porters COUNT_IN true Makes_nothing Rebuilds_nothing
+facts_of (LinkSet s x port server) = of_porters LINK_SET false Makes_nothing A_talk
+facts_of (LinkPark s x port) = of_porters LINK_PARK false Makes_nothing A_talk
+facts_of (FaultSet s x port taker) = of_porters FAULT_SET false Makes_nothing A_fault
+facts_of (FaultPark s x port taken) = of_porters FAULT_PARK false Makes_nothing A_fault
+facts_of (HoldSet s x thread) = of_porters HOLD_SET false Makes_nothing A_hold
+facts_of (SpaceMakeHeld x) = of_porters SPACE_MAKE_HELD false An_object A_space
 
 abbrev pub is_porters_alone : Maker → Bool
 is_porters_alone Porters = true

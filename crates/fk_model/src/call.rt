@@ -39,7 +39,7 @@ pub const PAGE_TAKE: u64 = 18;
 pub const PAGE_READ: u64 = 19;
 
 pub const PAGE_NEXT: u64 = 20;
-/// The first call that isn't on objects, spaces or pages.
+
 pub const MUTEX_LOCK: u64 = 21;
 
 pub const MUTEX_TRYLOCK: u64 = 22;
@@ -95,7 +95,7 @@ pub const FAULT_DONE: u64 = 56;
 pub const SERVER_OVER_REF: u64 = 57;
 
 pub const SERVER_RECEIVE_REF: u64 = 58;
-/// The first call that only porters make, but for `COUNT_IN`.
+
 pub const LINK_SET: u64 = 60;
 
 pub const LINK_PARK: u64 = 61;

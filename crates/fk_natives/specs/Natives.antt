@@ -1,5 +1,5 @@
 -- Native servers: what they ask for, and what becomes of them by what they are told.
-use Rattle.std.specs.Prelude.{◌≡◌, ℕ, ◌+◌, nat_le, Bool, List, [], ◌∷◌, ◌++◌, filter, take, drop, Option, Some, None}
+use Rattle.std.specs.Prelude.{◌≡◌, ◌||◌, ℕ, ◌+◌, nat_le, is_none, Bool, true, false, List, [], ◌∷◌, ◌++◌, filter, take, drop, Option, Some, None}
 use Rattle.std.specs.List.{slice_get}
 use Rattle.fk_model.specs.declared.moves.Ask.{Ask}
 use Rattle.fk_model.specs.declared.moves.Ask.TheVariants as asks
@@ -165,6 +165,27 @@ hears (OfConsole alias words side) news = console_hears alias words side news
 hears (OfServer index rule config position request left side) news = server_hears index rule config position request left side news
 hears (OfReplay replies left side) news = replay_hears replies left side news
 hears (OfTap watch noted inner) news = tapped watch noted (asks_for inner) news (hears inner news)
+
+-- ---- what takes memory: the words that a console is sent, and what a tap may note
+
+abbrev pub brings_words : News → Bool
+brings_words (Words words) = true
+brings_words other = false
+
+-- whether something is noted of a server, by what it asks for before it hears news
+abbrev pub is_noted : Option Ask → News → Bool
+is_noted before (Taken turn moved) = true
+is_noted before (Words words) = true
+is_noted before Over = is_none before
+is_noted before (Given count) = false
+is_noted before Ended = true
+
+-- it grows by news
+abbrev pub grows : State → News → Bool
+grows (OfConsole alias words side) news = brings_words news
+grows (OfServer index rule config position request left side) news = false
+grows (OfReplay replies left side) news = false
+grows (OfTap watch noted inner) news = is_noted (asks_for inner) news || grows inner news
 
 -- ---- what is printed of it
 

@@ -94,6 +94,10 @@ impl Service for Server {
         Ok(())
     }
 
+    fn grows(&self, _heard: &Heard) -> bool {
+        false
+    }
+
     fn absorb(&mut self, table: &Table, heard: &Heard) {
         match heard {
             Heard::Taken {

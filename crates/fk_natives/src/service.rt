@@ -1,6 +1,6 @@
 //! What native servers have in common.
 ghost use Rattle.std.specs.Prelude.{◌≡◌, ◌≤◌, Bool, length, map, true, Option, option_map, OnOk};
-ghost use Rattle.fk_natives.specs.Natives.{State, Words, hears, news_of, DoesFit, asks_for, alias_of, printed_by, side_at, side_after};
+ghost use Rattle.fk_natives.specs.Natives.{State, Words, grows, hears, news_of, DoesFit, asks_for, alias_of, printed_by, side_at, side_after};
 
 use fk_model::{Ask, NoMemory, Reply, Turn, Who};
 use fk_responders::Table;
@@ -46,16 +46,20 @@ pub trait Service {
         ensures same { meaning self.new ≡ meaning self.old }
         ensures room { OnOk result (has_room self.new ≡ true) };
 
-    /// Is told something. That uses up its room. The table has its responder and its observer.
+    /// Whether it grows by something that it is told.
+    fn grows(&self, heard: &Heard) -> bool
+        ensures { result ≡ grows (meaning self.now) (news_of heard.now) };
+
+    /// Is told something. Where it grows by that, that uses up its room. The table has its responder and its observer.
     fn absorb(&mut self, table: &Table, heard: &Heard)
         requires fits { DoesFit (map (λ r. r.rule) table.now.list.items) (meaning self.old) }
-        requires room { has_room self.old ≡ true }
+        requires room { grows (meaning self.old) (news_of heard.now) ≡ true → has_room self.old ≡ true }
         ensures { meaning self.new ≡ hears (meaning self.old) (news_of heard.now) };
 
-    /// Is told that its client has sent these words. That uses up its room.
+    /// Is told that its client has sent these words. Where it grows by them, that uses up its room.
     fn take_words(&mut self, table: &Table, words: &[u64])
         requires few { length words.now ≤ 64 }
-        requires room { has_room self.old ≡ true }
+        requires room { grows (meaning self.old) (Words words.now) ≡ true → has_room self.old ≡ true }
         ensures { meaning self.new ≡ hears (meaning self.old) (Words words.now) };
 
     /// A console's alias. Others have none.

@@ -17,6 +17,6 @@ pub mod wakes;
 
 pub use plans::{
     Block, Deed, Effect, Moving, News, Plan, Record, Source, Verdict, Words, carry_all, carry_out,
-    is_effect_ready, is_moving_ready, is_ready, make_effect, move_words, own_page, record_at, run,
-    set_record, sleeps, unfrozen,
+    foretell, is_effect_ready, is_moving_ready, is_ready, make_effect, move_words, own_page,
+    record_at, run, set_record, sleeps, unfrozen,
 };

@@ -8,6 +8,7 @@
 mod blocks;
 mod carrying;
 mod destroying;
+mod foretelling;
 mod instructions;
 mod making;
 mod moving;
@@ -24,6 +25,7 @@ mod waking;
 
 pub use blocks::Block;
 pub use carrying::{carry_all, carry_out};
+pub use foretelling::foretell;
 pub use instructions::{make_effect, run};
 pub use moving::move_words;
 pub use opening::unfrozen;

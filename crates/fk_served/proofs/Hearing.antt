@@ -23,7 +23,7 @@ use Rattle.fk_served.specs.Served.{Services, said_at, news_at, after_news, hears
 
 -- ---- what is told
 
-said-alike : (p : ℕ → Path) (said : says_of.Said) (x : Path) (who : Who) → says_to (said_by p said) x ≡ says_to_who said who
+pub said-alike : (p : ℕ → Path) (said : says_of.Said) (x : Path) (who : Who) → says_to (said_by p said) x ≡ says_to_who said who
     → said_at (said_by p said) x ≡ said_to said who
 said-alike p says.Nothing x who same = refl
 said-alike p (says.Answer answer) x who same = refl

@@ -4,6 +4,7 @@ use Rattle.std.proofs.Common.{slice_set, Option, Some, None, refl, sym, ap, ◌�
 use Rattle.std.proofs.Math.Seq.{drop-cons, map-set_same}
 use Rattle.std.proofs.lemmas.List.{drop-set-lt, map-append, take_all}
 use Rattle.std.proofs.lemmas.List.Elements.{All-head, All-tail, All-push}
+use Rattle.std.specs.List.{All}
 use Rattle.fk_model.specs.declared.moves.Rule.{Rule}
 use Rattle.fk_model.specs.declared.moves.Said as says_of
 use Rattle.fk_model.specs.declared.names.Who.{Who}
@@ -77,6 +78,18 @@ module _ {S : Type 0} (meaning : S → State) where
       let rest : drop i xs ≡ x ∷ drop (suc i) xs = drop-cons xs i x h ∙ ap (λ y. y ∷ drop (suc i) xs) (sym is) in
       let back : drop (i + 1) (slice_set xs i y) ≡ drop (suc i) xs = drop-set-lt (i + 1) xs i y (omega arith) ∙ ap (λ n. drop n xs) (add-one i) in
       rw back (All-tail (λ e. has e.1 ≡ true) x (drop (suc i) xs) (rw rest at room))
+
+  pub for-here : (P : Who × S → Type 0) (xs : List (Who × S)) (i : ℕ) (x : Who × S) → i < length xs → x ≡ get_or xs i x → All P (drop i xs) → P x
+  for-here P xs i x h is all =
+      let rest : drop i xs ≡ x ∷ drop (suc i) xs = drop-cons xs i x h ∙ ap (λ y. y ∷ drop (suc i) xs) (sym is) in
+      All-head P x (drop (suc i) xs) (rw rest at all)
+
+  pub for-next : (P : Who × S → Type 0) (xs : List (Who × S)) (i : ℕ) (x y : Who × S) → i < length xs → x ≡ get_or xs i x → All P (drop i xs)
+      → All P (drop (i + 1) (slice_set xs i y))
+  for-next P xs i x y h is all =
+      let rest : drop i xs ≡ x ∷ drop (suc i) xs = drop-cons xs i x h ∙ ap (λ y. y ∷ drop (suc i) xs) (sym is) in
+      let back : drop (i + 1) (slice_set xs i y) ≡ drop (suc i) xs = drop-set-lt (i + 1) xs i y (omega arith) ∙ ap (λ n. drop n xs) (add-one i) in
+      rw back (All-tail P x (drop (suc i) xs) (rw rest at all))
 
   pub fits-next : (rules : List Rule) (xs : List (Who × S)) (i : ℕ) (x y : Who × S) → i < length xs → x ≡ get_or xs i x
       → AllFit rules (shown meaning (drop i xs))

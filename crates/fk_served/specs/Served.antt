@@ -1,5 +1,5 @@
 -- Native servers, each by its port: what they ask for, and what each hears of a move.
-use Rattle.std.specs.Prelude.{◌≡◌, ℕ, Bool, true, List, [], ◌∷◌, map, take, Option, Some, None, if◌then◌else◌}
+use Rattle.std.specs.Prelude.{◌≡◌, ◌&&◌, ◌||◌, ℕ, Bool, true, false, List, [], ◌∷◌, map, take, Option, Some, None, if◌then◌else◌}
 use Rattle.std.specs.List.{All}
 use Rattle.fk_model.specs.declared.moves.Ask.{Ask}
 use Rattle.fk_model.specs.declared.moves.Ask.TheVariants as asks
@@ -116,6 +116,31 @@ words_at_port port words who = if same_who who port then Some (natives.Words wor
 abbrev pub sent_at_port : Who → List ℕ → Who × State → Who × State
 sent_at_port port words served = (served.0, after_news (words_at_port port words served.0) served.1)
 
+-- ---- what takes memory
+
+-- a server grows by news, if there are any
+abbrev pub grows_by : Option News → State → Bool
+grows_by None state = false
+grows_by (Some news) state = natives.grows state news
+
+-- a server grows by a move: by what this says at its port, or by the end of its talk
+abbrev pub grows_at : World → Event → Who × State → Bool
+grows_at w e served = grows_by (said_at (said_of w e) (named w served.0)) served.1
+    || (has_ended w (after w e) (named w served.0) && natives.grows served.1 natives.Ended)
+
+-- some server does
+abbrev pub some_grow : World → Event → Services → Bool
+some_grow w e [] = false
+some_grow w e (s ∷ ss) = grows_at w e s || some_grow w e ss
+
+-- the same by names
+abbrev pub grows_told : says_of.Said → Option Who → Who × State → Bool
+grows_told said ended served = grows_by (said_to said served.0) served.1 || (is_who ended served.0 && natives.grows served.1 natives.Ended)
+
+abbrev pub some_told : says_of.Said → Option Who → Services → Bool
+some_told said ended [] = false
+some_told said ended (s ∷ ss) = grows_told said ended s || some_told said ended ss
+
 -- ---- what they rest on
 
 -- the table has the rule of each at its place
@@ -130,6 +155,10 @@ shown meaning list = map (λ e. (e.0, meaning e.1)) list
 -- each has room for what it may hear
 abbrev pub HaveRoom : {S : Type 0} → (S → Bool) → List (Who × S) → Type 0
 HaveRoom has_room list = All (λ e. has_room e.1 ≡ true) list
+
+-- so has each that grows by what is told
+abbrev pub HaveRoomFor : {S : Type 0} → (S → State) → (S → Bool) → says_of.Said → Option Who → List (Who × S) → Type 0
+HaveRoomFor meaning has_room said ended list = All (λ e. grows_told said ended (e.0, meaning e.1) ≡ true → has_room e.1 ≡ true) list
 
 -- servers as the code has them: whether there is room for what each may hear
 pub record Housed : Type 0 where

@@ -1,16 +1,17 @@
 //! The native servers of a machine, each by its port.
-ghost use Rattle.std.specs.Prelude.{◌≡◌, ◌<◌, ◌≤◌, true, Some, None, length, map, option_map, OnOk, IfSome};
+ghost use Rattle.std.specs.Prelude.{◌≡◌, ◌<◌, ◌≤◌, true, false, Some, None, length, map, option_map, OnOk, IfSome};
 ghost use Rattle.std.specs.List.{slice_get};
 ghost use Rattle.fk_model.specs.Whole.{are_words};
 ghost use Rattle.laws_moves.specs.Whole.Runnable.{has_all_words};
-ghost use Rattle.fk_served.specs.Served.{asked_of, serving, told, news_to, after_news, gives_words, words_at_port, sent_at_port, AllFit, shown, HaveRoom};
+ghost use Rattle.fk_served.specs.Served.{asked_of, serving, told, said_to, news_to, after_news, gives_words, words_at_port, sent_at_port, AllFit, shown};
+ghost use Rattle.fk_served.specs.Served.{grows_by, grows_told, some_told, HaveRoom, HaveRoomFor};
 ghost use Rattle.fk_natives.specs.Natives.{DoesFit};
 ghost use Rattle.fk_model.specs.declared.moves.Said.TheVariants as says;
 
-use crate::told::{heard_by, is_telling, is_told};
+use crate::told::{heard_by, is_telling, is_told, said_to};
 use fk_kernel::Told;
-use fk_model::{Ask, NoMemory, Reply, Who};
-use fk_natives::Service;
+use fk_model::{Ask, NoMemory, Reply, Said, Who};
+use fk_natives::{Heard, Service};
 use fk_responders::{Table, words_of};
 use std::marker::Model;
 
@@ -79,11 +80,44 @@ fn reserve_in<S: Service>(list: &mut Vec<(Who, S)>) -> Result<(), NoMemory>
     Ok(())
 }
 
+/// Whether a server grows by what a move says at its port.
+fn grows_by_said<S: Service>(entry: &(Who, S), said: &Said) -> bool
+    ensures { result ≡ grows_by (said_to said.now entry.now.0) (S.meaning entry.now.1) }
+{
+    match said_to(said, entry.0) {
+        Some(heard) => entry.1.grows(&heard),
+        None => false,
+    }
+}
+
+/// Whether a server grows by what a move tells it.
+fn grows_told<S: Service>(entry: &(Who, S), what: &Told) -> bool
+    ensures { result ≡ grows_told what.now.said what.now.ended (entry.now.0, S.meaning entry.now.1) }
+{
+    if grows_by_said(entry, &what.said) {
+        return true;
+    }
+    what.ended == Some(entry.0) && entry.1.grows(&Heard::Ended)
+}
+
+/// Whether some server grows by what a move tells it.
+fn some_told<S: Service>(list: &[(Who, S)], what: &Told) -> bool
+    ensures { result ≡ some_told what.now.said what.now.ended (shown S.meaning list.now) }
+{
+    for entry in list {
+        if grows_told(entry, what) {
+            return true;
+        }
+    }
+    false
+}
+
 /// Tells a server what a move tells it. What that is takes much room, so it is looked at only where there may be any.
 #[inline(never)]
+#[tactic(auto, using(crate::proofs::Growing::told_room))]
 fn tell_heard<S: Service>(entry: &mut (Who, S), table: &Table, what: &Told)
     requires fits { DoesFit (map (λ r. r.rule) table.now.list.items) (S.meaning entry.old.1) }
-    requires room { S.has_room entry.old.1 ≡ true }
+    requires room { grows_told what.now.said what.now.ended (entry.old.0, S.meaning entry.old.1) ≡ true → S.has_room entry.old.1 ≡ true }
     ensures who { entry.new.0 ≡ entry.old.0 }
     ensures told { S.meaning entry.new.1 ≡ after_news (news_to what.now.said what.now.ended entry.old.0) (S.meaning entry.old.1) }
 {
@@ -95,7 +129,7 @@ fn tell_heard<S: Service>(entry: &mut (Who, S), table: &Table, what: &Told)
 /// Tells a server what a move tells it.
 fn tell_one<S: Service>(entry: &mut (Who, S), table: &Table, what: &Told)
     requires fits { DoesFit (map (λ r. r.rule) table.now.list.items) (S.meaning entry.old.1) }
-    requires room { S.has_room entry.old.1 ≡ true }
+    requires room { grows_told what.now.said what.now.ended (entry.old.0, S.meaning entry.old.1) ≡ true → S.has_room entry.old.1 ≡ true }
     ensures who { entry.new.0 ≡ entry.old.0 }
     ensures told { S.meaning entry.new.1 ≡ after_news (news_to what.now.said what.now.ended entry.old.0) (S.meaning entry.old.1) }
 {
@@ -108,7 +142,7 @@ fn tell_one<S: Service>(entry: &mut (Who, S), table: &Table, what: &Told)
 #[inline(never)]
 fn tell_in<S: Service>(list: &mut Vec<(Who, S)>, table: &Table, what: &Told)
     requires fits { AllFit (map (λ r. r.rule) table.now.list.items) (shown S.meaning list.old.items) }
-    requires room { HaveRoom S.has_room list.old.items }
+    requires room { HaveRoomFor S.meaning S.has_room what.now.said what.now.ended list.old.items }
     ensures { shown S.meaning list.new.items ≡ map (told what.now.said what.now.ended) (shown S.meaning list.old.items) }
 {
     for at in 0..list.len() {
@@ -178,10 +212,17 @@ impl<S: Service + Drop> Services<S> {
         Ok(())
     }
 
-    /// Tells each server what a move tells it.
+    /// Whether some server grows by what a move tells it.
+    pub fn some_told(&self, what: &Told) -> bool
+        ensures { result ≡ some_told what.now.said what.now.ended self.now.list }
+    {
+        some_told(self.list.as_slice(), what)
+    }
+
+    /// Tells each server what a move tells it. There is room, or nobody grows by that.
     pub fn hear(&mut self, table: &Table, what: &Told)
         requires fits { AllFit (map (λ r. r.rule) table.now.list.items) self.old.list }
-        requires ready { self.old.ready ≡ true }
+        requires room { self.old.ready ≡ false → some_told what.now.said what.now.ended self.old.list ≡ false }
         ensures { self.new.list ≡ map (told what.now.said what.now.ended) self.old.list }
     {
         if is_telling(what) {

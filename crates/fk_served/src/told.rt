@@ -9,7 +9,7 @@ use fk_model::{Reply, Said, Who};
 use fk_natives::Heard;
 
 /// What a move tells the server of a port.
-fn said_to(said: &Said, who: Who) -> Option<Heard>
+pub fn said_to(said: &Said, who: Who) -> Option<Heard>
     ensures { option_map news_of result ≡ said_to said.now who }
 {
     match said {

@@ -1,32 +1,23 @@
 //! The codes of calls.
-ghost use Rattle.std.specs.Prelude.{◌≡◌, ◌≤◌};
+ghost use Rattle.std.specs.Prelude.{◌≡◌, true};
 ghost use Rattle.fk_model.specs.Calls as calls;
-ghost use Rattle.fk_model.specs.declared.call.TheConstants.{CONNECT, LINK_SET};
+ghost use Rattle.fk_model.specs.Moves.{is_for_users};
 
 use fk_model::{Stage, Todo, call};
 
-/// The code of a call of one stage that makes a part of a saved subtree again.
-fn code_of_porters_stage(stage: &Stage) -> u64
-    requires { LINK_SET ≤ calls.code_of_stage stage.now }
+/// The code of a call of one stage that users alone make: on mutexes and conditions, or in a talk.
+fn code_of_users_stage(stage: &Stage) -> u64
+    requires { is_for_users stage.now ≡ true }
     ensures { result ≡ calls.code_of_stage stage.now }
 {
     match stage {
-        Stage::LinkSet { .. } => call::LINK_SET,
-        Stage::LinkPark { .. } => call::LINK_PARK,
-        Stage::FaultSet { .. } => call::FAULT_SET,
-        Stage::FaultPark { .. } => call::FAULT_PARK,
-        Stage::HoldSet { .. } => call::HOLD_SET,
-        Stage::SpaceMakeHeld { .. } => call::SPACE_MAKE_HELD,
-        _ => unreachable!(),
-    }
-}
-
-/// The code of a call of one stage from `CONNECT` on: those of talks and faults, and a porter's own.
-fn code_of_talks_stage(stage: &Stage) -> u64
-    requires { CONNECT ≤ calls.code_of_stage stage.now }
-    ensures { result ≡ calls.code_of_stage stage.now }
-{
-    match stage {
+        Stage::MutexLock { .. } => call::MUTEX_LOCK,
+        Stage::MutexTrylock { .. } => call::MUTEX_TRYLOCK,
+        Stage::MutexUnlock { .. } => call::MUTEX_UNLOCK,
+        Stage::CondWait { .. } => call::COND_WAIT,
+        Stage::CondAsleep { .. } => call::COND_ASLEEP,
+        Stage::CondSignal { .. } => call::COND_SIGNAL,
+        Stage::CondBroadcast { .. } => call::COND_BROADCAST,
         Stage::Connect { .. } => call::CONNECT,
         Stage::ClientReceive { .. } => call::CLIENT_RECEIVE,
         Stage::ClientSend { .. } => call::CLIENT_SEND,
@@ -34,15 +25,13 @@ fn code_of_talks_stage(stage: &Stage) -> u64
         Stage::Disconnect => call::DISCONNECT,
         Stage::ClientOverRef { .. } => call::CLIENT_OVER_REF,
         Stage::ClientReceiveRef { .. } => call::CLIENT_RECEIVE_REF,
-        Stage::Wait { .. } => call::WAIT,
         Stage::ServerReceive { .. } => call::SERVER_RECEIVE,
         Stage::ServerSend { .. } => call::SERVER_SEND,
         Stage::ServerOver => call::SERVER_OVER,
         Stage::ServerEnd => call::SERVER_END,
-        Stage::FaultDone => call::FAULT_DONE,
         Stage::ServerOverRef { .. } => call::SERVER_OVER_REF,
         Stage::ServerReceiveRef { .. } => call::SERVER_RECEIVE_REF,
-        other => code_of_porters_stage(other),
+        _ => unreachable!(),
     }
 }
 
@@ -72,14 +61,15 @@ pub fn code_of_stage(stage: &Stage) -> u64
         Stage::PageTake { .. } => call::PAGE_TAKE,
         Stage::PageRead { .. } => call::PAGE_READ,
         Stage::PageNext { .. } => call::PAGE_NEXT,
-        Stage::MutexLock { .. } => call::MUTEX_LOCK,
-        Stage::MutexTrylock { .. } => call::MUTEX_TRYLOCK,
-        Stage::MutexUnlock { .. } => call::MUTEX_UNLOCK,
-        Stage::CondWait { .. } => call::COND_WAIT,
-        Stage::CondAsleep { .. } => call::COND_ASLEEP,
-        Stage::CondSignal { .. } => call::COND_SIGNAL,
-        Stage::CondBroadcast { .. } => call::COND_BROADCAST,
-        other => code_of_talks_stage(other),
+        Stage::Wait { .. } => call::WAIT,
+        Stage::FaultDone => call::FAULT_DONE,
+        Stage::LinkSet { .. } => call::LINK_SET,
+        Stage::LinkPark { .. } => call::LINK_PARK,
+        Stage::FaultSet { .. } => call::FAULT_SET,
+        Stage::FaultPark { .. } => call::FAULT_PARK,
+        Stage::HoldSet { .. } => call::HOLD_SET,
+        Stage::SpaceMakeHeld { .. } => call::SPACE_MAKE_HELD,
+        other => code_of_users_stage(other),
     }
 }
 

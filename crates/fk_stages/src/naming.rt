@@ -1,13 +1,13 @@
 //! The stages that registers name.
-ghost use Rattle.std.specs.Prelude.{◌≡◌, option_map, slice_index, take, drop};
-ghost use Rattle.fk_model.specs.Calls.{calls, named_by, stages_of, todo_of};
+ghost use Rattle.std.specs.Prelude.{◌≡◌, option_map, slice_index};
+ghost use Rattle.fk_model.specs.Calls.{client_calls, named_by, object_calls, rebuilding_calls, server_calls, stages_of, thread_calls, todo_of};
 
 use fk_model::{Stage, Todo, call};
 
-/// Those of a call upon objects: codes 1 to 14.
+/// Those of a call on objects and what they point to, or on a space as a whole.
 #[inline(always)]
 fn named_object_call(registers: &[u64; 16]) -> Option<Todo>
-    ensures { option_map stages_of result ≡ named_by (take 14 calls) (slice_index registers.now 0) registers.now }
+    ensures { option_map stages_of result ≡ named_by object_calls (slice_index registers.now 0) registers.now }
 {
     let (s, x, c, d) = (registers[1], registers[2], registers[3], registers[4]);
     let stage = match registers[0] {
@@ -44,10 +44,10 @@ fn named_object_call(registers: &[u64; 16]) -> Option<Todo>
     Some(Todo::One(stage))
 }
 
-/// Those of a call upon threads, pages, mutexes and conditions: codes 15 to 27.
+/// Those of a call on threads, pages, mutexes and conditions.
 #[inline(always)]
 fn named_thread_call(registers: &[u64; 16]) -> Option<Todo>
-    ensures { option_map stages_of result ≡ named_by (take 13 (drop 14 calls)) (slice_index registers.now 0) registers.now }
+    ensures { option_map stages_of result ≡ named_by thread_calls (slice_index registers.now 0) registers.now }
 {
     let (a, b, c) = (registers[1], registers[2], registers[3]);
     let stage = match registers[0] {
@@ -81,10 +81,10 @@ fn named_thread_call(registers: &[u64; 16]) -> Option<Todo>
     Some(Todo::One(stage))
 }
 
-/// Those of a client's call: codes 32 to 41.
+/// Those of a client's call.
 #[inline(always)]
 fn named_client_call(registers: &[u64; 16]) -> Option<Todo>
-    ensures { option_map stages_of result ≡ named_by (take 10 (drop 27 calls)) (slice_index registers.now 0) registers.now }
+    ensures { option_map stages_of result ≡ named_by client_calls (slice_index registers.now 0) registers.now }
 {
     let connect = Stage::Connect { h: registers[1] };
     let send = Stage::ClientSend {
@@ -121,10 +121,10 @@ fn named_client_call(registers: &[u64; 16]) -> Option<Todo>
     }
 }
 
-/// Those of a server's call: codes 48 to 58.
+/// Those of a server's call, or of who takes faults.
 #[inline(always)]
 fn named_server_call(registers: &[u64; 16]) -> Option<Todo>
-    ensures { option_map stages_of result ≡ named_by (take 11 (drop 37 calls)) (slice_index registers.now 0) registers.now }
+    ensures { option_map stages_of result ≡ named_by server_calls (slice_index registers.now 0) registers.now }
 {
     let wait = Stage::Wait { set: registers[1] };
     let send = Stage::ServerSend {
@@ -157,10 +157,10 @@ fn named_server_call(registers: &[u64; 16]) -> Option<Todo>
     }
 }
 
-/// Those of a porter's call: codes 60 to 65.
+/// Those of a call by which a porter builds a saved subtree again.
 #[inline(always)]
-fn named_porter_call(registers: &[u64; 16]) -> Option<Todo>
-    ensures { option_map stages_of result ≡ named_by (drop 48 calls) (slice_index registers.now 0) registers.now }
+fn named_rebuilding_call(registers: &[u64; 16]) -> Option<Todo>
+    ensures { option_map stages_of result ≡ named_by rebuilding_calls (slice_index registers.now 0) registers.now }
 {
     let (s, x, c, d) = (registers[1], registers[2], registers[3], registers[4]);
     let stage = match registers[0] {
@@ -208,5 +208,5 @@ pub fn todo(registers: &[u64; 16]) -> Option<Todo>
     if let Some(call) = named_server_call(registers) {
         return Some(call);
     }
-    named_porter_call(registers)
+    named_rebuilding_call(registers)
 }

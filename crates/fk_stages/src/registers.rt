@@ -1,7 +1,7 @@
 //! The registers that stages are written into.
-ghost use Rattle.std.specs.Prelude.{◌≡◌, ◌≤◌, slice_set};
-ghost use Rattle.fk_model.specs.declared.call.TheConstants.{CONNECT, LINK_SET};
+ghost use Rattle.std.specs.Prelude.{◌≡◌, true, slice_set};
 ghost use Rattle.fk_model.specs.Calls as calls;
+ghost use Rattle.fk_model.specs.Moves.{is_for_porters, is_for_users};
 
 use crate::code::code_of;
 use fk_model::{Stage, Todo};
@@ -28,12 +28,13 @@ fn put_four(registers: &mut [u64; 16], a: u64, b: u64, c: u64, d: u64)
     registers[4] = d;
 }
 
-/// Writes the arguments of a stage that is for porters alone.
+/// Writes the arguments of a stage that porters alone make.
 fn write_porters_arguments(stage: &Stage, registers: &mut [u64; 16])
-    requires { LINK_SET ≤ calls.code_of_stage stage.now }
+    requires { is_for_porters stage.now ≡ true }
     ensures { registers.new ≡ calls.with_values (calls.arguments stage.now) registers.old }
 {
     match *stage {
+        Stage::CountIn { base, s, x } => put_three(registers, base, s, x),
         Stage::LinkSet { s, x, port, server } => put_four(registers, s, x, port, server),
         Stage::LinkPark { s, x, port } => put_three(registers, s, x, port),
         Stage::FaultSet { s, x, port, taker } => put_four(registers, s, x, port, taker),
@@ -44,16 +45,21 @@ fn write_porters_arguments(stage: &Stage, registers: &mut [u64; 16])
     }
 }
 
-/// Writes the arguments of a stage of a talk or a fault.
-fn write_talks_arguments(stage: &Stage, registers: &mut [u64; 16])
-    requires { CONNECT ≤ calls.code_of_stage stage.now }
+/// Writes the arguments of a stage that users alone make: on mutexes and conditions, or in a talk.
+fn write_users_arguments(stage: &Stage, registers: &mut [u64; 16])
+    requires { is_for_users stage.now ≡ true }
     ensures { registers.new ≡ calls.with_values (calls.arguments stage.now) registers.old }
 {
     match *stage {
-        Stage::Connect { h: a }
-        | Stage::Wait { set: a }
+        Stage::MutexLock { m: a }
+        | Stage::MutexTrylock { m: a }
+        | Stage::MutexUnlock { m: a }
+        | Stage::CondSignal { c: a }
+        | Stage::CondBroadcast { c: a }
+        | Stage::Connect { h: a }
         | Stage::ClientOverRef { reference: a }
         | Stage::ServerOverRef { reference: a } => registers[1] = a,
+        Stage::CondWait { c, m } | Stage::CondAsleep { c, m } => put_two(registers, c, m),
         Stage::ClientSend { addr, count } | Stage::ServerSend { addr, count } => {
             registers[2] = addr;
             registers[3] = count;
@@ -76,12 +82,8 @@ fn write_talks_arguments(stage: &Stage, registers: &mut [u64; 16])
             registers[5] = room;
             registers[6] = reference;
         }
-        Stage::ClientOver
-        | Stage::Disconnect
-        | Stage::ServerOver
-        | Stage::ServerEnd
-        | Stage::FaultDone => {}
-        _ => write_porters_arguments(stage, registers),
+        Stage::ClientOver | Stage::Disconnect | Stage::ServerOver | Stage::ServerEnd => {}
+        _ => unreachable!(),
     }
 }
 
@@ -90,23 +92,18 @@ fn write_arguments(stage: &Stage, registers: &mut [u64; 16])
     ensures { registers.new ≡ calls.with_values (calls.arguments stage.now) registers.old }
 {
     match *stage {
-        Stage::ThreadStop { h: a }
-        | Stage::ThreadGo { h: a }
-        | Stage::MutexLock { m: a }
-        | Stage::MutexTrylock { m: a }
-        | Stage::MutexUnlock { m: a }
-        | Stage::CondSignal { c: a }
-        | Stage::CondBroadcast { c: a } => registers[1] = a,
+        Stage::FaultDone => {}
+        Stage::ThreadStop { h: a } | Stage::ThreadGo { h: a } | Stage::Wait { set: a } => {
+            registers[1] = a
+        }
         Stage::Destroy { s, x }
         | Stage::Clear { s, x }
         | Stage::SpaceHold { s, x }
         | Stage::SpaceRelease { s, x } => put_two(registers, s, x),
         Stage::Search { s, from } | Stage::PageNext { s, from } => put_two(registers, s, from),
         Stage::Locate { reference, s } => put_two(registers, reference, s),
-        Stage::CondWait { c, m } | Stage::CondAsleep { c, m } => put_two(registers, c, m),
         Stage::Create { s, x, kind } => put_three(registers, s, x, kind),
         Stage::Rename { s, x, y } => put_three(registers, s, x, y),
-        Stage::CountIn { base, s, x } => put_three(registers, base, s, x),
         Stage::GetState { s, x, addr } | Stage::SetState { s, x, addr } => {
             put_three(registers, s, x, addr)
         }
@@ -126,7 +123,14 @@ fn write_arguments(stage: &Stage, registers: &mut [u64; 16])
             field: n,
             reference: r,
         } => put_four(registers, s, x, n, r),
-        _ => write_talks_arguments(stage, registers),
+        Stage::CountIn { .. }
+        | Stage::LinkSet { .. }
+        | Stage::LinkPark { .. }
+        | Stage::FaultSet { .. }
+        | Stage::FaultPark { .. }
+        | Stage::HoldSet { .. }
+        | Stage::SpaceMakeHeld { .. } => write_porters_arguments(stage, registers),
+        _ => write_users_arguments(stage, registers),
     }
 }
 

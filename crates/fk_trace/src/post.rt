@@ -39,6 +39,14 @@ impl Service for Post {
         }
     }
 
+    fn grows(&self, heard: &Heard) -> bool {
+        match self {
+            Post::Plain(server) => server.grows(heard),
+            Post::Tap(tap) => tap.grows(heard),
+            Post::Replay(replay) => replay.grows(heard),
+        }
+    }
+
     fn absorb(&mut self, table: &Table, heard: &Heard) {
         match self {
             Post::Plain(server) => server.absorb(table, heard),

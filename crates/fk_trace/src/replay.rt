@@ -83,6 +83,10 @@ impl Service for Replay {
         Ok(())
     }
 
+    fn grows(&self, _heard: &Heard) -> bool {
+        false
+    }
+
     fn absorb(&mut self, _table: &Table, heard: &Heard) {
         match heard {
             Heard::Taken {

@@ -1,7 +1,7 @@
 //! Taps.
 ghost use Rattle.std.specs.Prelude.{◌≡◌, ◌≤◌, ◌<◌, ◌+◌, ◌++◌, ◌∷◌, [], vec_len, vec_capacity};
 ghost use Rattle.fk_model.specs.Answers.{reply_words};
-ghost use Rattle.fk_natives.specs.Natives.{given_by, seen_of};
+ghost use Rattle.fk_natives.specs.Natives.{given_by, is_noted, news_of, seen_of};
 ghost use Rattle.fk_responders.specs.Notes.{note_of};
 ghost use Rattle.fk_trace.specs.Taps.{noted};
 
@@ -32,6 +32,17 @@ fn reply_in(asked: &Option<Ask>) -> Reply
             words: [0; 64],
             len: 0,
         },
+    }
+}
+
+/// Whether something is noted of a server, by what it asks for before it hears this.
+fn is_noted(before: &Option<Ask>, heard: &Heard) -> bool
+    ensures { result ≡ is_noted before.now (news_of heard.now) }
+{
+    match heard {
+        Heard::Taken { .. } | Heard::Words(_) | Heard::Ended => true,
+        Heard::Over => before.is_none(),
+        Heard::Given(_) => false,
     }
 }
 
@@ -98,6 +109,10 @@ impl<S: Service + Drop> Service for Tap<S> {
             Ok(()) => Ok(()),
             Err(_) => Err(NoMemory),
         }
+    }
+
+    fn grows(&self, heard: &Heard) -> bool {
+        is_noted(&self.inner.ask(), heard) || self.inner.grows(heard)
     }
 
     fn absorb(&mut self, table: &Table, heard: &Heard) {

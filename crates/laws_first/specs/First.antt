@@ -7,11 +7,10 @@ use Rattle.fk_model.specs.Objects.{holds, is_served}
 use Rattle.fk_model.specs.Places.{Path, same_path}
 use Rattle.fk_model.specs.StateRows.{is_native}
 use Rattle.fk_model.specs.World.{World}
+use Rattle.fk_model.specs.Sound.{IsUncut, IsClean}
 use Rattle.fk_scenario.specs.declared.entries.types.SpaceEntry.{SpaceEntry}
 use Rattle.fk_scenario.specs.declared.scenario.scenario.Scenario.{Scenario}
 use Rattle.fk_scenario.specs.Scenario.Kept.{KeepsScenario}
-use Rattle.laws_subtrees.specs.Further.ClosedLaws.{IsUncut}
-use Rattle.laws_jobs.specs.Jobs.{IsClean}
 use Rattle.fk_boot.specs.FirstWorld.{booted, served_ports}
 
 -- a place is the last slot of a nester

@@ -1,9 +1,15 @@
 -- Tried: what comes of a move that is made where it is ready.
-use Rattle.std.specs.Prelude.{◌≡◌, Bool, true, false, Option, Some, None, Result, Ok, Err, IfSome, IfNone}
+use Rattle.std.specs.Prelude.{◌≡◌, Bool, true, false, Option, Some, None, Result, Ok, Err, IfSome, IfNone, option_map}
 use Rattle.fk_model.specs.declared.moves.Ask.{Ask}
 use Rattle.fk_model.specs.declared.moves.Move.{Move}
 use Rattle.fk_model.specs.declared.names.Who.{Who}
-use Rattle.fk_plans.specs.Plans.Hearers.{IsPadded}
+use Rattle.fk_model.specs.Moves.{Step, step}
+use Rattle.fk_plans.specs.Plans.Hearers.{to_servers, IsHeard, IsPadded}
+use Rattle.fk_store.specs.Store.Moves.{picked_by, said_by}
+use Rattle.fk_store.specs.Store.Named.{Each}
+use Rattle.fk_store.specs.Store.Paths.{path, place, HasOwnPath}
+use Rattle.fk_store.specs.Store.World.{world}
+use Rattle.fk_calls.specs.Acts.Clients.{IsEnding}
 use Rattle.fk_changes.specs.declared.readers.caller.Caller.{Caller}
 use Rattle.fk_store.specs.Store.Contents.{Contents}
 use Rattle.fk_plans.specs.declared.wakes.touching.Touched.{Touched}
@@ -50,3 +56,14 @@ tried_of (Err lacking) told = Err lacking
 -- a porter that makes a stage
 abbrev pub porter : Who → Caller
 porter who = record { who = who; is_porter = true }
+
+-- the machine's step by a move
+abbrev pub step_by : Contents → Move → Ask → Step
+step_by m move ask = step (world m) (place (path m) move.who) (picked_by (path m) move.pick) ask
+
+-- what a move would tell native servers, as they are named before it, and the port whose server would lose its client by it
+pub record Foretells (m : Contents) (move : Move) (ask : Ask) (told : Told) : Type 0 where
+  pub said : to_servers (step_by m move ask).said ≡ to_servers (said_by (path m) told.said)
+  pub heard : IsHeard (path m) (said_by (path m) told.said) told.said
+  pub ending : IsEnding (world m) (step_by m move ask).world (option_map (place (path m)) told.ended)
+  pub apart : Each (HasOwnPath (path m)) told.ended

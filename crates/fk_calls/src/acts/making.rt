@@ -1,5 +1,6 @@
 //! Making an act.
-ghost use Rattle.std.specs.Prelude.{◌≡◌, ◌≤◌, ◌+◌, [], ◌∷◌, take, length, IsSome, Some};
+ghost use Rattle.std.specs.Prelude.{◌≡◌, ◌≤◌, ◌+◌, ℕ, [], ◌∷◌, take, length, IsSome, Some};
+ghost use Rattle.fk_model.specs.Places.{Path};
 ghost use Rattle.fk_model.specs.Reach.{words_at};
 ghost use Rattle.fk_model.specs.TransferRows.{overwritten};
 ghost use Rattle.fk_model.specs.Valid.{kind_there};
@@ -135,5 +136,36 @@ pub fn make(store: &mut Store, port: Who, words: &[u64], act: &Act) -> Said
             finish(store, client, answered(came));
             Said::Over { port }
         }
+    }
+}
+
+/// What an act of a port's server tells, as things are named before it.
+pub fn said_of(port: Who, act: &Act) -> Said
+    ensures said { (p : ℕ → Path) → said_by p result ≡ told_of p port act.now }
+    ensures port { told_port result ≡ Some port }
+{
+    match *act {
+        Act::Takes { client } => Said::Taken {
+            port,
+            client,
+            resumed: false,
+            turn: Turn::Client,
+            moved: 0,
+        },
+        Act::Resumes {
+            client,
+            turn,
+            moved,
+        } => Said::Taken {
+            port,
+            client,
+            resumed: true,
+            turn,
+            moved,
+        },
+        Act::GivesNothing => Said::Given { port, len: 0 },
+        Act::Gives { count, .. } => Said::Given { port, len: count },
+        Act::Fills { .. } => Said::Full { port },
+        Act::Passes { .. } => Said::Over { port },
     }
 }

@@ -12,7 +12,7 @@ ghost use Rattle.fk_calls.specs.Acts.Acts.{is_act};
 
 use crate::acts::allowing::is_allowed;
 use crate::acts::judging::{act_of, given};
-use crate::acts::making::make;
+use crate::acts::making::{make, said_of};
 use fk_model::{Ask, Move, Said, Who};
 use fk_store::Store;
 
@@ -50,6 +50,27 @@ pub fn attempt(store: &mut Store, m: &Move, ask: &Ask) -> Option<Said>
     }
     own_path(store, m.who);
     Some(make(store, m.who, given(ask), &act))
+}
+
+/// What an act would tell, where it is ready; none where it isn't. Nothing is made.
+pub fn foretell(store: &Store, m: &Move, ask: &Ask) -> Option<Said>
+    requires valid { IsValid (world store.now) }
+    requires act { is_act ask.now ≡ true }
+    ensures ready { IsSome result → IsReady (world store.now) (place (path store.now) m.now.who) (picked_by (path store.now) m.now.pick) ask.now }
+    ensures said { IfSome result (λ said. (machine.step
+        (world store.now) (place (path store.now) m.now.who) (picked_by (path store.now) m.now.pick) ask.now).said ≡ said_by (path store.now) said) }
+    ensures heard { IfSome result (λ said. IsHeard (path store.now) (said_by (path store.now) said) said) }
+    ensures clients { IsSome result → IsEnding (world store.now) (machine.step
+        (world store.now) (place (path store.now) m.now.who) (picked_by (path store.now) m.now.pick) ask.now).world None }
+    ensures unready { IfNone result
+        (IsReady (world store.now) (place (path store.now) m.now.who) (picked_by (path store.now) m.now.pick) ask.now → ⊥) }
+{
+    let act = act_of(store, m, ask)?;
+    if !is_allowed(store, m.who, &act) {
+        return None;
+    }
+    own_path(store, m.who);
+    Some(said_of(m.who, &act))
 }
 
 /// An object that is there has a path of its own.

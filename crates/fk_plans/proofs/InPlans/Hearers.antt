@@ -30,9 +30,11 @@ use Rattle.fk_plans.specs.declared.plans.plan.Plan.{Plan}
 use Rattle.fk_plans.specs.declared.plans.plan.Verdict.{Verdict}
 use Rattle.fk_plans.specs.declared.plans.plan.Verdict.TheVariants as verdicts
 use Rattle.fk_plans.specs.Plans.Effects.{effect_by, in_running, of_running}
-use Rattle.fk_plans.specs.Plans.Hearers.{says_to, says_to_who, told_port, IsHeard}
+use Rattle.fk_plans.specs.Plans.Hearers.{says_to, says_to_who, to_servers, told_port, IsHeard}
 use Rattle.fk_plans.specs.Plans.Plans.{caller_by, changes_by}
-use Rattle.fk_plans.specs.Plans.Verdicts.{hearer, hearer_of, news_by, outcome_by, tells}
+use Rattle.fk_plans.specs.Plans.Verdicts.{hearer, hearer_of, news_by, news_in, outcome_by, tells, IsNews, IsVerdict}
+use Rattle.fk_store.specs.Store.Contents.{Contents}
+use Rattle.fk_changes.specs.declared.readers.caller.Caller.{Caller}
 
 -- ---- by names
 
@@ -73,6 +75,39 @@ is_quiet (Given port count) = false
 is_quiet (Full port) = false
 is_quiet (Passed port) = false
 is_quiet (Ended port) = true
+
+-- so a server may hear nothing of it
+quiet-servers : (said : outcomes.Said) → is_quiet said ≡ true → to_servers said ≡ Nothing
+quiet-servers Nothing quiet = refl
+quiet-servers (Answered status words) quiet = refl
+quiet-servers (Taken port client resumed turn moved) quiet = absurd (cc)
+quiet-servers (Words port words) quiet = absurd (cc)
+quiet-servers (Given port count) quiet = absurd (cc)
+quiet-servers (Full port) quiet = absurd (cc)
+quiet-servers (Passed port) quiet = absurd (cc)
+quiet-servers (Ended port) quiet = refl
+
+-- and what is said it hears as what may be heard of it
+pub servers-hear : (said : outcomes.Said) (x : Path) → says_to (to_servers said) x ≡ says_to said x
+servers-hear Nothing x = refl
+servers-hear (Answered status words) x = refl
+servers-hear (Taken port client resumed turn moved) x = refl
+servers-hear (Words port words) x = refl
+servers-hear (Given port count) x = refl
+servers-hear (Full port) x = refl
+servers-hear (Passed port) x = refl
+servers-hear (Ended port) x = refl
+
+-- whom it is for hears by its path before what it hears by its name
+pub own-heard : (p : ℕ → Path) (said : says_of.Said) → Each (HasOwnPath p) (told_port said) → IsHeard p (said_by p said) said
+own-heard p says.Nothing apart who = refl
+own-heard p (says.Answer answer) apart who = refl
+own-heard p (says.Taken port client resumed turn moved) apart who = own p port who apart
+own-heard p (says.Words port words len) apart who = own p port who apart
+own-heard p (says.Given port len) apart who = own p port who apart
+own-heard p (says.Full port) apart who = own p port who apart
+own-heard p (says.Over port) apart who = own p port who apart
+own-heard p (says.Ended port) apart who = refl
 
 quiet-none : (q : ℕ → Path) (said : says_of.Said) → is_quiet (said_by q said) ≡ true → told_port said ≡ None
 quiet-none q says.Nothing quiet = refl
@@ -228,3 +263,63 @@ module _ (w : World) (p q : ℕ → Path) (who : Who) (words : List ℕ) where
               let facts = told t.0 t.1 t.2 tells_it in
               let says_it : said_by q said ≡ news_by w p n = sym (rw (tells_it, facts.0) at tells_so) ∙ told-news (changes_by p words t.0 w) n t.2 in
               ap (λ s. says_to s (place p who)) says_it ∙ loud-news n port heard own_path who ∙ sym (by-name said port (facts.1 ∙ heard) who)
+
+-- ---- a verdict that isn't carried out
+
+in-news : (v : Verdict) (n : News) → news_in v ≡ Some n → (plan : Plan) × (last : Bool) × (v ≡ verdicts.Tells plan n last)
+in-news (verdicts.Tells plan one last) n is = let same : one ≡ n = cc in rw same (plan, last, refl)
+in-news (verdicts.Runs e) n is = absurd (cc)
+in-news (verdicts.Refused status) n is = absurd (cc)
+in-news verdicts.Waits n is = absurd (cc)
+in-news (verdicts.Done plan answers) n is = absurd (cc)
+in-news (verdicts.Ends plan answers) n is = absurd (cc)
+in-news (verdicts.Shows plan space page) n is = absurd (cc)
+in-news (verdicts.ShowsRecord object) n is = absurd (cc)
+in-news (verdicts.Sets object from) n is = absurd (cc)
+in-news (verdicts.Renames object slot) n is = absurd (cc)
+in-news (verdicts.Destroys object last) n is = absurd (cc)
+in-news (verdicts.WakesAll cond) n is = absurd (cc)
+in-news (verdicts.Goes plan) n is = absurd (cc)
+in-news (verdicts.Faults page write port) n is = absurd (cc)
+
+no-news : (v : Verdict) → news_in v ≡ None → hearer_of v ≡ None
+no-news (verdicts.Tells plan one last) none = absurd (cc)
+no-news (verdicts.Runs e) none = refl
+no-news (verdicts.Refused status) none = refl
+no-news verdicts.Waits none = refl
+no-news (verdicts.Done plan answers) none = refl
+no-news (verdicts.Ends plan answers) none = refl
+no-news (verdicts.Shows plan space page) none = refl
+no-news (verdicts.ShowsRecord object) none = refl
+no-news (verdicts.Sets object from) none = refl
+no-news (verdicts.Renames object slot) none = refl
+no-news (verdicts.Destroys object last) none = refl
+no-news (verdicts.WakesAll cond) none = refl
+no-news (verdicts.Goes plan) none = refl
+no-news (verdicts.Faults page write port) none = refl
+
+-- a user alone tells a native server news, which can be told
+pub news-fit : (m : Contents) (c : Caller) (v : Verdict) (n : News) → news_in v ≡ Some n → IsVerdict m c v → (c.is_porter ≡ false) × IsNews m n
+news-fit m c v n is fits = let tells_it = in-news v n is in let there = rw tells_it.2 at fits in (there.0, there.1)
+
+-- and whom it tells
+pub news-hearer : (v : Verdict) (n : News) → news_in v ≡ Some n → hearer_of v ≡ hearer n
+news-hearer v n is = let tells_it = in-news v n is in rw tells_it.2 refl
+
+pub none-hearer : (v : Verdict) → news_in v ≡ None → hearer_of v ≡ None
+none-hearer v none = no-news v none
+
+module _ (w : World) (p : ℕ → Path) (who : Who) (words : List ℕ) where
+  abbrev by_one : Bool → outcomes.Caller
+  by_one is_porter = caller_by p (record { who = who; is_porter = is_porter }) words
+
+  pub news-told : (is_porter : Bool) (v : Verdict) (n : News) (said : says_of.Said) → news_in v ≡ Some n → is_porter ≡ false →
+      said_by p said ≡ news_by w p n →
+      to_servers (stepped w (closed (by_one is_porter) (outcome_by w p (by_one is_porter) v))).said ≡ to_servers (said_by p said)
+  news-told is_porter v n said is user same =
+      let tells_it = in-news v n is in
+      rw (tells_it.2, user, same) (ap to_servers (told-news w p p who words (changes_by p words tells_it.0 w) n tells_it.1))
+
+  pub none-told : (is_porter : Bool) (v : Verdict) → news_in v ≡ None →
+      to_servers (stepped w (closed (by_one is_porter) (outcome_by w p (by_one is_porter) v))).said ≡ Nothing
+  none-told is_porter v none = quiet-servers _ (quiet-verdict w p p who words is_porter v (no-news v none))

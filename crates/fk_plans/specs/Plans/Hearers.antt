@@ -43,6 +43,12 @@ says_to_who (says.Full port) who = same_who who port
 says_to_who (says.Over port) who = same_who who port
 says_to_who (says.Ended port) who = false
 
+-- what a native server may hear of it: a porter's answer is for none, nor is that a talk has ended, which is told otherwise
+abbrev pub to_servers : outcomes.Said → outcomes.Said
+to_servers (Answered status words) = Nothing
+to_servers (Ended port) = Nothing
+to_servers other = other
+
 -- who hears it by its path hears it by its name
 abbrev pub IsHeard : (ℕ → Path) → outcomes.Said → says_of.Said → Type 0
 IsHeard p said told = (who : Who) → says_to said (place p who) ≡ says_to_who told who

@@ -65,6 +65,11 @@ abbrev pub hearer_of : Verdict → Option Who
 hearer_of (verdicts.Tells plan news last) = hearer news
 hearer_of other = None
 
+-- what a verdict tells a native server
+abbrev pub news_in : Verdict → Option News
+news_in (verdicts.Tells plan news last) = Some news
+news_in other = None
+
 -- and whether the stage is done then
 abbrev pub tells : outcomes.Caller → List Change → Said → Bool → Outcome
 tells c changes said last = if last then telling said (done c changes []) else Goes changes said

@@ -21,7 +21,7 @@ use Rattle.fk_turns.specs.Next.Waiting.{IsMoveReady}
 use Rattle.laws_waits.specs.Rows.{can_wait}
 use Rattle.laws_waits.proofs.Complete.{stage-ready, thread_ready}
 use Rattle.laws_waits.proofs.Never.{never_wait_lem}
-use Rattle.fk_turns.specs.Steps.Steps.{acts, acts_besides, acts_first, acts_later}
+use Rattle.fk_turns.specs.Steps.Steps.{acts}
 
 pub record BeginsWithAct (m : Mode) : Type 0 where
   pub stage : Stage
@@ -157,39 +157,31 @@ module _ (g : List ℕ) where
   act_39 is = by_stage Disconnect refl refl
       (let at = eqb-true (slice_index g 0) 39 is in rw at (refl {a = Some (Disconnect ∷ [])}))
 
-  of_first : acts_first code ≡ true → BeginsWithAct (calling_mode g)
-  of_first is =
-      (or_if (code == 1 || code == 2 || code == 3 || code == 4 || code == 5 || code == 6 || code == 7 || code == 8 || code == 9) (code == 10)
-      (or_if (code == 1 || code == 2 || code == 3 || code == 4 || code == 5 || code == 6 || code == 7 || code == 8) (code == 9)
-      (or_if (code == 1 || code == 2 || code == 3 || code == 4 || code == 5 || code == 6 || code == 7) (code == 8)
-      (or_if (code == 1 || code == 2 || code == 3 || code == 4 || code == 5 || code == 6) (code == 7)
-      (or_if (code == 1 || code == 2 || code == 3 || code == 4 || code == 5) (code == 6)
-      (or_if (code == 1 || code == 2 || code == 3 || code == 4) (code == 5)
-      (or_if (code == 1 || code == 2 || code == 3) (code == 4)
-      (or_if (code == 1 || code == 2) (code == 3)
-      (or_if (code == 1) (code == 2)
-      (act_1) act_2) act_3) act_4) act_5) act_6) act_7) act_8) act_9) act_10) is
-
-  of_later : acts_later code ≡ true → BeginsWithAct (calling_mode g)
-  of_later is =
-      (or_if (code == 11 || code == 12 || code == 14 || code == 15 || code == 16 || code == 17 || code == 18 || code == 19) (code == 20)
-      (or_if (code == 11 || code == 12 || code == 14 || code == 15 || code == 16 || code == 17 || code == 18) (code == 19)
-      (or_if (code == 11 || code == 12 || code == 14 || code == 15 || code == 16 || code == 17) (code == 18)
-      (or_if (code == 11 || code == 12 || code == 14 || code == 15 || code == 16) (code == 17)
-      (or_if (code == 11 || code == 12 || code == 14 || code == 15) (code == 16)
-      (or_if (code == 11 || code == 12 || code == 14) (code == 15)
-      (or_if (code == 11 || code == 12) (code == 14)
-      (or_if (code == 11) (code == 12)
-      (act_11) act_12) act_14) act_15) act_16) act_17) act_18) act_19) act_20) is
-
-  of_besides : acts_besides code ≡ true → BeginsWithAct (calling_mode g)
-  of_besides is =
-      (or_if (code == 22 || code == 23) (code == 39)
-      (or_if (code == 22) (code == 23)
-      (act_22) act_23) act_39) is
-
   pub begins_act : acts code ≡ true → BeginsWithAct (calling_mode g)
-  begins_act is = or_if (acts_first code || acts_later code) (acts_besides code) (or_if (acts_first code) (acts_later code) of_first of_later) of_besides is
+  begins_act is =
+      or_if (code == 1) _ act_1
+      (or_if (code == 2) _ act_2
+      (or_if (code == 3) _ act_3
+      (or_if (code == 4) _ act_4
+      (or_if (code == 5) _ act_5
+      (or_if (code == 6) _ act_6
+      (or_if (code == 7) _ act_7
+      (or_if (code == 8) _ act_8
+      (or_if (code == 9) _ act_9
+      (or_if (code == 10) _ act_10
+      (or_if (code == 11) _ act_11
+      (or_if (code == 12) _ act_12
+      (or_if (code == 14) _ act_14
+      (or_if (code == 15) _ act_15
+      (or_if (code == 16) _ act_16
+      (or_if (code == 17) _ act_17
+      (or_if (code == 18) _ act_18
+      (or_if (code == 19) _ act_19
+      (or_if (code == 20) _ act_20
+      (or_if (code == 22) _ act_22
+      (or_if (code == 23) _ act_23
+      (or_if (code == 39) _ act_39
+      (λ none. absurd (cc))))))))))))))))))))))) is
 
 pub acts_up : (w : World) → ((q : Path) → decider w q ≡ None) → (k : ℕ) (s : Path) (t : Thread) → thread_at w (k ∷ s) ≡ Some t → is_free w s t ≡ true →
     BeginsWithAct t.mode → IsMoveReady w (k ∷ s)

@@ -1,8 +1,8 @@
 -- Steps: what a move leaves of where threads stand.
 use Rattle.std.specs.Prelude.{◌≡◌, ◌≤◌, ◌⊎◌, ◌&&◌, ◌||◌, ◌==◌, ℕ, Bool, true, false, not, List, [], ◌∷◌, Option, Some, None, is_none, Result, Ok, Err}
 use Rattle.std.specs.Prelude.{slice_index}
-use Rattle.fk_model.specs.declared.call.TheConstants.{CLEAR, CLIENT_OVER, CLIENT_OVER_RECEIVE, CLIENT_SEND, CLIENT_SEND_OVER_RECEIVE, COUNT_IN, CREATE, DESTROY, DISCONNECT, GET_PTR, GET_STATE, LOCATE}
-use Rattle.fk_model.specs.declared.call.TheConstants.{MUTEX_TRYLOCK, MUTEX_UNLOCK, PAGE_GIVE, PAGE_NEXT, PAGE_READ, PAGE_TAKE, POINT, RENAME, SEARCH, SET_PTR, SET_STATE, SPACE_RELEASE, THREAD_GO, THREAD_STOP}
+use Rattle.std.specs.List.{list_any}
+use Rattle.fk_model.specs.declared.call.TheConstants.{CLIENT_OVER, CLIENT_OVER_RECEIVE, CLIENT_SEND, CLIENT_SEND_OVER_RECEIVE}
 use Rattle.fk_model.specs.declared.moves.Ask.{Ask}
 use Rattle.fk_model.specs.declared.moves.Move.{Move}
 use Rattle.fk_model.specs.declared.names.Who.{Who}
@@ -12,13 +12,16 @@ use Rattle.fk_model.specs.declared.thread.Peer.TheVariants as peers
 use Rattle.fk_model.specs.declared.thread.Talk.{Talk}
 use Rattle.fk_model.specs.declared.thread.Mode.TheVariants as modes
 use Rattle.fk_model.specs.declared.thread.Thread as threads_of
+use Rattle.fk_model.specs.Calls.{Call, calls}
 use Rattle.fk_model.specs.Holds.{is_porter}
+use Rattle.fk_model.specs.Moves.{is_for_porters}
 use Rattle.fk_model.specs.Objects.{Thread, holds}
 use Rattle.fk_model.specs.Searches.{thread_at}
+use Rattle.fk_model.specs.StageFacts.{Made, facts_of}
+use Rattle.fk_model.specs.StageFacts.Made.{Makes_nothing, An_object, A_page}
 use Rattle.fk_turns.specs.Next.Tellings.{Told}
 use Rattle.fk_model.specs.declared.moves.Ask.TheVariants as asks
 use Rattle.fk_model.specs.declared.stage.Stage.{Stage}
-use Rattle.fk_model.specs.declared.stage.Stage.TheVariants.{Create, SpaceMakeHeld}
 use Rattle.fk_store.specs.Store.Contents.{Contents}
 use Rattle.fk_store.specs.Store.Moves.{picked_by}
 use Rattle.fk_store.specs.Store.Paths.{path, place}
@@ -78,23 +81,14 @@ is_service other = false
 abbrev pub is_speaking : threads_of.Thread → Bool
 is_speaking t = holds (λ (talk : Talk). speaks (slice_index t.regs 0) && is_service talk.peer) t.talk
 
--- calls on objects, spaces and pages, but space_hold
-abbrev pub acts_first : ℕ → Bool
-acts_first code =
-    code == CREATE || code == DESTROY || code == RENAME || code == SEARCH || code == POINT || code == CLEAR || code == LOCATE || code == COUNT_IN
-    || code == GET_STATE || code == SET_STATE
+-- a stage in which a thread waits for nobody while nothing is held, and nothing behind it
+abbrev pub acts_alone : List Stage → Bool
+acts_alone (stage ∷ []) = (facts_of stage).acts
+acts_alone other = false
 
-abbrev pub acts_later : ℕ → Bool
-acts_later code =
-    code == GET_PTR || code == SET_PTR || code == SPACE_RELEASE || code == THREAD_STOP || code == THREAD_GO || code == PAGE_GIVE || code == PAGE_TAKE
-    || code == PAGE_READ || code == PAGE_NEXT
-
--- and a mutex's trylock and unlock, and disconnect: none of these waits but for what is held
-abbrev pub acts_besides : ℕ → Bool
-acts_besides code = code == MUTEX_TRYLOCK || code == MUTEX_UNLOCK || code == DISCONNECT
-
+-- the code of a call of one such stage
 abbrev pub acts : ℕ → Bool
-acts code = acts_first code || acts_later code || acts_besides code
+acts code = list_any (λ (c : Call). acts_alone (c.todo []) && code == c.code) calls
 
 -- in a call that waits for nobody while nothing is held
 abbrev pub is_busy : threads_of.Thread → Bool
@@ -182,11 +176,14 @@ pub record IsTurned (who : Who) (waits marks now then_marks : Lists) : Type 0 wh
 
 -- ---- what makes an object
 
--- a stage makes one. Porters alone make spaces that are held
+abbrev pub is_object : Made → Bool
+is_object An_object = true
+is_object A_page = false
+is_object Makes_nothing = false
+
+-- such a caller makes one by a stage
 abbrev pub makes_object : Bool → Stage → Bool
-makes_object is_porter (Create s x kind) = true
-makes_object is_porter (SpaceMakeHeld x) = is_porter
-makes_object is_porter other = false
+makes_object is_porter stage = is_object (facts_of stage).makes && (not (is_for_porters stage) || is_porter)
 
 abbrev pub first_makes : List Stage → Bool
 first_makes [] = false

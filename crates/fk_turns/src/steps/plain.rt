@@ -20,10 +20,7 @@ ghost use Rattle.fk_turns.specs.Steps.Steps.{IsCalm, IsGentle, IsOneApart, IsQui
 use crate::next::after;
 use fk_calls::ready;
 use fk_model::call::{
-    CLEAR, CLIENT_OVER, CLIENT_OVER_RECEIVE, CLIENT_SEND, CLIENT_SEND_OVER_RECEIVE, COUNT_IN,
-    CREATE, DESTROY, DISCONNECT, GET_PTR, GET_STATE, LOCATE, MUTEX_TRYLOCK, MUTEX_UNLOCK,
-    PAGE_GIVE, PAGE_NEXT, PAGE_READ, PAGE_TAKE, POINT, RENAME, SEARCH, SET_PTR, SET_STATE,
-    SPACE_RELEASE, THREAD_GO, THREAD_STOP,
+    self, CLIENT_OVER, CLIENT_OVER_RECEIVE, CLIENT_SEND, CLIENT_SEND_OVER_RECEIVE,
 };
 use fk_model::{Ask, Mode, Move, Peer, Thread, Who};
 use fk_plans::wakes::Touched;
@@ -571,45 +568,31 @@ fn is_busy(thread: &Thread) -> bool
 fn acts(code: u64) -> bool
     ensures { result ≡ steps_of.acts code }
 {
-    acts_first(code) || (acts_later(code) || acts_besides(code))
-}
-
-/// Those up to `set_state`.
-fn acts_first(code: u64) -> bool
-    ensures { result ≡ steps_of.acts_first code }
-{
-    code == CREATE
-        || code == DESTROY
-        || code == RENAME
-        || code == SEARCH
-        || code == POINT
-        || code == CLEAR
-        || code == LOCATE
-        || code == COUNT_IN
-        || code == GET_STATE
-        || code == SET_STATE
-}
-
-/// Those from `get_ptr` on.
-fn acts_later(code: u64) -> bool
-    ensures { result ≡ steps_of.acts_later code }
-{
-    code == GET_PTR
-        || code == SET_PTR
-        || code == SPACE_RELEASE
-        || code == THREAD_STOP
-        || code == THREAD_GO
-        || code == PAGE_GIVE
-        || code == PAGE_TAKE
-        || code == PAGE_READ
-        || code == PAGE_NEXT
-}
-
-/// A mutex's trylock and unlock, and disconnect.
-fn acts_besides(code: u64) -> bool
-    ensures { result ≡ steps_of.acts_besides code }
-{
-    code == MUTEX_TRYLOCK || code == MUTEX_UNLOCK || code == DISCONNECT
+    matches!(
+        code,
+        call::CREATE
+            | call::DESTROY
+            | call::RENAME
+            | call::SEARCH
+            | call::POINT
+            | call::CLEAR
+            | call::LOCATE
+            | call::COUNT_IN
+            | call::GET_STATE
+            | call::SET_STATE
+            | call::GET_PTR
+            | call::SET_PTR
+            | call::SPACE_RELEASE
+            | call::THREAD_STOP
+            | call::THREAD_GO
+            | call::PAGE_GIVE
+            | call::PAGE_TAKE
+            | call::PAGE_READ
+            | call::PAGE_NEXT
+            | call::MUTEX_TRYLOCK
+            | call::MUTEX_UNLOCK
+            | call::DISCONNECT
+    )
 }
 
 /// In a call, it sends words or passes the turn to a native server.

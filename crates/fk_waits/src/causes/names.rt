@@ -19,8 +19,8 @@ pub struct Name {
 #[derive(Drop)]
 pub struct Names {
     items: Vec<Name>,
-    /// Behind where a name was found last. Who looks for one name after another finds the next one there.
-    next: usize,
+    /// Where names were found or put last, each by its mixed rank. A name that stands where its hint says is found by one look.
+    hints: Vec<usize>,
 }
 
 impl Model for Names {
@@ -111,9 +111,14 @@ fn key_in(items: &[Name], at: usize, who: Who) -> Option<usize>
     }
 }
 
-/// The place behind one. It is where a look begins, so any would do.
-fn behind(at: usize) -> usize {
-    at.wrapping_add(1)
+/// Which of so many hints is a name's. Any would do.
+fn hint_of(hints: usize, who: Who) -> usize {
+    let rank = who
+        .space
+        .wrapping_mul(256)
+        .wrapping_add(u32::from(who.slot));
+    let mixed = u64::from(rank.wrapping_mul(0x9e37_79b1));
+    (mixed.wrapping_mul(hints as u64) >> 32) as usize
 }
 
 impl Names {
@@ -123,7 +128,7 @@ impl Names {
     {
         Names {
             items: Vec::new(alloc),
-            next: 0,
+            hints: Vec::new(alloc),
         }
     }
 
@@ -141,8 +146,39 @@ impl Names {
         ensures kept { self.old.1 ≤ self.new.1 }
     {
         match self.items.reserve(more) {
+            Ok(()) => self.reserve_hints(more),
+            Err(_) => Err(NoMemory),
+        }
+    }
+
+    /// Makes room for the hints of so many names.
+    fn reserve_hints(&mut self, more: usize) -> Result<(), NoMemory>
+        ensures { self.new ≡ self.old }
+    {
+        if more <= self.hints.len() {
+            return Ok(());
+        }
+        match self.hints.resize(more.saturating_add(more / 2), 0) {
             Ok(()) => Ok(()),
             Err(_) => Err(NoMemory),
+        }
+    }
+
+    /// Where a name was found last, maybe.
+    fn hint(&self, who: Who) -> usize {
+        match self.hints.get(hint_of(self.hints.len(), who)) {
+            Some(at) => *at,
+            None => 0,
+        }
+    }
+
+    /// A name was found or put here.
+    fn remember(&mut self, who: Who, at: usize)
+        ensures { self.new ≡ self.old }
+    {
+        let hint = hint_of(self.hints.len(), who);
+        if let Some(place) = self.hints.get_mut(hint) {
+            *place = at;
         }
     }
 
@@ -150,19 +186,26 @@ impl Names {
     pub fn find(&self, who: Who) -> Option<usize>
         ensures { result ≡ key_at self.now.0 who }
     {
+        match key_in(&self.items, self.hint(who), who) {
+            Some(key) => Some(key),
+            None => self.seek(who),
+        }
+    }
+
+    /// The same by halving.
+    fn seek(&self, who: Who) -> Option<usize>
+        ensures { result ≡ key_at self.now.0 who }
+    {
         key_in(&self.items, place_of(&self.items, who), who)
     }
 
-    /// The same, sought first behind the name that was found so last.
+    /// The same, and where it is found by halving its hint says so.
     pub fn find_near(&mut self, who: Who) -> Option<usize>
         ensures found { result ≡ key_at self.old.0 who }
         ensures same { self.new ≡ self.old }
     {
-        match key_in(&self.items, self.next, who) {
-            Some(key) => {
-                self.next = behind(self.next);
-                Some(key)
-            }
+        match key_in(&self.items, self.hint(who), who) {
+            Some(key) => Some(key),
             None => self.find_far(who),
         }
     }
@@ -173,8 +216,9 @@ impl Names {
         ensures same { self.new ≡ self.old }
     {
         let at = place_of(&self.items, who);
-        self.next = behind(at);
-        key_in(&self.items, at, who)
+        let key = key_in(&self.items, at, who);
+        self.remember(who, at);
+        key
     }
 
     /// Puts in a name that isn't there, with a number.
@@ -190,6 +234,7 @@ impl Names {
             Ok(()) => {}
             Err(_) => unreachable!(),
         }
+        self.remember(who, at);
     }
 
     /// Takes a name out, and gives its number.

@@ -3,7 +3,6 @@ use Rattle.std.specs.Prelude.{◌≡◌, Bool, true, false, not, ◌||◌, List,
 use Rattle.fk_model.specs.declared.moves.Ask.{Ask}
 use Rattle.fk_model.specs.declared.moves.Ask.TheVariants as asks
 use Rattle.fk_model.specs.declared.stage.Stage.{Stage}
-use Rattle.fk_model.specs.declared.stage.Stage.TheVariants.{PageGive}
 use Rattle.fk_model.specs.Holds.{is_porter}
 use Rattle.fk_model.specs.Moves.{outcome, step}
 use Rattle.fk_model.specs.Objects.{Mode, Thread, holds}
@@ -11,6 +10,8 @@ use Rattle.fk_model.specs.Objects.Mode.{Calling}
 use Rattle.fk_model.specs.Outcomes.{listed}
 use Rattle.fk_model.specs.Places.{Path, same_path, parent}
 use Rattle.fk_model.specs.Searches.{thread_at}
+use Rattle.fk_model.specs.StageFacts.{Made, facts_of}
+use Rattle.fk_model.specs.StageFacts.Made.{Makes_nothing, An_object, A_page}
 use Rattle.fk_model.specs.Valid.{IsRooted}
 use Rattle.fk_model.specs.World.{World, Change}
 use Rattle.fk_model.specs.World.Change.{Kill, Make, MakeSpace, Move}
@@ -50,9 +51,13 @@ UsersStay = (w : World) (x : Path) (pick : Option Path) (ask : Ask) (q : Path) �
 
 -- ---- who gives a page
 
+abbrev pub is_page : Made → Bool
+is_page A_page = true
+is_page An_object = false
+is_page Makes_nothing = false
+
 abbrev pub is_giving : Stage → Bool
-is_giving (PageGive s page address) = true
-is_giving other = false
+is_giving stage = is_page (facts_of stage).makes
 
 abbrev pub gives_first : Mode → Bool
 gives_first (Calling (stage ∷ todo) rest) = is_giving stage

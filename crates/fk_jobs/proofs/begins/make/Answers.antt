@@ -9,14 +9,20 @@ make_so-requires g c =
     sym c.planned.ensures ∙ ap (option_map (λ plan. job_of plan.now)) c.in-Some.is in
     c.requires (length (shown_ends g.W.Worker.state c.args.ends.now)) (job_of c.in-Some.plan.now) here
 
-pub returns-in-Some : goal.returns-in-Some
-returns-in-Some g c =
+pub returns-in-Some-clause-made : goal.returns-in-Some-clause-made
+returns-in-Some-clause-made g c =
     let here : slice_get (map job_of c.args.plans.now) (length (shown_ends g.W.Worker.state c.args.ends.now)) ≡ Some (job_of c.in-Some.plan.now) =
     sym c.planned.ensures ∙ ap (option_map (λ plan. job_of plan.now)) c.in-Some.is in
-    rw here c.make_so.ensures
+    rw here c.make_so.ensures.made
 
-pub returns-in-None : goal.returns-in-None
-returns-in-None g c =
+pub returns-in-Some-clause-grows : goal.returns-in-Some-clause-grows
+returns-in-Some-clause-grows g c =
+    let here : slice_get (map job_of c.args.plans.now) (length (shown_ends g.W.Worker.state c.args.ends.now)) ≡ Some (job_of c.in-Some.plan.now) =
+    sym c.planned.ensures ∙ ap (option_map (λ plan. job_of plan.now)) c.in-Some.is in
+    rw here c.make_so.ensures.grows
+
+pub returns-in-None-clause-made : goal.returns-in-None-clause-made
+returns-in-None-clause-made g c =
     let here : slice_get (map job_of c.args.plans.now) (length (shown_ends g.W.Worker.state c.args.ends.now)) ≡ None =
     sym c.planned.ensures ∙ ap (option_map (λ plan. job_of plan.now)) c.in-None.is in
     rw here refl

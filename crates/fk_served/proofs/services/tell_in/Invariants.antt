@@ -1,5 +1,5 @@
 use Rattle.std.proofs.Common.{◌≡◌, length, ◌++◌, map, take, drop}
-use Rattle.fk_served.specs.Served.{shown, told, AllFit, HaveRoom}
+use Rattle.fk_served.specs.Served.{shown, told, AllFit, HaveRoomFor}
 use Rattle.fk_served.proofs.services.tell_in.Given as goal
 
 abbrev pub invariant-loop-at : goal.invariant-loop-at
@@ -8,5 +8,5 @@ invariant-loop-at g l = record {
   told : shown g.S.Service.meaning (take l.at l.list.items) ++ map (told l.what.said l.what.ended) (shown g.S.Service.meaning (drop l.at l.list.items))
       ≡ map (told l.what.said l.what.ended) (shown g.S.Service.meaning l.fn.list.items);
   fits : AllFit (map (λ r. r.rule) l.table.list.items) (shown g.S.Service.meaning (drop l.at l.list.items));
-  room : HaveRoom g.S.Service.has_room (drop l.at l.list.items);
+  room : HaveRoomFor g.S.Service.meaning g.S.Service.has_room l.what.said l.what.ended (drop l.at l.list.items);
 }

@@ -11,5 +11,5 @@ returns-in-Some-clause-found c =
     let d : Name = record { who = c.args.who; key = 0 } in
     let there = rw c.deref.ensures.value at c.in-Some.ensures.there in
     let here = there.1 d in
-    sym (found_there l c.self.inside.next d c.args.who c.self.invariant there.0 here.0 ∙ ap (λ (k : ℕ). Some k) here.1)
+    sym (found_there l c.hint.result d c.args.who c.self.invariant there.0 here.0 ∙ ap (λ (k : ℕ). Some k) here.1)
     ∙ ap (λ (k : List Name). key_at k c.args.who) is

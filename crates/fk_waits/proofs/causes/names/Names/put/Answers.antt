@@ -1,4 +1,4 @@
-use Rattle.std.proofs.Common.{◌≡◌, ℕ, List, None, sym, ap}
+use Rattle.std.proofs.Common.{◌≡◌, ℕ, List, None, sym, ap, ◌∙◌}
 use Rattle.fk_waits.specs.Causes.Names.{key_at, rank}
 use Rattle.fk_waits.specs.declared.causes.names.Name.{Name}
 use Rattle.fk_waits.proofs.InCauses.Order.{is_place, key_put, rising_put}
@@ -21,4 +21,4 @@ returns-clause-put c other =
     let n : Name = record { who = c.args.who; key = c.args.key } in
     let is : l ≡ c.args.self.now.0 = ap (λ (p : List Name × ℕ). p.0) c.self.view_is in
     let place = is_place (rank c.args.who) c.deref.result.now at c.place_of-at.ensures.within c.place_of-at.ensures.before c.place_of-at.ensures.behind in
-    rw (c.in-Ok.ensures.items, ← is) (key_put l at n other (rw c.deref.ensures.value at place))
+    ap (λ (p : List Name × ℕ). key_at p.0 other) c.remember.ensures ∙ rw (c.in-Ok.ensures.items, ← is) (key_put l at n other (rw c.deref.ensures.value at place))

@@ -17,9 +17,9 @@ use Rattle.fk_model.specs.World.Edit.{SetPointer, SetMember}
 use Rattle.fk_model.specs.ObjectRows.{is_scratch}
 use Rattle.fk_model.specs.Searches.{slots, pointers}
 use Rattle.fk_model.specs.Freezing.{body_pointers}
-use Rattle.laws_subtrees.specs.Further.ClosedLaws.{is_cut_pointer}
 use Rattle.fk_model.specs.StateRows.{is_native}
 use Rattle.fk_model.specs.Whole.{is_scratch_slot}
+use Rattle.fk_model.specs.Sound.{is_cut_pointer}
 use Rattle.fk_model.proofs.walks.PlaceLaws.{same_path_eq, same_path_refl}
 use Rattle.fk_scenario.specs.declared.entries.types.Program.{Program}
 use Rattle.fk_scenario.specs.declared.entries.types.SpaceEntry.{SpaceEntry}
