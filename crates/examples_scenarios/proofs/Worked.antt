@@ -90,11 +90,11 @@ says-defaults = record {
 }
 
 -- how often the first object, a thread, is stopped
-stops_of : Spec → ℕ
+abbrev stops_of : Spec → ℕ
 stops_of (Thread entry regs stops) = stops
 stops_of _ = 0
 
-stops_in : List ObjectEntry → ℕ
+abbrev stops_in : List ObjectEntry → ℕ
 stops_in [] = 0
 stops_in (o ∷ os) = stops_of o.spec
 
