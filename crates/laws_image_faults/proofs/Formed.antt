@@ -1,23 +1,21 @@
 -- Formed: what the walk over pointers tells is the first place where one is wrong, and an image is valid exactly where it has the form.
-use Rattle.std.proofs.Common.{◌≡◌, ℕ, ◌+◌, ◌<◌, ◌≤◌, ◌↔◌, Bool, true, false, ◌&&◌, List, [], Option, Some, None, Result, Ok, Err, refl, sym, ap, subst, ◌∙◌, arith}
+use Rattle.std.proofs.Common.{◌≡◌, ℕ, ◌+◌, Bool, true, false, ◌&&◌, List, [], Option, Some, None, Result, Ok, Err, refl, sym, ap, subst, ◌∙◌, arith}
 use Rattle.std.specs.List.{sum_by}
 use Rattle.fk_image.specs.declared.image.image.Link.{Link}
 use Rattle.fk_image.specs.declared.image.image.Link.TheVariants.{In}
 use Rattle.fk_image.specs.declared.image.image.ObjectRec.{ObjectRec}
 use Rattle.fk_image.specs.declared.image.image.SpaceRec.{SpaceRec}
-use Rattle.fk_image.specs.declared.image.image.Rec.TheVariants.{Port}
-use Rattle.fk_image.specs.declared.image.image.Image.{Image}
 use Rattle.fk_image.specs.Image.Links.{is_set_of, all_lead}
 use Rattle.fk_image.specs.Image.Valid.{fits_spaces, is_valid}
 use Rattle.fk_image.specs.Format.Fields.{◌>>=◌}
-use Rattle.fk_image.specs.Format.Offsets.{Named, nobody, Walk, spaces_walk, offset_of, wrong_in}
+use Rattle.fk_image.specs.Format.Offsets.{Named, nobody, offset_of, wrong_in}
 use Rattle.fk_image.specs.Form.Order.{AreInOrder}
-use Rattle.fk_image.specs.Form.Holding.{PointerField, MayHold, MayBeSet}
+use Rattle.fk_image.specs.Form.Holding.{PointerField}
 use Rattle.fk_image.specs.Form.Holding.PointerField.{Holder, Server}
 use Rattle.fk_image.specs.Form.Standing.{ObjectAt, PointerAt, IsWrongAt, IsFirstWrong, AllRight, space_size}
 use Rattle.fk_image.specs.Form.Standing.PointerAt.{OfSpace, OfObject}
 use Rattle.fk_image.specs.Form.Standing.IsWrongAt.{Leads, Again, BadSet}
-use Rattle.fk_image.specs.Form.Formed.{AreSpaces, IsFormed}
+use Rattle.fk_image.specs.Form.Formed.{IsFormed}
 use Rattle.fk_image.proofs.InFormat.Basics.{both, and2}
 use Rattle.fk_image.proofs.InFormat.Leads.{none_wrong, leads_right}
 use Rattle.laws_image_faults.specs.Formed.{ValidIsFormed, WrongIsFirst}

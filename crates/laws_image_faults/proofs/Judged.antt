@@ -1,13 +1,11 @@
 -- Judged: what is told of a list of places in order is the first of them that is wrong.
-use Rattle.std.proofs.Common.{◌≡◌, ℕ, suc, ◌+◌, ◌<◌, ◌≤◌, ◌⊎◌, ◌↔◌, inl, inr, Bool, true, false, cond, not, ◌&&◌, ◌||◌, ◌==◌, List, [], ◌∷◌, ◌++◌, Option, Some, None, Result, Ok, Err}
+use Rattle.std.proofs.Common.{◌≡◌, ℕ, suc, ◌<◌, ◌≤◌, ◌⊎◌, ◌↔◌, inl, inr, Bool, true, false, cond, not, ◌&&◌, ◌||◌, ◌==◌, List, [], ◌∷◌, ◌++◌, Option, Some, None, Result, Ok, Err}
 use Rattle.std.proofs.Common.{refl, sym, ap, subst, ◌∙◌, arith, append_assoc, eqb-true, eq-eqb}
 use Rattle.fk_image.specs.declared.image.image.Link.{Link}
 use Rattle.fk_image.specs.declared.image.image.Link.TheVariants.{Null, Dead, In, Out, Root, Outside}
 use Rattle.fk_image.specs.declared.image.image.SpaceRec.{SpaceRec}
 use Rattle.fk_image.specs.Format.Offsets.{Named, nobody, with_thread}
-use Rattle.fk_image.specs.Form.Holding.{PointerField}
 use Rattle.fk_image.specs.Form.Holding.PointerField.{Holder, MappedRegion, Keeper, Target, AtPort, Server}
-use Rattle.fk_image.proofs.InFormat.Basics.{and2}
 use Rattle.laws_image_faults.proofs.Events.{What, Event, right, again, with_named, judge, event}
 use Rattle.laws_image_faults.proofs.Events.What.{Points, Sets}
 

@@ -13,7 +13,7 @@ use Rattle.laws_image_faults.specs.Forms.{Holds, Breaks}
 use Rattle.laws_image_faults.specs.Forms.Form.{Whole}
 use Rattle.laws_image_faults.specs.Images.{image}
 use Rattle.fk_image.specs.Form.Order.{AreInOrder}
-use Rattle.fk_image.specs.Form.Standing.{IsFirstWrong, AllRight}
+use Rattle.fk_image.specs.Form.Standing.{AllRight}
 use Rattle.laws_image_faults.specs.Faults.{Says, FaultsAreFirst, BreaksAreTold, FirstsAreTold}
 use Rattle.laws_image_faults.specs.Faults.Says.{OfField, OfPointer, OfVersion, OfRest}
 use Rattle.laws_image_faults.proofs.Runs.{run}

@@ -12,3 +12,4 @@ pub mod Judged
 pub mod Places
 pub mod Formed
 pub mod Opened
+pub mod Sizes

@@ -1,5 +1,5 @@
 -- Opened: the form of a space by the open path, which is that by the spaces so far where these stand in order.
-use Rattle.std.proofs.Common.{◌≡◌, ℕ, zero, suc, ◌-◌, Bool, true, false, not, ◌&&◌, List, [], ◌∷◌, ◌++◌, length, take, drop, nat_lt, Option, Some, None, is_some, Result, Ok, Err}
+use Rattle.std.proofs.Common.{◌≡◌, ℕ, zero, suc, Bool, true, false, not, ◌&&◌, List, [], ◌∷◌, ◌++◌, length, take, drop, nat_lt, is_some, Result, Ok, Err}
 use Rattle.std.proofs.Common.{if◌then◌else◌, refl, sym, ap, subst, ◌∙◌}
 use Rattle.std.specs.Int.{w32, byte_len, from_le_bytes}
 use Rattle.fk_image.specs.declared.image.image.SpaceRec.{SpaceRec}
@@ -12,8 +12,8 @@ use Rattle.fk_image.specs.declared.format.stop.Stop.{Stop}
 use Rattle.fk_image.specs.Format.Fields.{◌>>=◌, refuse_field}
 use Rattle.fk_image.specs.Form.Order.{Follows, AreInOrder}
 use Rattle.fk_image.proofs.InFormat.Basics.{and2, not_true}
-use Rattle.laws_image_faults.specs.Forms.{Shape, Form, IsField}
-use Rattle.laws_image_faults.specs.Forms.Form.{Whole, Field, Pair}
+use Rattle.laws_image_faults.specs.Forms.{Shape, Form}
+use Rattle.laws_image_faults.specs.Forms.Form.{Whole, Pair}
 use Rattle.laws_image_faults.specs.Images as forms
 use Rattle.laws_image_faults.specs.Images.{◌>>=◌ as ◌>>>◌, byte_in, many, with_space}
 use Rattle.laws_image_faults.proofs.Runs.{run, run-bind, field_at, tested, together}

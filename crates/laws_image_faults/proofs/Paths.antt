@@ -1,9 +1,9 @@
 -- Paths: the open path behind spaces in order says which space may follow.
 use Rattle.std.proofs.Common.{◌≡◌, ℕ, zero, suc, ◌+◌, ◌-◌, ◌<◌, ◌≤◌, ◌⊎◌, ◌↔◌, inl, inr, Bool, true, false, cond, not, ◌&&◌, ◌||◌, ◌==◌, nat_lt, List, [], ◌∷◌, ◌++◌, length, take, drop}
-use Rattle.std.proofs.Common.{Option, Some, None, is_some, refl, sym, ap, subst, ◌∙◌, arith, eqb-true, eq-eqb, ne_eqb}
+use Rattle.std.proofs.Common.{Option, Some, None, is_some, refl, sym, ap, subst, ◌∙◌, arith, eqb-true}
 use Rattle.std.specs.Prelude.{slice_get}
 use Rattle.std.specs.List.{list_all}
-use Rattle.std.proofs.lemmas.Bool.{cases_lt, lt-ltb, le-ltb, ltb-true, ltb-false, eqb-false}
+use Rattle.std.proofs.lemmas.Bool.{lt-ltb, le-ltb, ltb-true, ltb-false, eqb-false}
 use Rattle.std.proofs.lemmas.List.{length-append}
 use Rattle.fk_image.specs.declared.image.image.SpaceRec.{SpaceRec}
 use Rattle.fk_image.specs.declared.image.open.Open.{Open}
@@ -12,7 +12,7 @@ use Rattle.fk_image.specs.Image.Links.{kind_in_space, is_space_within}
 use Rattle.fk_image.specs.Form.Order.{LiesIn, IsWithin, Follows, AreInOrder}
 use Rattle.fk_image.specs.Form.Order.IsWithin.{Itself, Beneath}
 use Rattle.laws_image_faults.specs.Images.{is_above_brothers}
-use Rattle.laws_image_faults.proofs.Order.{get-low, get-there, get-first, get-behind, get-last, take-first, take-whole, lies-same, low, within-le, counted, within-counted}
+use Rattle.laws_image_faults.proofs.Order.{get-low, get-first, get-behind, get-last, take-first, take-whole, low, within-le, counted, within-counted}
 
 -- a lowest slot behind those of all that lie in a space
 abbrev Floor : List SpaceRec → ℕ → ℕ → Type 0

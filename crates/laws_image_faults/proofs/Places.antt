@@ -1,5 +1,5 @@
 -- Places: the places that the walk judges are those where pointers and sets stand, in the order of their offsets.
-use Rattle.std.proofs.Common.{◌≡◌, ℕ, zero, suc, ◌+◌, ◌*◌, ◌<◌, ◌≤◌, ◌⊎◌, ◌↔◌, inl, inr, Bool, true, false, List, [], ◌∷◌, ◌++◌, length, Option, Some, None, Result, Ok, Err}
+use Rattle.std.proofs.Common.{◌≡◌, ℕ, suc, ◌+◌, ◌≤◌, ◌⊎◌, inl, inr, List, [], ◌∷◌, ◌++◌, length, Option, Some, None}
 use Rattle.std.proofs.Common.{refl, sym, ap, subst, ◌∙◌, arith, append_assoc}
 use Rattle.std.specs.List.{sum_by}
 use Rattle.std.proofs.lemmas.List.{length-append}
@@ -16,9 +16,8 @@ use Rattle.fk_image.specs.declared.image.image.SpaceRec.{SpaceRec}
 use Rattle.fk_image.specs.Form.Holding.{PointerField}
 use Rattle.fk_image.specs.Form.Holding.PointerField.{Holder, MappedRegion, Keeper, Target, AtPort, Server}
 use Rattle.fk_image.specs.Form.Standing.{link_size, talk_size, taker_size, fault_size, talk_begins, fault_begins, body_size, object_size, objects_begin, space_size}
-use Rattle.fk_image.specs.Form.Standing.{SpaceAt, ObjectAt, HasPointer, PointerAt}
+use Rattle.fk_image.specs.Form.Standing.{SpaceAt, ObjectAt, HasPointer}
 use Rattle.fk_image.specs.Form.Standing.HasPointer.{OfMapping, OfRegion, OfReference, TalkPort, TalkServer, FaultPort, FaultTaker}
-use Rattle.fk_image.specs.Form.Standing.PointerAt.{OfSpace, OfObject}
 use Rattle.laws_image_faults.proofs.Events.{What, Event, event, talk_events, taker_events, fault_events, body_events, objects_events, space_events, spaces_events}
 use Rattle.laws_image_faults.proofs.Events.What.{Points, Sets}
 use Rattle.laws_image_faults.proofs.Judged.{Among, among-first, among-behind, among-cons, among-none, among-append, Rises, rises-append}

@@ -1,8 +1,8 @@
 -- Spaces: validity asks of the spaces what their form says.
-use Rattle.std.proofs.Common.{◌≡◌, ℕ, zero, suc, ◌+◌, ◌-◌, ◌^◌, ◌<◌, ◌≤◌, ◌⊎◌, ◌↔◌, inl, inr, Bool, true, false, not, ◌&&◌, ◌==◌, nat_lt, List, [], ◌∷◌, ◌++◌, length}
+use Rattle.std.proofs.Common.{◌≡◌, ℕ, zero, suc, ◌+◌, ◌^◌, ◌<◌, ◌≤◌, ◌⊎◌, inl, inr, Bool, true, not, ◌&&◌, ◌==◌, nat_lt, List, [], ◌∷◌, ◌++◌, length}
 use Rattle.std.proofs.Common.{Option, Some, None, is_some, refl, sym, ap, subst, ◌∙◌, arith, eqb-true, eq-eqb, append_assoc}
 use Rattle.std.specs.Prelude.{slice_get}
-use Rattle.std.proofs.lemmas.Bool.{cases_lt, lt-ltb, le-ltb, ltb-true, ltb-false}
+use Rattle.std.proofs.lemmas.Bool.{lt-ltb, le-ltb, ltb-true, ltb-false}
 use Rattle.std.proofs.lemmas.List.{append-nil}
 use Rattle.fk_image.specs.declared.image.image.Link.{Link}
 use Rattle.fk_image.specs.declared.image.image.Link.TheVariants.{Null, Dead, In, Out, Root, Outside}
@@ -12,12 +12,12 @@ use Rattle.fk_image.specs.declared.image.image.SpaceRec.{SpaceRec}
 use Rattle.fk_image.specs.declared.image.open.Open.{Open}
 use Rattle.fk_image.specs.Image.Ranges.{is_slot, is_byte, is_half, are_words, fits_link, fits_body}
 use Rattle.fk_image.specs.Image.Preorder.{room_under, has_room, root_path, path_after, after_space}
-use Rattle.fk_image.specs.Image.Links.{kind_in_space, is_space_within}
+use Rattle.fk_image.specs.Image.Links.{kind_in_space}
 use Rattle.fk_image.specs.Image.Valid.{all_from, after_object, after_page, fits_object, fits_page, fits_objects, fits_pages, is_null, is_first, is_next, fits_space, fits_spaces}
 use Rattle.fk_image.specs.Form.Order.{Follows, AreInOrder}
 use Rattle.fk_image.specs.Form.Formed.{Each, Rises, IsObject, IsPage, IsSpace, IsRoot, AreSpaces}
 use Rattle.fk_image.proofs.InFormat.Basics.{both, and2, and3, and5, all3, all5, not_true, not_false}
-use Rattle.laws_image_faults.proofs.Order.{get-low, get-last, get-behind, take-first, take-whole}
+use Rattle.laws_image_faults.proofs.Order.{get-last, get-behind, take-first, take-whole}
 use Rattle.laws_image_faults.proofs.Paths.{Good, room-some, room-slot, may-follow, follows-within, follows-above, good-more, good-first, none-some}
 
 -- ---- items that rise
