@@ -32,19 +32,19 @@ falling_isnt order =
     let lt = (order 1 (space 0 3) refl).rises 5 1 (record { space = space 0 5; inner = omega arith; there = refl; parent_is = refl; slot_is = refl }) in
     omega (arith, lt)
 
+same_space : (s t : SpaceRec) → Some s ≡ Some t → s ≡ t
+same_space s t e = cc
+
 comes_behind : (n : ℕ) (s : SpaceRec) → slice_get by_breadth (suc n) ≡ Some s → ComesBehind (take (suc n) by_breadth) s
-comes_behind zero s e = subst (ComesBehind (take 1 by_breadth)) (one (space 0 3) s e) (record { parent = omega arith; rises = above-to (take 1 by_breadth) 0 3 refl })
-  where
-    one : (s t : SpaceRec) → Some s ≡ Some t → s ≡ t
-    one s t e = cc
-comes_behind (suc zero) s e = subst (ComesBehind (take 2 by_breadth)) (one (space 0 5) s e) (record { parent = omega arith; rises = above-to (take 2 by_breadth) 0 5 refl })
-  where
-    one : (s t : SpaceRec) → Some s ≡ Some t → s ≡ t
-    one s t e = cc
-comes_behind (suc (suc zero)) s e = subst (ComesBehind (take 3 by_breadth)) (one (space 1 9) s e) (record { parent = omega arith; rises = above-to (take 3 by_breadth) 1 9 refl })
-  where
-    one : (s t : SpaceRec) → Some s ≡ Some t → s ≡ t
-    one s t e = cc
+comes_behind zero s e =
+    subst (ComesBehind (take 1 by_breadth)) (same_space (space 0 3) s e)
+    (record { parent = omega arith; rises = above-to (take 1 by_breadth) 0 3 refl })
+comes_behind (suc zero) s e =
+    subst (ComesBehind (take 2 by_breadth)) (same_space (space 0 5) s e)
+    (record { parent = omega arith; rises = above-to (take 2 by_breadth) 0 5 refl })
+comes_behind (suc (suc zero)) s e =
+    subst (ComesBehind (take 3 by_breadth)) (same_space (space 1 9) s e)
+    (record { parent = omega arith; rises = above-to (take 3 by_breadth) 1 9 refl })
 comes_behind (suc (suc (suc n))) s e = absurd cc
 
 pub nearly_isnt : BehindParentsIsInOrder → ⊥

@@ -107,9 +107,10 @@ module _ (ms : Members) where
       let (r, r_in, r_same) = path-if-told (codes "region") ms space say.region_at in
       let (f, c, window, f_same, c_same) = window-told a b say.window in
       let (o, o_in, o_same) = number-or-told (codes "offset") ms 0 255 0 offset say.offset_at in
-      let (w, w_same) = flag-or-told (codes "write") ms write say.write_at in
-      ((say.keys, (r, (f, (c, (o, (w, append-kept (window_asks ms) mapping_rest window (o_in, (r_in, tt)))))))),
-      mapping-same _ space _ a _ b _ offset _ write r_same f_same c_same o_same w_same)
+      let (w, w_same) = flag-or-told (codes "write") ms write say.write_at in (
+        (say.keys, (r, (f, (c, (o, (w, append-kept (window_asks ms) mapping_rest window (o_in, (r_in, tt)))))))),
+        mapping-same _ space _ a _ b _ offset _ write r_same f_same c_same o_same w_same,
+      )
 
   region-says : AreKept (region_asks ms) →
       SaysRegion ms (first ms) (count ms) (unwrap_or (flag (codes "write") ms) false) (path_if (text (codes "keeper") ms))
@@ -223,15 +224,18 @@ unfolding object_asks object_says
 object-says ss done value (is, (at_is, (kind_is, rest))) =
     let ms = table_of value in
     let (body, (is_path_text, (inside, (in_space, (free, _))))) = kept-append (body_asks ms) (place_asks ss done ms) rest in
-    let (no_space, no_object) = both (not (has_space ss (place ms))) (not (has_object done (place ms))) free in
-    (ms, table-is value is, record {
-      path = path-at (codes "at") ms at_is is_path_text;
-      spec = body-says ms kind_is body;
-      inside = ltb-true 0 (length (place ms)) inside;
-      in_space = in_space;
-      no_space = not-false _ no_space;
-      no_object = not-false _ no_object;
-    })
+    let (no_space, no_object) = both (not (has_space ss (place ms))) (not (has_object done (place ms))) free in (
+      ms,
+      table-is value is,
+      record {
+        path = path-at (codes "at") ms at_is is_path_text;
+        spec = body-says ms kind_is body;
+        inside = ltb-true 0 (length (place ms)) inside;
+        in_space = in_space;
+        no_space = not-false _ no_space;
+        no_object = not-false _ no_object;
+      },
+    )
 
 pub object-told : (ss : List SpaceEntry) (done : List ObjectEntry) (value : Data) (o : ObjectEntry) → OfTable (SaysObject ss done) value o →
     AreKept (object_asks ss done value) × (object_says done value ≡ o)
@@ -242,6 +246,6 @@ object-told ss done value o (ms, is, say) =
     let inside = subst (λ (p : List ℕ). nat_lt 0 (length p) ≡ true) (sym path_same) (lt-ltb 0 (length o.path) say.inside) in
     let in_space = subst (λ (p : List ℕ). has_space_or_root ss (enclosing p) ≡ true) (sym path_same) say.in_space in
     let free = subst (λ (p : List ℕ). (not (has_space ss p) && not (has_object done p)) ≡ true) (sym path_same)
-        (and_from (not (has_space ss o.path)) (not (has_object done o.path)) (ap not say.no_space) (ap not say.no_object)) in
+    (and_from (not (has_space ss o.path)) (not (has_object done o.path)) (ap not say.no_space) (ap not say.no_object)) in
     subst (λ (d : Data). AreKept (object_asks ss done d) × (object_says done d ≡ o)) (sym is)
     ((refl, (at_is, (kind_is, append-kept (body_asks ms) (place_asks ss done ms) body (is_path_text, (inside, (in_space, (free, tt))))))), object-same o _ _ path_same spec_same)
