@@ -197,7 +197,7 @@ fn finish<W: Sink, H: Shelf>(
 }
 
 /// Does the command that the words are where no workers share it: all but `run`, `run --trace NAME` and `soak N`. It takes no handle, and
-/// so it always returns; what comes of it is what `fluke_top` says.
+/// so it always returns; what comes of it is what `fluke_top` says (`specs/Theorem.antt`).
 pub fn fluke_alone<R: Source, W: Sink, H: Shelf>(
     alloc: Global,
     words: &[String],

@@ -5,21 +5,25 @@ use Rattle.fk_model.specs.declared.moves.Move.{Move}
 use Rattle.fk_model.specs.declared.names.Who.{Who}
 use Rattle.fk_model.specs.Endings.{has_ended}
 use Rattle.fk_model.specs.Places.{Path, same_path}
+use Rattle.fk_model.specs.Runs.{Event, after}
 use Rattle.fk_model.specs.Searches.{client_at, depth}
 use Rattle.fk_model.specs.Valid.{IsValid}
 use Rattle.fk_model.specs.Who.{event_of, space_born}
 use Rattle.fk_model.specs.World.{World}
 use Rattle.fk_model.proofs.walks.PlaceLaws.{same_path_eq}
 use Rattle.fk_store.specs.Store.Contents.{Contents}
+use Rattle.fk_store.specs.Store.Moves.{picked_by, said_by}
 use Rattle.fk_store.specs.Store.Named.{Each}
 use Rattle.fk_store.specs.Store.Paths.{path, place, HasOwnPath}
 use Rattle.fk_store.specs.Store.World.{world}
+use Rattle.fk_plans.specs.Plans.Hearers.{says_to, says_to_who, to_servers}
 use Rattle.fk_plans.specs.Endings.Clients.{HasClient, IsEnding, LosesClient}
 use Rattle.fk_plans.proofs.InEndings.Changes.{client-found, found-client}
 use Rattle.fk_calls.specs.Calls.Judgements.{is_fit_move, IsReadyMove}
 use Rattle.fk_calls.specs.Calls.Tried.{Foretells}
 use Rattle.fk_kernel.specs.Tolds.{Told}
 use Rattle.fk_kernel.specs.Events.{is_fit_event, is_who, IsReadyEvent}
+use Rattle.laws_jobs.specs.Machines.{said_of}
 use Rattle.fk_served.specs.Foretold.{IsForetold}
 
 module _ (w v : World) (valid : IsValid w) (few : w.next ≤ depth) where
@@ -60,20 +64,29 @@ module _ (w v : World) (valid : IsValid w) (few : w.next ≤ depth) where
   keeps-named p (Some one) ending apart kept low port is = stays kept low (place p port) (ending.others (place p port) ((apart port).0 ∙ is))
 
 module _ (m : Contents) (move : Move) (ask : Ask) (born : path m ≡ space_born (world m)) where
+  -- the move, where spaces have these paths
+  abbrev event_by : (ℕ → Path) → Event
+  event_by p = record { mover = place p move.who; pick = picked_by p move.pick; ask = ask }
+
+  abbrev leads : (ℕ → Path) → World
+  leads p = after (world m) (event_by p)
+
   pub fit-move : is_fit_event (world m) (event_of (world m) ask move) ≡ true → is_fit_move m move ask ≡ true
   fit-move fit = rw born fit
 
   pub unready-event : (o : Option Told) → IfNone o (IsReadyMove m move ask → ⊥) → IfNone o (IsReadyEvent (world m) (event_of (world m) ask move) → ⊥)
-  unready-event None unready = rw (← born) unready
+  unready-event None unready = subst (λ p. IsReadyEvent (world m) (event_by p) → ⊥) born unready
   unready-event (Some told) unready = tt
 
   pub foretold-event : IsValid (world m) → (world m).next ≤ depth →
       (o : Option Told) → IfSome o (Foretells m move ask) → IfSome o (IsForetold (world m) (path m) (event_of (world m) ask move))
   foretold-event valid few None told = tt
   foretold-event valid few (Some one) told = record {
-    said = rw (← born) told.said;
-    heard = λ port. rw (← born) (told.heard port);
-    loses = λ port is. rw (← born) (loses-named (world m) _ valid few (path m) one.ended told.ending told.apart port is);
-    keeps = λ kept low port is.
-        rw (← born) (keeps-named (world m) _ valid few (path m) one.ended told.ending told.apart (rw born at kept) (rw born at low) port is);
+    said = subst (λ p. to_servers (said_of (world m) (event_by p)) ≡ to_servers (said_by (path m) one.said)) born told.said;
+    heard = λ port. subst (λ p. says_to (said_by (path m) one.said) (place p port) ≡ says_to_who one.said port) born (told.heard port);
+    loses = λ port is. subst (λ p. has_ended (world m) (leads p) (place p port) ≡ true) born
+        (loses-named (world m) (leads (path m)) valid few (path m) one.ended told.ending told.apart port is);
+    keeps = λ kept low port is. subst (λ p. has_ended (world m) (leads p) (place p port) ≡ false) born
+        (keeps-named (world m) (leads (path m)) valid few (path m) one.ended told.ending told.apart
+        (subst (λ p. IsValid (leads p)) (sym born) kept) (subst (λ p. (leads p).next ≤ depth) (sym born) low) port is);
   }

@@ -52,12 +52,12 @@ or-false true b is = absurd (cc)
 or-false false b is = (refl, is)
 
 not-both : {P : Type 0} (b : Bool) → b ≡ false → b ≡ true → P
-not-both b no yes = absurd (cc)
+not-both b nay yea = absurd (cc)
 
 module _ {S : Type 0} (meaning : S → State) (has : S → Bool) (said : says_of.Said) (ended : Option Who) where
   -- where nobody grows no room is needed
   still-room : (list : List (Who × S)) → some_told said ended (shown meaning list) ≡ false → HaveRoomFor meaning has said ended list
-  still-room [] none k d less = absurd (omega (arith, less))
+  still-room [] none = λ k d less. absurd (omega (arith, less))
   still-room (e ∷ es) none =
       let both = or-false (grows_told said ended (e.0, meaning e.1)) (some_told said ended (shown meaning es)) none in
       All-cons (λ (e : Who × S). grows_told said ended (e.0, meaning e.1) ≡ true → has e.1 ≡ true) e es
@@ -66,7 +66,7 @@ module _ {S : Type 0} (meaning : S → State) (has : S → Bool) (said : says_of
   -- so there is room for what is told where there is room for anything, or nobody grows
   pub room-for : (used : Bool) (list : List (Who × S)) → (used ≡ false → HaveRoom has list) →
       (not used ≡ false → some_told said ended (shown meaning list) ≡ false) → HaveRoomFor meaning has said ended list
-  room-for false list room none k d less grow = room refl k d less
+  room-for false list room none = λ k d less grow. room refl k d less
   room-for true list room none = still-room list (none refl)
 
 -- ---- by what a move says, and by names
@@ -126,8 +126,8 @@ pub told-same : (m n : Kept) (e : Event) (said : says_of.Said) (ended : Option W
     (services : Services) → some_grow (world m) e services ≡ some_told said ended services
 told-same m n e said ended made ends tells [] = refl
 told-same m n e said ended made ends tells (s ∷ ss) =
-    let goes : after (world m) e ≡ world n = ap (λ (s : Step). s.world) made in
-    let same = ap (λ (s : Step). s.said) made in
-    let tell = subst (λ s. says_to s (named (world m) _) ≡ says_to_who said _) same (tells s.0) in
+    let goes : after (world m) e ≡ world n = ap (λ (t : Step). t.world) made in
+    let same = ap (λ (t : Step). t.said) made in
+    let tell = subst (λ t. says_to t (named (world m) s.0) ≡ says_to_who said s.0) same (tells s.0) in
     let alike = subst (λ t. said_at t (named (world m) s.0) ≡ said_to said s.0) (sym same) (said-alike (path n) said (named (world m) s.0) s.0 tell) in
     rw (goes, ends s.0, alike, told-same m n e said ended made ends tells ss) refl

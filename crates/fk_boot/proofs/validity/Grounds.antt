@@ -1,5 +1,5 @@
 -- The first world of a scenario, change by change.
-use Rattle.std.proofs.Common.{◌≡◌, ℕ, ◌-◌, ◌*◌, ◌≤◌, Bool, true, false, cond, if◌then◌else◌, ◌&&◌, ◌||◌, nat_lt, nat_le, is_none, List, [], ◌∷◌, ◌++◌, length}
+use Rattle.std.proofs.Common.{◌≡◌, ℕ, ◌-◌, ◌*◌, ◌≤◌, Bool, true, false, cond, if◌then◌else◌, ◌&&◌, ◌||◌, nat_lt, nat_le, is_none, is_some, List, [], ◌∷◌, ◌++◌, length}
 use Rattle.std.proofs.Common.{take, drop, reverse, map, get_or, Option, Some, None, option_map, refl, sym, ap, ◌∙◌, arith}
 use Rattle.std.proofs.lemmas.List.Elements.{All-get_or}
 use Rattle.std.specs.List.{flat_map, list_any}
@@ -9,8 +9,8 @@ use Rattle.std.proofs.lemmas.Bool.{and_parts, le-leb, leb-true, lt-leb}
 use Rattle.fk_model.specs.declared.limits.TheConstants.{LAST_USER_SLOT, LAST_SCRATCH_SLOT, FIRST_SCRATCH_SLOT, LAST_PORTER_SLOT, PAGE_WORDS}
 use Rattle.fk_model.specs.Places.{Path, same_path, slot_of, Ptr}
 use Rattle.fk_model.specs.Places.Ptr.{At}
-use Rattle.fk_model.specs.Objects.{Body, holds, is_served}
-use Rattle.fk_model.specs.Objects.Body.{Mapping, Region, Port, Space, Reference}
+use Rattle.fk_model.specs.Objects.{Body, Talk, Fault, Thread, thread_of, and_then, holds, is_served}
+use Rattle.fk_model.specs.Objects.Body.{Mutex, Cond, Mapping, Region, Port, Portset, Space, Thread_of, Reference}
 use Rattle.fk_model.specs.World.{World, Change, Edit, edited, apply, apply_all}
 use Rattle.fk_model.specs.World.Change.{Alter, Make, MakeSpace, PutPage}
 use Rattle.fk_model.specs.World.Edit.{SetPointer, SetMember}
@@ -19,7 +19,8 @@ use Rattle.fk_model.specs.Searches.{slots, pointers}
 use Rattle.fk_model.specs.Freezing.{body_pointers}
 use Rattle.fk_model.specs.StateRows.{is_native}
 use Rattle.fk_model.specs.Whole.{is_scratch_slot}
-use Rattle.fk_model.specs.Sound.{is_cut_pointer}
+use Rattle.fk_model.specs.Holds.{holder_of}
+use Rattle.fk_model.specs.Sound.{is_cut_pointer, IsUncut, IsClean, IsIdle}
 use Rattle.fk_model.proofs.walks.PlaceLaws.{same_path_eq, same_path_refl}
 use Rattle.fk_scenario.specs.declared.entries.types.Program.{Program}
 use Rattle.fk_scenario.specs.declared.entries.types.SpaceEntry.{SpaceEntry}
@@ -38,7 +39,26 @@ use Rattle.fk_boot.proofs.Changes.{apply_all-append}
 use Rattle.fk_boot.proofs.MadeSoFar.{first-stands}
 use Rattle.fk_boot.proofs.Walks.{last}
 use Rattle.fk_boot.proofs.validity.Whole.{spaces-safe}
-use Rattle.laws_first.specs.First.{is_porters, is_servers, FirstWorldIsGround}
+
+-- a place is the last slot of a nester
+abbrev pub is_porters : List SpaceEntry → Path → Bool
+is_porters spaces y = list_any (λ (s : SpaceEntry). s.nester && same_path y (LAST_PORTER_SLOT ∷ reverse s.path)) spaces
+
+-- it is that of a server's port
+abbrev pub is_servers : List (List ℕ) → Path → Bool
+is_servers ports y = list_any (λ (port : List ℕ). same_path y (reverse port)) ports
+
+abbrev talk_in : Option Body → Option Talk
+talk_in o = and_then (λ (t : Thread). t.talk) (and_then thread_of o)
+
+abbrev fault_in : Option Body → Option Fault
+fault_in o = and_then (λ (t : Thread). t.fault) (and_then thread_of o)
+
+-- a space that is held, and a thread with a talk or a fault
+abbrev pub is_busy : Body → Bool
+is_busy (Space birth holder) = is_some holder
+is_busy (Thread_of t) = is_some t.talk || is_some t.fault
+is_busy other = false
 
 abbrev pub IsGroundEdit : Edit → Type 0
 IsGroundEdit (SetPointer (At x)) = Unit {0}
@@ -51,7 +71,7 @@ module _ (spaces : List SpaceEntry) (ports : List (List ℕ)) where
   IsGroundChange (Alter x edit) = IsGroundEdit edit
   IsGroundChange (Make x b) =
       (is_scratch_slot (slot_of x) ≡ false) × (is_native b ≡ true → is_porters spaces x ≡ true) × (is_served b ≡ true → is_servers ports x ≡ true)
-      × (list_any is_cut_pointer (pointers b) ≡ false)
+      × (list_any is_cut_pointer (pointers b) ≡ false) × (is_busy b ≡ false)
   IsGroundChange (MakeSpace x holder) = (is_scratch_slot (slot_of x) ≡ false) × (holder ≡ None)
   IsGroundChange (PutPage space page words) = Unit {0}
   IsGroundChange other = ⊥
@@ -65,6 +85,7 @@ module _ (spaces : List SpaceEntry) (ports : List (List ℕ)) where
     porters : (y : Path) → holds is_native (w.body y) ≡ true → is_porters spaces y ≡ true
     served : (y : Path) → holds is_served (w.body y) ≡ true → is_servers ports y ≡ true
     uncut : (y : Path) → list_any is_cut_pointer (body_pointers (w.body y)) ≡ false
+    idle : (y : Path) → holds is_busy (w.body y) ≡ false
 
   ground-then : (cs ds : List Change) → AreGround cs → AreGround ds → AreGround (cs ++ ds)
   ground-then [] ds first later = later
@@ -72,7 +93,7 @@ module _ (spaces : List SpaceEntry) (ports : List (List ℕ)) where
 
   -- ---- edits leave who is native, and who is served
 
-  native-pointer : (edit : Edit) → IsGroundEdit edit → (b : Body) → is_native (edited edit b) ≡ is_native b
+  pub native-pointer : (edit : Edit) → IsGroundEdit edit → (b : Body) → is_native (edited edit b) ≡ is_native b
   unfolding edited
   native-pointer (SetPointer to) good (Mapping m) = refl
   native-pointer (SetPointer to) good (Region r) = refl
@@ -82,7 +103,7 @@ module _ (spaces : List SpaceEntry) (ports : List (List ℕ)) where
   native-pointer (SetMember set) good b = refl
   native-pointer edit good b = absurd good
 
-  served-pointer : (edit : Edit) → IsGroundEdit edit → (b : Body) → is_served (edited edit b) ≡ is_served b
+  pub served-pointer : (edit : Edit) → IsGroundEdit edit → (b : Body) → is_served (edited edit b) ≡ is_served b
   unfolding edited
   served-pointer (SetPointer to) good (Mapping m) = refl
   served-pointer (SetPointer to) good (Region r) = refl
@@ -91,6 +112,16 @@ module _ (spaces : List SpaceEntry) (ports : List (List ℕ)) where
   served-pointer (SetMember set) good (Port old served) = refl
   served-pointer (SetMember set) good b = refl
   served-pointer edit good b = absurd good
+
+  busy-pointer : (edit : Edit) → IsGroundEdit edit → (b : Body) → is_busy (edited edit b) ≡ is_busy b
+  unfolding edited
+  busy-pointer (SetPointer to) good (Mapping m) = refl
+  busy-pointer (SetPointer to) good (Region r) = refl
+  busy-pointer (SetPointer to) good (Reference old) = refl
+  busy-pointer (SetPointer to) good b = refl
+  busy-pointer (SetMember set) good (Port old served) = refl
+  busy-pointer (SetMember set) good b = refl
+  busy-pointer edit good b = absurd good
 
   uncut-edit : (edit : Edit) → IsGroundEdit edit → (b : Body) → list_any is_cut_pointer (pointers b) ≡ false
       → list_any is_cut_pointer (pointers (edited edit b)) ≡ false
@@ -114,7 +145,7 @@ module _ (spaces : List SpaceEntry) (ports : List (List ℕ)) where
   uncut-made b true o good h = good
   uncut-made b false o good h = h
 
-  under : (test : Body → Bool) (f : Body → Body) → ((b : Body) → test (f b) ≡ test b) → (t : Bool) (o : Option Body)
+  pub under : (test : Body → Bool) (f : Body → Body) → ((b : Body) → test (f b) ≡ test b) → (t : Bool) (o : Option Body)
       → holds test (cond t (option_map f o) o) ≡ holds test o
   under test f same true None = refl
   under test f same true (Some b) = same b
@@ -138,6 +169,13 @@ module _ (spaces : List SpaceEntry) (ports : List (List ℕ)) where
   made_test test place x y b o good before true e h = let here = same_path_eq y x e in rw here (good h)
   made_test test place x y b o good before false e h = before h
 
+  made_idle : (b : Body) (t : Bool) (o : Option Body) → is_busy b ≡ false → holds is_busy o ≡ false → holds is_busy (cond t (Some b) o) ≡ false
+  made_idle b true o good h = good
+  made_idle b false o good h = h
+
+  idle-space : (birth : ℕ) (holder : Option Ptr) → holder ≡ None → is_busy (Space birth holder) ≡ false
+  idle-space birth holder none = rw none refl
+
   unheld-space : (birth : ℕ) (holder : Option Ptr) → holder ≡ None → list_any is_cut_pointer (pointers (Space birth holder)) ≡ false
   unheld-space birth holder none = rw none refl
 
@@ -148,20 +186,29 @@ module _ (spaces : List SpaceEntry) (ports : List (List ℕ)) where
     porters = λ y native. its.porters y (sym (under is_native (edited edit) (native-pointer edit good) (same_path y x) (w.body y)) ∙ native);
     served = λ y serves. its.served y (sym (under is_served (edited edit) (served-pointer edit good) (same_path y x) (w.body y)) ∙ serves);
     uncut = λ y. uncut-under edit good (same_path y x) (w.body y) (its.uncut y);
+    idle = λ y. under is_busy (edited edit) (busy-pointer edit good) (same_path y x) (w.body y) ∙ its.idle y;
   }
   keeps (Make x b) w good its = record {
     clean = λ k s scratch. no_slot k s x b (w.body (k ∷ s)) good.0 scratch (its.clean k s scratch) (same_path (k ∷ s) x) refl;
     porters = λ y native. made_test is_native (is_porters spaces) x y b (w.body y) good.1 (its.porters y) (same_path y x) refl native;
     served = λ y serves. made_test is_served (is_servers ports) x y b (w.body y) good.2 (its.served y) (same_path y x) refl serves;
     uncut = λ y. uncut-made b (same_path y x) (w.body y) good.3 (its.uncut y);
+    idle = λ y. made_idle b (same_path y x) (w.body y) good.4 (its.idle y);
   }
   keeps (MakeSpace x holder) w good its = record {
     clean = λ k s scratch. no_slot k s x (Space w.next holder) (w.body (k ∷ s)) good.0 scratch (its.clean k s scratch) (same_path (k ∷ s) x) refl;
     porters = λ y native. made_test is_native (is_porters spaces) x y (Space w.next holder) (w.body y) (λ h. cc) (its.porters y) (same_path y x) refl native;
     served = λ y serves. made_test is_served (is_servers ports) x y (Space w.next holder) (w.body y) (λ h. cc) (its.served y) (same_path y x) refl serves;
     uncut = λ y. uncut-made (Space w.next holder) (same_path y x) (w.body y) (unheld-space w.next holder good.1) (its.uncut y);
+    idle = λ y. made_idle (Space w.next holder) (same_path y x) (w.body y) (idle-space w.next holder good.1) (its.idle y);
   }
-  keeps (PutPage space page words) w good its = record { clean = its.clean; porters = its.porters; served = its.served; uncut = its.uncut }
+  keeps (PutPage space page words) w good its = record {
+    clean = its.clean;
+    porters = its.porters;
+    served = its.served;
+    uncut = its.uncut;
+    idle = its.idle;
+  }
   keeps c w good its = absurd good
 
   keeps_all : (cs : List Change) (w : World) → AreGround cs → Holds w → Holds (apply_all cs w)
@@ -242,6 +289,16 @@ module _ (spaces : List SpaceEntry) (ports : List (List ℕ)) where
   first-uncut served (specs.Port set) = refl
   first-uncut served (specs.Reference to) = refl
 
+  first-idle : (served : Bool) (spec : Spec) → is_busy (first_body served spec) ≡ false
+  first-idle served (specs.Thread entry regs stops) = refl
+  first-idle served (specs.Mutex locked) = refl
+  first-idle served specs.Cond = refl
+  first-idle served specs.Portset = refl
+  first-idle served (specs.Mapping region first count offset write) = refl
+  first-idle served (specs.Region first count write keeper) = refl
+  first-idle served (specs.Port set) = refl
+  first-idle served (specs.Reference to) = refl
+
   same-places : (k key : List ℕ) (b : Bool) → bytes_eq k key ≡ b → (b || false) ≡ true → same_path (reverse key) (reverse k) ≡ true
   same-places k key true e h = let same : k ≡ key = (bytes_eq-Decides k key).0 e in rw same (same_path_refl (reverse key))
   same-places k key false e h = cc
@@ -268,6 +325,7 @@ module _ (spaces : List SpaceEntry) (ports : List (List ℕ)) where
           λ native. (let off = first-native (has_key ports o.path) o.spec in let clash = sym native ∙ off in cc),
           λ served. key-servers ports o.path (first-served (has_key ports o.path) o.spec served),
           first-uncut (has_key ports o.path) o.spec,
+          first-idle (has_key ports o.path) o.spec,
         ),
         objects-ground (before ++ o ∷ []) os each.1,
       )
@@ -310,7 +368,7 @@ porters-ground spaces ports (s ∷ ss) among =
     here nests = rw (nests, same_path_refl (LAST_PORTER_SLOT ∷ reverse s.path)) refl
 
     by : (nests : Bool) → s.nester ≡ nests → AreGround spaces ports (if nests then Make (LAST_PORTER_SLOT ∷ reverse s.path) porter ∷ [] else [])
-    by true e = ((refl, (λ native. among (LAST_PORTER_SLOT ∷ reverse s.path) (here e)), (λ served. cc), refl), tt)
+    by true e = ((refl, (λ native. among (LAST_PORTER_SLOT ∷ reverse s.path) (here e)), (λ served. cc), refl, refl), tt)
     by false e = tt
 
 pub boot-ground : (s : Scenario) → KeepsScenario s → AreGround s.spaces (served_ports s.servers) (boot_changes s)
@@ -326,8 +384,13 @@ first-holds spaces ports = record {
   porters = λ y native. nobody y native;
   served = λ y serves. unserved y serves;
   uncut = λ y. whole y;
+  idle = λ y. nothing y;
 }
   where
+    nothing : (y : Path) → holds is_busy (first_world.body y) ≡ false
+    nothing [] = refl
+    nothing (k ∷ y) = refl
+
     nobody : (y : Path) → holds is_native (first_world.body y) ≡ true → is_porters spaces y ≡ true
     nobody [] native = cc
     nobody (k ∷ y) native = cc
@@ -348,62 +411,46 @@ slot_of_scratch s k h =
     let above : nat_le k LAST_USER_SLOT ≡ false = lt-leb k LAST_USER_SLOT (omega (arith, least)) in
     rw (above, both.1) refl
 
--- ---- birth numbers
+-- ---- the first world
 
-object-next : (ports : List (List ℕ)) (os : List ObjectEntry) (w : World) → (apply_all (flat_map (object_changes ports) os) w).next ≡ w.next
-unfolding apply apply_all
-object-next ports [] w = refl
-object-next ports (o ∷ os) w = object-next ports os (apply (Make (reverse o.path) (first_body (has_key ports o.path) o.spec)) w)
+pub record Ground (s : Scenario) (w : World) : Type 0 where
+  pub clean : IsClean w
+  pub uncut : IsUncut w
+  pub idle : IsIdle w
+  pub porters : (y : Path) → holds is_native (w.body y) ≡ true → is_porters s.spaces y ≡ true
+  pub served : (y : Path) → holds is_served (w.body y) ≡ true → is_servers (served_ports s.servers) y ≡ true
 
-edits-next : (x : Path) (edits : List Edit) (w : World) → (apply_all (map (Alter x) edits) w).next ≡ w.next
-unfolding apply apply_all
-edits-next x [] w = refl
-edits-next x (edit ∷ edits) w = edits-next x edits (apply (Alter x edit) w)
-
-aim-next : (os : List ObjectEntry) (w : World) → (apply_all (flat_map aim_changes os) w).next ≡ w.next
-unfolding apply_all
-aim-next [] w = refl
-aim-next (o ∷ os) w =
-    ap (λ (v : World). v.next) (apply_all-append (aim_changes o) (flat_map aim_changes os) w) ∙ aim-next os (apply_all (aim_changes o) w)
-    ∙ edits-next (reverse o.path) (aims o.spec) w
-
-porter-next : (ss : List SpaceEntry) (w : World) → (apply_all (flat_map porter_changes ss) w).next ≡ w.next
-unfolding apply apply_all
-porter-next [] w = refl
-porter-next (s ∷ ss) w =
-    ap (λ (v : World). v.next) (apply_all-append (porter_changes s) (flat_map porter_changes ss) w)
-    ∙ (porter-next ss (apply_all (porter_changes s) w) ∙ by s.nester)
+nobody_busy : (o : Option Body) → holds is_busy o ≡ false → (holder_of o ≡ None) × (talk_in o ≡ None) × (fault_in o ≡ None)
+nobody_busy None h = (refl, refl, refl)
+nobody_busy (Some (Space birth None)) h = (refl, refl, refl)
+nobody_busy (Some (Space birth (Some holder))) h = absurd (cc)
+nobody_busy (Some (Thread_of t)) h = (refl, (by t.talk t.fault h).0, (by t.talk t.fault h).1)
   where
-    by : (nests : Bool) → (apply_all (if nests then Make (LAST_PORTER_SLOT ∷ reverse s.path) porter ∷ [] else []) w).next ≡ w.next
-    by true = refl
-    by false = refl
+    by : (talk : Option Talk) (fault : Option Fault) → (is_some talk || is_some fault) ≡ false → (talk ≡ None) × (fault ≡ None)
+    by None None h = (refl, refl)
+    by None (Some fault) h = absurd (cc)
+    by (Some talk) fault h = absurd (cc)
+nobody_busy (Some (Mutex locked)) h = (refl, refl, refl)
+nobody_busy (Some Cond) h = (refl, refl, refl)
+nobody_busy (Some (Mapping m)) h = (refl, refl, refl)
+nobody_busy (Some (Region r)) h = (refl, refl, refl)
+nobody_busy (Some (Port set served)) h = (refl, refl, refl)
+nobody_busy (Some Portset) h = (refl, refl, refl)
+nobody_busy (Some (Reference to)) h = (refl, refl, refl)
 
-booted-few : (s : Scenario) → KeepsScenario s → (booted s).next ≤ 256
+pub booted-ground : (s : Scenario) → KeepsScenario s → Ground s (booted s)
 unfolding booted
-booted-few s keeps =
-    let made = flat_map (space_changes s.programs) s.spaces in
-    let put = flat_map (object_changes (served_ports s.servers)) s.objects in
-    let aimed = flat_map aim_changes s.objects in
-    let nested = flat_map porter_changes s.spaces in
-    let stands = (spaces-safe s.programs [] s.spaces first_world first-stands keeps.spaces).1 in
-    let w = apply_all made first_world in
-    let v = apply_all put w in
-    let same = ap (λ (v : World). v.next) (apply_all-append made (put ++ (aimed ++ nested)) first_world)
-    ∙ (ap (λ (v : World). v.next) (apply_all-append put (aimed ++ nested) w)
-    ∙ (ap (λ (v : World). v.next) (apply_all-append aimed nested v)
-    ∙ (porter-next s.spaces (apply_all aimed v) ∙ (aim-next s.objects v ∙ (object-next (served_ports s.servers) s.objects w ∙ stands.next))))) in
-    let few = keeps.few_spaces in
-    rw same (omega (arith, few))
-
-pub first_world_is_ground : FirstWorldIsGround
-unfolding booted
-first_world_is_ground s keeps =
-    let holds_there = keeps_all s.spaces (served_ports s.servers) (boot_changes s) first_world (boot-ground s keeps)
+booted-ground s keeps =
+    let its = keeps_all s.spaces (served_ports s.servers) (boot_changes s) first_world (boot-ground s keeps)
     (first-holds s.spaces (served_ports s.servers)) in
     record {
-      clean = λ x k scratch. holds_there.clean k x (slot_of_scratch x k scratch);
-      few = booted-few s keeps;
-      uncut = holds_there.uncut;
-      porters = holds_there.porters;
-      served = holds_there.served;
+      clean = λ x k scratch. its.clean k x (slot_of_scratch x k scratch);
+      uncut = its.uncut;
+      idle = record {
+        unheld = λ x. (nobody_busy ((booted s).body x) (its.idle x)).0;
+        untalked = λ x. (nobody_busy ((booted s).body x) (its.idle x)).1;
+        unfaulted = λ x. (nobody_busy ((booted s).body x) (its.idle x)).2;
+      };
+      porters = its.porters;
+      served = its.served;
     }

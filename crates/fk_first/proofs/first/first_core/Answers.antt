@@ -2,7 +2,7 @@ use Rattle.std.proofs.Common.{◌≡◌, ◌∙◌, map, ap}
 use Rattle.fk_core.specs.Cores.Cores.{run_core}
 use Rattle.fk_jobs.specs.Jobs.{Queue}
 use Rattle.fk_core.specs.Cores.Kernels.{world_of as world}
-use Rattle.fk_first.proofs.Grounds.{first-begun, has-come}
+use Rattle.fk_first.proofs.Grounds.{has-come, shown-sound}
 use Rattle.fk_first.proofs.Servers.{all-fit, placed-first}
 use Rattle.laws_house.specs.Houses.{jobs_of}
 use Rattle.fk_first.proofs.first.first_core.Goals as goal
@@ -14,7 +14,8 @@ returns-clause-first c =
     let w = world first.kernel in
     record {
       world = ap world made.kernel ∙ c.in_ok-first.ensures.world;
-      sound = rw made.kernel (record { whole = c.in_ok-first.ensures.runnable.whole; savable = c.in_ok-first.ensures.savable });
+      sound = rw made.kernel (shown-sound c.args.scenario.now w first.services.items c.new.result.services.list first.budget made.services
+          c.in_ok-first.ensures.budget c.in_ok-first.ensures.sound);
       servers = rw (made.kernel, made.services) (placed-first w first.services.items ∙ c.in_ok-first.ensures.services);
       ends = ap (λ (q : Queue). q.ends) made.jobs ∙ c.in_ok-jobs.ensures.ends;
       work = ap (λ (q : Queue). q.work) made.jobs ∙ c.in_ok-jobs.ensures.work;
@@ -25,8 +26,7 @@ pub returns-clause-come : goal.returns-clause-come
 returns-clause-come c =
     let core = c.new.result in
     let jobs : core.jobs.jobs ≡ jobs_of c.args.scenario.now.jobs c.args.images.now = ap (λ (q : Queue). q.jobs) c.new.ensures.jobs ∙ c.in_ok-jobs.ensures.jobs in
-    has-come c.args.scenario.now c.args.images.now (run_core core) core.jobs.jobs core.budget c.requires
-    (first-begun c.args.scenario.now (run_core core) (returns-clause-first c)) jobs
+    has-come c.args.scenario.now c.args.images.now (run_core core) core.jobs.jobs core.budget (returns-clause-first c) jobs
     (c.new.ensures.budget ∙ c.in_ok-first.ensures.budget)
 
 pub returns-clause-fits : goal.returns-clause-fits
