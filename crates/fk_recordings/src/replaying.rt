@@ -1,5 +1,5 @@
 //! A trace that is played with replays in the place of servers, from a scenario on.
-ghost use Rattle.std.specs.Prelude.{◌≡◌, ◌×◌, List, length, map, IfOk, IfErr};
+ghost use Rattle.std.specs.Prelude.{◌≡◌, List, map, IfOk, IfErr};
 ghost use Rattle.fk_commands.specs.Prepared.{ComesTo, IsRefusal};
 ghost use Rattle.fk_record_text.specs.Record.{Entry as Noted, Spells};
 ghost use Rattle.fk_recordings.specs.Ports as definitions;
