@@ -14,7 +14,7 @@ mod ready;
 mod seen;
 mod watching;
 
-pub use first::first_core;
+pub use first::{first_core, first_jobs};
 pub use plans::maker_of;
 pub use seen::{Images, Job, Ready, Seen, Stop, Trace, Watcher};
 pub use watching::watch;

@@ -7,7 +7,7 @@
 //! report of their last core. It answers a fault of the shelf only where a get failed.
 #![tactic(auto)]
 
-mod images;
+pub mod images;
 pub mod play;
 pub mod run;
 pub mod soak;

@@ -11,6 +11,8 @@
 pub mod run_reports;
 pub mod runs;
 
+pub use run_reports::prepared;
 pub use runs::{
-    a_run_plays_again, maker_of, play_first, reports_have_the_headline, run_first, soak_first,
+    a_run_plays_again, maker_of, play_core, play_first, reports_have_the_headline, run_first,
+    soak_first,
 };

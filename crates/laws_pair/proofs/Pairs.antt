@@ -31,7 +31,7 @@ lists_are entries from (s ∷ ss) is =
 -- who replays is what stands in a server's place
 module _ (port : Who → List ℕ) (notes : Who × State → List Note) (replies : Who × State → List (List ℕ))
     (same : (e : Who × State) → replies_of (notes e) ≡ replies e) where
-  posts : (es : Services) → AreFresh es → all_replaying (map (λ s. replies_of s.1) (recorded port notes es)) es ≡ all_replayed replies es
+  pub posts : (es : Services) → AreFresh es → all_replaying (map (λ s. replies_of s.1) (recorded port notes es)) es ≡ all_replayed replies es
   posts [] fresh = refl
   posts ((who, OfConsole alias words side) ∷ es) fresh = ap (λ xs. (who, OfConsole alias words side) ∷ xs) (posts es fresh.1)
   posts ((who, OfServer index rule config position request left side) ∷ es) fresh =
