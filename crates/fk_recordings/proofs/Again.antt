@@ -111,13 +111,17 @@ record_plays_again s given watch status report text record_ keeps sees ranges to
     let v = all_replayed (λ e. []) written.0.last.servers in
     let with : IsRunWith written.0.run servers (us (length (ports_of s.servers))) v = subst (λ n. IsRunWith written.0.run servers (us n) v) long goes.0 in
     let u = us (length (ports_of s.servers)) in
-    inr (entries, spelled, record {
-      first = first;
-      is_first = is.is_first;
-      played = (
-        again-spells s given first report text written u v with goes.1 ranges,
-        bare-written s given (core_with first u) report text (again-written s given first report text written u v with goes.1 ranges),
-        is.ran.2,
-        refl,
-      );
-    })
+    inr (
+      entries,
+      spelled,
+      record {
+        first = first;
+        is_first = is.is_first;
+        played = (
+          again-spells s given first report text written u v with goes.1 ranges,
+          bare-written s given (core_with first u) report text (again-written s given first report text written u v with goes.1 ranges),
+          is.ran.2,
+          refl,
+        );
+      },
+    )

@@ -71,12 +71,16 @@ module _ (s : Scenario) (given : Images) (trace record_ : List ℕ) where
   replayed-by entries replies core budget r spells same is within comes =
       let first : IsFirstWith s (all_replaying (replies_by s entries)) core = subst (λ ls. IsFirstWith s (all_replaying ls) core) same is in
       comes-also (λ outcome. IsPlayed s.jobs given core budget trace outcome.status outcome.report) (IsReplayedBy s given trace record_)
-      (λ outcome text played. inr (entries, spells, record {
-        first = first.first;
-        is_first = first.is_first;
-        played = subst (λ (c : RunCore). IsPlayed s.jobs given c s.budget trace outcome.status outcome.report text) first.same
-            (subst (λ b. IsPlayed s.jobs given core b trace outcome.status outcome.report text) within played);
-      })) r comes
+      (λ outcome text played. inr (
+        entries,
+        spells,
+        record {
+          first = first.first;
+          is_first = first.is_first;
+          played = subst (λ (c : RunCore). IsPlayed s.jobs given c s.budget trace outcome.status outcome.report text) first.same
+              (subst (λ b. IsPlayed s.jobs given core b trace outcome.status outcome.report text) within played);
+        },
+      )) r comes
 
 -- ---- files
 

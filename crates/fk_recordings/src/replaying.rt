@@ -24,11 +24,7 @@ use std::alloc::Global;
 /// # Errors
 ///
 /// `BadRecord` with the number of the first line that is bad, counted from 1; `NoMemory`.
-fn replies_in(
-    alloc: Global,
-    scenario: &Scenario,
-    told: &[u8],
-) -> Result<Vec<Vec<Reply>>, Status>
+fn replies_in(alloc: Global, scenario: &Scenario, told: &[u8]) -> Result<Vec<Vec<Reply>>, Status>
     ensures found { IfOk result (λ lists. (entries : List Noted) × Spells (definitions.ports_of scenario.now.servers) told.now entries
         × (words_of_all lists.items ≡ replies_by scenario.now entries)) }
     ensures fail { IfErr result (IsRecordFail (definitions.ports_of scenario.now.servers) told.now) }

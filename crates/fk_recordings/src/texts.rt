@@ -66,12 +66,7 @@ fn read_notes(notes: &[Note])
 }
 
 /// Appends the lines of a tap, whose port is that at a place.
-fn push_post(
-    text: &mut String,
-    ports: &[Text],
-    place: usize,
-    post: &Post,
-) -> Result<(), NoMemory>
+fn push_post(text: &mut String, ports: &[Text], place: usize, post: &Post) -> Result<(), NoMemory>
     ensures lines { OnOk result (string_bytes text.new ≡ string_bytes text.old ++ definitions.lines_of ports.now place (meaning post.now)) }
     ensures small { definitions.IsSmallTap (meaning post.now) }
 {
