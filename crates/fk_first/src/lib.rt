@@ -17,4 +17,4 @@ mod watching;
 pub use first::{first_core, first_jobs};
 pub use plans::maker_of;
 pub use seen::{Images, Job, Ready, Seen, Stop, Trace, Watcher};
-pub use watching::watch;
+pub use watching::{images_for, watch};
