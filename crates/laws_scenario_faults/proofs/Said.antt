@@ -1,33 +1,30 @@
 -- Entries: each keeps all that it is asked exactly where it says what it is read as.
-use Rattle.std.proofs.Common.{◌≡◌, ◌≢◌, ◌≤◌, ◌<◌, ◌⊎◌, inl, inr, ℕ, ◌+◌, ℤ, pos, Bool, true, false, not, cond, ◌&&◌, ◌||◌, ◌==◌, nat_le, nat_lt, List, [], ◌∷◌, ◌++◌}
-use Rattle.std.proofs.Common.{length, map, Option, Some, None, is_some, unwrap_or, option_and_then, option_map, Result, Ok, Err, if◌then◌else◌, codes}
-use Rattle.std.proofs.Common.{refl, sym, ap, subst, ◌∙◌, arith, suc, true≢false, eqb-true, suc-ne-zero}
-use Rattle.std.proofs.lemmas.Bool.{leb-true, le-leb, ltb-true, lt-ltb, and_from}
+use Rattle.std.proofs.Common.{◌≡◌, ◌≤◌, ℕ, ◌+◌, Bool, true, false, not, cond, ◌&&◌, ◌||◌, ◌==◌, nat_lt, List, [], ◌∷◌, ◌++◌}
+use Rattle.std.proofs.Common.{length, Option, Some, None, is_some, unwrap_or, option_and_then, Result, Ok, Err, codes}
+use Rattle.std.proofs.Common.{refl, sym, ap, subst, ◌∙◌, arith, true≢false, eqb-true, suc-ne-zero}
+use Rattle.std.proofs.lemmas.Bool.{ltb-true, lt-ltb}
 use Rattle.std.proofs.lemmas.List.{append-nil, append_assoc}
 use Rattle.std.proofs.lemmas.List.Sums.{sum_by_push}
 use Rattle.std.proofs.lemmas.Slice.Eq.{bytes_eq-Decides}
-use Rattle.std.specs.List.{list_all, AllZip}
 use Rattle.std.specs.Str.{bytes_eq}
 use Rattle.std.specs.Result.{result_ok}
-use Rattle.toml.specs.Data.{Data, Items, no_items, item, Members, no_members, string, integer, array, table, get_member, as_str, as_integer, as_array}
+use Rattle.toml.specs.Data.{Data, Members, string, get_member, as_str}
 use Rattle.fk_model.specs.Names.{is_name}
-use Rattle.fk_model.specs.declared.moves.Rule.{Rule}
-use Rattle.fk_model.specs.declared.moves.Rule.TheVariants.{Echo}
 use Rattle.fk_asm.specs.Assembler.{assembled}
 use Rattle.fk_asm.specs.declared.fail.AsmError.{AsmError}
-use Rattle.fk_scenario.specs.Fields.Paths.{enclosing, is_slash}
+use Rattle.fk_scenario.specs.Fields.Paths.{enclosing}
 use Rattle.fk_scenario.specs.declared.entries.types.Program.{Program}
 use Rattle.fk_scenario.specs.declared.entries.types.SpaceEntry.{SpaceEntry}
 use Rattle.fk_scenario.specs.Sections.Programs.{position_of}
 use Rattle.fk_scenario.specs.Sections.Spaces.{is_no_name, may_stand, has_room_for_space, count_beneath, has_space_or_root, has_space}
 use Rattle.laws_scenario_faults.specs.Asked.{AreKept, Section, AllKeep}
 use Rattle.laws_scenario_faults.specs.Asked.AllKeep.{NoEntry, Entry}
-use Rattle.laws_scenario_faults.specs.Tables.{table_of, is_table, is_text, is_so_if, has, may_have, text, text_at, is_slot, slot, is_path, path, pieces}
+use Rattle.laws_scenario_faults.specs.Tables.{table_of, is_text, is_so_if, may_have, text, text_at, is_path, path}
 use Rattle.laws_scenario_faults.specs.Entries.{program_asks, program_says, is_program_if, keys_of_space_ask, space_asks, space_of, space_says}
-use Rattle.laws_scenario_faults.specs.Keys.{path_text, At, AtOr, AtIf, OfTable, IsText, IsPath}
+use Rattle.laws_scenario_faults.specs.Keys.{path_text, AtIf, OfTable}
 use Rattle.laws_scenario_faults.specs.Scenarios.{EachSays, SaysProgram, IsProgram, SaysSpace}
 use Rattle.laws_scenario_faults.proofs.Paths.{path-written}
-use Rattle.laws_scenario_faults.proofs.Keys.{both, text-is, table-is, there, text-at, text-at-told, path-at, path-at-told, flag-or, flag-or-told}
+use Rattle.laws_scenario_faults.proofs.Keys.{text-is, table-is, there, path-at, path-at-told, flag-or, flag-or-told}
 use Rattle.laws_scenario_faults.proofs.Keys.{numbers-or, numbers-or-told}
 
 -- ---- what is asked, and sections

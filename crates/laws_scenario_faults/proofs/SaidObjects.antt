@@ -1,10 +1,10 @@
 -- Objects: each keeps all that it is asked exactly where it says what it is read as.
-use Rattle.std.proofs.Common.{◌≡◌, ◌≤◌, ℕ, ◌+◌, Bool, true, false, not, ◌&&◌, nat_le, nat_lt, List, [], ◌∷◌, ◌++◌, length, map, Option, unwrap_or, option_map}
-use Rattle.std.proofs.Common.{if◌then◌else◌, codes, refl, sym, ap, subst, ◌∙◌, true≢false}
+use Rattle.std.proofs.Common.{◌≡◌, ◌≤◌, ℕ, ◌+◌, Bool, true, false, not, ◌&&◌, nat_lt, List, [], ◌∷◌, length, map, Option, unwrap_or, option_map}
+use Rattle.std.proofs.Common.{if◌then◌else◌, codes, refl, sym, ap, subst, true≢false}
 use Rattle.std.proofs.lemmas.Bool.{leb-true, le-leb, ltb-true, lt-ltb, and_from}
 use Rattle.std.proofs.lemmas.Slice.Eq.{bytes_eq-Decides}
 use Rattle.std.specs.Str.{bytes_eq}
-use Rattle.toml.specs.Data.{Data, Members, table}
+use Rattle.toml.specs.Data.{Data, Members}
 use Rattle.fk_scenario.specs.Fields.Paths.{enclosing}
 use Rattle.fk_scenario.specs.declared.entries.types.SpaceEntry.{SpaceEntry}
 use Rattle.fk_scenario.specs.declared.entries.types.ObjectEntry.{ObjectEntry}
@@ -13,11 +13,11 @@ use Rattle.fk_scenario.specs.declared.entries.types.Spec.TheVariants.{Thread, Mu
 use Rattle.fk_scenario.specs.Sections.Spaces.{has_space, has_space_or_root}
 use Rattle.fk_scenario.specs.Sections.Objects.{has_object}
 use Rattle.laws_scenario_faults.specs.Asked.{AreKept}
-use Rattle.laws_scenario_faults.specs.Tables.{table_of, is_table, is_text, is_integer, has, may_have, text, text_at, flag, integer, integers_at}
-use Rattle.laws_scenario_faults.specs.Tables.{is_in_if, number, number_or, is_path, is_path_if, path_if}
+use Rattle.laws_scenario_faults.specs.Tables.{table_of, is_text, is_integer, has, may_have, text, text_at, flag, integer, integers_at}
+use Rattle.laws_scenario_faults.specs.Tables.{is_in_if, number, number_or, is_path_if, path_if}
 use Rattle.laws_scenario_faults.specs.Objects.{thread_asks, thread, mutex_asks, mutex, first, count, window_asks, mapping_asks, mapping, region_asks, region}
 use Rattle.laws_scenario_faults.specs.Objects.{port_asks, port, reference_asks, reference, plain_asks, is_kind, body_asks, body, place, place_asks, object_asks}
-use Rattle.laws_scenario_faults.specs.Objects.{object_of, object_says}
+use Rattle.laws_scenario_faults.specs.Objects.{object_says}
 use Rattle.laws_scenario_faults.specs.Keys.{At, IsText, OfTable}
 use Rattle.laws_scenario_faults.specs.Scenarios.{SaysThread, SaysMutex, SaysWindow, SaysMapping, SaysRegion, SaysPort, SaysReference, SaysSpec, SaysObject}
 use Rattle.laws_scenario_faults.proofs.Keys.{both, table-is, text-at, text-at-told, path-at, path-at-told, path-if, path-if-told, flag-or, flag-or-told}
