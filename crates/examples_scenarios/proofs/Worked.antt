@@ -1,5 +1,6 @@
 -- The worked document says its scenario.
-use Rattle.std.proofs.Common.{◌≡◌, ◌≢◌, ◌≤◌, ◌+◌, inl, inr, ℕ, pos, true, false, List, [], ◌∷◌, map, All, Option, Some, None, Ok, codes, decimal, refl, sym, ap, ◌∙◌, arith, true≢false, suc-ne-zero}
+use Rattle.std.proofs.Common.{◌≡◌, ◌≢◌, ◌≤◌, ◌+◌, inl, inr, ℕ, pos, true, false, List, [], ◌∷◌, map, All, Option, Some, None, Ok, codes, decimal, refl}
+use Rattle.std.proofs.Common.{sym, ap, ◌∙◌, arith, true≢false, suc-ne-zero}
 use Rattle.std.proofs.lemmas.List.Elements.{All-from_recursion}
 use Rattle.toml.specs.Data.{Data, no_items, item, Members, no_members, member, string, integer, array, table}
 use Rattle.fk_scenario.specs.declared.scenario.scenario.Scenario.{Scenario}
@@ -45,13 +46,16 @@ says-thread : SaysObject (space_entry ∷ []) [] thread_table (thread_entry 0)
 unfolding has_only items
 says-thread = record {
   path = (string (codes "/1/0"), refl, path-1-0);
-  spec = ((string (codes "thread"), refl, refl), record {
-    keys = refl;
-    entry_at = inr (refl, refl);
-    regs_at = inl (array (item (integer (pos 7)) no_items), refl, (item (integer (pos 7)) no_items, refl, ((refl, omega arith, omega arith), tt)));
-    few = omega arith;
-    stops_at = inr (refl, refl);
-  });
+  spec = (
+    (string (codes "thread"), refl, refl),
+    record {
+      keys = refl;
+      entry_at = inr (refl, refl);
+      regs_at = inl (array (item (integer (pos 7)) no_items), refl, (item (integer (pos 7)) no_items, refl, ((refl, omega arith, omega arith), tt)));
+      few = omega arith;
+      stops_at = inr (refl, refl);
+    },
+  );
   inside = omega arith;
   in_space = refl;
   no_space = refl;
@@ -76,12 +80,20 @@ says-defaults = record {
   budget = (integer (pos 100), refl, (refl, omega arith, omega arith));
   workers = inr (refl, refl);
   programs = ([], inr (refl, refl), tt);
-  spaces = (table space_table ∷ [], inl (array (item (table space_table) no_items), refl, (item (table space_table) no_items, refl, refl)),
-      ((space_table, refl, says-space), tt));
-  objects = (table thread_table ∷ table reference_table ∷ [],
-      inl (array (item (table thread_table) (item (table reference_table) no_items)), refl,
-      (item (table thread_table) (item (table reference_table) no_items), refl, refl)),
-      ((thread_table, refl, says-thread), ((reference_table, refl, says-reference), tt)));
+  spaces = (
+    table space_table ∷ [],
+    inl (array (item (table space_table) no_items), refl, (item (table space_table) no_items, refl, refl)),
+    ((space_table, refl, says-space), tt),
+  );
+  objects = (
+    table thread_table ∷ table reference_table ∷ [],
+    inl (
+      array (item (table thread_table) (item (table reference_table) no_items)),
+      refl,
+      (item (table thread_table) (item (table reference_table) no_items), refl, refl),
+    ),
+    ((thread_table, refl, says-thread), ((reference_table, refl, says-reference), tt)),
+  );
   aims = All-from_recursion (λ (o : ObjectEntry). aims_well (space_entry ∷ []) (thread_entry 0 ∷ reference_entry ∷ []) (entry_space o) o.spec ≡ true)
       (thread_entry 0 ∷ reference_entry ∷ []) (refl, (refl, tt));
   servers = ([], inr (refl, refl), tt);

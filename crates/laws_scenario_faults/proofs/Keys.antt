@@ -73,10 +73,11 @@ module _ (low high : ℕ) where
   numbers-told (item d rest) [] say = absurd (say)
   numbers-told (item d rest) (n ∷ ns) say =
       let (t0, r0, same) = number-told low high d n say.0 in
-      let (ts, rs, others) = numbers-told rest ns say.1 in
-      (and_from (is_integer d) (each is_integer rest) t0 ts,
-      and_from (is_in low high (integer_of d)) (list_all (is_in low high) (integers rest)) r0 rs,
-      ap (λ x. x ∷ map number (integers rest)) same ∙ ap (λ xs. n ∷ xs) others)
+      let (ts, rs, others) = numbers-told rest ns say.1 in (
+        and_from (is_integer d) (each is_integer rest) t0 ts,
+        and_from (is_in low high (integer_of d)) (list_all (is_in low high) (integers rest)) r0 rs,
+        ap (λ x. x ∷ map number (integers rest)) same ∙ ap (λ xs. n ∷ xs) others,
+      )
 
 -- ---- keys
 
@@ -177,9 +178,12 @@ module _ (key : List ℕ) (ms : Members) where
             At (IsNumber low high) key ms (number_or default z)
         some d at None read t r = absurd (cc)
         some d at (Some z) read t r =
-            let same : integer_of d ≡ z = ap (λ (o : Option ℤ). unwrap_or o (pos 0)) read in
-            (d, at, subst (λ z. IsNumber low high d (number z)) same
-            (number-says low high d (ap is_some read) (subst (λ z. is_in low high z ≡ true) (sym same) r)))
+            let same : integer_of d ≡ z = ap (λ (o : Option ℤ). unwrap_or o (pos 0)) read in (
+              d,
+              at,
+              subst (λ z. IsNumber low high d (number z)) same
+                  (number-says low high d (ap is_some read) (subst (λ z. is_in low high z ≡ true) (sym same) r)),
+            )
 
         by : (o : Option Data) → get_member key ms ≡ o → is_so_if is_integer o ≡ true → is_in_if low high (option_and_then as_integer o) ≡ true →
             AtOr default (IsNumber low high) key ms (number_or default (option_and_then as_integer o))
@@ -203,9 +207,12 @@ module _ (key : List ℕ) (ms : Members) where
             AtIf (IsNumber low high) key ms (option_map number z)
         some d at None read t r = absurd (cc)
         some d at (Some z) read t r =
-            let same : integer_of d ≡ z = ap (λ (o : Option ℤ). unwrap_or o (pos 0)) read in
-            (d, at, subst (λ z. IsNumber low high d (number z)) same
-            (number-says low high d (ap is_some read) (subst (λ z. is_in low high z ≡ true) (sym same) r)))
+            let same : integer_of d ≡ z = ap (λ (o : Option ℤ). unwrap_or o (pos 0)) read in (
+              d,
+              at,
+              subst (λ z. IsNumber low high d (number z)) same
+                  (number-says low high d (ap is_some read) (subst (λ z. is_in low high z ≡ true) (sym same) r)),
+            )
 
         by : (o : Option Data) → get_member key ms ≡ o → is_so_if is_integer o ≡ true → is_in_if low high (option_and_then as_integer o) ≡ true →
             AtIf (IsNumber low high) key ms (option_map number (option_and_then as_integer o))

@@ -1,5 +1,6 @@
 -- Paths: a text is that of a path exactly where it is the path's slots in decimal, each behind a slash.
-use Rattle.std.proofs.Common.{◌≡◌, ◌≢◌, ℕ, ◌≤◌, ◌<◌, Bool, true, false, cond, ◌&&◌, List, [], ◌∷◌, ◌++◌, length, map, flat_map, All, Option, Some, None, is_some, unwrap_or}
+use Rattle.std.proofs.Common.{◌≡◌, ◌≢◌, ℕ, ◌≤◌, ◌<◌, Bool, true, false, cond, ◌&&◌, List, [], ◌∷◌, ◌++◌, length, map, flat_map, All, Option, Some, None}
+use Rattle.std.proofs.Common.{is_some, unwrap_or}
 use Rattle.std.proofs.Common.{codes, decimal, refl, sym, ap, ◌∙◌, arith, eqb-true}
 use Rattle.std.proofs.lemmas.Bool.{and_from}
 use Rattle.std.proofs.lemmas.Fmt.{decimal_nonempty}
@@ -82,9 +83,10 @@ path-written (byte ∷ []) h =
 path-written (byte ∷ more ∷ text) h =
     let ps = slice_split is_slash (more ∷ text) in
     let (is, slots) = parts-of (is_slash byte) (list_all is_slot ps) h in
-    let (same, low) = slots-written ps slots in
-    (ap (λ b. b ∷ more ∷ text) (slash-is byte is) ∙ (sym (pieces-whole (more ∷ text)) ∙ (sym same ∙ sym (path-text (map slot ps) (split-some (more ∷ text))))),
-    All-from_recursion IsUserSlot (map slot ps) low)
+    let (same, low) = slots-written ps slots in (
+      ap (λ b. b ∷ more ∷ text) (slash-is byte is) ∙ (sym (pieces-whole (more ∷ text)) ∙ (sym same ∙ sym (path-text (map slot ps) (split-some (more ∷ text))))),
+      All-from_recursion IsUserSlot (map slot ps) low,
+    )
 
 -- ---- from the path
 
@@ -111,9 +113,10 @@ slots-read : (slots : List ℕ) → AllByRecursion IsUserSlot slots → (list_al
 slots-read [] low = (refl, refl)
 slots-read (n ∷ slots) low =
     let read : plain_number_up_to 239 (decimal n) ≡ Some n = plain_number_up_to-decimal 239 n low.0 (omega arith) in
-    let (all, same) = slots-read slots low.1 in
-    (and_from (is_slot (decimal n)) (list_all is_slot (map decimal slots)) (ap is_some read) all,
-    ap (λ (o : Option ℕ). unwrap_or o 0 ∷ map slot (map decimal slots)) read ∙ ap (λ xs. n ∷ xs) same)
+    let (all, same) = slots-read slots low.1 in (
+      and_from (is_slot (decimal n)) (list_all is_slot (map decimal slots)) (ap is_some read) all,
+      ap (λ (o : Option ℕ). unwrap_or o 0 ∷ map slot (map decimal slots)) read ∙ ap (λ xs. n ∷ xs) same,
+    )
 
 pieces-behind : (text : List ℕ) → 0 < length text → pieces (47 ∷ text) ≡ slice_split is_slash text
 pieces-behind [] some = absurd (omega (arith, some))

@@ -55,7 +55,8 @@ module _ {E X : Type 0} (s : Section E X) (Says : List X → E → X → Type 0)
       let (asked, same) = told done entry x say.0 in
       let rest = section-told told (done ++ x ∷ []) es xs say.1 in
       Entry done entry es (done ++ x ∷ xs) asked
-      (subst (λ (y : X). AllKeep s (done ++ y ∷ []) es (done ++ x ∷ xs)) (sym same) (subst (AllKeep s (done ++ x ∷ []) es) (append_assoc done (x ∷ []) xs) rest))
+      (subst (λ (y : X). AllKeep s (done ++ y ∷ []) es (done ++ x ∷ xs)) (sym same)
+      (subst (AllKeep s (done ++ x ∷ []) es) (append_assoc done (x ∷ []) xs) rest))
 
 -- the same of all of a section
 module _ {E X : Type 0} (s : Section E X) (Says : List X → E → X → Type 0) where
@@ -87,9 +88,11 @@ program-told done entry p say =
     let (text, is, words) = say.words in
     let here : unwrap_or (as_str entry.1) [] ≡ text = ap (λ (d : Data). unwrap_or (as_str d) []) is in
     let read : assembled (unwrap_or (as_str entry.1) []) ≡ Ok p.words = ap assembled here ∙ words in
-    let found : unwrap_or (result_ok (assembled (unwrap_or (as_str entry.1) []))) [] ≡ p.words = ap (λ (r : Result (List ℕ) AsmError). unwrap_or (result_ok r) []) read in
-    ((subst (λ (d : Data). is_text d ≡ true) (sym is) refl, (say.is_one, (ap (λ (r : Result (List ℕ) AsmError). is_some (result_ok r)) read, tt))),
-    program-same p entry.0 _ (sym say.name) found)
+    let found : unwrap_or (result_ok (assembled (unwrap_or (as_str entry.1) []))) [] ≡ p.words =
+    ap (λ (r : Result (List ℕ) AsmError). unwrap_or (result_ok r) []) read in (
+      (subst (λ (d : Data). is_text d ≡ true) (sym is) refl, (say.is_one, (ap (λ (r : Result (List ℕ) AsmError). is_some (result_ok r)) read, tt))),
+      program-same p entry.0 _ (sym say.name) found,
+    )
 
 -- ---- spaces
 
@@ -181,7 +184,31 @@ few-told done written s same is few = by (length s.path == 0) (bytes_eq written 
         lt-ltb (count_beneath done) 255 (omega (arith, few, count-last done s, ap added is_none))
 
 space-keys-say : (ps : List Program) (done : List SpaceEntry) (ms : Members) → AreKept (keys_of_space_ask ps done ms) → SaysSpace ps done ms (space_of ps ms)
-space-keys-say ps done ms (keys, (path_is, (program_is, (pages_are, (nester_is, (pages_in, (room, (is_path_text, (named, (stands, (there_is, _))))))))))) = record {
+space-keys-say ps done ms (
+  keys,
+  (
+    path_is,
+    (
+      program_is,
+      (
+        pages_are,
+        (
+          nester_is,
+          (
+            pages_in,
+            (
+              room,
+              (
+                is_path_text,
+                (named, (stands, (there_is, _))),
+              ),
+            ),
+          ),
+        ),
+      ),
+    ),
+  ),
+) = record {
   keys = keys;
   path = path-at (codes "path") ms path_is is_path_text;
   program = program-if ps ms program_is named there_is;
@@ -203,9 +230,10 @@ space-keys-told ps done ms s say =
     let (pages_are, pages_in, pages_same) = numbers-or-told (codes "pages") ms 0 255 s.pages say.pages in
     let (nester_is, nester_same) = flag-or-told (codes "nester") ms s.nester say.nester in
     let room = few-told done (text_at (codes "path") ms) s path_same is_path_text say.few in
-    let stands = subst (λ p. may_stand done p ≡ true) (sym path_same) say.stands in
-    ((say.keys, (path_is, (program_is, (pages_are, (nester_is, (pages_in, (room, (is_path_text, (named, (stands, (there_is, tt))))))))))),
-    space-same s _ _ _ _ path_same program_same pages_same nester_same)
+    let stands = subst (λ p. may_stand done p ≡ true) (sym path_same) say.stands in (
+      (say.keys, (path_is, (program_is, (pages_are, (nester_is, (pages_in, (room, (is_path_text, (named, (stands, (there_is, tt))))))))))),
+      space-same s _ _ _ _ path_same program_same pages_same nester_same,
+    )
 
 module _ (ps : List Program) (done : List SpaceEntry) (value : Data) where
   pub space-says : AreKept (space_asks ps done value) → OfTable (SaysSpace ps done) value (space_says ps done value)

@@ -90,7 +90,8 @@ module _ (ms : Members) where
   region_rest = (4, is_path_if (text (codes "keeper") ms)) ∷ []
 
   mapping-says : AreKept (mapping_asks ms) →
-      SaysMapping ms (path_if (text (codes "region") ms)) (first ms) (count ms) (number_or 0 (integer (codes "offset") ms)) (unwrap_or (flag (codes "write") ms) false)
+      SaysMapping ms (path_if (text (codes "region") ms)) (first ms) (count ms) (number_or 0 (integer (codes "offset") ms))
+      (unwrap_or (flag (codes "write") ms) false)
   mapping-says (keys, (r, (f, (c, (offset, (write, rest)))))) =
       let (window, others) = kept-append (window_asks ms) mapping_rest rest in
       record {
@@ -107,9 +108,10 @@ module _ (ms : Members) where
       let (r, r_in, r_same) = path-if-told (codes "region") ms space say.region_at in
       let (f, c, window, f_same, c_same) = window-told a b say.window in
       let (o, o_in, o_same) = number-or-told (codes "offset") ms 0 255 0 offset say.offset_at in
-      let (w, w_same) = flag-or-told (codes "write") ms write say.write_at in
-      ((say.keys, (r, (f, (c, (o, (w, append-kept (window_asks ms) mapping_rest window (o_in, (r_in, tt)))))))),
-      mapping-same _ space _ a _ b _ offset _ write r_same f_same c_same o_same w_same)
+      let (w, w_same) = flag-or-told (codes "write") ms write say.write_at in (
+        (say.keys, (r, (f, (c, (o, (w, append-kept (window_asks ms) mapping_rest window (o_in, (r_in, tt)))))))),
+        mapping-same _ space _ a _ b _ offset _ write r_same f_same c_same o_same w_same,
+      )
 
   region-says : AreKept (region_asks ms) →
       SaysRegion ms (first ms) (count ms) (unwrap_or (flag (codes "write") ms) false) (path_if (text (codes "keeper") ms))
@@ -127,8 +129,10 @@ module _ (ms : Members) where
   region-told a b write keeper say =
       let (f, c, window, f_same, c_same) = window-told a b say.window in
       let (w, w_same) = flag-or-told (codes "write") ms write say.write_at in
-      let (k, k_in, k_same) = path-if-told (codes "keeper") ms keeper say.keeper_at in
-      ((say.keys, (f, (c, (w, (k, append-kept (window_asks ms) region_rest window (k_in, tt)))))), region-same _ a _ b _ write _ keeper f_same c_same w_same k_same)
+      let (k, k_in, k_same) = path-if-told (codes "keeper") ms keeper say.keeper_at in (
+        (say.keys, (f, (c, (w, (k, append-kept (window_asks ms) region_rest window (k_in, tt)))))),
+        region-same _ a _ b _ write _ keeper f_same c_same w_same k_same,
+      )
 
   port-says : AreKept (port_asks ms) → SaysPort ms (option_map number (integer (codes "set") ms))
   port-says (keys, (set, (set_in, _))) = record { keys = keys; set_at = number-if (codes "set") ms 0 239 set set_in }
@@ -223,15 +227,18 @@ unfolding object_asks object_says
 object-says ss done value (is, (at_is, (kind_is, rest))) =
     let ms = table_of value in
     let (body, (is_path_text, (inside, (in_space, (free, _))))) = kept-append (body_asks ms) (place_asks ss done ms) rest in
-    let (no_space, no_object) = both (not (has_space ss (place ms))) (not (has_object done (place ms))) free in
-    (ms, table-is value is, record {
-      path = path-at (codes "at") ms at_is is_path_text;
-      spec = body-says ms kind_is body;
-      inside = ltb-true 0 (length (place ms)) inside;
-      in_space = in_space;
-      no_space = not-false _ no_space;
-      no_object = not-false _ no_object;
-    })
+    let (no_space, no_object) = both (not (has_space ss (place ms))) (not (has_object done (place ms))) free in (
+      ms,
+      table-is value is,
+      record {
+        path = path-at (codes "at") ms at_is is_path_text;
+        spec = body-says ms kind_is body;
+        inside = ltb-true 0 (length (place ms)) inside;
+        in_space = in_space;
+        no_space = not-false _ no_space;
+        no_object = not-false _ no_object;
+      },
+    )
 
 pub object-told : (ss : List SpaceEntry) (done : List ObjectEntry) (value : Data) (o : ObjectEntry) → OfTable (SaysObject ss done) value o →
     AreKept (object_asks ss done value) × (object_says done value ≡ o)
@@ -242,6 +249,8 @@ object-told ss done value o (ms, is, say) =
     let inside = subst (λ (p : List ℕ). nat_lt 0 (length p) ≡ true) (sym path_same) (lt-ltb 0 (length o.path) say.inside) in
     let in_space = subst (λ (p : List ℕ). has_space_or_root ss (enclosing p) ≡ true) (sym path_same) say.in_space in
     let free = subst (λ (p : List ℕ). (not (has_space ss p) && not (has_object done p)) ≡ true) (sym path_same)
-        (and_from (not (has_space ss o.path)) (not (has_object done o.path)) (ap not say.no_space) (ap not say.no_object)) in
-    subst (λ (d : Data). AreKept (object_asks ss done d) × (object_says done d ≡ o)) (sym is)
-    ((refl, (at_is, (kind_is, append-kept (body_asks ms) (place_asks ss done ms) body (is_path_text, (inside, (in_space, (free, tt))))))), object-same o _ _ path_same spec_same)
+    (and_from (not (has_space ss o.path)) (not (has_object done o.path)) (ap not say.no_space) (ap not say.no_object)) in
+    subst (λ (d : Data). AreKept (object_asks ss done d) × (object_says done d ≡ o)) (sym is) (
+      (refl, (at_is, (kind_is, append-kept (body_asks ms) (place_asks ss done ms) body (is_path_text, (inside, (in_space, (free, tt))))))),
+      object-same o _ _ path_same spec_same,
+    )

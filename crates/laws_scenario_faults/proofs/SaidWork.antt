@@ -20,7 +20,8 @@ use Rattle.fk_scenario.specs.Entries.Servers.{rule_from}
 use Rattle.fk_scenario.specs.Entries.Jobs.{is_restore}
 use Rattle.fk_scenario.specs.Scenario.Jobs.{nester_from, first_number, job_spec}
 use Rattle.laws_scenario_faults.specs.Asked.{AreKept}
-use Rattle.laws_scenario_faults.specs.Tables.{table_of, is_text, is_integer, is_array, is_array_of, each, has, may_have, is_so_if, items, text_at, integer_of, integers}
+use Rattle.laws_scenario_faults.specs.Tables.{table_of, is_text, is_integer, is_array, is_array_of, each, has, may_have, is_so_if, items, text_at}
+use Rattle.laws_scenario_faults.specs.Tables.{integer_of, integers}
 use Rattle.laws_scenario_faults.specs.Tables.{integers_at, is_in, entries, is_path}
 use Rattle.laws_scenario_faults.specs.Entries.{console_asks, listed_asks, is_console, service_asks, listed, service_of, server_asks, server_says}
 use Rattle.laws_scenario_faults.specs.Entries.{restore_keys, checkpoint_keys, kind, list_of, bound, bind_asks, is_pair, pair, are_distinct, is_kind, binds_well}
@@ -47,15 +48,22 @@ module _ (rules : List (List ℕ × Rule)) (ms : Members) where
       by : (o : Option (ℕ × Rule)) → rule_from 0 rules rule_name ≡ o → is_some o ≡ true →
           SaysService rules ms (listed (integers_at (codes "config") ms) (unwrap_or o (0, Echo)))
       by None at found = absurd (cc)
-      by (Some (index, rule)) at found = (rule_name, keys, text-at (codes "rule") ms h,
-          (λ same. true≢false (sym ((bytes_eq-Decides rule_name (codes "console")).1 same) ∙ other)),
-          at, numbers-or (codes "config") ms 0 9223372036854775807 config config_in)
+      by (Some (index, rule)) at found = (
+        rule_name,
+        keys,
+        text-at (codes "rule") ms h,
+        (λ same. true≢false (sym ((bytes_eq-Decides rule_name (codes "console")).1 same) ∙ other)),
+        at,
+        numbers-or (codes "config") ms 0 9223372036854775807 config config_in,
+      )
 
   console-says : has is_text (codes "rule") ms ≡ true → is_console ms ≡ true → AreKept (console_asks ms) →
       SaysService rules ms (Console (text_at (codes "alias") ms))
-  console-says h is (keys, (alias, (named, _))) =
-      (keys, subst (At IsText (codes "rule") ms) ((bytes_eq-Decides rule_name (codes "console")).0 is) (text-at (codes "rule") ms h),
-      name-at (codes "alias") ms alias named)
+  console-says h is (keys, (alias, (named, _))) = (
+    keys,
+    subst (At IsText (codes "rule") ms) ((bytes_eq-Decides rule_name (codes "console")).0 is) (text-at (codes "rule") ms h),
+    name-at (codes "alias") ms alias named,
+  )
 
   service-says : has is_text (codes "rule") ms ≡ true → AreKept (service_asks rules ms) → SaysService rules ms (service_of rules ms)
   service-says h keep = by (is_console ms) refl keep
@@ -88,10 +96,10 @@ module _ (rules : List (List ℕ × Rule)) (ms : Members) where
       let (c, c_in, c_same) = numbers-or-told (codes "config") ms 0 9223372036854775807 config config_at in
       let found_here : rule_from 0 rules rule_name ≡ Some (index, rule) = ap (rule_from 0 rules) here ∙ found in
       let same : listed (integers_at (codes "config") ms) (unwrap_or (rule_from 0 rules rule_name) (0, Echo)) ≡ Listed index rule config =
-          ap (λ (o : Option (ℕ × Rule)). listed (integers_at (codes "config") ms) (unwrap_or o (0, Echo))) found_here
-          ∙ listed-same index rule _ config c_same in
+      ap (λ (o : Option (ℕ × Rule)). listed (integers_at (codes "config") ms) (unwrap_or o (0, Echo))) found_here
+      ∙ listed-same index rule _ config c_same in
       let all = subst (λ (t : Bool). Service t (Listed index rule config)) (sym (no-console name here other))
-          ((keys, (c, (c_in, (ap is_some found_here, tt)))), same) in
+      ((keys, (c, (c_in, (ap is_some found_here, tt)))), same) in
       (h, all.0, all.1)
     where
       no-console : (name : List ℕ) → rule_name ≡ name → name ≢ codes "console" → is_console ms ≡ false
@@ -119,9 +127,10 @@ module _ (rules : List (List ℕ × Rule)) (done : List ServerEntry) (value : Da
   server-told v (ms, is, say) =
       let (port_is, is_path_text, port_same) = path-at-told (codes "port") ms v.port say.port in
       let (rule_is, service, service_same) = service-told rules ms v.service say.service in
-      subst (λ (d : Data). AreKept (server_asks rules done d) × (server_says rules done d ≡ v)) (sym is)
-      ((refl, (port_is, (rule_is, append-kept (service_asks rules ms) ((4, is_path (text_at (codes "port") ms)) ∷ []) service (is_path_text, tt)))),
-      server-same v _ _ port_same service_same)
+      subst (λ (d : Data). AreKept (server_asks rules done d) × (server_says rules done d ≡ v)) (sym is) (
+        (refl, (port_is, (rule_is, append-kept (service_asks rules ms) ((4, is_path (text_at (codes "port") ms)) ∷ []) service (is_path_text, tt)))),
+        server-same v _ _ port_same service_same,
+      )
 
 -- ---- pairs
 
@@ -169,10 +178,11 @@ pairs-told no_items (p ∷ ps) say = absurd (say)
 pairs-told (item d rest) [] say = absurd (say)
 pairs-told (item d rest) (p ∷ ps) say =
     let (t0, r0, same) = pair-told d p say.0 in
-    let (ts, rs, others) = pairs-told rest ps say.1 in
-    (and_from (is_array_of is_integer d) (each (is_array_of is_integer) rest) t0 ts,
-    and_from (is_pair (list_of d)) (list_all is_pair (map list_of (items rest))) r0 rs,
-    ap (λ x. x ∷ map pair (map list_of (items rest))) same ∙ ap (λ xs. p ∷ xs) others)
+    let (ts, rs, others) = pairs-told rest ps say.1 in (
+      and_from (is_array_of is_integer d) (each (is_array_of is_integer) rest) t0 ts,
+      and_from (is_pair (list_of d)) (list_all is_pair (map list_of (items rest))) r0 rs,
+      ap (λ x. x ∷ map pair (map list_of (items rest))) same ∙ ap (λ xs. p ∷ xs) others,
+    )
 
 module _ (key : List ℕ) (ms : Members) where
   pairs-or : may_have (is_array_of (is_array_of is_integer)) key ms ≡ true → list_all is_pair (map list_of (entries key ms)) ≡ true →
@@ -248,9 +258,11 @@ module _ (ms : Members) where
   kind-told (Restore bind) (at, keys, pairs_at, distinct) =
       let (h, here) = text-at-told (codes "kind") ms (codes "restore") at in
       let is : is_restore (kind ms) ≡ true = (bytes_eq-Decides (kind ms) (codes "restore")).1 here in
-      let (b, two, same) = pairs-or-told (codes "bind") ms bind pairs_at in
-      (h, subst (λ (t : Bool). Kind t (Restore bind)) (sym is)
-      ((keys, (b, tt)), two, refl, subst (λ (ps : List (ℕ × ℕ)). are_distinct [] ps ≡ true) (sym same) distinct, ap Restore same))
+      let (b, two, same) = pairs-or-told (codes "bind") ms bind pairs_at in (
+        h,
+        subst (λ (t : Bool). Kind t (Restore bind)) (sym is)
+            ((keys, (b, tt)), two, refl, subst (λ (ps : List (ℕ × ℕ)). are_distinct [] ps ≡ true) (sym same) distinct, ap Restore same),
+      )
 
 job-same : (j : JobEntry) (moment slot : ℕ) (nester image : List ℕ) (k : JobKind) → moment ≡ j.moment → nester ≡ j.nester → slot ≡ j.slot →
     image ≡ j.image → k ≡ j.kind → (record { moment = moment; nester = nester; slot = slot; image = image; kind = k }) ≡ j
@@ -262,15 +274,18 @@ module _ (done : List JobEntry) (value : Data) where
   job-says (is, (kind_is, rest)) =
       let ms = table_of value in
       let (bind, (at_is, (nester_is, (slot_is, (image_is, (at_in, (slot_in, (two, (few, (is_path_text, (named, (known, (well, _)))))))))))))
-          = kept-append (bind_asks ms) (other_keys_ask (length done) ms) rest in
-      (ms, table-is value is, record {
-        few = ltb-true (length done) 16 few;
-        kind = kind-says ms kind_is bind two known well;
-        moment = number-or (codes "at") ms 0 1000000 0 at_is at_in;
-        nester = path-at (codes "nester") ms nester_is is_path_text;
-        slot = number-at (codes "slot") ms 0 239 slot_is slot_in;
-        image = name-at (codes "image") ms image_is named;
-      })
+      = kept-append (bind_asks ms) (other_keys_ask (length done) ms) rest in (
+        ms,
+        table-is value is,
+        record {
+          few = ltb-true (length done) 16 few;
+          kind = kind-says ms kind_is bind two known well;
+          moment = number-or (codes "at") ms 0 1000000 0 at_is at_in;
+          nester = path-at (codes "nester") ms nester_is is_path_text;
+          slot = number-at (codes "slot") ms 0 239 slot_is slot_in;
+          image = name-at (codes "image") ms image_is named;
+        },
+      )
 
   pub job-told : (j : JobEntry) → OfTable (SaysJob done) value j → AreKept (job_asks done value) × (job_says done value ≡ j)
   unfolding job_asks job_says
@@ -281,10 +296,17 @@ module _ (done : List JobEntry) (value : Data) where
       let (slot_is, slot_in, slot_same) = number-at-told (codes "slot") ms 0 239 j.slot say.slot in
       let (image_is, named, image_same) = name-at-told (codes "image") ms j.image say.image in
       let few = lt-ltb (length done) 16 say.few in
-      subst (λ (d : Data). AreKept (job_asks done d) × (job_says done d ≡ j)) (sym is)
-      ((refl, (kind_is, append-kept (bind_asks ms) (other_keys_ask (length done) ms) bind
-      (at_is, (nester_is, (slot_is, (image_is, (at_in, (slot_in, (two, (few, (is_path_text, (named, (known, (well, tt)))))))))))))),
-      job-same j _ _ _ _ _ at_same nester_same slot_same image_same kind_same)
+      subst (λ (d : Data). AreKept (job_asks done d) × (job_says done d ≡ j)) (sym is) (
+        (
+          refl,
+          (
+            kind_is,
+            append-kept (bind_asks ms) (other_keys_ask (length done) ms) bind
+                (at_is, (nester_is, (slot_is, (image_is, (at_in, (slot_in, (two, (few, (is_path_text, (named, (known, (well, tt)))))))))))),
+          ),
+        ),
+        job-same j _ _ _ _ _ at_same nester_same slot_same image_same kind_same,
+      )
 
 -- ---- the jobs that entries ask for
 

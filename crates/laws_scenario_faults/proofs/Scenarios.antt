@@ -48,9 +48,12 @@ module _ (key : List ℕ) (ms : Members) (low high default : ℕ) where
           is_in low high (unwrap_or z (pos default)) ≡ true → At (IsNumber low high) key ms (number (unwrap_or z (pos default)))
       some d at None read t r = absurd (cc)
       some d at (Some z) read t r =
-          let same : told.integer_of d ≡ z = ap (λ (o : Option ℤ). unwrap_or o (pos 0)) read in
-          (d, at, subst (λ z. IsNumber low high d (number z)) same
-          (number-says low high d (ap is_some read) (subst (λ z. is_in low high z ≡ true) (sym same) r)))
+          let same : told.integer_of d ≡ z = ap (λ (o : Option ℤ). unwrap_or o (pos 0)) read in (
+            d,
+            at,
+            subst (λ z. IsNumber low high d (number z)) same
+                (number-says low high d (ap is_some read) (subst (λ z. is_in low high z ≡ true) (sym same) r)),
+          )
 
       by : (o : Option Data) → get_member key ms ≡ o → is_so_if is_integer o ≡ true →
           is_in low high (unwrap_or (option_and_then as_integer o) (pos default)) ≡ true →
@@ -129,22 +132,40 @@ module _ (rules : List (List ℕ × Rule)) (ms : Members) where
         keys = keys;
         budget = number-at (codes "budget") ms 1 1000000 b_is b_in;
         workers = number-else (codes "workers") ms 1 8 1 w_is w_in;
-        programs = (program_entries rules ms, members-or (codes "programs") ms ps_are,
-            all-say asked.programs SaysProgram program-says (program_entries rules ms) r.programs say.places.programs_keep);
-        spaces = (entries (codes "space") ms, values-or (codes "space") ms ss_are,
-            all-say (asked.spaces r.programs) (λ before. OfTable (SaysSpace r.programs before)) (space-says r.programs) (entries (codes "space") ms) r.spaces
-            say.places.spaces_keep);
-        objects = (entries (codes "object") ms, values-or (codes "object") ms os_are,
-            all-say (objects r.spaces) (λ before. OfTable (SaysObject r.spaces before)) (object-says r.spaces) (entries (codes "object") ms) r.objects
-            say.places.objects_keep);
+        programs = (
+          program_entries rules ms,
+          members-or (codes "programs") ms ps_are,
+          all-say asked.programs SaysProgram program-says (program_entries rules ms) r.programs say.places.programs_keep,
+        );
+        spaces = (
+          entries (codes "space") ms,
+          values-or (codes "space") ms ss_are,
+          all-say (asked.spaces r.programs) (λ before. OfTable (SaysSpace r.programs before)) (space-says r.programs) (entries (codes "space") ms) r.spaces
+              say.places.spaces_keep,
+        );
+        objects = (
+          entries (codes "object") ms,
+          values-or (codes "object") ms os_are,
+          all-say (objects r.spaces) (λ before. OfTable (SaysObject r.spaces before)) (object-says r.spaces) (entries (codes "object") ms) r.objects
+              say.places.objects_keep,
+        );
         aims = All-from_recursion (Aims r.spaces r.objects) r.objects (aims-say r.spaces r.objects [] r.objects aimed aims_keep);
-        servers = (entries (codes "server") ms, values-or (codes "server") ms vs_are,
-            all-say (asked.servers rules) (λ before. OfTable (SaysServer rules before)) (server-says rules) (entries (codes "server") ms) r.servers
-            say.servers_keep);
+        servers = (
+          entries (codes "server") ms,
+          values-or (codes "server") ms vs_are,
+          all-say (asked.servers rules) (λ before. OfTable (SaysServer rules before)) (server-says rules) (entries (codes "server") ms) r.servers
+              say.servers_keep,
+        );
         serving = serving-say r.objects [] r.servers served serving_keep;
-        jobs = (r.jobs, (entries (codes "job") ms, values-or (codes "job") ms js_are,
-            all-say asked.jobs (λ before. OfTable (SaysJob before)) job-says (entries (codes "job") ms) r.jobs say.jobs_keep),
-            all-say (work r.spaces r.servers) (IsJobOf r.spaces r.servers) (work-says r.spaces r.servers) r.jobs js work_keep);
+        jobs = (
+          r.jobs,
+          (
+            entries (codes "job") ms,
+            values-or (codes "job") ms js_are,
+            all-say asked.jobs (λ before. OfTable (SaysJob before)) job-says (entries (codes "job") ms) r.jobs say.jobs_keep,
+          ),
+          all-say (work r.spaces r.servers) (IsJobOf r.spaces r.servers) (work-says r.spaces r.servers) r.jobs js work_keep,
+        );
       }
 
   second-is-said : (r : Said) (s : Scenario) → SaysRound rules ms r → second (number (budget ms)) (number (workers ms)) r ≡ Ok s → Says rules ms s
@@ -186,7 +207,7 @@ module _ (rules : List (List ℕ × Rule)) (ms : Members) where
       let (es, at, programs_say) = say.programs in
       let (ps_are, ps_same) = members-or-told (codes "programs") ms es at in
       let programs_keep = subst (λ (es : List (List ℕ × Data)). AllKeep asked.programs [] es s.programs) (sym ps_same)
-          (section-told asked.programs SaysProgram program-told [] es s.programs programs_say) in
+      (section-told asked.programs SaysProgram program-told [] es s.programs programs_say) in
       let (ss_are, spaces_keep) = section-kept (codes "space") (asked.spaces s.programs) (SaysSpace s.programs) (space-told s.programs) s.spaces say.spaces in
       let (os_are, objects_keep) = section-kept (codes "object") (objects s.spaces) (SaysObject s.spaces) (object-told s.spaces) s.objects say.objects in
       let (vs_are, servers_keep) = section-kept (codes "server") (asked.servers rules) (SaysServer rules) (server-told rules) s.servers say.servers in
@@ -194,7 +215,7 @@ module _ (rules : List (List ℕ × Rule)) (ms : Members) where
       let (js_are, jobs_keep) = section-kept (codes "job") asked.jobs SaysJob job-told wanted entries_say in
       let work_keep = section-told (work s.spaces s.servers) (IsJobOf s.spaces s.servers) (work-told s.spaces s.servers) [] wanted s.jobs jobs_say in
       let top : AreKept (top_asks ms) =
-          (say.keys, (b_is, (w_is, (ps_are, (ss_are, (os_are, (vs_are, (js_are, (b_in, (w_in, tt)))))))))) in
+      (say.keys, (b_is, (w_is, (ps_are, (ss_are, (os_are, (vs_are, (js_are, (b_in, (w_in, tt)))))))))) in
       let r : Said = record { programs = s.programs; spaces = s.spaces; objects = s.objects; servers = s.servers; jobs = wanted } in
       let round : SaysRound rules ms r = record {
         places = record { top = top; programs_keep = programs_keep; spaces_keep = spaces_keep; objects_keep = objects_keep };
