@@ -9,5 +9,7 @@
 
 pub mod images;
 pub mod play;
+pub mod record_command;
+pub mod replay_command;
 pub mod run;
 pub mod soak;

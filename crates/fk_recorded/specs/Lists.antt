@@ -1,7 +1,7 @@
 -- The replies of a record, by the place of their server.
 use Rattle.std.specs.Prelude.{ℕ, suc, ◌==◌, List, [], ◌∷◌, ◌++◌, replicate, Option, Some, None, if◌then◌else◌}
 use Rattle.fk_record_text.specs.Record.{Entry}
-use Rattle.laws_trace.specs.Notes.{reply_of}
+use Rattle.laws_pair.specs.Notes.{reply_of}
 
 abbrev pub listed : Option (List ℕ) → List (List ℕ)
 listed None = []

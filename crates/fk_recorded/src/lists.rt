@@ -2,7 +2,7 @@
 ghost use Rattle.std.specs.Prelude.{◌≡◌, IfOk, OnOk};
 ghost use Rattle.std.specs.Option.{option_map};
 ghost use Rattle.fk_model.specs.Answers.{reply_words};
-ghost use Rattle.laws_trace.specs.Notes.{reply_of};
+ghost use Rattle.laws_pair.specs.Notes.{reply_of};
 ghost use Rattle.fk_record_text.specs.Lines.{entry_of, entries_of};
 ghost use Rattle.fk_recorded.specs.Lists.{with_reply, none_of};
 ghost use Rattle.fk_trace.specs.Posts.{words_of_all};

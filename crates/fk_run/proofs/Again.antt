@@ -19,10 +19,11 @@ use Rattle.fk_run.specs.Again.{HasSame, PlaysAgain}
 use Rattle.fk_puts.specs.Small.{AreSmall}
 use Rattle.fk_commands.specs.declared.outcome.Outcome.{Outcome}
 use Rattle.fk_model.specs.declared.moves.Move.{Move}
-use Rattle.fk_recordings.proofs.Again.{record_plays_again, replays_play_again}
-use Rattle.fk_recordings.specs.Again.{without_record}
-use Rattle.fk_recordings.specs.Recording.{watch_place, IsRecordedFrom, IsWholeRecord}
-use Rattle.fk_recordings.specs.Replaying.{IsReplay, IsReplayedWith}
+use Rattle.fk_plays.proofs.Again.{record_plays_again, replays_play_again}
+use Rattle.fk_plays.specs.Again.{without_record}
+use Rattle.fk_plays.specs.Recorded.{IsWholeRecord}
+use Rattle.fk_plays.specs.Recording.{watch_place, IsRecordedFrom}
+use Rattle.fk_plays.specs.Recorded.{IsReplay, IsReplayedWith}
 use Rattle.fk_responders.specs.declared.note.Watch.{Watch}
 use Rattle.fk_run.proofs.Headline.{read-keeps}
 use Rattle.fk_scenario.specs.Scenario.Kept.{KeepsScenario}

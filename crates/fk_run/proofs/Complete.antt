@@ -33,13 +33,15 @@ use Rattle.fk_plays.specs.Images.{needed, read_bytes, read_file, Finds, FindsIma
 use Rattle.fk_plays.specs.Images.FindsImages.{NoJob, Found, Refused, Later}
 use Rattle.fk_plays.specs.Play.{IsPlay, IsPlayedBy, IsScenario, IsSoak, IsTraced, IsWholeRun, IsWith, IsWithImages}
 use Rattle.fk_puts.specs.Puts.{HasPut}
-use Rattle.fk_record_text.specs.Record.{Entry}
-use Rattle.fk_record_text.proofs.Records.{spells_not_bad, spells_same}
-use Rattle.fk_recordings.proofs.Apart.{are-ports}
-use Rattle.fk_recordings.specs.Ports.{ports_of}
-use Rattle.fk_recordings.specs.Recording.{watch_place, IsRecorded, IsRecordedFrom, IsWholeRecord}
-use Rattle.fk_recordings.specs.Replaying as replays
-use Rattle.fk_recordings.specs.Replaying.{replies_by, IsReplay, IsReplayedBy, IsReplayedWith}
+use Rattle.fk_plays.specs.Record.{Entry}
+use Rattle.fk_plays.proofs.Records.{spells_not_bad, spells_same}
+use Rattle.fk_plays.proofs.Apart.{are-ports}
+use Rattle.fk_plays.specs.Ports.{ports_of}
+use Rattle.fk_plays.specs.Recorded.{IsWholeRecord}
+use Rattle.fk_plays.specs.Recording.{watch_place, IsRecorded, IsRecordedFrom}
+use Rattle.fk_plays.specs.Recorded as replays
+use Rattle.fk_plays.specs.Recorded.{IsReplay, IsReplayedWith}
+use Rattle.fk_plays.specs.Replaying.{replies_by, IsReplayedBy}
 use Rattle.fk_report.specs.declared.end.End.{End}
 use Rattle.fk_report.specs.declared.end.End.TheVariants as ends
 use Rattle.fk_report.specs.declared.job_end.JobEnd.{JobEnd}
@@ -57,9 +59,9 @@ use Rattle.fk_scenario.specs.Scenario.Kept.{KeepsScenario}
 use Rattle.fk_scenario.specs.Scenario.Reading.{scenario_reading}
 use Rattle.fk_scenario.specs.declared.fields.fail.ScenarioError.{ScenarioError}
 use Rattle.fk_trace_text.proofs.Traces.{Spells-not_bad}
-use Rattle.fk_trace.specs.Posts.{all_replaying}
+use Rattle.fk_plays.specs.Posts.{all_replaying}
 use Rattle.fk_trace_text.specs.Trace.{Spells}
-use Rattle.laws_trace.specs.Following.{core_with}
+use Rattle.fk_plays.specs.Following.{core_with}
 use Rattle.fk_words.specs.Commands.{Command, Exec, Check, Run, Play, Show, Soak, Record, Replay, leaves}
 
 -- ---- how what is done ends

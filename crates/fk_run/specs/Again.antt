@@ -8,9 +8,9 @@ use Rattle.fk_plays.specs.Cores.{RunCore}
 use Rattle.fk_plays.specs.First.{IsFirst}
 use Rattle.fk_plays.specs.Made.{Images}
 use Rattle.fk_plays.specs.Runs.{IsPlayed}
-use Rattle.fk_recordings.specs.Again.{noted_replies, without_record}
-use Rattle.fk_recordings.specs.Recording.{watch_place}
-use Rattle.fk_recordings.specs.Replaying.{IsReplayedFrom}
+use Rattle.fk_plays.specs.Again.{noted_replies, without_record}
+use Rattle.fk_plays.specs.Recording.{watch_place}
+use Rattle.fk_plays.specs.Replaying.{IsReplayedFrom}
 use Rattle.fk_responders.specs.declared.note.Watch.{Watch}
 use Rattle.fk_scenario.specs.declared.scenario.scenario.Scenario.{Scenario}
 use Rattle.fk_trace_text.specs.Trace.{trace_text}

@@ -20,11 +20,11 @@ use Rattle.fk_model.specs.declared.moves.Move.{Move}
 use Rattle.fk_plays.specs.Images.{needed, FindsImages}
 use Rattle.fk_plays.specs.Play.{IsScenario}
 use Rattle.fk_puts.specs.Puts.{HasPut}
-use Rattle.fk_record_text.specs.Record.{Entry, Spells as IsRecord}
-use Rattle.fk_recordings.specs.Ports.{ports_of}
-use Rattle.fk_recordings.specs.Replaying.{replies_by}
-use Rattle.fk_trace.specs.Posts.{all_replaying}
-use Rattle.laws_trace.specs.Following.{core_with}
+use Rattle.fk_plays.specs.Record.{Entry, Spells as IsRecord}
+use Rattle.fk_plays.specs.Ports.{ports_of}
+use Rattle.fk_plays.specs.Replaying.{replies_by}
+use Rattle.fk_plays.specs.Posts.{all_replaying}
+use Rattle.fk_plays.specs.Following.{core_with}
 use Rattle.fk_commands.specs.Tables.{Rules}
 use Rattle.fk_run.specs.Top.{IsDone}
 use Rattle.fk_plays.specs.Made.{Images}

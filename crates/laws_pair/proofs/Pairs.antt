@@ -10,7 +10,7 @@ use Rattle.fk_record_text.proofs.Records.{spells_same}
 use Rattle.fk_record_text.proofs.Wholes.{records_read_back}
 use Rattle.fk_trace.specs.Posts.{all_replaying}
 use Rattle.laws_trace.specs.Following.{IsRunWith}
-use Rattle.fk_served.specs.Served.{Services, servers}
+use Rattle.laws_trace.specs.Served.{Services, servers}
 use Rattle.laws_trace.specs.Notes.{notes_at, replies_of, all_replayed}
 use Rattle.laws_trace.proofs.Noting.{replays_run, replies_are_seen}
 use Rattle.laws_pair.specs.Pair.{AreFresh, recorded, lists_of, RecordReplays}

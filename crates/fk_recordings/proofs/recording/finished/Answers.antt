@@ -1,7 +1,0 @@
-use Rattle.std.proofs.Common.{◌≡◌, sym, subst}
-use Rattle.fk_first.specs.Cores.{run_core}
-use Rattle.fk_runs.proofs.InRuns.Starting.{may_begin}
-use Rattle.fk_recordings.proofs.recording.finished.Goals as goal
-
-pub of-requires : goal.of-requires
-of-requires c = let core = c.args.core in may_begin core.jobs.jobs core.budget (run_core core) c.requires.come c.requires.first
