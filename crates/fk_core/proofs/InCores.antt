@@ -10,3 +10,4 @@ pub mod Leaving
 pub mod Rooms
 pub mod Timely
 pub mod Bursting
+pub mod Lacking

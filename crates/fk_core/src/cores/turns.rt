@@ -1,9 +1,10 @@
 //! The core: a kernel with its native servers and its jobs.
 ghost use Rattle.fk_model.specs.declared.moves.Rule.{Rule};
-ghost use Rattle.std.specs.Prelude.{◌≡◌, ◌↔◌, List, [], ◌+◌, ◌<◌, Some, true, false, IsTrue, OnOk, OnErr, map};
+ghost use Rattle.std.specs.Prelude.{◌≡◌, ◌↔◌, List, [], ◌+◌, ◌<◌, Some, true, false, IsOk, IsTrue, OnOk, OnErr, map};
 ghost use Rattle.std.specs.Bool.{OnTrue, OnFalse};
 ghost use Rattle.fk_core.specs.Rounds.Served.{AllFit, shown};
 ghost use Rattle.fk_core.specs.Cores.Cores.{run_core, is_porter, reply_to, IsReadyMove, IsAskedMove, IsCalledMove, IsTurned, IsTried, IsAdvanced, is_timely};
+ghost use Rattle.fk_core.specs.Cores.Memory.{may_lack, may_lack_asked, may_lack_called};
 ghost use Rattle.fk_core.specs.Cores.Cuts.{KeepsCuts, LeavesStrangers};
 ghost use Rattle.fk_core.specs.Cores.Goings.{IsGoing};
 ghost use Rattle.fk_core.specs.Cores.Leaves.{LeavesTheRest};
@@ -11,6 +12,7 @@ ghost use Rattle.fk_core.specs.Rounds.Kernels.{world_of as world};
 ghost use Rattle.fk_jobs.specs.Jobs.{hears};
 
 use crate::cores::given::Given;
+use crate::cores::lacking::unmade;
 use crate::cores::room::Room;
 use crate::rounds::Rounds;
 use fk_jobs::{Jobs, Worker};
@@ -164,6 +166,7 @@ impl<S: Service + Drop, W: Worker + Drop> Core<S, W> {
         requires fits { AllFit (map (λ r. r.rule) table.now.list.items) self.old.services.list }
         ensures turned { OnOk result (IsTurned self.old.jobs.jobs (run_core self.old) m.now (run_core self.new)) }
         ensures lacking { OnErr result (run_core self.new ≡ run_core self.old) }
+        ensures done { may_lack self.old.jobs.jobs (run_core self.old) m.now ≡ false → IsOk result }
         ensures lacking_kernel { OnErr result (self.new.kernel ≡ self.old.kernel) }
         ensures fits { AllFit (map (λ r. r.rule) table.now.list.items) self.new.services.list }
         ensures budget { self.new.budget ≡ self.old.budget }
@@ -184,8 +187,9 @@ impl<S: Service + Drop, W: Worker + Drop> Core<S, W> {
         requires few { self.old.events < self.old.budget }
         requires come { IsGoing self.old }
         requires fits { AllFit (map (λ r. r.rule) table.now.list.items) self.old.services.list }
-        ensures tried { IsTried (IsReadyMove self.old.jobs.jobs (run_core self.old) m.now) self.old.jobs.jobs
-            (run_core self.old) m.now (run_core self.new) result }
+        ensures tried { IsTried (IsReadyMove self.old.jobs.jobs (run_core self.old) m.now)
+            (may_lack self.old.jobs.jobs (run_core self.old) m.now ≡ true) self.old.jobs.jobs (run_core self.old) m.now (run_core self.new) result }
+        ensures done { may_lack self.old.jobs.jobs (run_core self.old) m.now ≡ false → IsOk result }
         ensures lacking_kernel { OnErr result (self.new.kernel ≡ self.old.kernel) }
         ensures fits { AllFit (map (λ r. r.rule) table.now.list.items) self.new.services.list }
         ensures budget { self.new.budget ≡ self.old.budget }
@@ -228,8 +232,8 @@ impl<S: Service + Drop, W: Worker + Drop> Core<S, W> {
         requires few { self.old.events < self.old.budget }
         requires come { IsGoing self.old }
         requires fits { AllFit (map (λ r. r.rule) table.now.list.items) self.old.services.list }
-        ensures tried { IsTried (IsReadyMove self.old.jobs.jobs (run_core self.old) m.now) self.old.jobs.jobs
-            (run_core self.old) m.now (run_core self.new) result }
+        ensures tried { IsTried (IsReadyMove self.old.jobs.jobs (run_core self.old) m.now)
+            (may_lack self.old.jobs.jobs (run_core self.old) m.now ≡ true) self.old.jobs.jobs (run_core self.old) m.now (run_core self.new) result }
         ensures lacking_kernel { OnErr result (self.new.kernel ≡ self.old.kernel) }
         ensures fits { AllFit (map (λ r. r.rule) table.now.list.items) self.new.services.list }
         ensures budget { self.new.budget ≡ self.old.budget }
@@ -247,8 +251,8 @@ impl<S: Service + Drop, W: Worker + Drop> Core<S, W> {
         requires other { is_porter self.old.jobs m.now.who ≡ false }
         requires few { self.old.events < self.old.budget }
         requires fits { AllFit (map (λ r. r.rule) table.now.list.items) self.old.services.list }
-        ensures tried { IsTried (IsAskedMove self.old.jobs.jobs (run_core self.old) m.now) self.old.jobs.jobs
-            (run_core self.old) m.now (run_core self.new) result }
+        ensures tried { IsTried (IsAskedMove self.old.jobs.jobs (run_core self.old) m.now)
+            (may_lack_asked (run_core self.old) m.now ≡ true) self.old.jobs.jobs (run_core self.old) m.now (run_core self.new) result }
         ensures lacking_kernel { OnErr result (self.new.kernel ≡ self.old.kernel) }
         ensures fits { AllFit (map (λ r. r.rule) table.now.list.items) self.new.services.list }
         ensures budget { self.new.budget ≡ self.old.budget }
@@ -303,26 +307,30 @@ impl<S: Service + Drop, W: Worker + Drop> Core<S, W> {
         requires other { is_porter self.old.jobs m.now.who ≡ false }
         requires few { self.old.events < self.old.budget }
         requires fits { AllFit (map (λ r. r.rule) table.now.list.items) self.old.services.list }
-        ensures tried { IsTried (IsAskedMove self.old.jobs.jobs (run_core self.old) m.now) self.old.jobs.jobs
-            (run_core self.old) m.now (run_core self.new) result }
+        ensures tried { IsTried (IsAskedMove self.old.jobs.jobs (run_core self.old) m.now)
+            (may_lack_asked (run_core self.old) m.now ≡ true) self.old.jobs.jobs (run_core self.old) m.now (run_core self.new) result }
         ensures lacking_kernel { OnErr result (self.new.kernel ≡ self.old.kernel) }
         ensures fits { AllFit (map (λ r. r.rule) table.now.list.items) self.new.services.list }
         ensures budget { self.new.budget ≡ self.old.budget }
         ensures jobs { self.new.jobs.jobs ≡ self.old.jobs.jobs }
     {
-        self.services.reserve()?;
         let asked = self.ask(m.who);
         let Some(ask) = &asked else {
             return Ok(false);
         };
+        if self.lacks_room(m, ask) {
+            return unmade(self.kernel.ready(m, ask));
+        }
         // What is told takes much room, so it stands there once.
         let made = self.kernel.attempt(m, ask);
         let Ok(tried) = &made else {
-            return Err(NoMemory);
+            return unmade(self.kernel.ready(m, ask));
         };
         let Some(told) = tried else {
             return Ok(false);
         };
+        // Where the move has led is known by this.
+        self.kernel.names();
         self.services.hear(table, told);
         self.events += 1;
         self.last = last_thread(ask, m.who, self.last);
@@ -337,8 +345,8 @@ impl<S: Service + Drop, W: Worker + Drop> Core<S, W> {
         requires few { self.old.events < self.old.budget }
         requires come { IsGoing self.old }
         requires fits { AllFit (map (λ r. r.rule) table.now.list.items) self.old.services.list }
-        ensures tried { IsTried (IsReadyMove self.old.jobs.jobs (run_core self.old) m.now) self.old.jobs.jobs
-            (run_core self.old) m.now (run_core self.new) result }
+        ensures tried { IsTried (IsReadyMove self.old.jobs.jobs (run_core self.old) m.now)
+            (may_lack self.old.jobs.jobs (run_core self.old) m.now ≡ true) self.old.jobs.jobs (run_core self.old) m.now (run_core self.new) result }
         ensures lacking_kernel { OnErr result (self.new.kernel ≡ self.old.kernel) }
         ensures fits { AllFit (map (λ r. r.rule) table.now.list.items) self.new.services.list }
         ensures budget { self.new.budget ≡ self.old.budget }
@@ -359,8 +367,8 @@ impl<S: Service + Drop, W: Worker + Drop> Core<S, W> {
         requires timely { is_timely self.old.jobs self.old.events ≡ true }
         requires come { IsGoing self.old }
         requires fits { AllFit (map (λ r. r.rule) table.now.list.items) self.old.services.list }
-        ensures tried { IsTried (IsReadyMove self.old.jobs.jobs (run_core self.old) m.now) self.old.jobs.jobs
-            (run_core self.old) m.now (run_core self.new) result }
+        ensures tried { IsTried (IsReadyMove self.old.jobs.jobs (run_core self.old) m.now)
+            (may_lack self.old.jobs.jobs (run_core self.old) m.now ≡ true) self.old.jobs.jobs (run_core self.old) m.now (run_core self.new) result }
         ensures lacking_kernel { OnErr result (self.new.kernel ≡ self.old.kernel) }
         ensures fits { AllFit (map (λ r. r.rule) table.now.list.items) self.new.services.list }
         ensures budget { self.new.budget ≡ self.old.budget }
@@ -376,23 +384,28 @@ impl<S: Service + Drop, W: Worker + Drop> Core<S, W> {
         requires few { self.old.events < self.old.budget }
         requires come { IsGoing self.old }
         requires fits { AllFit (map (λ r. r.rule) table.now.list.items) self.old.services.list }
-        ensures tried { IsTried (IsCalledMove self.old.jobs (run_core self.old) m.now) self.old.jobs.jobs
-            (run_core self.old) m.now (run_core self.new) result }
+        ensures tried { IsTried (IsCalledMove self.old.jobs (run_core self.old) m.now)
+            (may_lack_called self.old.jobs (run_core self.old) m.now ≡ true) self.old.jobs.jobs (run_core self.old) m.now (run_core self.new) result }
         ensures lacking_kernel { OnErr result (self.new.kernel ≡ self.old.kernel) }
         ensures fits { AllFit (map (λ r. r.rule) table.now.list.items) self.new.services.list }
         ensures budget { self.new.budget ≡ self.old.budget }
         ensures jobs { self.new.jobs.jobs ≡ self.old.jobs.jobs }
     {
-        self.services.reserve()?;
-        self.jobs.reserve()?;
         let next = self.given.next(&self.jobs);
         let Some(stage) = next else {
             return Ok(false);
         };
-        let made = self.room.call(&mut self.kernel, m, &stage, &self.given)?;
+        if self.lacks_for_call(m, &stage) {
+            return unmade(self.is_call_ready(m, &stage));
+        }
+        let Ok(made) = self.room.call(&mut self.kernel, m, &stage, &self.given) else {
+            return unmade(self.is_call_ready(m, &stage));
+        };
         if !made {
             return Ok(false);
         }
+        // Where the move has led is known by this.
+        self.kernel.names();
         let told = self.room.told();
         self.services.hear(table, told);
         tell_jobs(&mut self.jobs, self.events, &told.said);
