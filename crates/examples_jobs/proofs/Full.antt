@@ -9,13 +9,14 @@ use Rattle.fk_model.specs.Valid.{kind_there}
 use Rattle.fk_model.specs.Whole.{IsWhole, IsSavable}
 use Rattle.fk_model.specs.Runs.{Event, after}
 use Rattle.fk_model.specs.Searches.{depth}
+use Rattle.fk_model.specs.Sound.{IsUncut, IsClean}
 use Rattle.laws_moves.proofs.InWhole.Laws.{keeps_runnable, savable_runnable}
 use Rattle.laws_moves.specs.Savable.Savable.{IsSound, Owes}
 use Rattle.laws_moves.proofs.InSavable.Laws.{keeps_savable}
 use Rattle.laws_moves.specs.Whole.Runnable.{IsProper}
-use Rattle.laws_subtrees.specs.Further.ClosedLaws.{IsUncut, IsUsersAlone}
+use Rattle.laws_subtrees.specs.Further.ClosedLaws.{IsUsersAlone}
 use Rattle.laws_jobs.specs.Machines.{IsReadyAt}
-use Rattle.laws_jobs.specs.Jobs.{IsClean, MayBegin}
+use Rattle.laws_jobs.specs.Jobs.{MayBegin}
 use Rattle.laws_jobs.specs.Holds.{hold}
 use Rattle.examples_moves.specs.Worked.{body_in}
 use Rattle.examples_moves.proofs.Tested.{legal-tested}

@@ -4,8 +4,9 @@
 
 ghost use Rattle.std.specs.Prelude.{ℕ, []};
 ghost use Rattle.fk_model.specs.Runs.{after};
+ghost use Rattle.fk_model.specs.Sound.{IsUncut};
 ghost use Rattle.laws_moves.specs.Savable.Savable.{IsSound};
-ghost use Rattle.laws_subtrees.specs.Further.ClosedLaws.{IsUncut, IsUsersAlone};
+ghost use Rattle.laws_subtrees.specs.Further.ClosedLaws.{IsUsersAlone};
 ghost use Rattle.laws_jobs.specs.Machines.{IsReadyAt};
 ghost use Rattle.laws_jobs.specs.Jobs.{MayBegin, IsTidyJob, Saves, Restores};
 ghost use Rattle.laws_jobs.specs.Holds.{hold};

@@ -7,7 +7,8 @@ use Rattle.fk_model.specs.World.{World}
 use Rattle.fk_model.specs.Freezing.{body_pointers}
 use Rattle.fk_model.specs.Seen.{leads_inside}
 use Rattle.fk_model.specs.Cut.{IsPlain}
-use Rattle.laws_subtrees.specs.Further.ClosedLaws.{is_cut_pointer, IsUncut, IsUsersAlone}
+use Rattle.fk_model.specs.Sound.{is_cut_pointer, IsUncut}
+use Rattle.laws_subtrees.specs.Further.ClosedLaws.{IsUsersAlone}
 use Rattle.laws_subtrees.specs.Further.Strangers.{HasNoWindow}
 use Rattle.examples_moves.specs.Worked.{body_in}
 use Rattle.examples_premises.proofs.Listed.{found}

@@ -1,3 +1,4 @@
 pub mod Listed
 pub mod Apart
 pub mod HeldBy
+pub mod Starting

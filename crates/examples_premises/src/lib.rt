@@ -7,3 +7,4 @@
 #![tactic(auto)]
 
 pub mod premises;
+pub mod starts;

@@ -4,3 +4,4 @@ pub mod MadeSoFar
 pub mod Aiming
 pub mod validity
 pub mod Nesting
+pub mod Beginning

@@ -3,3 +3,7 @@ pub mod Objects
 pub mod Aims
 pub mod Whole
 pub mod Savable
+pub mod Grounds
+pub mod Staying
+pub mod Jobs
+pub mod Sound

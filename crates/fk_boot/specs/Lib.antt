@@ -2,3 +2,4 @@ pub mod FirstWorld
 pub mod MadeSoFar
 pub mod Words
 pub mod Services
+pub mod Starts

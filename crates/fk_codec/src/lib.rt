@@ -1,7 +1,9 @@
 //! The image codec: the bytes of an image, the image of bytes, and the text that shows one.
 //!
-//! It stands on `fk_image` for records and format, and on `byteorder` for numbers. It promises that an image is read exactly where the bytes
-//! spell one, else the offset and the reason of their first fault, and that what is written is the one spelling. It recurses on nothing, and
+//! It stands on `fk_image` for records and format, on `laws_image_faults` for what a first fault is by the form of an image, and on
+//! `byteorder` for numbers. It promises that an image is read exactly where the bytes spell one, and has the form of one, else the offset and
+//! the reason of their first fault, the first place where they break that form, and that what is written is the one spelling. It recurses
+//! on nothing, and
 //! takes time and memory in proportion to the bytes that are there, whatever the numbers in them promise.
 //!
 //! - `reading`: the parts of an image from its bytes;

@@ -1,5 +1,6 @@
 pub use Rattle.fk_lone.specs.Machine
 pub mod Status
+pub mod Tables
 pub mod Outcomes
 pub mod Files
 pub mod ExecText

@@ -10,10 +10,11 @@ use Rattle.fk_image.specs.declared.image.image.Image.{Image}
 use Rattle.fk_scenario.specs.declared.scenario.scenario.Scenario.{Scenario}
 use Rattle.fk_commands.specs.declared.prepared.Prepared.{Prepared}
 use Rattle.fk_commands.specs.declared.status.Status.{Status}
-use Rattle.fk_commands.specs.declared.status.Status.TheVariants.{Ok as Done, Usage, TooLong, BadText, BadScenario, Absent, BadImage, BadTrace, JobRefused, Budget, ReadFault, WriteFault, ShelfFault, NoMemory}
+use Rattle.fk_commands.specs.declared.status.Status.TheVariants.{TooLong, BadText, BadScenario, Absent, BadImage, ReadFault, ShelfFault, NoMemory}
 use Rattle.fk_commands.specs.declared.outcome.Outcome.{Outcome}
 use Rattle.fk_commands.specs.Outcomes.{without_report}
-use Rattle.fk_commands.specs.Status.{was_cut_short, progress_of, Finished}
+use Rattle.fk_commands.specs.Status.{row_of, was_cut_short, progress_of, Progress, Words, Reading, Refusing, Writing, Finished}
+use Rattle.fk_commands.specs.Status.{Failed, Nothing, Source, Sink, Shelf, Memory}
 
 -- ---- for all commands
 
@@ -26,22 +27,25 @@ abbrev pub ComesTo : (Outcome → List ℕ → Type 0) → Result Prepared Statu
 ComesTo IsDue (Ok run) = IsDue (outcome_of run) (string_bytes run.output) × (progress_of run.status ≡ Finished)
 ComesTo IsDue (Err status) = OnFalse (was_cut_short status) (IsDue (without_report status) [])
 
--- the statuses that come before the sink, with the causes of faults: what has to have happened at the source and at the shelf
+-- what has to have happened where this failed: at the source, or at the shelf
+abbrev pub IsCaused : Type 0 → Type 0 → Failed → Type 0
+IsCaused AtSource AtShelf Nothing = ⊤
+IsCaused AtSource AtShelf Source = AtSource
+IsCaused AtSource AtShelf Sink = ⊥
+IsCaused AtSource AtShelf Shelf = AtShelf
+IsCaused AtSource AtShelf Memory = ⊤
+
+-- a call that came so far was refused behind its words and before the sink, for a cause
+abbrev pub IsRefusedAt : Type 0 → Type 0 → Progress → Failed → Type 0
+IsRefusedAt AtSource AtShelf Words failed = ⊥
+IsRefusedAt AtSource AtShelf Reading failed = IsCaused AtSource AtShelf failed
+IsRefusedAt AtSource AtShelf Refusing failed = IsCaused AtSource AtShelf failed
+IsRefusedAt AtSource AtShelf Writing failed = ⊥
+IsRefusedAt AtSource AtShelf Finished failed = ⊥
+
+-- the statuses of such calls
 abbrev pub IsRefusal : Type 0 → Type 0 → Status → Type 0
-IsRefusal AtSource AtShelf Done = ⊥
-IsRefusal AtSource AtShelf Usage = ⊥
-IsRefusal AtSource AtShelf TooLong = ⊤
-IsRefusal AtSource AtShelf (BadText line reason) = ⊤
-IsRefusal AtSource AtShelf (BadScenario rule section index) = ⊤
-IsRefusal AtSource AtShelf (Absent name) = ⊤
-IsRefusal AtSource AtShelf (BadImage name offset reason) = ⊤
-IsRefusal AtSource AtShelf (BadTrace index) = ⊤
-IsRefusal AtSource AtShelf (JobRefused job) = ⊥
-IsRefusal AtSource AtShelf (Budget budget) = ⊥
-IsRefusal AtSource AtShelf ReadFault = AtSource
-IsRefusal AtSource AtShelf WriteFault = ⊥
-IsRefusal AtSource AtShelf ShelfFault = AtShelf
-IsRefusal AtSource AtShelf NoMemory = ⊤
+IsRefusal AtSource AtShelf status = IsRefusedAt AtSource AtShelf (row_of status).came (row_of status).failed
 
 -- ---- why a part of a command gives nothing: each has only the statuses that are listed
 

@@ -1,9 +1,10 @@
 //! The command `check`: the counts of a scenario are told.
-ghost use Rattle.std.specs.Prelude.{◌≡◌, ◌+◌, IfOk, IfErr, map, string_bytes};
+ghost use Rattle.std.specs.Prelude.{◌≡◌, ◌+◌, IfOk, IfErr, string_bytes};
 ghost use Rattle.fk_scenario.specs.Scenario.Reading.{scenario_reading};
 ghost use Rattle.fk_commands.specs.Check as words;
 ghost use Rattle.fk_commands.specs.Check.{IsCheck};
 ghost use Rattle.fk_commands.specs.Prepared.{ComesTo, IsRefusal};
+ghost use Rattle.fk_commands.specs.Tables.{rules_of};
 
 use crate::prepared::Prepared;
 use crate::scenario::scenario_in;
@@ -60,7 +61,7 @@ fn counts_text(
 ///
 /// `BadScenario` for a text that is no scenario. `NoMemory` where there is no memory for it.
 pub fn check(alloc: Global, table: &Table, text: &[u8]) -> Result<Prepared, Status>
-    ensures comes { ComesTo (IsCheck (scenario_reading (map (λ r. (string_bytes r.name, r.rule)) table.now.list.items) text.now)) result }
+    ensures comes { ComesTo (IsCheck (scenario_reading (rules_of table.now) text.now)) result }
     ensures refusal { IfErr result (IsRefusal ⊥ ⊥) }
 {
     let scenario = scenario_in(alloc, table, text)?;

@@ -1,16 +1,17 @@
 -- The core with which a scenario begins.
 use Rattle.std.specs.Prelude.{◌≡◌, [], map, None}
 use Rattle.fk_model.specs.Who.{named}
+use Rattle.fk_model.specs.Sound.{IsSoundStart}
 use Rattle.fk_boot.specs.FirstWorld.{booted}
 use Rattle.fk_boot.specs.Services.{first_services}
+use Rattle.fk_boot.specs.Starts.{start_with, ports_by}
 use Rattle.fk_core.specs.Cores.Cores.{RunCore}
 use Rattle.fk_scenario.specs.declared.scenario.scenario.Scenario.{Scenario}
-use Rattle.laws_moves.specs.Savable.Savable.{IsSound}
 
--- its first world, which is sound, and its servers as they are at first, each at its port; no job has begun
+-- its first world and its servers as they are at first, each at its port, with which a run may begin; no job has begun
 pub record IsFirst (s : Scenario) (c : RunCore) : Type 0 where
   pub world : c.world ≡ booted s
-  pub sound : IsSound c.world
+  pub sound : IsSoundStart (start_with s c.world (ports_by c.world c.servers) s.budget)
   pub servers : map (λ e. (named c.world e.0, e.1)) c.servers ≡ first_services s.servers
   pub ends : c.ends ≡ []
   pub work : c.work ≡ None

@@ -1,3 +1,4 @@
 pub mod Image
 pub mod Format
+pub mod Form
 pub mod Pointers

@@ -1,5 +1,5 @@
 -- How the jobs of a run have ended, as its report tells it.
-use Rattle.std.specs.Prelude.{ℕ, ◌-◌, List, ◌++◌, map, length, replicate, Option, Some, None}
+use Rattle.std.specs.Prelude.{ℕ, ◌-◌, List, ◌++◌, map, length, replicate, reverse, Option, Some, None}
 use Rattle.fk_model.specs.declared.job.JobSpec.{JobSpec}
 use Rattle.fk_model.specs.declared.job.JobSpec.TheVariants as jobs
 use Rattle.fk_report.specs.declared.job_end.JobEnd.{JobEnd}
@@ -12,10 +12,10 @@ use Rattle.laws_runs.specs.Cores as runs
 use Rattle.laws_runs.specs.Cores.JobEnd.{Worked, Idle}
 use Rattle.laws_runs.specs.Cores.Unmoved.{NoImage, Dead}
 
--- a checkpoint by its own moves, of which these are the first and the last
+-- a checkpoint by its own moves, of which these are the first and the last. Its place is told from the root down
 abbrev pub told_check : checkpoints.End → ℕ → ℕ → JobEnd
 told_check checkpoints.Gone begun last = told.Dead
-told_check (checkpoints.Foreign place) begun last = told.Foreign (record { path = place.path; field = place.field }) begun last
+told_check (checkpoints.Foreign place) begun last = told.Foreign (record { path = reverse place.path; field = place.field }) begun last
 told_check (checkpoints.Done image) begun last = told.Checkpointed begun last image
 
 -- and a restore

@@ -18,6 +18,7 @@ use fk_report::JobEnd;
 use std::alloc::Global;
 
 /// How a checkpoint has ended by its own moves, of which these are the first and the last.
+#[tactic(auto, using(crate::proofs::Fills::told_place))]
 fn told_check(finish: Finish, hold: u64, release: u64) -> JobEnd
     requires { checkpoint_ends.IsEnd finish }
     ensures { result ≡ definitions.told_check (checkpoints.end_of finish) hold release }

@@ -5,8 +5,8 @@ ghost use Rattle.laws_house.specs.Houses.{valid_one, sourced, image_made, begins
 ghost use Rattle.laws_house.specs.Houses.State.{Restoring};
 ghost use Rattle.laws_house.specs.Laws.{NamesUsersSlots, NameUsersSlots};
 ghost use Rattle.laws_restore.specs.Restore.Restore.State.{Makes};
-ghost use Rattle.laws_restore.specs.Rooms.Restoring.{are_user_pairs};
 ghost use Rattle.fk_model.specs.declared.limits.TheConstants.{LAST_USER_SLOT};
+ghost use Rattle.fk_model.specs.Sound.{are_user_pairs};
 ghost use Rattle.laws_jobs.specs.Machines.{no_words};
 ghost use Rattle.fk_jobs.specs.Jobs.{job_of, source_of, task_of, call_with, asked_by, first_of, grows_by, shown_ends};
 

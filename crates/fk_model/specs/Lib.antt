@@ -36,3 +36,4 @@ pub mod Rebind
 pub mod Names
 pub mod Endings
 pub mod StageFacts
+pub mod Sound

@@ -7,9 +7,9 @@ use Rattle.fk_causes.specs.Causes.{Rose}
 use Rattle.fk_causes.specs.Shelf.{FileMap}
 use Rattle.fk_commands.specs.declared.prepared.Prepared.{Prepared}
 use Rattle.fk_commands.specs.declared.status.Status.{Status}
-use Rattle.fk_commands.specs.declared.status.Status.TheVariants.{Ok as Done, Usage, TooLong, BadText, BadScenario, Absent, BadImage, BadTrace, JobRefused, Budget, ReadFault, WriteFault, ShelfFault, NoMemory}
-use Rattle.fk_commands.specs.Prepared.{IsRefusal}
-use Rattle.fk_commands.specs.Status.{was_cut_short}
+use Rattle.fk_commands.specs.Prepared.{IsRefusal, IsRefusedAt, IsCaused}
+use Rattle.fk_commands.specs.Status.{was_cut_short, row_of, Progress, Words, Reading, Refusing, Writing, Finished}
+use Rattle.fk_commands.specs.Status.{Failed, Nothing, Source, Sink, Shelf, Memory}
 use Rattle.fk_image.specs.declared.image.image.Image.{Image}
 use Rattle.fk_model.specs.declared.job.JobSpec.{JobSpec}
 use Rattle.fk_commands.proofs.Rises.{rises}
@@ -20,20 +20,21 @@ use Rattle.fk_plays.specs.Images.FindsImages.{NoJob, Found, Refused, Later}
 
 -- one for a reason is one for whatever follows from it
 pub refused-of : (P Q R : Type 0) → (Q → R) → (status : Status) → IsRefusal P Q status → IsRefusal P R status
-refused-of P Q R f Done h = h
-refused-of P Q R f Usage h = h
-refused-of P Q R f TooLong h = h
-refused-of P Q R f (BadText line reason) h = h
-refused-of P Q R f (BadScenario rule section index) h = h
-refused-of P Q R f (Absent name) h = h
-refused-of P Q R f (BadImage name offset reason) h = h
-refused-of P Q R f (BadTrace index) h = h
-refused-of P Q R f (JobRefused job) h = h
-refused-of P Q R f (Budget budget) h = h
-refused-of P Q R f ReadFault h = h
-refused-of P Q R f WriteFault h = h
-refused-of P Q R f ShelfFault h = f h
-refused-of P Q R f NoMemory h = h
+refused-of P Q R f status h = by (row_of status).came (row_of status).failed h
+  where
+    caused : (failed : Failed) → IsCaused P Q failed → IsCaused P R failed
+    caused Shelf h = f h
+    caused Nothing h = h
+    caused Source h = h
+    caused Sink h = h
+    caused Memory h = h
+
+    by : (came : Progress) (failed : Failed) → IsRefusedAt P Q came failed → IsRefusedAt P R came failed
+    by Words failed h = h
+    by Reading failed h = caused failed h
+    by Refusing failed h = caused failed h
+    by Writing failed h = h
+    by Finished failed h = h
 
 pub unless-of : (P Q : Type 0) → (P → Q) → (status : Status) → UnlessFailed status P → UnlessFailed status Q
 unless-of P Q f status h = by (was_cut_short status) h

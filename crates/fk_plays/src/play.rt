@@ -1,10 +1,11 @@
 //! The command `play`: a scenario is run by the moves of a trace.
-ghost use Rattle.std.specs.Prelude.{◌≡◌, Some, IfOk, IfErr, map, string_bytes};
+ghost use Rattle.std.specs.Prelude.{◌≡◌, Some, IfOk, IfErr, map};
 ghost use Rattle.fk_causes.specs.Causes.{Rose, StandsUnless};
 ghost use Rattle.fk_causes.specs.Shelf.{HasAt};
 ghost use Rattle.fk_commands.specs.Files.{trace_name};
 ghost use Rattle.fk_commands.specs.Prepared.{ComesTo, IsRefusal, IsFileFail};
 ghost use Rattle.fk_commands.specs.Status.{is_shelf_fault};
+ghost use Rattle.fk_commands.specs.Tables.{rules_of};
 ghost use Rattle.fk_plays.specs.Play.{IsPlay, IsPlayedBy, IsScenario};
 ghost use Rattle.fk_scenario.specs.Scenario.Kept.{KeepsScenario, HasRules};
 ghost use Rattle.fk_scenario.specs.Scenario.Reading.{scenario_reading};
@@ -67,9 +68,9 @@ pub fn play<H: Shelf>(
     text: &[u8],
     shelf: &mut H,
 ) -> Result<Prepared, Status>
-    ensures comes { ComesTo (IsPlay name.now (H.files shelf.old) (scenario_reading (map (λ r. (string_bytes r.name, r.rule)) table.now.list.items) text.now)) result }
+    ensures comes { ComesTo (IsPlay name.now (H.files shelf.old) (scenario_reading (rules_of table.now) text.now)) result }
     ensures refusal { IfErr result (IsRefusal ⊥ (Rose (H.failed_gets shelf.old) (H.failed_gets shelf.new)
-        × IsScenario (scenario_reading (map (λ r. (string_bytes r.name, r.rule)) table.now.list.items) text.now))) }
+        × IsScenario (scenario_reading (rules_of table.now) text.now))) }
     ensures kept_gets { StandsUnless is_shelf_fault (H.failed_gets shelf.old) (H.failed_gets shelf.new) result }
     ensures same_files { H.files shelf.new ≡ H.files shelf.old }
     ensures same_puts { H.failed_puts shelf.new ≡ H.failed_puts shelf.old }

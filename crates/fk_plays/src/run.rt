@@ -1,8 +1,9 @@
 //! The command `run`: a scenario runs by itself.
-ghost use Rattle.std.specs.Prelude.{◌≡◌, IfErr, map, string_bytes};
+ghost use Rattle.std.specs.Prelude.{◌≡◌, IfErr};
 ghost use Rattle.fk_causes.specs.Causes.{Rose, StandsUnless};
 ghost use Rattle.fk_commands.specs.Prepared.{ComesTo, IsRefusal};
 ghost use Rattle.fk_commands.specs.Status.{is_shelf_fault};
+ghost use Rattle.fk_commands.specs.Tables.{rules_of};
 ghost use Rattle.fk_plays.specs.Play.{IsScenarioWithImages, IsWholeRun};
 ghost use Rattle.fk_scenario.specs.Scenario.Reading.{scenario_reading};
 
@@ -30,9 +31,9 @@ pub fn run<R: Threads + Wait + Sync, G: Gate + Sync, H: Shelf>(
     shelf: &mut H,
     gate: &G,
 ) -> Result<Prepared, Status>
-    ensures comes { ComesTo (IsWholeRun (H.files shelf.old) (scenario_reading (map (λ r. (string_bytes r.name, r.rule)) table.now.list.items) text.now)) result }
+    ensures comes { ComesTo (IsWholeRun (H.files shelf.old) (scenario_reading (rules_of table.now) text.now)) result }
     ensures refusal { IfErr result (IsRefusal ⊥ (Rose (H.failed_gets shelf.old) (H.failed_gets shelf.new)
-        × IsScenarioWithImages (scenario_reading (map (λ r. (string_bytes r.name, r.rule)) table.now.list.items) text.now))) }
+        × IsScenarioWithImages (scenario_reading (rules_of table.now) text.now))) }
     ensures kept_gets { StandsUnless is_shelf_fault (H.failed_gets shelf.old) (H.failed_gets shelf.new) result }
     ensures same_files { H.files shelf.new ≡ H.files shelf.old }
     ensures same_puts { H.failed_puts shelf.new ≡ H.failed_puts shelf.old }

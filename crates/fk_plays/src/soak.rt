@@ -1,6 +1,7 @@
 //! The command `soak`: a scenario that is made from a number runs by itself.
-ghost use Rattle.std.specs.Prelude.{◌≤◌, IfErr, map, string_bytes};
+ghost use Rattle.std.specs.Prelude.{◌≤◌, IfErr};
 ghost use Rattle.fk_commands.specs.Prepared.{ComesTo, IsRefusal};
+ghost use Rattle.fk_commands.specs.Tables.{rules_of};
 ghost use Rattle.fk_gen.specs.Soak.{scenario};
 ghost use Rattle.fk_plays.specs.Play.{IsSoak};
 ghost use Rattle.fk_scenario.specs.Scenario.Reading.{scenario_reading};
@@ -29,7 +30,7 @@ pub fn soak<R: Threads + Wait + Sync, G: Gate + Sync>(
 ) -> Result<Prepared, Status>
     requires one { 1 ≤ count }
     requires most { count ≤ 100 }
-    ensures comes { ComesTo (IsSoak count (scenario_reading (map (λ r. (string_bytes r.name, r.rule)) table.now.list.items) (scenario count))) result }
+    ensures comes { ComesTo (IsSoak count (scenario_reading (rules_of table.now) (scenario count))) result }
     ensures refusal { IfErr result (IsRefusal ⊥ ⊥) }
 {
     let text = scenario_of(alloc, count)?;

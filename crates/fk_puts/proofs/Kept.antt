@@ -9,7 +9,7 @@ use Rattle.fk_report.specs.Jobs.{end_in}
 use Rattle.fk_report.specs.declared.job_end.JobEnd.{JobEnd}
 use Rattle.fk_report.specs.declared.job_end.JobEnd.TheVariants.{Checkpointed, Foreign, Dead, Restored, NoImage, Occupied, NoPort}
 use Rattle.fk_model.specs.declared.moves.Move.{Move}
-use Rattle.fk_words.specs.Commands.{Command, Exec, Check, Run, Play, Show, Soak}
+use Rattle.fk_words.specs.Commands.{Files, NoFiles, RunFiles}
 use Rattle.fk_puts.specs.Puts.{IsImageName, IsTraceName, KeepsBut, KeepsButTrace, KeepsFiles, OpensEnd, PutImages, PutSomeImages, PutsEnd, PutsTrace, PutsRun, PutsSome, HasPut, HasPutSome}
 
 module _ (May : List ℕ → Type 0) where
@@ -86,28 +86,18 @@ whole_of : (trace : Option (List ℕ)) (report : Report) (old new : Option FileM
 whole_of trace report old new h =
     then_ (May trace) old h.0 new (all (May trace) (images trace) report.jobs 0 report.images old h.0 h.1) (traced trace report.history h.0 new h.2)
 
-kept : (command : Option Command) (report : Option Report) (old new : Option FileMap) → HasPut command report old new → KeepsFiles command old new
-kept None report old new h = h
-kept (Some Exec) report old new h = h
-kept (Some Check) report old new h = h
-kept (Some (Run trace)) None old new h = same (May trace) old new h
-kept (Some (Run trace)) (Some report) old new h = whole_of trace report old new h
-kept (Some (Play name)) report old new h = h
-kept (Some (Show name)) report old new h = h
-kept (Some (Soak count)) report old new h = h
+kept : (left : Files) (report : Option Report) (old new : Option FileMap) → HasPut left report old new → KeepsFiles left old new
+kept NoFiles report old new h = h
+kept (RunFiles trace) None old new h = same (May trace) old new h
+kept (RunFiles trace) (Some report) old new h = whole_of trace report old new h
 
-kept_some : (command : Option Command) (report : Option Report) (old new : Option FileMap) → HasPutSome command report old new → KeepsFiles command old new
-kept_some None report old new h = h
-kept_some (Some Exec) report old new h = h
-kept_some (Some Check) report old new h = h
-kept_some (Some (Run trace)) None old new h = same (May trace) old new h
-kept_some (Some (Run trace)) (Some report) old new h = some_of trace report old new h
-kept_some (Some (Play name)) report old new h = h
-kept_some (Some (Show name)) report old new h = h
-kept_some (Some (Soak count)) report old new h = h
+kept_some : (left : Files) (report : Option Report) (old new : Option FileMap) → HasPutSome left report old new → KeepsFiles left old new
+kept_some NoFiles report old new h = h
+kept_some (RunFiles trace) None old new h = same (May trace) old new h
+kept_some (RunFiles trace) (Some report) old new h = some_of trace report old new h
 
 -- whether or not all of it was put
-pub kept_by : (r : Result (Unit {0}) ShelfFail) (command : Option Command) (report : Option Report) (old new : Option FileMap) →
-    OnOk r (HasPut command report old new) → OnErr r (HasPutSome command report old new) → KeepsFiles command old new
-kept_by (Ok done) command report old new all some = kept command report old new all
-kept_by (Err fail) command report old new all some = kept_some command report old new some
+pub kept_by : (r : Result (Unit {0}) ShelfFail) (left : Files) (report : Option Report) (old new : Option FileMap) →
+    OnOk r (HasPut left report old new) → OnErr r (HasPutSome left report old new) → KeepsFiles left old new
+kept_by (Ok done) left report old new all some = kept left report old new all
+kept_by (Err fail) left report old new all some = kept_some left report old new some

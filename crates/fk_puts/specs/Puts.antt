@@ -10,7 +10,7 @@ use Rattle.fk_model.specs.declared.moves.Move.{Move}
 use Rattle.fk_report.specs.Jobs.{end_in}
 use Rattle.fk_report.specs.declared.job_end.JobEnd.{JobEnd}
 use Rattle.fk_report.specs.declared.job_end.JobEnd.TheVariants.{Checkpointed, Foreign, Dead, Restored, NoImage, Occupied, NoPort}
-use Rattle.fk_words.specs.Commands.{Command, Exec, Check, Run, Play, Show, Soak}
+use Rattle.fk_words.specs.Commands.{Files, NoFiles, RunFiles}
 use Rattle.fk_trace_text.specs.Trace.{trace_text}
 
 -- ---- one file
@@ -79,27 +79,17 @@ PutsSome trace report old new = PutSomeImages report.jobs 0 report.images old ne
 
 -- ---- of a command
 
--- what it is to put of its run is put
-abbrev pub HasPut : Option Command → Option Report → Option FileMap → Option FileMap → Type 0
-HasPut None report old new = new ≡ old
-HasPut (Some Exec) report old new = new ≡ old
-HasPut (Some Check) report old new = new ≡ old
-HasPut (Some (Run trace)) None old new = new ≡ old
-HasPut (Some (Run trace)) (Some report) old new = PutsRun trace report old new
-HasPut (Some (Play name)) report old new = new ≡ old
-HasPut (Some (Show name)) report old new = new ≡ old
-HasPut (Some (Soak count)) report old new = new ≡ old
+-- what a command is to leave of its run is put; without a run nothing is
+abbrev pub HasPut : Files → Option Report → Option FileMap → Option FileMap → Type 0
+HasPut NoFiles report old new = new ≡ old
+HasPut (RunFiles trace) None old new = new ≡ old
+HasPut (RunFiles trace) (Some report) old new = PutsRun trace report old new
 
 -- or some of it, up to a put that failed
-abbrev pub HasPutSome : Option Command → Option Report → Option FileMap → Option FileMap → Type 0
-HasPutSome None report old new = new ≡ old
-HasPutSome (Some Exec) report old new = new ≡ old
-HasPutSome (Some Check) report old new = new ≡ old
-HasPutSome (Some (Run trace)) None old new = new ≡ old
-HasPutSome (Some (Run trace)) (Some report) old new = PutsSome trace report old new
-HasPutSome (Some (Play name)) report old new = new ≡ old
-HasPutSome (Some (Show name)) report old new = new ≡ old
-HasPutSome (Some (Soak count)) report old new = new ≡ old
+abbrev pub HasPutSome : Files → Option Report → Option FileMap → Option FileMap → Type 0
+HasPutSome NoFiles report old new = new ≡ old
+HasPutSome (RunFiles trace) None old new = new ≡ old
+HasPutSome (RunFiles trace) (Some report) old new = PutsSome trace report old new
 
 -- files with names of images, and the trace of a run
 abbrev pub IsImageName : List ℕ → Type 0
@@ -116,11 +106,6 @@ KeepsBut May (Some old) None = ⊥
 KeepsBut May (Some old) (Some new) = (file : List ℕ) → (May file → ⊥) → new file ≡ old file
 
 -- all other files of the shelf are as before
-abbrev pub KeepsFiles : Option Command → Option FileMap → Option FileMap → Type 0
-KeepsFiles None old new = new ≡ old
-KeepsFiles (Some Exec) old new = new ≡ old
-KeepsFiles (Some Check) old new = new ≡ old
-KeepsFiles (Some (Run trace)) old new = KeepsBut (λ file. IsImageName file ⊎ IsTraceName trace file) old new
-KeepsFiles (Some (Play name)) old new = new ≡ old
-KeepsFiles (Some (Show name)) old new = new ≡ old
-KeepsFiles (Some (Soak count)) old new = new ≡ old
+abbrev pub KeepsFiles : Files → Option FileMap → Option FileMap → Type 0
+KeepsFiles NoFiles old new = new ≡ old
+KeepsFiles (RunFiles trace) old new = KeepsBut (λ file. IsImageName file ⊎ IsTraceName trace file) old new

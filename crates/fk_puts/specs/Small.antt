@@ -2,7 +2,7 @@
 use Rattle.std.specs.Prelude.{⊤, ℕ, List, Option, Some, None, All}
 use Rattle.fk_commands.specs.declared.outcome.Report.{Report}
 use Rattle.fk_model.specs.declared.moves.Move.{Move}
-use Rattle.fk_words.specs.Commands.{Command, Exec, Check, Run, Play, Show, Soak}
+use Rattle.fk_words.specs.Commands.{Files, NoFiles, RunFiles}
 use Rattle.fk_trace_text.specs.Trace.{IsMove}
 
 -- a history that was put under a name has names as small as their types
@@ -11,12 +11,7 @@ IsSmall None history = ⊤
 IsSmall (Some name) history = All IsMove history
 
 -- the history that a command puts
-abbrev pub AreSmall : Option Command → Option Report → Type 0
-AreSmall None report = ⊤
-AreSmall (Some Exec) report = ⊤
-AreSmall (Some Check) report = ⊤
-AreSmall (Some (Run trace)) None = ⊤
-AreSmall (Some (Run trace)) (Some report) = IsSmall trace report.history
-AreSmall (Some (Play name)) report = ⊤
-AreSmall (Some (Show name)) report = ⊤
-AreSmall (Some (Soak count)) report = ⊤
+abbrev pub AreSmall : Files → Option Report → Type 0
+AreSmall NoFiles report = ⊤
+AreSmall (RunFiles trace) None = ⊤
+AreSmall (RunFiles trace) (Some report) = IsSmall trace report.history

@@ -6,7 +6,7 @@ ghost use Rattle.fk_causes.specs.Shelf.{KeepsOthers, is_failed};
 ghost use Rattle.fk_causes.specs.declared.shelf.ShelfFail.TheVariants as fails;
 ghost use Rattle.fk_commands.specs.Files.{image_name, trace_name};
 ghost use Rattle.fk_puts.specs.Small.{AreSmall, IsSmall};
-ghost use Rattle.fk_words.specs.Commands.{uses_shelf, seen};
+ghost use Rattle.fk_words.specs.Commands.{leaves, uses_shelf, seen};
 ghost use Rattle.fk_puts.specs.Puts.{HasPut, HasPutSome, IsPut, KeepsButTrace, KeepsFiles, OpensEnd};
 ghost use Rattle.fk_puts.specs.Puts.{PutImages, PutSomeImages, PutsEnd, PutsImage, PutsRun, PutsSome, PutsTrace};
 ghost use Rattle.fk_trace_text.specs.Trace as traces;
@@ -194,13 +194,13 @@ fn put_of<H: Shelf>(
     report: &Option<Report>,
     shelf: &mut H,
 ) -> Result<(), ShelfFail>
-    ensures put { OnOk result (HasPut (Some (seen command.entry)) report.now (H.files shelf.old) (H.files shelf.new)) }
-    ensures some { OnErr result (HasPutSome (Some (seen command.entry)) report.now (H.files shelf.old) (H.files shelf.new)) }
+    ensures put { OnOk result (HasPut (leaves (Some (seen command.entry))) report.now (H.files shelf.old) (H.files shelf.new)) }
+    ensures some { OnErr result (HasPutSome (leaves (Some (seen command.entry))) report.now (H.files shelf.old) (H.files shelf.new)) }
     ensures cause { result ≡ Err fails.Failed → IsSome report.now × Rose (H.failed_puts shelf.old) (H.failed_puts shelf.new) }
     ensures kept { StandsUnless is_failed (H.failed_puts shelf.old) (H.failed_puts shelf.new) result }
     ensures same_gets { H.failed_gets shelf.new ≡ H.failed_gets shelf.old }
     ensures shelf { OnFalse (uses_shelf (Some (seen command.entry))) (shelf.new ≡ shelf.old) }
-    ensures small { OnOk result (AreSmall (Some (seen command.entry)) report.now) }
+    ensures small { OnOk result (AreSmall (leaves (Some (seen command.entry))) report.now) }
 {
     match command {
         Command::Run(trace) => match report {
@@ -226,14 +226,14 @@ pub fn put_files<H: Shelf>(
     report: &Option<Report>,
     shelf: &mut H,
 ) -> Result<(), ShelfFail>
-    ensures put { OnOk result (HasPut (Some (seen command.entry)) report.now (H.files shelf.old) (H.files shelf.new)) }
-    ensures some { OnErr result (HasPutSome (Some (seen command.entry)) report.now (H.files shelf.old) (H.files shelf.new)) }
-    ensures others { KeepsFiles (Some (seen command.entry)) (H.files shelf.old) (H.files shelf.new) }
+    ensures put { OnOk result (HasPut (leaves (Some (seen command.entry))) report.now (H.files shelf.old) (H.files shelf.new)) }
+    ensures some { OnErr result (HasPutSome (leaves (Some (seen command.entry))) report.now (H.files shelf.old) (H.files shelf.new)) }
+    ensures others { KeepsFiles (leaves (Some (seen command.entry))) (H.files shelf.old) (H.files shelf.new) }
     ensures cause { result ≡ Err fails.Failed → IsSome report.now × Rose (H.failed_puts shelf.old) (H.failed_puts shelf.new) }
     ensures kept { StandsUnless is_failed (H.failed_puts shelf.old) (H.failed_puts shelf.new) result }
     ensures same_gets { H.failed_gets shelf.new ≡ H.failed_gets shelf.old }
     ensures shelf { OnFalse (uses_shelf (Some (seen command.entry))) (shelf.new ≡ shelf.old) }
-    ensures small { OnOk result (AreSmall (Some (seen command.entry)) report.now) }
+    ensures small { OnOk result (AreSmall (leaves (Some (seen command.entry))) report.now) }
 {
     put_of(alloc, command, report, shelf)
 }

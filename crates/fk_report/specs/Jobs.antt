@@ -4,7 +4,7 @@ use Rattle.std.specs.List.{slice_get}
 use Rattle.fk_model.specs.declared.job.JobSpec.{JobSpec}
 use Rattle.fk_model.specs.declared.job.JobSpec.TheVariants.{Checkpoint, Restore}
 use Rattle.fk_finish.specs.declared.finish.Place.{Place}
-use Rattle.fk_report.specs.Paths.{down_text, path_text}
+use Rattle.fk_report.specs.Paths.{down_text}
 use Rattle.fk_report.specs.declared.job_end.JobEnd.{JobEnd}
 use Rattle.fk_report.specs.declared.job_end.JobEnd.TheVariants.{Checkpointed, Foreign, Dead, Restored, NoImage, Occupied, NoPort}
 
@@ -12,9 +12,9 @@ use Rattle.fk_report.specs.declared.job_end.JobEnd.TheVariants.{Checkpointed, Fo
 abbrev pub moves_text : List ℕ → ℕ → ℕ → List ℕ
 moves_text first begun last = first ++ (decimal begun ++ (codes " release " ++ decimal last))
 
--- the first object by which a subtree isn't closed, by its whole path, and the field
+-- the first object by which a subtree isn't closed, by its whole path: the nester's, and from there down; and the field
 abbrev pub place_text : List ℕ → Place → List ℕ
-place_text nester place = codes " foreign " ++ (down_text nester ++ (path_text place.path ++ (codes " " ++ decimal place.field)))
+place_text nester place = codes " foreign " ++ (down_text nester ++ (down_text place.path ++ (codes " " ++ decimal place.field)))
 
 -- the path of a checkpoint's nester; no line of a restore shows one
 abbrev pub nester_of : JobSpec → List ℕ

@@ -4,7 +4,7 @@ ghost use Rattle.std.specs.List.{slice_get};
 ghost use Rattle.fk_report.specs.Jobs as definitions;
 
 use crate::job_end::JobEnd;
-use crate::paths::{push_down, push_path};
+use crate::paths::push_down;
 use fk_decimal::push_number;
 use fk_finish::Place;
 use fk_model::{JobSpec, NoMemory};
@@ -26,7 +26,7 @@ fn push_place(text: &mut String, nester: &[u8], place: &Place) -> Result<(), All
 {
     text.push_str(" foreign ")?;
     push_down(text, nester)?;
-    push_path(text, place.path.as_slice())?;
+    push_down(text, place.path.as_slice())?;
     text.push_str(" ")?;
     push_number(text, u64::from(place.field))
 }

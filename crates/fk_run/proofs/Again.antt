@@ -16,9 +16,9 @@ use Rattle.fk_plays.specs.Images.FindsImages.{NoJob, Found, Refused, Later}
 use Rattle.fk_plays.specs.Play.{IsPlay, IsPlayedBy, IsWith, IsWholeRun}
 use Rattle.fk_run.specs.Again.{HasSame, PlaysAgain}
 use Rattle.fk_puts.specs.Small.{AreSmall}
-use Rattle.fk_words.specs.Commands.{Command, Exec, Check, Run, Play, Show, Soak}
+use Rattle.fk_words.specs.Commands.{Command, Run, Play, leaves}
 use Rattle.fk_puts.specs.Puts.{HasPut}
-use Rattle.fk_run.specs.Top.{Rules}
+use Rattle.fk_commands.specs.Tables.{Rules}
 use Rattle.fk_plays.proofs.Replayed.{plays-again}
 use Rattle.fk_plays.specs.Made.{Images}
 use Rattle.fk_plays.specs.Runs.{IsRunFrom}
@@ -91,19 +91,13 @@ again rules name now report has small = λ before later bytes status text traced
     (nat_lt LIMIT (length bytes)) called
 
 -- what a command has put
-put : (rules : Rules) (command : Option Command) (report : Option Report) (old now : Option FileMap) → HasPut command report old now → AreSmall command report
+put : (rules : Rules) (command : Option Command) (report : Option Report) (old now : Option FileMap) → HasPut (leaves command) report old now → AreSmall (leaves command) report
     → PlaysAgain rules command now report
-put rules None report old now has small = tt
-put rules (Some Exec) report old now has small = tt
-put rules (Some Check) report old now has small = tt
-put rules (Some (Run None)) report old now has small = tt
 put rules (Some (Run (Some name))) None old now has small = again rules name now None tt tt
 put rules (Some (Run (Some name))) (Some report) old now has small = again rules name now (Some report) has.2.0 small
-put rules (Some (Play name)) report old now has small = tt
-put rules (Some (Show name)) report old now has small = tt
-put rules (Some (Soak count)) report old now has small = tt
+put rules other report old now has small = tt
 
 pub again_by : (rules : Rules) (r : Result (Unit {0}) ShelfFail) (command : Option Command) (report : Option Report) (old now : Option FileMap)
-    → OnOk r (HasPut command report old now) → OnOk r (AreSmall command report) → OnOk r (PlaysAgain rules command now report)
+    → OnOk r (HasPut (leaves command) report old now) → OnOk r (AreSmall (leaves command) report) → OnOk r (PlaysAgain rules command now report)
 again_by rules (Ok done) command report old now has small = put rules command report old now has small
 again_by rules (Err fail) command report old now has small = has

@@ -18,9 +18,10 @@ use Rattle.fk_commands.specs.declared.status.Status.TheVariants.{Ok as Done, Usa
 use Rattle.fk_commands.specs.declared.status.Status.TheVariants.{BadTrace, JobRefused, Budget, ReadFault, WriteFault, ShelfFault, NoMemory}
 use Rattle.fk_commands.specs.Exec.{IsExec, status_of_run, state_after}
 use Rattle.fk_commands.specs.Outcomes.{IsRefused, without_report}
-use Rattle.fk_commands.specs.Prepared.{ComesTo, IsRefusal, outcome_of}
+use Rattle.fk_commands.specs.Prepared.{ComesTo, IsRefusal, IsRefusedAt, outcome_of}
 use Rattle.fk_commands.specs.Show.{IsFileShown, IsShown}
-use Rattle.fk_commands.specs.Status.{progress_of, Finished, was_cut_short}
+use Rattle.fk_commands.specs.Status.{row_of, progress_of, Progress, Words, Reading, Refusing, Writing, Finished, Failed, was_cut_short}
+use Rattle.fk_commands.specs.Status.{has_put_all, has_put_none}
 use Rattle.fk_plays.specs.Cores.{RunCore}
 use Rattle.fk_gen.specs.Soak.{scenario}
 use Rattle.fk_image.specs.declared.image.image.Image.{Image}
@@ -37,7 +38,8 @@ use Rattle.fk_report.specs.declared.job_end.JobEnd.{JobEnd}
 use Rattle.fk_report.specs.Jobs.{refused_from}
 use Rattle.fk_run.proofs.Due.{done-whole, held}
 use Rattle.fk_run.specs.Complete.{AreRight, HasImage, HasImages, HasTrace, IsComplete, IsImageFile, IsProgram, IsRight, IsScenarioWith, IsTraceFile, IsWhole}
-use Rattle.fk_run.specs.Top.{Rules, IsUnlessTooLong, IsCalledFor, IsDue, IsDone, has_put_all, has_put_none}
+use Rattle.fk_commands.specs.Tables.{Rules}
+use Rattle.fk_run.specs.Top.{IsUnlessTooLong, IsCalledFor, IsDue, IsDone}
 use Rattle.fk_plays.specs.Made.{Images, status_of_refused, status_of_end}
 use Rattle.fk_plays.specs.Runs.{begun, IsAlone, IsPlayed, IsRunFrom}
 use Rattle.fk_scenario.specs.declared.scenario.scenario.Scenario.{Scenario}
@@ -45,7 +47,7 @@ use Rattle.fk_scenario.specs.Scenario.Reading.{scenario_reading}
 use Rattle.fk_scenario.specs.declared.fields.fail.ScenarioError.{ScenarioError}
 use Rattle.fk_trace_text.proofs.Traces.{Spells-not_bad}
 use Rattle.fk_trace_text.specs.Trace.{Spells}
-use Rattle.fk_words.specs.Commands.{Command, Exec, Check, Run, Play, Show, Soak}
+use Rattle.fk_words.specs.Commands.{Command, Exec, Check, Run, Play, Show, Soak, leaves}
 
 -- ---- how what is done ends
 
@@ -194,7 +196,7 @@ module _ (rules : Rules) (command : Option Command) (left : Option (List ℕ)) (
   abbrev Done-so : Outcome → Type 0
   Done-so outcome = IsDone rules command left files old new outcome
 
-  ends-whole : (outcome : Outcome) → AreRight rules command left files → Done-so outcome → HasPut command outcome.report files now → Ends outcome
+  ends-whole : (outcome : Outcome) → AreRight rules command left files → Done-so outcome → HasPut (leaves command) outcome.report files now → Ends outcome
   ends-whole outcome right done put =
       inl (record { finished = due-ends outcome done.text rules command left files right done.due; done = done; put = put })
 
@@ -206,27 +208,19 @@ module _ (rules : Rules) (command : Option Command) (left : Option (List ℕ)) (
 
   by-status : (outcome : Outcome) → AreRight rules command left files → (outcome.status ≡ ReadFault → ⊥) → (outcome.status ≡ WriteFault → ⊥)
       → (outcome.status ≡ ShelfFault → ⊥) → (status : Status) → outcome.status ≡ status → OnFalse (was_cut_short status) (Done-so outcome)
-      → OnTrue (has_put_all status) (HasPut command outcome.report files now) → Ends outcome
+      → OnTrue (has_put_all status) (HasPut (leaves command) outcome.report files now) → Ends outcome
   by-status o right no_read no_write no_shelf Done is done put = ends-whole o right done put
-  by-status o right no_read no_write no_shelf Usage is done put = never o Usage is (λ same. cc same) right done
-  by-status o right no_read no_write no_shelf TooLong is done put = never o TooLong is (λ same. cc same) right done
-  by-status o right no_read no_write no_shelf (BadText line reason) is done put = never o (BadText line reason) is (λ same. cc same) right done
-  by-status o right no_read no_write no_shelf (BadScenario rule section index) is done put =
-      never o (BadScenario rule section index) is (λ same. cc same) right done
-  by-status o right no_read no_write no_shelf (Absent name) is done put = never o (Absent name) is (λ same. cc same) right done
-  by-status o right no_read no_write no_shelf (BadImage name offset reason) is done put =
-      never o (BadImage name offset reason) is (λ same. cc same) right done
-  by-status o right no_read no_write no_shelf (BadTrace index) is done put = never o (BadTrace index) is (λ same. cc same) right done
   by-status o right no_read no_write no_shelf (JobRefused job) is done put = ends-whole o right done put
   by-status o right no_read no_write no_shelf (Budget budget) is done put = ends-whole o right done put
   by-status o right no_read no_write no_shelf ReadFault is done put = absurd (no_read is)
   by-status o right no_read no_write no_shelf WriteFault is done put = absurd (no_write is)
   by-status o right no_read no_write no_shelf ShelfFault is done put = absurd (no_shelf is)
   by-status o right no_read no_write no_shelf NoMemory is done put = inr is
+  by-status o right no_read no_write no_shelf other is done put = never o other is (λ same. cc same) right done
 
   -- it did what is due and made all puts, unless the outside or the memory failed, and the outside didn't
   pub complete : (outcome : Outcome) → OnFalse (was_cut_short outcome.status) (Done-so outcome)
-      → OnTrue (has_put_all outcome.status) (HasPut command outcome.report files now)
+      → OnTrue (has_put_all outcome.status) (HasPut (leaves command) outcome.report files now)
       → (outcome.status ≡ ReadFault → ⊥) → (outcome.status ≡ WriteFault → ⊥) → (outcome.status ≡ ShelfFault → ⊥)
       → IsComplete rules command left files now old new outcome
   complete outcome done put no_read no_write no_shelf =
@@ -236,7 +230,7 @@ module _ (rules : Rules) (command : Option Command) (left : Option (List ℕ)) (
   pub complete-finished : (run : Prepared) (outcome : Outcome) (AtSink AtPuts : Type 0)
       → IsDue rules command left files (outcome_of run) (string_bytes run.output)
       → OnFalse (was_cut_short outcome.status) (outcome ≡ outcome_of run) → OnFalse (was_cut_short outcome.status) (Appends old new (string_bytes run.output))
-      → OnTrue (has_put_all outcome.status) (HasPut command outcome.report files now) → OnTrue (has_put_none outcome.status) ⊥
+      → OnTrue (has_put_all outcome.status) (HasPut (leaves command) outcome.report files now) → OnTrue (has_put_none outcome.status) ⊥
       → (outcome.status ≡ WriteFault → AtSink) → (outcome.status ≡ ShelfFault → AtPuts) → (AtSink → ⊥) → (AtPuts → ⊥)
       → IsComplete rules command left files now old new outcome
   complete-finished run outcome AtSink AtPuts due same written put none write_fault shelf_fault no_write no_puts =
@@ -248,40 +242,24 @@ module _ (rules : Rules) (command : Option Command) (left : Option (List ℕ)) (
       → (progress_of status ≡ Finished) ⊎ (status ≡ NoMemory)
   refused-by AtSource AtShelf right no_read no_get Done due refusal = absurd refusal
   refused-by AtSource AtShelf right no_read no_get Usage due refusal = absurd refusal
-  refused-by AtSource AtShelf right no_read no_get TooLong due refusal = inl (due-ends (without_report TooLong) [] rules command left files right due)
-  refused-by AtSource AtShelf right no_read no_get (BadText line reason) due refusal =
-      inl (due-ends (without_report (BadText line reason)) [] rules command left files right due)
-  refused-by AtSource AtShelf right no_read no_get (BadScenario rule section index) due refusal =
-      inl (due-ends (without_report (BadScenario rule section index)) [] rules command left files right due)
-  refused-by AtSource AtShelf right no_read no_get (Absent name) due refusal =
-      inl (due-ends (without_report (Absent name)) [] rules command left files right due)
-  refused-by AtSource AtShelf right no_read no_get (BadImage name offset reason) due refusal =
-      inl (due-ends (without_report (BadImage name offset reason)) [] rules command left files right due)
-  refused-by AtSource AtShelf right no_read no_get (BadTrace index) due refusal =
-      inl (due-ends (without_report (BadTrace index)) [] rules command left files right due)
   refused-by AtSource AtShelf right no_read no_get (JobRefused job) due refusal = absurd refusal
   refused-by AtSource AtShelf right no_read no_get (Budget budget) due refusal = absurd refusal
   refused-by AtSource AtShelf right no_read no_get ReadFault due refusal = absurd (no_read refusal)
   refused-by AtSource AtShelf right no_read no_get WriteFault due refusal = absurd refusal
   refused-by AtSource AtShelf right no_read no_get ShelfFault due refusal = absurd (no_get refusal)
   refused-by AtSource AtShelf right no_read no_get NoMemory due refusal = inr refl
+  refused-by AtSource AtShelf right no_read no_get other due refusal = inl (due-ends (without_report other) [] rules command left files right due)
 
   -- no refusal has a status of what is done whole
   unfinished : (AtSource AtShelf : Type 0) (status : Status) → IsRefusal AtSource AtShelf status → progress_of status ≡ Finished → ⊥
-  unfinished AtSource AtShelf Done refusal same = refusal
-  unfinished AtSource AtShelf Usage refusal same = refusal
-  unfinished AtSource AtShelf TooLong refusal same = cc same
-  unfinished AtSource AtShelf (BadText line reason) refusal same = cc same
-  unfinished AtSource AtShelf (BadScenario rule section index) refusal same = cc same
-  unfinished AtSource AtShelf (Absent name) refusal same = cc same
-  unfinished AtSource AtShelf (BadImage name offset reason) refusal same = cc same
-  unfinished AtSource AtShelf (BadTrace index) refusal same = cc same
-  unfinished AtSource AtShelf (JobRefused job) refusal same = refusal
-  unfinished AtSource AtShelf (Budget budget) refusal same = refusal
-  unfinished AtSource AtShelf ReadFault refusal same = cc same
-  unfinished AtSource AtShelf WriteFault refusal same = refusal
-  unfinished AtSource AtShelf ShelfFault refusal same = cc same
-  unfinished AtSource AtShelf NoMemory refusal same = cc same
+  unfinished AtSource AtShelf status refusal same = by (row_of status).came (row_of status).failed refusal same
+    where
+      by : (came : Progress) (failed : Failed) → IsRefusedAt AtSource AtShelf came failed → came ≡ Finished → ⊥
+      by Words failed refusal same = refusal
+      by Reading failed refusal same = cc same
+      by Refusing failed refusal same = cc same
+      by Writing failed refusal same = refusal
+      by Finished failed refusal same = refusal
 
   -- and of one that was refused before it wrote
   pub complete-refused : (status : Status) (AtSource AtShelf : Type 0)
@@ -308,12 +286,12 @@ pub complete-Ok : (rules : Rules) (command : Option Command) (own : Command) (le
     (old new : Option (List ℕ)) (r : Result Prepared Status) (run : Prepared) (outcome : Outcome) (AtSink AtPuts : Type 0) → r ≡ Ok run
     → ComesTo (IsDue rules (Some own) left files) r → OnFalse (was_cut_short outcome.status) (outcome ≡ outcome_of run)
     → OnFalse (was_cut_short outcome.status) (Appends old new (string_bytes run.output)) → between ≡ files
-    → OnTrue (has_put_all outcome.status) (HasPut (Some own) outcome.report between now) → OnTrue (has_put_none outcome.status) ⊥
+    → OnTrue (has_put_all outcome.status) (HasPut (leaves (Some own)) outcome.report between now) → OnTrue (has_put_none outcome.status) ⊥
     → (outcome.status ≡ WriteFault → AtSink) → (outcome.status ≡ ShelfFault → AtPuts) → (AtSink → ⊥) → (AtPuts → ⊥) → command ≡ Some own
     → IsComplete rules command left files now old new outcome
 complete-Ok rules command own left files between now old new r run outcome AtSink AtPuts ok comes same written kept put none sunk unput no_sunk no_unput is =
     let due = subst (λ (r : Result Prepared Status). ComesTo (IsDue rules (Some own) left files) r) ok comes in
-    let put_since = subst (λ (f : Option FileMap). OnTrue (has_put_all outcome.status) (HasPut (Some own) outcome.report f now)) kept put in
+    let put_since = subst (λ (f : Option FileMap). OnTrue (has_put_all outcome.status) (HasPut (leaves (Some own)) outcome.report f now)) kept put in
     subst (λ (c : Option Command). IsComplete rules c left files now old new outcome) (sym is)
     (complete-finished rules (Some own) left files now old new run outcome AtSink AtPuts due.0 same written put_since none sunk unput no_sunk no_unput)
 

@@ -6,20 +6,22 @@ use Rattle.fk_causes.specs.Causes.{MayHold, AppendsPrefix, Rose}
 use Rattle.fk_causes.specs.Shelf.{FileMap}
 use Rattle.fk_commands.specs.declared.prepared.Prepared.{Prepared}
 use Rattle.fk_commands.specs.declared.status.Status.{Status}
-use Rattle.fk_commands.specs.declared.status.Status.TheVariants.{Ok as Done, Usage, TooLong, BadText, BadScenario, Absent, BadImage, BadTrace, JobRefused, Budget, ReadFault, WriteFault, ShelfFault, NoMemory}
-use Rattle.fk_words.specs.Commands.{Command, Exec, Check, Run, Play, Show, Soak}
+use Rattle.fk_commands.specs.declared.status.Status.TheVariants.{Usage}
+use Rattle.fk_words.specs.Commands.{Command, Show, Soak, Files, NoFiles, RunFiles}
 use Rattle.fk_commands.specs.Outcomes.{without_report}
 use Rattle.fk_commands.specs.declared.outcome.Outcome.{Outcome}
 use Rattle.fk_commands.specs.declared.outcome.Report.{Report}
-use Rattle.fk_commands.specs.Prepared.{ComesTo, IsRefusal, outcome_of}
-use Rattle.fk_commands.specs.Status.{progress_of, Finished, was_cut_short}
+use Rattle.fk_commands.specs.Prepared.{ComesTo, IsRefusal, IsRefusedAt, IsCaused, outcome_of}
+use Rattle.fk_commands.specs.Status.{row_of, progress_of, Progress, Words, Reading, Refusing, Writing, Finished, was_cut_short}
+use Rattle.fk_commands.specs.Status.{Failed, Nothing, Source, Sink, Shelf, Memory}
+use Rattle.fk_commands.specs.Tables.{Rules}
 use Rattle.fk_commands.proofs.Comes.{comes-also}
 use Rattle.fk_commands.specs.Show.{IsShow}
 use Rattle.fk_gen.specs.Soak.{scenario}
 use Rattle.fk_plays.specs.Play.{IsSoak}
 use Rattle.fk_scenario.specs.Scenario.Reading.{scenario_reading}
 use Rattle.fk_puts.specs.Puts.{HasPutSome}
-use Rattle.fk_run.specs.Top.{Rules, IsDue, IsDone, IsCutOff, IsUnput, HasFailed, GetsToShelf}
+use Rattle.fk_run.specs.Top.{IsDue, IsDone, IsCutOff, IsUnput, HasFailed, GetsToShelf}
 
 -- what a source may hold: what it tells, or else anything
 pub held : (left : Option (List ℕ)) → (bytes : List ℕ) × MayHold left bytes
@@ -57,33 +59,27 @@ soak-due rules count left files r comes =
 pub show-refused : (rules : Rules) (AtSource AtShelf : Type 0) (name : List ℕ) (left : Option (List ℕ)) (r : Result Prepared Status) →
     IfErr r (IsRefusal ⊥ AtShelf) → IfErr r (IsRefusal AtSource (AtShelf × GetsToShelf rules (Some (Show name)) left))
 show-refused rules AtSource AtShelf name left (Ok run) h = h
-show-refused rules AtSource AtShelf name left (Err status) h = by status h
+show-refused rules AtSource AtShelf name left (Err status) h = by (row_of status).came (row_of status).failed h
   where
-    by : (status : Status) → IsRefusal ⊥ AtShelf status → IsRefusal AtSource (AtShelf × GetsToShelf rules (Some (Show name)) left) status
-    by Done h = h
-    by Usage h = h
-    by TooLong h = h
-    by (BadText line reason) h = h
-    by (BadScenario rule section index) h = h
-    by (Absent told) h = h
-    by (BadImage told offset reason) h = h
-    by (BadTrace index) h = h
-    by (JobRefused job) h = h
-    by (Budget budget) h = h
-    by ReadFault h = absurd h
-    by WriteFault h = h
-    by ShelfFault h = (h, ((held left).0, (held left).1, tt))
-    by NoMemory h = h
+    caused : (failed : Failed) → IsCaused ⊥ AtShelf failed → IsCaused AtSource (AtShelf × GetsToShelf rules (Some (Show name)) left) failed
+    caused Nothing h = h
+    caused Source h = absurd h
+    caused Sink h = h
+    caused Shelf h = (h, ((held left).0, (held left).1, tt))
+    caused Memory h = h
+
+    by : (came : Progress) (failed : Failed) → IsRefusedAt ⊥ AtShelf came failed
+        → IsRefusedAt AtSource (AtShelf × GetsToShelf rules (Some (Show name)) left) came failed
+    by Words failed h = h
+    by Reading failed h = caused failed h
+    by Refusing failed h = caused failed h
+    by Writing failed h = h
+    by Finished failed h = h
 
 -- without a run nothing is put
-pub puts_nothing : (command : Option Command) (old new : Option FileMap) → new ≡ old → HasPutSome command None old new
-puts_nothing None old new same = same
-puts_nothing (Some Exec) old new same = same
-puts_nothing (Some Check) old new same = same
-puts_nothing (Some (Run trace)) old new same = same
-puts_nothing (Some (Play name)) old new same = same
-puts_nothing (Some (Show name)) old new same = same
-puts_nothing (Some (Soak count)) old new same = same
+pub puts_nothing : (left : Files) (old new : Option FileMap) → new ≡ old → HasPutSome left None old new
+puts_nothing NoFiles old new same = same
+puts_nothing (RunFiles trace) old new same = same
 
 module _ (rules : Rules) (command : Option Command) (left : Option (List ℕ)) (files : Option FileMap) (run : Prepared) (outcome : Outcome) where
   -- what is prepared is due, and was done whole

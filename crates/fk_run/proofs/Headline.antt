@@ -2,7 +2,7 @@
 use Rattle.std.proofs.Common.{◌≡◌, ℕ, List, Option, Some, None, Ok}
 use Rattle.fk_commands.specs.declared.outcome.Report.{Report}
 use Rattle.fk_run.specs.Jobs.{HasHeadline, HoldsOf}
-use Rattle.fk_run.specs.Top.{Rules}
+use Rattle.fk_commands.specs.Tables.{Rules}
 use Rattle.fk_plays.proofs.Headlines.{reports_have_the_headline}
 use Rattle.fk_scenario.proofs.InScenario.Kept.{scenario_kept}
 use Rattle.fk_scenario.specs.declared.scenario.scenario.Scenario.{Scenario}

@@ -4,8 +4,9 @@ use Rattle.fk_causes.specs.Shelf.{FileMap, HasAt}
 use Rattle.fk_commands.specs.Files.{image_name, trace_name}
 use Rattle.fk_commands.specs.declared.outcome.Report.{Report}
 use Rattle.fk_commands.specs.declared.status.Status.{Status}
-use Rattle.fk_words.specs.Commands.{Command, Exec, Check, Run, Play, Show, Soak}
-use Rattle.fk_run.specs.Top.{Rules, IsCalledFor}
+use Rattle.fk_words.specs.Commands.{Command, Run, Play}
+use Rattle.fk_commands.specs.Tables.{Rules}
+use Rattle.fk_run.specs.Top.{IsCalledFor}
 
 -- whatever files have under a name, others have too
 abbrev pub HasSame : Option FileMap → Option FileMap → List ℕ → Type 0
@@ -14,14 +15,8 @@ HasSame these those name = (file : Option (List ℕ)) → HasAt these name file 
 -- whatever some bytes call for of `run --trace` with this report, the same is what they call for of `play` with the trace's name, over files that have the
 -- trace as it is now and the images as they were before: the status, the report and the text
 abbrev pub PlaysAgain : Rules → Option Command → Option FileMap → Option Report → Type 0
-PlaysAgain rules None now report = ⊤
-PlaysAgain rules (Some Exec) now report = ⊤
-PlaysAgain rules (Some Check) now report = ⊤
-PlaysAgain rules (Some (Run None)) now report = ⊤
 PlaysAgain rules (Some (Run (Some name))) now report = (before later : Option FileMap) (bytes : List ℕ) (status : Status) (text : List ℕ)
     → HasSame now later (trace_name name) → ((image : List ℕ) → HasSame before later (image_name image))
     → IsCalledFor rules (Some (Run (Some name))) before bytes (record { status = status; report = report }) text
     → IsCalledFor rules (Some (Play name)) later bytes (record { status = status; report = report }) text
-PlaysAgain rules (Some (Play name)) now report = ⊤
-PlaysAgain rules (Some (Show name)) now report = ⊤
-PlaysAgain rules (Some (Soak count)) now report = ⊤
+PlaysAgain rules other now report = ⊤

@@ -20,14 +20,15 @@ use Rattle.fk_model.specs.declared.moves.Move.{Move}
 use Rattle.fk_plays.specs.Images.{needed, FindsImages}
 use Rattle.fk_plays.specs.Play.{IsScenario}
 use Rattle.fk_puts.specs.Puts.{HasPut}
-use Rattle.fk_run.specs.Top.{Rules, IsDone}
+use Rattle.fk_commands.specs.Tables.{Rules}
+use Rattle.fk_run.specs.Top.{IsDone}
 use Rattle.fk_plays.specs.Made.{Images}
 use Rattle.fk_plays.specs.Runs.{begun}
 use Rattle.fk_scenario.specs.declared.scenario.scenario.Scenario.{Scenario}
 use Rattle.fk_scenario.specs.Scenario.Reading.{scenario_reading}
 use Rattle.fk_scenario.specs.declared.fields.fail.ScenarioError.{ScenarioError}
 use Rattle.fk_trace_text.specs.Trace.{Spells}
-use Rattle.fk_words.specs.Commands.{Command, Exec, Check, Run, Play, Show, Soak}
+use Rattle.fk_words.specs.Commands.{Command, Exec, Check, Run, Play, Show, Soak, leaves}
 
 -- ---- what is needed is there
 
@@ -88,7 +89,7 @@ pub record IsWhole (rules : Rules) (command : Option Command) (left : Option (Li
     (outcome : Outcome) : Type 0 where
   pub finished : progress_of outcome.status ≡ Finished
   pub done : IsDone rules command left files old new outcome
-  pub put : HasPut command outcome.report files now
+  pub put : HasPut (leaves command) outcome.report files now
 
 -- right input comes to that, or there is no memory
 abbrev pub IsComplete : Rules → Option Command → Option (List ℕ) → Option FileMap → Option FileMap → Option (List ℕ) → Option (List ℕ) → Outcome → Type 0

@@ -3,7 +3,7 @@ use Rattle.std.specs.Prelude.{◌≡◌, ℕ, List, Option, Ok, IfSome}
 use Rattle.fk_commands.specs.declared.outcome.Report.{Report}
 use Rattle.fk_plays.specs.Cores.{RunCore}
 use Rattle.fk_plays.specs.First.{IsFirst}
-use Rattle.fk_run.specs.Top.{Rules}
+use Rattle.fk_commands.specs.Tables.{Rules}
 use Rattle.fk_plays.specs.Headline.{HasReportHeadline}
 use Rattle.fk_plays.specs.Made.{Images}
 use Rattle.fk_plays.specs.Runs.{IsReported}

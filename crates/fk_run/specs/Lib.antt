@@ -12,6 +12,7 @@ pub use Rattle.fk_plays.specs.Made
 pub use Rattle.fk_plays.specs.Runs
 pub use Rattle.fk_plays.specs.Headline
 pub use Rattle.fk_plays.specs.First
+pub use Rattle.fk_plays.specs.Cores
 pub use Rattle.fk_plays.specs.Play
 pub use Rattle.fk_plays.specs.Images
 pub use Rattle.fk_commands.specs.Check
@@ -24,3 +25,4 @@ pub mod Top
 pub mod Again
 pub mod Jobs
 pub mod Complete
+pub mod Theorem

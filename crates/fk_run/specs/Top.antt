@@ -1,5 +1,5 @@
 -- What the words of the command line call for, and what a call did of it.
-use Rattle.std.specs.Prelude.{◌≡◌, ◌≤◌, ⊤, ℕ, Bool, true, false, ◌&&◌, List, Option, Some, None, length, nat_lt}
+use Rattle.std.specs.Prelude.{◌≡◌, ◌≤◌, ⊤, ℕ, Bool, ◌&&◌, List, Option, Some, None, length, nat_lt}
 use Rattle.std.specs.Bool.{MatchBool}
 use Rattle.std.specs.Io.KnownBytes.{Appends}
 use Rattle.fk_asm.specs.Assembler.{assembled}
@@ -7,9 +7,8 @@ use Rattle.fk_causes.specs.Causes.{MayHold, AppendsPrefix, Rose}
 use Rattle.fk_causes.specs.declared.whole.TheConstants.{LIMIT}
 use Rattle.fk_causes.specs.Shelf.{FileMap}
 use Rattle.fk_scenario.specs.Scenario.Reading.{scenario_reading}
-use Rattle.fk_model.specs.declared.moves.Rule.{Rule}
 use Rattle.fk_commands.specs.declared.status.Status.{Status}
-use Rattle.fk_commands.specs.declared.status.Status.TheVariants.{Ok as Done, Usage, TooLong, BadText, BadScenario, Absent, BadImage, BadTrace, JobRefused, Budget, ReadFault, WriteFault, ShelfFault, NoMemory}
+use Rattle.fk_commands.specs.declared.status.Status.TheVariants.{Usage, TooLong}
 use Rattle.fk_commands.specs.declared.outcome.Report.{Report}
 use Rattle.fk_commands.specs.declared.outcome.Outcome.{Outcome}
 use Rattle.fk_commands.specs.Check.{IsCheck}
@@ -20,14 +19,11 @@ use Rattle.fk_commands.specs.Outcomes.{IsRefused}
 use Rattle.fk_plays.specs.Play.{IsPlay, IsWholeRun, IsSoak, IsScenario, IsScenarioWithImages}
 use Rattle.fk_commands.specs.Show.{IsShow}
 use Rattle.fk_commands.specs.Status.{progress_of, is_past_reading, Finished}
+use Rattle.fk_commands.specs.Tables.{Rules}
 
 -- a source that holds too many bytes is refused, and else they come to what they call for
 abbrev pub IsUnlessTooLong : List ℕ → (Outcome → List ℕ → Type 0) → Outcome → List ℕ → Type 0
 IsUnlessTooLong bytes Is outcome text = MatchBool (nat_lt LIMIT (length bytes)) (IsRefused TooLong outcome text) (Is outcome text)
-
--- the names and the rules of a table of responders
-abbrev pub Rules : Type 0
-Rules = List (List ℕ × Rule)
 
 -- the outcome and the output of a command over the rules for servers, the files of the shelf and all bytes of the source; each command has a line
 abbrev pub IsCalledFor : Rules → Option Command → Option FileMap → List ℕ → Outcome → List ℕ → Type 0
@@ -89,57 +85,6 @@ abbrev pub HasFailed : (gets_before gets_now puts_before puts_now : ℕ) → Rul
 HasFailed gets_before gets_now puts_before puts_now rules command left files outcome None = Rose gets_before gets_now × GetsToShelf rules command left
 HasFailed gets_before gets_now puts_before puts_now rules command left files outcome (Some report) =
     Rose puts_before puts_now × IsUnput rules command left files outcome
-
--- which statuses come without a run
-abbrev pub has_no_report : Status → Bool
-has_no_report Done = false
-has_no_report Usage = true
-has_no_report TooLong = true
-has_no_report (BadText line reason) = true
-has_no_report (BadScenario rule section index) = true
-has_no_report (Absent name) = true
-has_no_report (BadImage name offset reason) = true
-has_no_report (BadTrace index) = true
-has_no_report (JobRefused job) = false
-has_no_report (Budget budget) = false
-has_no_report ReadFault = true
-has_no_report WriteFault = false
-has_no_report ShelfFault = false
-has_no_report NoMemory = true
-
--- whether all puts were made
-abbrev pub has_put_all : Status → Bool
-has_put_all Done = true
-has_put_all Usage = false
-has_put_all TooLong = false
-has_put_all (BadText line reason) = false
-has_put_all (BadScenario rule section index) = false
-has_put_all (Absent name) = false
-has_put_all (BadImage name offset reason) = false
-has_put_all (BadTrace index) = false
-has_put_all (JobRefused job) = true
-has_put_all (Budget budget) = true
-has_put_all ReadFault = false
-has_put_all WriteFault = true
-has_put_all ShelfFault = false
-has_put_all NoMemory = false
-
--- whether none was tried
-abbrev pub has_put_none : Status → Bool
-has_put_none Done = false
-has_put_none Usage = true
-has_put_none TooLong = true
-has_put_none (BadText line reason) = true
-has_put_none (BadScenario rule section index) = true
-has_put_none (Absent name) = true
-has_put_none (BadImage name offset reason) = true
-has_put_none (BadTrace index) = true
-has_put_none (JobRefused job) = false
-has_put_none (Budget budget) = false
-has_put_none ReadFault = true
-has_put_none WriteFault = false
-has_put_none ShelfFault = false
-has_put_none NoMemory = false
 
 -- whether a call with this status has read its source to the end
 abbrev pub has_read_all : Option Command → Status → Bool

@@ -6,9 +6,9 @@
 //!
 //! It stands on these for all that a command does, and on `fk_causes` for the source, the sink and the shelf.
 //!
-//! It promises that `fluke_top` ends with the outcome, and writes the bytes, that the words call for
-//! (`specs/Top.antt`); and that it answers a fault only where one happened in this call. `fluke_alone` does so for all words that
-//! workers don't share, and always returns.
+//! It promises the theorem (`specs/Theorem.antt`): that `fluke_top` ends with the outcome, and writes the bytes, that the words call for
+//! (`specs/Top.antt`); that it answers a fault exactly where one happened in this call; and what its report says of the subtrees that were
+//! saved and restored. `fluke_alone` does so for all words that workers don't share, and always returns.
 #![tactic(auto)]
 
 mod source_text;

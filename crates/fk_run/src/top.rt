@@ -1,18 +1,19 @@
 //! The top call: the words of the command line, from the source and the shelf to the sink.
-ghost use Rattle.std.specs.Prelude.{◌≡◌, ◌↔◌, Some, None, Err, IsSome, OnOk, OnErr, IfErr, map, string_bytes, true, false};
+ghost use Rattle.std.specs.Prelude.{◌≡◌, Some, None, Err, IsSome, OnOk, OnErr, IfErr, map, string_bytes, true, false};
 ghost use Rattle.std.specs.Bool.{OnTrue, OnFalse};
 ghost use Rattle.std.specs.Io.KnownBytes.{Appends, IsAtEnd, Keeps};
 ghost use Rattle.fk_causes.specs.Causes.{AppendsPrefix, Rose, StandsUnless};
 ghost use Rattle.fk_causes.specs.Shelf.{is_failed};
 ghost use Rattle.fk_causes.specs.declared.shelf.ShelfFail.TheVariants as fails;
-ghost use Rattle.fk_run.specs.Again.{PlaysAgain};
-ghost use Rattle.fk_run.specs.Complete.{IsComplete};
-ghost use Rattle.fk_words.specs.Commands.{command_of, reads_source, uses_shelf, is_shared, seen, HasCount};
 ghost use Rattle.fk_commands.specs.Prepared.{ComesTo, IsRefusal, outcome_of};
-ghost use Rattle.fk_commands.specs.Status.{progress_of, Finished, was_cut_short, has_written_nothing, is_read_fault, is_write_fault, is_shelf_fault};
-ghost use Rattle.fk_run.specs.Jobs.{HoldsOf};
+ghost use Rattle.fk_commands.specs.Status.{progress_of, Finished, was_cut_short, has_written_nothing, may_report, has_put_all, has_put_none};
+ghost use Rattle.fk_commands.specs.Status.{is_read_fault, is_write_fault, is_shelf_fault};
+ghost use Rattle.fk_commands.specs.Tables.{Rules, rules_of};
 ghost use Rattle.fk_puts.specs.Puts.{HasPut, HasPutSome, KeepsFiles};
-ghost use Rattle.fk_run.specs.Top.{Rules, IsDue, IsDone, IsCutOff, HasFailed, GetsToShelf, has_no_report, has_put_all, has_put_none, has_read_all};
+ghost use Rattle.fk_run.specs.Again.{PlaysAgain};
+ghost use Rattle.fk_run.specs.Theorem.{Theorem, outside};
+ghost use Rattle.fk_run.specs.Top.{IsDue, GetsToShelf, has_read_all};
+ghost use Rattle.fk_words.specs.Commands.{command_of, leaves, reads_source, uses_shelf, is_shared, seen, HasCount};
 
 use crate::source_text::source_text;
 use fk_causes::{Failed, Gate, Shelf, ShelfFail, Sink, Source, write_all};
@@ -43,10 +44,10 @@ fn prepare_alone<R: Source, H: Shelf>(
     shelf: &mut H,
 ) -> Result<Prepared, Status>
     requires alone { is_shared (Some (seen command)) ≡ false }
-    ensures comes { ComesTo (IsDue (map (λ r. (string_bytes r.name, r.rule)) table.now.list.items) (Some (seen command.entry)) (R.left source.old) (H.files shelf.old)) result }
+    ensures comes { ComesTo (IsDue (rules_of table.now) (Some (seen command.entry)) (R.left source.old) (H.files shelf.old)) result }
     ensures refusal { IfErr result (IsRefusal (Rose (R.faults source.old) (R.faults source.new))
         (Rose (H.failed_gets shelf.old) (H.failed_gets shelf.new)
-        × GetsToShelf (map (λ r. (string_bytes r.name, r.rule)) table.now.list.items) (Some (seen command.entry)) (R.left source.old))) }
+        × GetsToShelf (rules_of table.now) (Some (seen command.entry)) (R.left source.old))) }
     ensures kept_reads { StandsUnless is_read_fault (R.faults source.old) (R.faults source.new) result }
     ensures kept_gets { StandsUnless is_shelf_fault (H.failed_gets shelf.old) (H.failed_gets shelf.new) result }
     ensures all_read { OnOk result (OnTrue (reads_source (Some (seen command.entry))) (IsAtEnd (R.left source.new))) }
@@ -82,10 +83,10 @@ fn prepare_shared<T: Threads + Wait + Sync, R: Source, H: Shelf, G: Gate + Sync>
 ) -> Result<Prepared, Status>
     requires shared { is_shared (Some (seen command)) ≡ true }
     requires count { HasCount (seen command) }
-    ensures comes { ComesTo (IsDue (map (λ r. (string_bytes r.name, r.rule)) table.now.list.items) (Some (seen command.entry)) (R.left source.old) (H.files shelf.old)) result }
+    ensures comes { ComesTo (IsDue (rules_of table.now) (Some (seen command.entry)) (R.left source.old) (H.files shelf.old)) result }
     ensures refusal { IfErr result (IsRefusal (Rose (R.faults source.old) (R.faults source.new))
         (Rose (H.failed_gets shelf.old) (H.failed_gets shelf.new)
-        × GetsToShelf (map (λ r. (string_bytes r.name, r.rule)) table.now.list.items) (Some (seen command.entry)) (R.left source.old))) }
+        × GetsToShelf (rules_of table.now) (Some (seen command.entry)) (R.left source.old))) }
     ensures kept_reads { StandsUnless is_read_fault (R.faults source.old) (R.faults source.new) result }
     ensures kept_gets { StandsUnless is_shelf_fault (H.failed_gets shelf.old) (H.failed_gets shelf.new) result }
     ensures all_read { OnOk result (OnTrue (reads_source (Some (seen command.entry))) (IsAtEnd (R.left source.new))) }
@@ -116,9 +117,9 @@ fn put_all<H: Shelf>(
     report: &Option<Report>,
     shelf: &mut H,
 ) -> Result<(), ShelfFail>
-    ensures put { OnOk result (HasPut (Some (seen command.entry)) report.now (H.files shelf.old) (H.files shelf.new)) }
-    ensures some { OnErr result (HasPutSome (Some (seen command.entry)) report.now (H.files shelf.old) (H.files shelf.new)) }
-    ensures others { KeepsFiles (Some (seen command.entry)) (H.files shelf.old) (H.files shelf.new) }
+    ensures put { OnOk result (HasPut (leaves (Some (seen command.entry))) report.now (H.files shelf.old) (H.files shelf.new)) }
+    ensures some { OnErr result (HasPutSome (leaves (Some (seen command.entry))) report.now (H.files shelf.old) (H.files shelf.new)) }
+    ensures others { KeepsFiles (leaves (Some (seen command.entry))) (H.files shelf.old) (H.files shelf.new) }
     ensures cause { result ≡ Err fails.Failed → IsSome report.now × Rose (H.failed_puts shelf.old) (H.failed_puts shelf.new) }
     ensures kept { StandsUnless is_failed (H.failed_puts shelf.old) (H.failed_puts shelf.new) result }
     ensures same_gets { H.failed_gets shelf.new ≡ H.failed_gets shelf.old }
@@ -149,11 +150,11 @@ fn finish<W: Sink, H: Shelf>(
     ensures puts_of_none { result.report ≡ None → H.failed_puts shelf.new ≡ H.failed_puts shelf.old }
     ensures same_gets { H.failed_gets shelf.new ≡ H.failed_gets shelf.old }
     ensures nothing { OnTrue (has_written_nothing result.status) (Keeps (W.written sink.old) (W.written sink.new)) }
-    ensures no_report { OnTrue (has_no_report result.status) (result.report ≡ None) }
-    ensures put { OnTrue (has_put_all result.status) (HasPut (Some (seen command.entry)) result.report (H.files shelf.old) (H.files shelf.new)) }
-    ensures some { result.status ≡ Status.ShelfFault → HasPutSome (Some (seen command.entry)) result.report (H.files shelf.old) (H.files shelf.new) }
+    ensures no_report { OnFalse (may_report result.status) (result.report ≡ None) }
+    ensures put { OnTrue (has_put_all result.status) (HasPut (leaves (Some (seen command.entry))) result.report (H.files shelf.old) (H.files shelf.new)) }
+    ensures some { result.status ≡ Status.ShelfFault → HasPutSome (leaves (Some (seen command.entry))) result.report (H.files shelf.old) (H.files shelf.new) }
     ensures again { (rules : Rules) → OnTrue (has_put_all result.status) (PlaysAgain rules (Some (seen command.entry)) (H.files shelf.new) result.report) }
-    ensures files { KeepsFiles (Some (seen command.entry)) (H.files shelf.old) (H.files shelf.new) }
+    ensures files { KeepsFiles (leaves (Some (seen command.entry))) (H.files shelf.old) (H.files shelf.new) }
     ensures shelf { OnFalse (uses_shelf (Some (seen command.entry))) (shelf.new ≡ shelf.old) }
 {
     let Prepared {
@@ -186,7 +187,7 @@ fn finish<W: Sink, H: Shelf>(
 }
 
 /// Does the command that the words are where no workers share it: all but `run`, `run --trace NAME` and `soak N`. It takes no handle, and
-/// so it always returns; what comes of it is what `fluke_top` says.
+/// so it always returns; what comes of it is what `fluke_top` says (`specs/Theorem.antt`).
 pub fn fluke_alone<R: Source, W: Sink, H: Shelf>(
     alloc: Global,
     words: &[String],
@@ -196,48 +197,9 @@ pub fn fluke_alone<R: Source, W: Sink, H: Shelf>(
     shelf: &mut H,
 ) -> Outcome
     requires alone { is_shared (command_of (map string_bytes words.now)) ≡ false }
-    ensures usage { (result.status ≡ Status.Usage) ↔ (command_of (map string_bytes words.now) ≡ None) }
-    ensures untouched { result.status ≡ Status.Usage
-        → (source.new ≡ source.old) × (sink.new ≡ sink.old) × (shelf.new ≡ shelf.old) }
-
-    ensures done { OnFalse (was_cut_short result.status) (IsDone (map (λ r. (string_bytes r.name, r.rule)) table.now.list.items)
-        (command_of (map string_bytes words.now))
-        (R.left source.old) (H.files shelf.old) (W.written sink.old) (W.written sink.new) result) }
-    ensures complete { ¬ (Rose (R.faults source.old) (R.faults source.new)) → ¬ (Rose (W.faults sink.old) (W.faults sink.new))
-        → ¬ (Rose (H.failed_gets shelf.old) (H.failed_gets shelf.new)) → ¬ (Rose (H.failed_puts shelf.old) (H.failed_puts shelf.new))
-        → IsComplete (map (λ r. (string_bytes r.name, r.rule)) table.now.list.items) (command_of (map string_bytes words.now))
-        (R.left source.old) (H.files shelf.old) (H.files shelf.new) (W.written sink.old) (W.written sink.new) result }
-    ensures read_fault { result.status ≡ Status.ReadFault → Rose (R.faults source.old) (R.faults source.new) }
-    ensures shelf_fault { result.status ≡ Status.ShelfFault → HasFailed (H.failed_gets shelf.old) (H.failed_gets shelf.new)
-        (H.failed_puts shelf.old) (H.failed_puts shelf.new) (map (λ r. (string_bytes r.name, r.rule)) table.now.list.items)
-        (command_of (map string_bytes words.now)) (R.left source.old) (H.files shelf.old) result result.report }
-    ensures write_fault { result.status ≡ Status.WriteFault → Rose (W.faults sink.old) (W.faults sink.new) }
-    ensures reads { OnFalse (is_read_fault result.status) (R.faults source.new ≡ R.faults source.old) }
-    ensures writes { OnFalse (is_write_fault result.status) (W.faults sink.new ≡ W.faults sink.old) }
-    ensures gets { OnFalse (is_shelf_fault result.status) (H.failed_gets shelf.new ≡ H.failed_gets shelf.old) }
-    ensures gets_of_run { IsSome result.report → H.failed_gets shelf.new ≡ H.failed_gets shelf.old }
-    ensures puts { OnFalse (is_shelf_fault result.status) (H.failed_puts shelf.new ≡ H.failed_puts shelf.old) }
-    ensures puts_of_none { result.report ≡ None → H.failed_puts shelf.new ≡ H.failed_puts shelf.old }
-    ensures cut_off { result.status ≡ Status.WriteFault → IsCutOff (map (λ r. (string_bytes r.name, r.rule)) table.now.list.items)
-        (command_of (map string_bytes words.now))
-        (R.left source.old) (H.files shelf.old) (W.written sink.old) (W.written sink.new) result }
-
-    ensures all_read { OnTrue (has_read_all (command_of (map string_bytes words.now)) result.status)
-        (IsAtEnd (R.left source.new)) }
-    ensures nothing { OnTrue (has_written_nothing result.status) (Keeps (W.written sink.old) (W.written sink.new)) }
-    ensures no_report { OnTrue (has_no_report result.status) (result.report ≡ None) }
-
-    ensures source { OnFalse (reads_source (command_of (map string_bytes words.now))) (source.new ≡ source.old) }
-    ensures shelf { OnFalse (uses_shelf (command_of (map string_bytes words.now))) (shelf.new ≡ shelf.old) }
-    ensures put { OnTrue (has_put_all result.status) (HasPut (command_of (map string_bytes words.now)) result.report (H.files shelf.old) (H.files shelf.new)) }
-    ensures some { result.status ≡ Status.ShelfFault
-        → HasPutSome (command_of (map string_bytes words.now)) result.report (H.files shelf.old) (H.files shelf.new) }
-    ensures again { OnTrue (has_put_all result.status) (PlaysAgain (map (λ r. (string_bytes r.name, r.rule)) table.now.list.items)
-        (command_of (map string_bytes words.now)) (H.files shelf.new) result.report) }
-    ensures headline { HoldsOf (map (λ r. (string_bytes r.name, r.rule)) table.now.list.items) result.report }
-    ensures files { KeepsFiles (command_of (map string_bytes words.now)) (H.files shelf.old) (H.files shelf.new) }
-    ensures no_put { OnTrue (has_put_none result.status)
-        ((H.files shelf.new ≡ H.files shelf.old) × (H.failed_puts shelf.new ≡ H.failed_puts shelf.old)) }
+    ensures theorem { Theorem (rules_of table.now) (command_of (map string_bytes words.now))
+        (outside R.left R.faults W.written W.faults H.files H.failed_gets H.failed_puts source.old sink.old shelf.old)
+        (outside R.left R.faults W.written W.faults H.files H.failed_gets H.failed_puts source.new sink.new shelf.new) result }
 {
     let Some(command) = command_of(words) else {
         return Outcome {
@@ -294,48 +256,9 @@ pub fn fluke_top<T: Threads + Wait + Sync, R: Source, W: Sink, H: Shelf, G: Gate
     shelf: &mut H,
     gate: &G,
 ) -> Outcome
-    ensures usage { (result.status ≡ Status.Usage) ↔ (command_of (map string_bytes words.now) ≡ None) }
-    ensures untouched { result.status ≡ Status.Usage
-        → (source.new ≡ source.old) × (sink.new ≡ sink.old) × (shelf.new ≡ shelf.old) }
-
-    ensures done { OnFalse (was_cut_short result.status) (IsDone (map (λ r. (string_bytes r.name, r.rule)) table.now.list.items)
-        (command_of (map string_bytes words.now))
-        (R.left source.old) (H.files shelf.old) (W.written sink.old) (W.written sink.new) result) }
-    ensures complete { ¬ (Rose (R.faults source.old) (R.faults source.new)) → ¬ (Rose (W.faults sink.old) (W.faults sink.new))
-        → ¬ (Rose (H.failed_gets shelf.old) (H.failed_gets shelf.new)) → ¬ (Rose (H.failed_puts shelf.old) (H.failed_puts shelf.new))
-        → IsComplete (map (λ r. (string_bytes r.name, r.rule)) table.now.list.items) (command_of (map string_bytes words.now))
-        (R.left source.old) (H.files shelf.old) (H.files shelf.new) (W.written sink.old) (W.written sink.new) result }
-    ensures read_fault { result.status ≡ Status.ReadFault → Rose (R.faults source.old) (R.faults source.new) }
-    ensures shelf_fault { result.status ≡ Status.ShelfFault → HasFailed (H.failed_gets shelf.old) (H.failed_gets shelf.new)
-        (H.failed_puts shelf.old) (H.failed_puts shelf.new) (map (λ r. (string_bytes r.name, r.rule)) table.now.list.items)
-        (command_of (map string_bytes words.now)) (R.left source.old) (H.files shelf.old) result result.report }
-    ensures write_fault { result.status ≡ Status.WriteFault → Rose (W.faults sink.old) (W.faults sink.new) }
-    ensures reads { OnFalse (is_read_fault result.status) (R.faults source.new ≡ R.faults source.old) }
-    ensures writes { OnFalse (is_write_fault result.status) (W.faults sink.new ≡ W.faults sink.old) }
-    ensures gets { OnFalse (is_shelf_fault result.status) (H.failed_gets shelf.new ≡ H.failed_gets shelf.old) }
-    ensures gets_of_run { IsSome result.report → H.failed_gets shelf.new ≡ H.failed_gets shelf.old }
-    ensures puts { OnFalse (is_shelf_fault result.status) (H.failed_puts shelf.new ≡ H.failed_puts shelf.old) }
-    ensures puts_of_none { result.report ≡ None → H.failed_puts shelf.new ≡ H.failed_puts shelf.old }
-    ensures cut_off { result.status ≡ Status.WriteFault → IsCutOff (map (λ r. (string_bytes r.name, r.rule)) table.now.list.items)
-        (command_of (map string_bytes words.now))
-        (R.left source.old) (H.files shelf.old) (W.written sink.old) (W.written sink.new) result }
-
-    ensures all_read { OnTrue (has_read_all (command_of (map string_bytes words.now)) result.status)
-        (IsAtEnd (R.left source.new)) }
-    ensures nothing { OnTrue (has_written_nothing result.status) (Keeps (W.written sink.old) (W.written sink.new)) }
-    ensures no_report { OnTrue (has_no_report result.status) (result.report ≡ None) }
-
-    ensures source { OnFalse (reads_source (command_of (map string_bytes words.now))) (source.new ≡ source.old) }
-    ensures shelf { OnFalse (uses_shelf (command_of (map string_bytes words.now))) (shelf.new ≡ shelf.old) }
-    ensures put { OnTrue (has_put_all result.status) (HasPut (command_of (map string_bytes words.now)) result.report (H.files shelf.old) (H.files shelf.new)) }
-    ensures some { result.status ≡ Status.ShelfFault
-        → HasPutSome (command_of (map string_bytes words.now)) result.report (H.files shelf.old) (H.files shelf.new) }
-    ensures again { OnTrue (has_put_all result.status) (PlaysAgain (map (λ r. (string_bytes r.name, r.rule)) table.now.list.items)
-        (command_of (map string_bytes words.now)) (H.files shelf.new) result.report) }
-    ensures headline { HoldsOf (map (λ r. (string_bytes r.name, r.rule)) table.now.list.items) result.report }
-    ensures files { KeepsFiles (command_of (map string_bytes words.now)) (H.files shelf.old) (H.files shelf.new) }
-    ensures no_put { OnTrue (has_put_none result.status)
-        ((H.files shelf.new ≡ H.files shelf.old) × (H.failed_puts shelf.new ≡ H.failed_puts shelf.old)) }
+    ensures theorem { Theorem (rules_of table.now) (command_of (map string_bytes words.now))
+        (outside R.left R.faults W.written W.faults H.files H.failed_gets H.failed_puts source.old sink.old shelf.old)
+        (outside R.left R.faults W.written W.faults H.files H.failed_gets H.failed_puts source.new sink.new shelf.new) result }
 {
     let Some(command) = shared_command(words) else {
         return fluke_alone(alloc, words, table, source, sink, shelf);

@@ -1,5 +1,6 @@
 pub mod Lists
 pub mod Acts
+pub mod Idle
 pub mod Hearing
 pub mod Growing
 pub mod Foreseen

@@ -1,6 +1,7 @@
 pub use Rattle.fk_kernel.specs.Events
 pub use Rattle.fk_kernel.specs.Kernels
 pub mod Served
+pub mod Acts
 pub mod Coding
 pub mod Foretold
 pub use Rattle.fk_kernel.specs.Rooms

@@ -70,41 +70,48 @@ command_of (word ∷ given ∷ []) = command_with word given
 command_of (word ∷ option ∷ name ∷ []) = command_traced word option name
 command_of (word ∷ option ∷ name ∷ more ∷ words) = None
 
--- ---- what a command looks at
+-- ---- what a command does with the outside: one row a word
+
+-- what a command leaves on the shelf
+pub data Files : Type 0 where
+  NoFiles : Files
+  -- the images that its run's jobs have made, and its trace under a name where one is given
+  RunFiles : (trace : Option (List ℕ)) → Files
+
+pub record Row : Type 0 where
+  -- whether it reads the source
+  pub source : Bool
+  -- whether it uses the shelf
+  pub shelf : Bool
+  -- whether workers share it
+  pub shared : Bool
+  pub leaves : Files
+
+abbrev pub row : Bool → Bool → Bool → Files → Row
+row source shelf shared leaves = record { source = source; shelf = shelf; shared = shared; leaves = leaves }
+
+abbrev pub row_of : Option Command → Row
+row_of None = row false false false NoFiles
+row_of (Some Exec) = row true false false NoFiles
+row_of (Some Check) = row true false false NoFiles
+row_of (Some (Run trace)) = row true true true (RunFiles trace)
+row_of (Some (Play name)) = row true true false NoFiles
+row_of (Some (Show name)) = row false true false NoFiles
+row_of (Some (Soak count)) = row false false true NoFiles
 
 abbrev pub reads_source : Option Command → Bool
-reads_source None = false
-reads_source (Some Exec) = true
-reads_source (Some Check) = true
-reads_source (Some (Run trace)) = true
-reads_source (Some (Play name)) = true
-reads_source (Some (Show name)) = false
-reads_source (Some (Soak count)) = false
+reads_source command = (row_of command).source
 
 abbrev pub uses_shelf : Option Command → Bool
-uses_shelf None = false
-uses_shelf (Some Exec) = false
-uses_shelf (Some Check) = false
-uses_shelf (Some (Run trace)) = true
-uses_shelf (Some (Play name)) = true
-uses_shelf (Some (Show name)) = true
-uses_shelf (Some (Soak count)) = false
+uses_shelf command = (row_of command).shelf
 
--- whether workers share it
 abbrev pub is_shared : Option Command → Bool
-is_shared None = false
-is_shared (Some Exec) = false
-is_shared (Some Check) = false
-is_shared (Some (Run trace)) = true
-is_shared (Some (Play name)) = false
-is_shared (Some (Show name)) = false
-is_shared (Some (Soak count)) = true
+is_shared command = (row_of command).shared
+
+abbrev pub leaves : Option Command → Files
+leaves command = (row_of command).leaves
 
 -- `soak` is given a number of processes that it can have
 abbrev pub HasCount : Command → Type 0
-HasCount Exec = ⊤
-HasCount Check = ⊤
-HasCount (Run trace) = ⊤
-HasCount (Play name) = ⊤
-HasCount (Show name) = ⊤
 HasCount (Soak count) = (1 ≤ count) × (count ≤ 100)
+HasCount other = ⊤

@@ -21,13 +21,14 @@ use Rattle.fk_model.specs.Readers.{space_argument}
 use Rattle.fk_model.specs.StateRows.{is_native}
 use Rattle.fk_model.proofs.walks.PlaceLaws.{same_path_refl}
 use Rattle.fk_model.specs.Cut.{cut}
+use Rattle.fk_model.specs.Sound.{IsClean}
 use Rattle.laws_moves.specs.Frozen.Holding.{IsHolding}
 use Rattle.laws_moves.proofs.InFrozen.FrozenCut.{same-cut}
 use Rattle.laws_moves.specs.Savable.Savable.{may_make, MayMake, LeavesNoScratch, IsSound}
 use Rattle.laws_jobs.specs.Machines.{Head, heard, said_of, porter, no_words, call_of, IsReadyAt, Interleaved, AtWork, IsOwedCall}
 use Rattle.laws_jobs.specs.Machines.Head.{Stops, Asks}
 use Rattle.laws_jobs.specs.Machines.Interleaved.{Here, Another, Own}
-use Rattle.laws_jobs.specs.Jobs.{IsClean, MayBegin, HasPorter}
+use Rattle.laws_jobs.specs.Jobs.{MayBegin, HasPorter}
 use Rattle.laws_jobs.specs.Leads.{held_world}
 use Rattle.laws_jobs.specs.Holds.{hold, IsSpaceAt, Held, Unheld}
 use Rattle.laws_jobs.proofs.Weaving.{first_sound}

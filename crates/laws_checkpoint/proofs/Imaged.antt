@@ -17,17 +17,17 @@ use Rattle.fk_model.specs.StateRows.{is_native}
 use Rattle.fk_model.specs.Valid.{kind_there, birth_of, birth_at, IsRooted}
 use Rattle.fk_model.specs.Cut.{is_far, is_out, ports_of, cutting, seen_by, unheld, cut}
 use Rattle.fk_model.specs.Closed.{when_bad, far_field, is_led_to, open_field, led_to_from_outside, first_place, open_place, IsClosed}
+use Rattle.fk_model.specs.Sound.{IsUncut, IsClean}
 use Rattle.fk_model.proofs.walks.Members.{IsIn}
 use Rattle.fk_model.proofs.walks.WalkLaws.{live_above, short, walked}
 use Rattle.fk_image.specs.Image.Picture.{picture}
 use Rattle.fk_image.specs.Image.Valid.{is_valid}
 use Rattle.laws_moves.specs.Savable.Savable.{IsSound}
-use Rattle.laws_subtrees.specs.Further.ClosedLaws.{IsUncut, IsUsersAlone}
+use Rattle.laws_subtrees.specs.Further.ClosedLaws.{IsUsersAlone}
 use Rattle.laws_subtrees.proofs.InFurther.ClosedLaws.{closed_is_plain}
 use Rattle.laws_pictures.specs.Imaged.{image_of}
 use Rattle.laws_pictures.specs.Saved.{IsSavedSubtree}
 use Rattle.laws_pictures.proofs.Once.{subtree_has_image}
-use Rattle.laws_jobs.specs.Jobs.{IsClean}
 use Rattle.laws_checkpoint.specs.Walk.{met}
 use Rattle.laws_checkpoint.specs.Assembly.{spaces_met}
 use Rattle.laws_checkpoint.proofs.Tasks.{spaces_are}

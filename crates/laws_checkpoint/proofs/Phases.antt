@@ -27,6 +27,7 @@ use Rattle.fk_model.specs.Runs.{Event, after}
 use Rattle.fk_model.specs.Valid.{IsValid, birth_of, birth_at}
 use Rattle.fk_model.specs.Closed.{is_led_to, far_field}
 use Rattle.fk_model.specs.Cut.{cut}
+use Rattle.fk_model.specs.Sound.{IsClean}
 use Rattle.fk_model.proofs.walks.PlaceLaws.{same_path_refl, same_path_eq, same_path_ne, strip_some}
 use Rattle.fk_model.proofs.walks.Members.{IsIn}
 use Rattle.laws_moves.specs.Frozen.Frozen.{IsSameInside}
@@ -34,7 +35,6 @@ use Rattle.laws_moves.specs.Frozen.Holding.{IsHolding, IsUsersMove, IsNear, only
 use Rattle.laws_moves.proofs.InFrozen.Holding.{others_keep_hold}
 use Rattle.laws_moves.proofs.InFrozen.FrozenCut.{same-cut}
 use Rattle.laws_jobs.specs.Machines.{porter, no_words}
-use Rattle.laws_jobs.specs.Jobs.{IsClean}
 use Rattle.laws_jobs.proofs.Filling.{users_fill_low, scratch_high}
 use Rattle.laws_jobs.proofs.Nesters.{nester_stays}
 use Rattle.laws_jobs.proofs.LeadLaws.{others_keep_leads}

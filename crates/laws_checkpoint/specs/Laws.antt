@@ -9,10 +9,11 @@ use Rattle.fk_model.specs.Runs.{after}
 use Rattle.fk_model.specs.World.{World}
 use Rattle.fk_model.specs.Closed.{IsClosed, open_place}
 use Rattle.fk_model.specs.Cut.{cut, unheld}
+use Rattle.fk_model.specs.Sound.{IsUncut}
 use Rattle.fk_image.specs.declared.image.image.Image.{Image}
 use Rattle.fk_image.specs.Image.Picture.{picture}
 use Rattle.fk_image.specs.Image.Valid.{is_valid}
-use Rattle.laws_subtrees.specs.Further.ClosedLaws.{IsUncut, IsUsersAlone}
+use Rattle.laws_subtrees.specs.Further.ClosedLaws.{IsUsersAlone}
 use Rattle.laws_jobs.specs.Machines.{call_of, IsReadyAt, AtWork}
 use Rattle.laws_jobs.specs.Machines.Head.{Stops, Asks}
 use Rattle.laws_jobs.specs.Jobs.{MayBegin, IsTidyJob, Saves}

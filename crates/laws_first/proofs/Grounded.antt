@@ -1,10 +1,9 @@
 -- A run from the first world of a scenario is grounded.
 use Rattle.std.proofs.Common.{◌≡◌, sym, ap, subst, arith}
 use Rattle.fk_model.specs.World.{World}
+use Rattle.fk_model.specs.Sound.{IsUncut, IsClean}
 use Rattle.fk_boot.specs.FirstWorld.{booted}
-use Rattle.laws_subtrees.specs.Further.ClosedLaws.{IsUncut}
 use Rattle.laws_moves.specs.Savable.Savable.{IsSound}
-use Rattle.laws_jobs.specs.Jobs.{IsClean}
 use Rattle.laws_house.specs.Laws.{SaveUsersAlone}
 use Rattle.laws_house.proofs.Headline.{headline_holds}
 use Rattle.laws_first.specs.Grounded.{ScenariosAreGrounded, ScenariosHaveTheHeadline}

@@ -5,9 +5,9 @@ use Rattle.std.specs.List.{All}
 use Rattle.std.proofs.lemmas.List.Elements.{All-nil, All-cons, All-head, All-tail}
 use Rattle.fk_model.specs.declared.job.JobSpec.{JobSpec}
 use Rattle.fk_model.specs.declared.job.JobSpec.TheVariants as specs_of
+use Rattle.fk_model.specs.Sound.{are_user_pairs}
 use Rattle.fk_scenario.specs.Scenario.Kept.{HasSlots}
 use Rattle.fk_scenario.specs.Entries.Kept.{ArePairs}
-use Rattle.laws_restore.specs.Rooms.Restoring.{are_user_pairs}
 use Rattle.fk_served.proofs.Acts.{servers_ask_as_users as asked_as_users}
 use Rattle.laws_house.specs.Headline.{NamesSlots}
 use Rattle.laws_house.proofs.Headline.{jobs_name_users_slots}

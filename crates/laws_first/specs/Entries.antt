@@ -61,8 +61,8 @@ EntriesGoOn V = (specs : List JobSpec) (images : List (Option Image)) (servers :
     maker_from 0 (take index specs) name ≡ Some from → from < index →
     GoesOnAgain birth slot (world_at run hold) other place (world_at run make) (world_at run (done + 1)) (bound_by bind)
 
--- what was saved was plain at its hold: so from there on too, as `HasHeadline` says of a plain subtree, the moves of the history that it
--- sees are a further run of it
+-- what was saved was plain at its hold: so from there on too, as `HasHeadline` says of a plain subtree, what it sees of the history, up to
+-- the first move that it sees as other, is a further run of it
 abbrev pub SavedIsPlain : Type 0 → Type 0
 SavedIsPlain V = (jobs : List Job) (servers : Servers V) (first c : Core State End V) (past : List Move) (run : IsRun (house jobs servers) first past c) →
     IsGrounded jobs servers first past → (index : ℕ) (j : Job) (slot hold release : ℕ) (image : Image) → slice_get jobs index ≡ Some j →

@@ -4,16 +4,21 @@
 //! It stands on `fk_boot`, whose `booted` is that world, and on `laws_house` for what runs are.
 #![tactic(auto)]
 
-ghost use Rattle.laws_first.specs.First.{FirstWorldIsGround};
+ghost use Rattle.laws_first.specs.First.{FirstWorldIsGround, ScenariosBeginSoundly};
 ghost use Rattle.laws_first.specs.Entries.{EntriesAreSaved, EntriesAreMade, EntriesArePlain, EntriesGoOn};
 ghost use Rattle.laws_first.specs.Programs.{ProgramsAreGrounded, ProgramsHaveTheHeadline};
 ghost use Rattle.laws_first.specs.Users.{ServersAskAsUsers, ScenarioJobsNameUsersSlots, ScenarioJobsSaveUsersAlone};
 ghost use Rattle.laws_first.specs.Grounded.{ScenariosAreGrounded, ScenariosHaveTheHeadline};
 
-/// No scratch stands in it, it has given out at most 256 birth numbers, its pointers lead somewhere in it or nowhere, porters stand
-/// where the scenario has nesters, and served ports where it has servers.
+/// No scratch stands in it, it has given out at most 256 birth numbers, its pointers lead somewhere in it or nowhere, nothing is under way,
+/// porters stand where the scenario has nesters and served ports where it has servers, and nowhere else.
 pub fn the_first_world_is_ground()
     ensures { FirstWorldIsGround }
+{}
+
+/// With its servers, nesters and jobs it is a sound start.
+pub fn scenarios_begin_soundly()
+    ensures { ScenariosBeginSoundly }
 {}
 
 /// So a run from there is as the laws of checkpoints and restores suppose, where its servers ask for what users may, its jobs name

@@ -8,7 +8,7 @@ use Rattle.fk_image.specs.declared.image.image.Image.{Image}
 use Rattle.laws_runs.proofs.Composing.{composed}
 use Rattle.laws_runs.proofs.Ended.{ends_are_so}
 use Rattle.laws_runs.proofs.Events.{its_events}
-use Rattle.laws_runs.proofs.Onwards.{run_goes_on}
+use Rattle.laws_runs.proofs.Seen.{run_goes_on}
 use Rattle.laws_house.specs.Houses.{Job, house, job_of, given_first, jobs_from}
 use Rattle.laws_house.specs.Laws.{NamesUsersSlots}
 use Rattle.laws_house.specs.Headline.{NamesSlots, JobsNameUsersSlots, HeadlineHolds}

@@ -11,7 +11,7 @@ use Rattle.fk_model.specs.StateRows.{is_native}
 use Rattle.fk_model.specs.Runs.{Event, after}
 use Rattle.fk_model.specs.Valid.{is_fit, birth_at}
 use Rattle.fk_model.specs.Who.{event_of}
-use Rattle.laws_subtrees.specs.Further.ClosedLaws.{IsUncut}
+use Rattle.fk_model.specs.Sound.{IsUncut}
 use Rattle.laws_moves.specs.Savable.Savable.{IsSound}
 use Rattle.laws_subtrees.proofs.InUncut.Kept.{keeps_uncut}
 use Rattle.laws_subtrees.proofs.InUncut.Stood.{porters_stood, served_stood}

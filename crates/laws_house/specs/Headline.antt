@@ -8,20 +8,19 @@ use Rattle.fk_model.specs.declared.moves.Move.{Move}
 use Rattle.fk_model.specs.declared.stage.Stage.{Stage}
 use Rattle.fk_model.specs.Places.{Path}
 use Rattle.fk_model.specs.Cut.{cut, IsPlain}
-use Rattle.fk_model.specs.Further.{Onward, Told, IsFurther}
+use Rattle.fk_model.specs.Sound.{IsClean, are_user_pairs}
 use Rattle.fk_image.specs.declared.image.image.Image.{Image}
 use Rattle.fk_image.specs.Image.Picture.{picture}
 use Rattle.fk_image.specs.Image.Valid.{is_valid}
-use Rattle.laws_subtrees.specs.Further.Runs.{IsSeenRun}
+use Rattle.laws_subtrees.specs.Further.Runs.{SeesNoOther}
 use Rattle.laws_jobs.specs.Machines.{LiesWithin}
-use Rattle.laws_jobs.specs.Jobs.{IsClean}
 use Rattle.laws_checkpoint.specs.Checkpoint as checkpoints
 use Rattle.laws_checkpoint.specs.Checkpoint.End.{Done}
 use Rattle.laws_checkpoint.specs.Bounded.{count_of}
 use Rattle.laws_restore.specs.Restore.Restore as restores
 use Rattle.laws_restore.specs.Restore.Bounded as made
 use Rattle.laws_restore.specs.Rooms.Rooms.{rooms_of}
-use Rattle.laws_restore.specs.Rooms.Restoring.{bound_by, are_user_pairs}
+use Rattle.laws_restore.specs.Rooms.Restoring.{bound_by}
 use Rattle.laws_runs.specs.Cores.{JobEnd, Servers, Work, Core, IsRun, world_at}
 use Rattle.laws_runs.specs.Cores.Unmoved.{NoImage}
 use Rattle.laws_runs.specs.Cores.JobEnd.{Worked, Idle}
@@ -29,7 +28,7 @@ use Rattle.laws_runs.specs.Cores.Asker.{Job as Asked_by_job}
 use Rattle.laws_runs.specs.Composed.{job_moves, HasWorked, IsComposed}
 use Rattle.laws_runs.specs.Ended.{EndIs}
 use Rattle.laws_runs.specs.Turning.{asker_at}
-use Rattle.laws_runs.specs.Onwards.{between}
+use Rattle.laws_runs.specs.Onwards.{between, GoesOn}
 use Rattle.laws_runs.specs.Events.{core_at, IsItsEvents}
 use Rattle.laws_runs.specs.Headline.{Checkpointed, Restored as Restored_there}
 use Rattle.laws_house.specs.Houses.{Job, Source, State, End, valid_one, sourced, house, jobs_of}
@@ -133,11 +132,9 @@ pub record HasHeadline {V : Type 0} {jobs : List Job} {servers : Servers V} {fir
   -- and at each moment while it works its next one is ready wherever nothing outside is held
   pub ready : (n : ℕ) → n ≤ length past → (k : Work State) → (core_at run n).work ≡ Some k →
       (j : Job) × (slice_get jobs (length (core_at run n).ends) ≡ Some j) × NextIsReady j.nester k.state (world_at run n)
-  -- from any place on a plain subtree does what it does in the history
-  pub goes_on : (k n : ℕ) → k + n ≤ length past → (nester : Path) (slot : ℕ) (ms : List Onward) → IsPlain (world_at run k) nester slot →
-      IsSeenRun nester slot (world_at run k) (between run k n) ms →
-      IsPlain (world_at run (k + n)) nester slot
-      × ((told : List Told) × IsFurther (cut (world_at run k) nester slot) ms told (cut (world_at run (k + n)) nester slot))
+  -- from any place on, and up to the first move that it sees as other, what a plain subtree sees of the history is a further run of it
+  pub goes_on : (k n : ℕ) → k + n ≤ length past → (nester : Path) (slot : ℕ) → IsPlain (world_at run k) nester slot →
+      SeesNoOther nester slot (world_at run k) (between run k n) → GoesOn run k n nester slot
   -- and what was saved and made again has exactly the further runs that it had, with its ports bound
   pub goes_on_again : (from to : ℕ) (i j : Job) (slot place hold release made done : ℕ) (pairs : List (ℕ × ℕ)) (image : Image) → slice_get jobs from ≡ Some i →
       i.task ≡ Checkpoint slot → slice_get c.ends from ≡ Some (Worked (Checked (Done image)) hold release) → slice_get jobs to ≡ Some j →

@@ -12,10 +12,10 @@ use Rattle.fk_model.specs.Searches.{depth}
 use Rattle.fk_model.specs.Cut.{cut}
 use Rattle.fk_model.specs.Further.{Onward}
 use Rattle.fk_model.specs.Valid.{birth_at}
+use Rattle.fk_model.specs.Sound.{IsUncut, are_user_pairs}
 use Rattle.fk_image.specs.declared.image.image.Image.{Image}
 use Rattle.fk_image.specs.Image.Picture.{picture}
 use Rattle.fk_image.specs.Image.Valid.{is_valid}
-use Rattle.laws_subtrees.specs.Further.ClosedLaws.{IsUncut}
 use Rattle.laws_jobs.specs.Machines.{LiesWithin}
 use Rattle.laws_checkpoint.specs.Checkpoint as checkpoints
 use Rattle.laws_checkpoint.specs.Checkpoint.End.{Done}
@@ -25,7 +25,7 @@ use Rattle.laws_restore.specs.Restore.Restore as restores
 use Rattle.laws_restore.specs.Restore.Restore.State.{Makes}
 use Rattle.laws_restore.specs.Restore.Bounded as made
 use Rattle.laws_restore.specs.Rooms.Rooms.{rooms_of}
-use Rattle.laws_restore.specs.Rooms.Restoring.{bound_by, are_user_pairs}
+use Rattle.laws_restore.specs.Rooms.Restoring.{bound_by}
 use Rattle.laws_runs.specs.Cores.{JobEnd, Servers, Core, IsRun, world_at}
 use Rattle.laws_runs.specs.Cores.JobEnd.{Worked}
 use Rattle.laws_runs.specs.Cores.Asker.{Job as Asked_by_job}

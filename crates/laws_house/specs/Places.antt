@@ -9,9 +9,9 @@ use Rattle.fk_model.specs.Places.{Path}
 use Rattle.fk_model.specs.World.{World}
 use Rattle.fk_model.specs.Holds.{holder_of}
 use Rattle.fk_model.specs.Valid.{birth_at}
+use Rattle.fk_model.specs.Sound.{IsClean}
 use Rattle.fk_image.specs.declared.image.image.Image.{Image}
 use Rattle.laws_jobs.specs.Machines.{no_words}
-use Rattle.laws_jobs.specs.Jobs.{IsClean}
 use Rattle.laws_jobs.specs.Holds.{IsSpaceAt}
 use Rattle.laws_checkpoint.specs.Checkpoint as checkpoints
 use Rattle.laws_restore.specs.Restore.Restore as restores

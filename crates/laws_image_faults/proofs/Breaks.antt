@@ -23,7 +23,7 @@ module _ {A B E : Type 0} where
   left_or b (Ok x) = x.1
   left_or b (Err e) = b
 
-  same_said : (a c : A) (b d : B) → ◌≡◌ {A = Result (A × B) E} (Ok (a, b)) (Ok (c, d)) → a ≡ c
+  pub same_said : (a c : A) (b d : B) → ◌≡◌ {A = Result (A × B) E} (Ok (a, b)) (Ok (c, d)) → a ≡ c
   unfolding said_or
   same_said a c b d is = ap (said_or a) is
 
@@ -292,3 +292,20 @@ module _ {X : Type 0} where
       ) (broken-run (rest first second) bytes after next reason held breaks)
   broken-run _ _ after _ reason (Half f h both apart rest first is) none =
       rw (field-read f first after is, none-there h after reason none) refl
+
+  -- bytes that are the whole form are read so
+  pub held-run : (f : Form X) (before after : List ℕ) (next : Form X) (x : X) → Holds f before next → next ≡ Whole x
+      → run f (before ++ after) ≡ Ok (x, after)
+  unfolding run
+  held-run f _ after _ x (Nothing _) is = ap (λ f. run f after) is
+  held-run _ _ after next x (One f rest field bytes _ there held) is =
+      rw (append_assoc field bytes after, field-read f field (bytes ++ after) there) (held-run (rest field) bytes after next x held is)
+  held-run _ _ after next x (Two f h both apart rest first second bytes _ there there2 go held) is =
+      rw (
+        append_assoc first (second ++ bytes) after,
+        append_assoc second bytes after,
+        field-read f first (second ++ (bytes ++ after)) there,
+        field-read h second (bytes ++ after) there2,
+        go,
+      ) (held-run (rest first second) bytes after next x held is)
+  held-run _ _ after _ x (Half f h both apart rest first there) is = absurd cc

@@ -12,10 +12,14 @@ use Rattle.fk_image.specs.Format.Reading.{linked, finished, image_reading}
 use Rattle.laws_image_faults.specs.Forms.{Holds, Breaks}
 use Rattle.laws_image_faults.specs.Forms.Form.{Whole}
 use Rattle.laws_image_faults.specs.Images.{image}
-use Rattle.laws_image_faults.specs.Faults.{Says, FaultsAreFirst, BreaksAreTold}
+use Rattle.fk_image.specs.Form.Order.{AreInOrder}
+use Rattle.fk_image.specs.Form.Standing.{AllRight}
+use Rattle.laws_image_faults.specs.Faults.{Says, FaultsAreFirst, BreaksAreTold, FirstsAreTold}
 use Rattle.laws_image_faults.specs.Faults.Says.{OfField, OfPointer, OfVersion, OfRest}
 use Rattle.laws_image_faults.proofs.Runs.{run}
-use Rattle.laws_image_faults.proofs.Breaks.{run-broken, run-held, broken-run}
+use Rattle.laws_image_faults.proofs.Breaks.{run-broken, run-held, broken-run, held-run}
+use Rattle.laws_image_faults.proofs.Opened.{image-ordered}
+use Rattle.laws_image_faults.proofs.Formed.{wrong-first}
 use Rattle.laws_image_faults.proofs.Wholes.{spaces_read, ended, image_is, same-image}
 
 -- ---- what an error is
@@ -61,7 +65,7 @@ module _ (bytes : List ℕ) where
       let all : bytes ≡ held.before = held.spelled ∙ append-nil held.before in
       subst (λ b. Holds image b (Whole x)) (sym all) held.held
 
-  of_version : (new : Bool) (i : Image) (shows : Bool) (offset reason : ℕ) → run image bytes ≡ Ok ((new, i), []) → wrong_link i ≡ None →
+  of_version : (new : Bool) (i : Image) (shows : Bool) (offset reason : ℕ) → run image bytes ≡ Ok ((new, i), []) → AllRight i.spaces →
       image_shows i ≡ shows → if◌then◌else◌ {A = Result Image (ℕ × ℕ)} (new && not shows) (Err (8, reasons.NEWER)) (Ok i) ≡ Err (offset, reason) → Says bytes offset reason
   of_version true i false offset reason whole right is told =
       subst (λ at. Says bytes at reason) (same_offset 8 reasons.NEWER offset reason told)
@@ -72,10 +76,13 @@ module _ (bytes : List ℕ) where
 
   of_pointer : (new : Bool) (i : Image) (o : Option ℕ) (offset reason : ℕ) → run image bytes ≡ Ok ((new, i), []) → wrong_link i ≡ o →
       linked new i o ≡ Err (offset, reason) → Says bytes offset reason
-  of_pointer new i None offset reason whole is told = of_version new i (image_shows i) offset reason whole is refl told
+  of_pointer new i None offset reason whole is told =
+      let order = image-ordered bytes ((new, i), []) whole in
+      of_version new i (image_shows i) offset reason whole ((wrong-first i.spaces order).1.0 is) refl told
   of_pointer new i (Some at) offset reason whole is told =
+      let order = image-ordered bytes ((new, i), []) whole in
       subst (Says bytes offset) (same_reason at reasons.POINTER offset reason told)
-      (OfPointer offset new i (all_held (new, i) whole) (is ∙ ap Some (same_offset at reasons.POINTER offset reason told)))
+      (OfPointer offset new i (all_held (new, i) whole) (((wrong-first i.spaces order).0 offset).0 (is ∙ ap Some (same_offset at reasons.POINTER offset reason told))))
 
   of_rest : (i : Bool × Image) (rest : List ℕ) (offset reason : ℕ) → run image bytes ≡ Ok (i, rest) → (rest ≡ [] → ⊥) →
       ◌≡◌ {A = Result Image (ℕ × ℕ)} (Err (length bytes - length rest, reasons.LEFT_OVER)) (Err (offset, reason)) → Says bytes offset reason
@@ -115,3 +122,41 @@ breaks_told bytes offset reason breaks =
     let told = ap (λ (r : Result ((Bool × Image) × List ℕ) Stop). finished bytes (r >>= ended)) (same-image bytes ∙ here) in
     let at = sym (offset_is bytes breaks.before breaks.after (length breaks.after) breaks.spelled refl) ∙ breaks.at in
     ap (finished bytes) (image_is bytes) ∙ told ∙ ap (λ o. Err (o, reason)) at
+
+-- ---- the other way round
+
+-- what is told of bytes that begin with the whole form
+whole_told : (before after : List ℕ) (i : Bool × Image) → Holds image before (Whole i)
+    → (image_reading (before ++ after) ≡ finished (before ++ after) (ended (i, after))) × AreInOrder i.1.spaces
+unfolding image_reading
+whole_told before after i held =
+    let bytes = before ++ after in
+    let whole : run image bytes ≡ Ok (i, after) = held-run image before after (Whole i) i held refl in (
+      ap (finished bytes) (image_is bytes ∙ ap (λ (r : Result ((Bool × Image) × List ℕ) Stop). r >>= ended) (same-image bytes ∙ whole)),
+      image-ordered bytes (i, after) whole,
+    )
+
+-- the whole form, and nothing behind it
+linked_told : (bytes : List ℕ) (i : Bool × Image) → Holds image bytes (Whole i)
+    → (image_reading bytes ≡ linked i.0 i.1 (wrong_link i.1)) × AreInOrder i.1.spaces
+linked_told bytes i held =
+    subst (λ (b : List ℕ). (image_reading b ≡ linked i.0 i.1 (wrong_link i.1)) × AreInOrder i.1.spaces) (append-nil bytes) (whole_told bytes [] i held)
+
+rest_told : (bytes before after : List ℕ) (i : Bool × Image) (offset : ℕ) → bytes ≡ before ++ after → length before ≡ offset → Holds image before (Whole i)
+    → (after ≡ [] → ⊥) → image_reading bytes ≡ Err (offset, reasons.LEFT_OVER)
+rest_told bytes before [] i offset spelled at held some = absurd (some refl)
+rest_told bytes before (b ∷ more) i offset spelled at held some =
+    let all = before ++ (b ∷ more) in
+    ap image_reading spelled ∙ (whole_told before (b ∷ more) i held).0 ∙ left_over all i b more
+    ∙ ap (λ o. Err (o, reasons.LEFT_OVER)) (sym (offset_is all before (b ∷ more) (length (b ∷ more)) refl refl) ∙ at)
+
+pub firsts_told : FirstsAreTold
+firsts_told bytes _ _ (OfField offset reason breaks) = breaks_told bytes offset reason breaks
+firsts_told bytes _ _ (OfPointer offset new i held first) =
+    let told = linked_told bytes (new, i) held in
+    told.0 ∙ ap (linked new i) (((wrong-first i.spaces told.1).0 offset).1 first)
+firsts_told bytes _ _ (OfVersion i held right shows) =
+    let told = linked_told bytes (true, i) held in
+    told.0 ∙ ap (linked true i) ((wrong-first i.spaces told.1).1.1 right) ∙ rw shows refl
+firsts_told bytes _ _ (OfRest offset goes) =
+    rest_told bytes goes.before goes.after goes.said offset goes.spelled goes.at goes.held goes.goes_on

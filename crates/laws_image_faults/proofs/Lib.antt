@@ -3,3 +3,13 @@ pub mod Breaks
 pub mod Parts
 pub mod Wholes
 pub mod Laws
+pub mod Order
+pub mod Paths
+pub mod Spaces
+pub mod Holding
+pub mod Events
+pub mod Judged
+pub mod Places
+pub mod Formed
+pub mod Opened
+pub mod Sizes

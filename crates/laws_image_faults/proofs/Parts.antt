@@ -8,7 +8,7 @@ use Rattle.fk_image.specs.declared.image.image.ObjectRec.{ObjectRec}
 use Rattle.fk_image.specs.declared.image.image.PageRec.{PageRec}
 use Rattle.fk_image.specs.declared.image.image.Rec.{Rec}
 use Rattle.fk_image.specs.declared.image.image.Rec.TheVariants.{Mutex, Cond, Portset, Port, Reference}
-use Rattle.fk_image.specs.Image.Ranges.{is_extent, is_set_word, is_mode_byte, is_code}
+use Rattle.fk_image.specs.Image.Ranges.{is_extent, is_set_word, is_code}
 use Rattle.fk_image.specs.Image.Valid.{after_object, after_page}
 use Rattle.fk_image.specs.declared.format.reasons.reason.TheConstants as reasons
 use Rattle.fk_image.specs.declared.format.stop.Stop.{Stop}

@@ -20,6 +20,8 @@ use Rattle.laws_image_faults.specs.Forms.Form.{Whole}
 use Rattle.laws_image_faults.specs.Images as forms
 use Rattle.laws_image_faults.specs.Images.{◌>>=◌ as ◌>>>◌, byte, number, number_for, is, byte_in}
 use Rattle.laws_image_faults.proofs.Runs.{run, field_at, tested, together, go, go-byte, go-number, same-many, number_read, one_byte}
+use Rattle.laws_image_faults.proofs.Opened as opened
+use Rattle.laws_image_faults.proofs.Opened.{same-spaces}
 use Rattle.laws_image_faults.proofs.Parts.{same-link, same-objects, same-pages}
 
 -- ---- the root
@@ -105,7 +107,7 @@ module _ (new : Bool) (done : List SpaceRec) (path : List Open) where
   Room bytes field rest o =
       (or_refuse_field o bytes reasons.ORDER >>= λ floor. read_below 240 rest >>= space_behind bytes (from_le_bytes w32 field) floor)
       ≡ (tested (is_some o) reasons.ORDER field rest bytes >>= λ x. field_at forms.slot_there x.1
-      >>= λ y. together (forms.is_place done path (from_le_bytes w32 x.0) (byte_in y.0)) reasons.ORDER bytes
+      >>= λ y. together (opened.is_place done path (from_le_bytes w32 x.0) (byte_in y.0)) reasons.ORDER bytes
       (run (space_of (from_le_bytes w32 x.0, byte_in y.0)) y.1))
 
   room_then : (bytes field rest : List ℕ) (o : Option ℕ) → room_under path (from_le_bytes w32 field) ≡ o → Room bytes field rest o
@@ -122,23 +124,23 @@ module _ (new : Bool) (done : List SpaceRec) (path : List Open) where
       else tested (is_some (room_under path (from_le_bytes w32 (take (byte_len w32) bytes)))) reasons.ORDER (take (byte_len w32) bytes)
       (drop (byte_len w32) bytes) bytes
 
-  same-next : (bytes : List ℕ) → read_next new done path bytes ≡ run (forms.inner new done path) bytes
-  unfolding read_next read_room forms.inner run ◌>>>◌ field_at
+  same-next : (bytes : List ℕ) → read_next new done path bytes ≡ run (opened.inner new done path) bytes
+  unfolding read_next read_room opened.inner run ◌>>>◌ field_at
   same-next bytes = by (nat_lt (length bytes) (byte_len w32))
     where
       by : (t : Bool) → (number_read w32 bytes t >>= λ parent. or_refuse_field (room_under path parent.0) bytes reasons.ORDER
           >>= λ floor. read_below 240 parent.1 >>= space_behind bytes parent.0 floor)
           ≡ (parent_tested bytes t >>= λ x. field_at forms.slot_there x.1
-          >>= λ y. together (forms.is_place done path (from_le_bytes w32 x.0) (byte_in y.0)) reasons.ORDER bytes
+          >>= λ y. together (opened.is_place done path (from_le_bytes w32 x.0) (byte_in y.0)) reasons.ORDER bytes
           (run (space_of (from_le_bytes w32 x.0, byte_in y.0)) y.1))
       by true = refl
       by false = room_then bytes (take (byte_len w32) bytes) (drop (byte_len w32) bytes) (room_under path (from_le_bytes w32 (take (byte_len w32) bytes))) refl
 
-same-space : (new : Bool) (before : List SpaceRec × List Open) (bytes : List ℕ) → read_space new before bytes ≡ run (forms.space new before) bytes
+same-space : (new : Bool) (before : List SpaceRec × List Open) (bytes : List ℕ) → read_space new before bytes ≡ run (opened.space new before) bytes
 unfolding read_space
 same-space new before bytes = by before.0
   where
-    by : (done : List SpaceRec) → read_placed new done before.1 bytes ≡ run (forms.space_behind new done before.1) bytes
+    by : (done : List SpaceRec) → read_placed new done before.1 bytes ≡ run (opened.space_behind new done before.1) bytes
     by [] = same-root new bytes
     by (d ∷ done) = same-next new (d ∷ done) before.1 bytes
 
@@ -234,5 +236,6 @@ pub same-image : (bytes : List ℕ) → spaces_read bytes ≡ run forms.image by
 unfolding forms.image run
 same-image bytes = go (read_head bytes) _ forms.head _ bytes (same-head bytes)
     (λ head. go (read_many (read_space head.0.0) after_space head.0.1 ([], root_path) [] head.1) _
-    (forms.many (forms.space head.0.0) after_space head.0.1 ([], root_path) []) _ head.1
-    (same-many (read_space head.0.0) (forms.space head.0.0) after_space (same-space head.0.0) head.0.1 ([], root_path) [] head.1) (λ spaces. refl))
+    (forms.many (forms.space head.0.0) forms.with_space head.0.1 [] []) _ head.1
+    (same-many (read_space head.0.0) (opened.space head.0.0) after_space (same-space head.0.0) head.0.1 ([], root_path) [] head.1
+    ∙ same-spaces head.0.0 head.0.1 head.1) (λ spaces. refl))

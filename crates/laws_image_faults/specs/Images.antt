@@ -1,7 +1,8 @@
 -- The form of an image: its fields from left to right, each with what it may hold and the reason where it holds something else. Where
 -- pointers lead isn't asked, nor whether a count can be filled.
-use Rattle.std.specs.Prelude.{ℕ, zero, suc, Bool, true, not, ◌&&◌, ◌||◌, ◌==◌, nat_lt, nat_eq, List, [], ◌∷◌, ◌++◌, Option, Some, None, is_some, if◌then◌else◌}
+use Rattle.std.specs.Prelude.{ℕ, zero, suc, Bool, true, not, ◌&&◌, ◌||◌, ◌-◌, ◌==◌, nat_lt, nat_eq, List, [], ◌∷◌, ◌++◌, length, drop, Option, Some, None, is_some, if◌then◌else◌}
 use Rattle.std.specs.Prelude.{slice_index}
+use Rattle.std.specs.List.{list_all}
 use Rattle.std.specs.Cmp.Lexicographic.{pointwise}
 use Rattle.std.specs.Int.{Width, w16, w32, w64, byte_len, from_le_bytes}
 use Rattle.fk_image.specs.declared.image.image.Link.{Link}
@@ -14,10 +15,8 @@ use Rattle.fk_image.specs.declared.image.image.ObjectRec.{ObjectRec}
 use Rattle.fk_image.specs.declared.image.image.PageRec.{PageRec}
 use Rattle.fk_image.specs.declared.image.image.SpaceRec.{SpaceRec}
 use Rattle.fk_image.specs.declared.image.image.Image.{Image}
-use Rattle.fk_image.specs.declared.image.open.Open.{Open}
 use Rattle.fk_image.specs.Image.Ranges.{is_extent, is_set_word, is_mode_byte, is_code}
-use Rattle.fk_image.specs.Image.Preorder.{has_room, room_under, root_path, after_space}
-use Rattle.fk_image.specs.Image.Links.{kind_in_space}
+use Rattle.fk_image.specs.Image.Links.{kind_in_space, is_space_within}
 use Rattle.fk_image.specs.Image.Valid.{after_object, after_page}
 use Rattle.fk_image.specs.Format.Spelling.{magic}
 use Rattle.fk_image.specs.Format.Versions.{shows_new, allows}
@@ -217,35 +216,45 @@ root new = do
   pages ← pages
   Whole (record { parent = parent; slot = slot; holder = Null; objects = objects; pages = pages })
 
--- a slot of a space behind the spaces so far: it has room there, and nothing else stands in it
-abbrev pub is_place : List SpaceRec → List Open → ℕ → ℕ → Bool
-is_place done path parent slot = has_room (room_under path parent) slot && not (is_some (kind_in_space done parent slot))
+-- the last of the spaces so far is this one, or lies beneath it
+abbrev pub ends_within : List SpaceRec → ℕ → Bool
+ends_within done parent = is_space_within done parent (length done - 1)
+
+-- no space so far lies in this one, but the first lies in none, with that slot or a higher one
+abbrev pub is_above_brothers : List SpaceRec → ℕ → ℕ → Bool
+is_above_brothers done parent slot = list_all (λ (s : SpaceRec). not (s.parent == parent) || nat_lt s.slot slot) (drop 1 done)
+
+-- a slot of a space behind the spaces so far: it is above those of its brothers, and nothing else stands in it
+abbrev pub is_place : List SpaceRec → ℕ → ℕ → Bool
+is_place done parent slot = is_above_brothers done parent slot && not (is_some (kind_in_space done parent slot))
 
 -- a parent and a slot, which are out of order where the space can't follow there
-abbrev pub parent_of : List Open → Shape
-parent_of path = record { size = byte_len w32; may = λ field. is_some (room_under path (from_le_bytes w32 field)); why = λ field. reasons.ORDER }
+abbrev pub parent_of : List SpaceRec → Shape
+parent_of done = record { size = byte_len w32; may = λ field. ends_within done (from_le_bytes w32 field); why = λ field. reasons.ORDER }
 
 abbrev pub slot_there : Shape
 slot_there = record { size = 1; may = λ field. below 240 (byte_in field); why = λ field. reasons.RANGE }
 
-abbrev pub place : List SpaceRec → List Open → Form (ℕ × ℕ)
-place done path = Pair (parent_of path) slot_there (λ parent slot. is_place done path (from_le_bytes w32 parent) (byte_in slot)) reasons.ORDER
+abbrev pub place : List SpaceRec → Form (ℕ × ℕ)
+place done = Pair (parent_of done) slot_there (λ parent slot. is_place done (from_le_bytes w32 parent) (byte_in slot)) reasons.ORDER
     (λ parent slot. Whole (from_le_bytes w32 parent, byte_in slot))
 
-unfoldable pub inner : Bool → List SpaceRec → List Open → Form SpaceRec
-inner new done path = do
-  place ← place done path
+unfoldable pub inner : Bool → List SpaceRec → Form SpaceRec
+inner new done = do
+  place ← place done
   holder ← link
   objects ← objects new
   pages ← pages
   Whole (record { parent = place.0; slot = place.1; holder = holder; objects = objects; pages = pages })
 
-abbrev pub space_behind : Bool → List SpaceRec → List Open → Form SpaceRec
-space_behind new [] path = root new
-space_behind new (d ∷ done) path = inner new (d ∷ done) path
+-- a space behind those so far
+abbrev pub space : Bool → List SpaceRec → Form SpaceRec
+space new [] = root new
+space new (d ∷ done) = inner new (d ∷ done)
 
-abbrev pub space : Bool → List SpaceRec × List Open → Form SpaceRec
-space new before = space_behind new before.0 before.1
+-- the spaces so far with one more
+abbrev pub with_space : List SpaceRec → SpaceRec → List SpaceRec
+with_space done s = done ++ s ∷ []
 
 -- ---- images
 
@@ -272,5 +281,5 @@ head = do
 unfoldable pub image : Form (Bool × Image)
 image = do
   head ← head
-  spaces ← many (space head.0) after_space head.1 ([], root_path) []
+  spaces ← many (space head.0) with_space head.1 [] []
   Whole (head.0, record { spaces = spaces })

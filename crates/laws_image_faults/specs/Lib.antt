@@ -1,3 +1,4 @@
 pub mod Forms
 pub mod Images
 pub mod Faults
+pub mod Formed

@@ -15,11 +15,11 @@ use Rattle.fk_model.specs.ObjectRows.{is_scratch}
 use Rattle.fk_model.specs.Moves.{outcome, step, stepped}
 use Rattle.fk_model.specs.Runs.{Event, after}
 use Rattle.fk_model.specs.Valid.{IsRooted, is_fit}
+use Rattle.fk_model.specs.Sound.{IsClean}
 use Rattle.fk_model.proofs.walks.PlaceLaws.{same_path_eq}
 use Rattle.laws_moves.specs.Frozen.Users.{is_low, is_users, IsUsers, AreUsers}
 use Rattle.laws_moves.proofs.InFrozen.Users.{users_name_low}
 use Rattle.laws_moves.specs.Savable.Savable.{OwesAsk}
-use Rattle.laws_jobs.specs.Jobs.{IsClean}
 use Rattle.laws_jobs.specs.Nesters.{UsersFillLow}
 
 is_some-map : (f : Body → Body) (o : Option Body) → IsSome (option_map f o) → IsSome o

@@ -1,23 +1,19 @@
 -- What a run wants of a job that works in it, and what the job's own law may say of its end.
-use Rattle.std.specs.Prelude.{◌≡◌, ℕ, Bool, true, List, ◌∷◌, Option, Some, None}
+use Rattle.std.specs.Prelude.{◌≡◌, ℕ, Bool, true, List, ◌∷◌, Option, Some}
 use Rattle.fk_model.specs.declared.limits.TheConstants.{LAST_PORTER_SLOT}
 use Rattle.fk_model.specs.declared.stage.Stage.{Stage}
 use Rattle.fk_model.specs.Places.{Path}
 use Rattle.fk_model.specs.Objects.{holds}
 use Rattle.fk_model.specs.World.{World}
 use Rattle.fk_model.specs.StateRows.{is_native}
-use Rattle.fk_model.specs.ObjectRows.{is_scratch}
 use Rattle.fk_model.specs.Valid.{birth_at}
 use Rattle.fk_model.specs.Cut.{cut, IsPlain}
 use Rattle.fk_model.specs.Closed.{IsClosed}
 use Rattle.fk_model.specs.Rebind.{rebound}
+use Rattle.fk_model.specs.Sound.{IsClean}
 use Rattle.laws_moves.specs.Savable.Savable.{IsSound}
 use Rattle.laws_jobs.specs.Machines.{Machine, AtWork, IsOwedCall}
 use Rattle.laws_jobs.specs.Machines.Head.{Stops, Asks}
-
--- no space has scratch
-abbrev pub IsClean : World → Type 0
-IsClean w = (s : Path) (k : ℕ) → is_scratch s (k ∷ s) ≡ true → w.body (k ∷ s) ≡ None
 
 -- a world in which a job may begin beneath a nester
 pub record MayBegin (w : World) (nester : Path) (birth : ℕ) : Type 0 where

@@ -12,15 +12,15 @@ use Rattle.fk_model.specs.Holds.{holder_of}
 use Rattle.fk_model.specs.Runs.{Event, after}
 use Rattle.fk_model.specs.Valid.{birth_at, is_fit}
 use Rattle.fk_model.specs.World.{World}
+use Rattle.fk_model.specs.Sound.{IsUncut, IsClean}
 use Rattle.fk_image.specs.declared.image.image.Image.{Image}
 use Rattle.fk_image.specs.Image.Picture.{picture}
 use Rattle.fk_image.specs.Image.Valid.{is_valid}
 use Rattle.laws_moves.specs.Savable.Savable.{IsSound}
-use Rattle.laws_subtrees.specs.Further.ClosedLaws.{IsUncut}
 use Rattle.laws_subtrees.proofs.InUncut.Kept.{keeps_uncut}
 use Rattle.laws_subtrees.proofs.InUncut.Replaced.{spaces_are_not_replaced}
 use Rattle.laws_jobs.specs.Holds.{release}
-use Rattle.laws_jobs.specs.Jobs.{IsClean, MayBegin}
+use Rattle.laws_jobs.specs.Jobs.{MayBegin}
 use Rattle.laws_jobs.specs.Machines.{Head, Machine, no_words, heard, said_of, call_of, IsReadyAt, IsAtCall}
 use Rattle.laws_jobs.specs.Machines.Head.{Asks}
 use Rattle.laws_jobs.proofs.Filling.{clean_on}

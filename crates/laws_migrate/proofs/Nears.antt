@@ -28,14 +28,13 @@ use Rattle.fk_image.specs.declared.image.image.Image.{Image}
 use Rattle.fk_image.specs.Image.Picture.{picture}
 use Rattle.fk_image.specs.Image.Valid.{is_valid}
 use Rattle.laws_moves.specs.Frozen.Users.{is_users}
-use Rattle.laws_subtrees.specs.Further.ClosedLaws.{IsUncut}
 use Rattle.laws_moves.specs.Whole.Runnable.{IsProper}
 use Rattle.laws_moves.specs.Savable.Savable.{Owes, OwesAsk, IsSound}
 use Rattle.laws_moves.proofs.InSavable.Laws.{run_keeps_savable}
 use Rattle.laws_subtrees.proofs.InUncut.Stood.{porters_stood, served_stood}
 use Rattle.laws_subtrees.proofs.InUncut.Kept.{keeps_uncut}
 use Rattle.laws_jobs.specs.Holds.{IsSpaceAt, Held, release}
-use Rattle.laws_jobs.specs.Jobs.{IsClean, MayBegin}
+use Rattle.laws_jobs.specs.Jobs.{MayBegin}
 use Rattle.laws_jobs.specs.Leads.{held_world}
 use Rattle.laws_jobs.specs.Machines.{Head, no_words, heard, said_of, call_of, IsReadyAt, IsAtCall, IsOwedCall}
 use Rattle.laws_jobs.specs.Machines.Head.{Asks, Stops}
@@ -43,6 +42,7 @@ use Rattle.laws_jobs.proofs.Filling.{clean_on}
 use Rattle.laws_jobs.proofs.Weaving.{now_sound}
 use Rattle.laws_migrate.proofs.Counting.{Counted, count_begins, count_waits, count_goes_on}
 use Rattle.fk_model.specs.Closed.{Place}
+use Rattle.fk_model.specs.Sound.{IsUncut, IsClean}
 use Rattle.laws_checkpoint.specs.Assembly.{spaces_met, sought_tasks, gathered_tasks}
 use Rattle.laws_checkpoint.specs.Checkpoint as checks
 use Rattle.laws_checkpoint.specs.Contents.{Content}

@@ -12,13 +12,12 @@ use Rattle.fk_model.specs.Searches.{depth}
 use Rattle.fk_model.specs.StateRows.{is_native}
 use Rattle.fk_model.specs.Valid.{birth_at}
 use Rattle.fk_model.specs.World.{World}
+use Rattle.fk_model.specs.Sound.{IsUncut, IsClean}
 use Rattle.fk_image.specs.declared.image.image.Image.{Image}
 use Rattle.laws_moves.specs.Frozen.Holding.{IsUsersMove}
-use Rattle.laws_subtrees.specs.Further.ClosedLaws.{IsUncut}
 use Rattle.laws_moves.specs.Savable.Savable.{IsSound}
 use Rattle.laws_moves.specs.Whole.Runnable.{has_all_words}
 use Rattle.laws_jobs.specs.Holds.{release}
-use Rattle.laws_jobs.specs.Jobs.{IsClean}
 use Rattle.laws_jobs.specs.Machines.{no_words, Head, Machine, heard, said_of, call_of, IsReadyAt}
 use Rattle.laws_jobs.specs.Machines.Head.{Stops, Asks}
 use Rattle.laws_checkpoint.specs.Checkpoint as checks

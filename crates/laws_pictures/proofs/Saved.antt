@@ -18,9 +18,9 @@ use Rattle.fk_model.specs.Valid.{kind_there, is_good, is_good_set, is_one_of, ma
 use Rattle.fk_model.specs.Valid.{all_in}
 use Rattle.fk_model.specs.Whole.{is_placed}
 use Rattle.fk_model.specs.Cut.{is_port, ports_of, cut_out, cut_to, cut_ptr, is_out, cut_peer, cut_talk, cut_fault, cutting, seen_by, unheld, cut, is_far}
+use Rattle.fk_model.specs.Sound.{is_cut_pointer}
 use Rattle.fk_model.proofs.walks.PlaceLaws.{same_path_eq, strip-append, strip_some}
 use Rattle.laws_pictures.specs.Imaged.{IsLed, IsPeerOf, IsLedTalk, IsTakenBy, IsLedFault, IsHeldBy, IsLedBody, IsAlone, IsSound}
-use Rattle.laws_subtrees.specs.Further.ClosedLaws.{is_cut_pointer}
 use Rattle.laws_pictures.specs.Saved.{IsSavedSubtree, SubtreeIsSound}
 
 unheld_kind : (q : Path) (b : Body) → kind_of (unheld q b) ≡ kind_of b

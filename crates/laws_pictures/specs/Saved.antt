@@ -8,7 +8,7 @@ use Rattle.fk_model.specs.Objects.Body.{Mapping, Thread_of}
 use Rattle.fk_model.specs.World.{World}
 use Rattle.fk_model.specs.Whole.{IsWhole, IsSavable}
 use Rattle.fk_model.specs.Cut.{cut, is_out, IsPlain}
-use Rattle.laws_subtrees.specs.Further.ClosedLaws.{IsUncut}
+use Rattle.fk_model.specs.Sound.{IsUncut}
 use Rattle.laws_pictures.specs.Imaged.{image_of, AreItsSpaces, IsAlone, IsSound, HasNumbers}
 use Rattle.fk_image.specs.Image.Picture.{picture}
 use Rattle.fk_image.specs.declared.image.image.Image.{Image}

@@ -17,6 +17,7 @@ use Rattle.fk_model.specs.StateRows.{is_native}
 use Rattle.fk_model.specs.Runs.{Event, after}
 use Rattle.fk_model.specs.Moves.{chooses}
 use Rattle.fk_model.specs.Who.{event_of, space_born, named}
+use Rattle.fk_model.specs.Sound.{IsClean}
 use Rattle.laws_moves.specs.Frozen.Users.{is_users}
 use Rattle.laws_moves.specs.Frozen.Holding.{IsUsersMove}
 use Rattle.laws_jobs.proofs.Filling.{users_owed, clean_on}
@@ -33,7 +34,7 @@ use Rattle.laws_runs.specs.Cores.Asker.{Nobody, Others, Job}
 use Rattle.laws_runs.specs.Cores.Settles.{Stays, Ends}
 use Rattle.laws_runs.specs.Cores.IsRun.{Begins, Goes}
 use Rattle.laws_runs.specs.Onwards.{event_by}
-use Rattle.laws_jobs.specs.Jobs.{IsClean, MayBegin}
+use Rattle.laws_jobs.specs.Jobs.{MayBegin}
 use Rattle.laws_runs.specs.Composed.{AskAsUsers, AreTidy, IsStart, is_jobs, job_moves, WorksSo, HasWorked, HasEnded, RunIsComposed}
 use Rattle.laws_runs.proofs.Named.{named_is, named_there, unpicked, caller_there, apart_from_porter}
 use Rattle.laws_runs.proofs.Counting.{work_begins, work_waits, work_goes_on}

@@ -3,6 +3,7 @@ pub mod Asking
 pub mod Counting
 pub mod Composing
 pub mod Onwards
+pub mod Seen
 pub mod Headline
 pub mod Same
 pub mod Turning

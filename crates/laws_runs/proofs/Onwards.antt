@@ -20,7 +20,7 @@ use Rattle.laws_subtrees.proofs.InCut.joined.Rebinding.{run_rebinds}
 use Rattle.laws_runs.specs.Cores.{House, Core, asker, IsReadyIn, moved, Settles, IsRun, world_at}
 use Rattle.laws_runs.specs.Cores.IsRun.{Begins, Goes}
 use Rattle.laws_runs.specs.Composed.{AskAsUsers, AreTidy, IsStart}
-use Rattle.laws_runs.specs.Onwards.{event_by, events_of, between, RunGoesOn, RestoredGoesOn}
+use Rattle.laws_runs.specs.Onwards.{event_by, events_of, between, RestoredGoesOn}
 use Rattle.laws_runs.proofs.Composing.{Stands, stands, made_here, splits, take_all}
 
 -- ---- lists of events
@@ -60,6 +60,11 @@ length-take (suc n) (x ∷ xs) = let rest = length-take n xs in omega (arith, re
 pub take_none : {A : Type 0} (k : ℕ) → take {A = A} k [] ≡ []
 take_none zero = refl
 take_none (suc k) = refl
+
+pub take_both : {A : Type 0} (k n : ℕ) (xs : List A) → take k xs ++ take n (drop k xs) ≡ take (k + n) xs
+take_both k n xs =
+    ap (λ ys. ys ++ take n (drop k xs)) (sym (take-take k (k + n) xs (omega arith)))
+    ∙ (ap (λ ys. take k (take (k + n) xs) ++ ys) (sym (drop-take k n xs)) ∙ take-append-drop k (take (k + n) xs))
 
 -- ---- a run as its events
 
@@ -147,7 +152,7 @@ module _ {J S A V : Type 0} (h : House J S A V) (first : Core S A V) (users : As
       let here = made_here h first users tidy start past c m d run ready settles stand (omega (arith, left, longer)) in
       on past c m d run ready settles before stand here.event here.is here.proper here.goes
 
-  goes_on : {c : Core S A V} {past : List Move} (run : IsRun h first past c) → first.world.next + length past ≤ depth →
+  pub goes_on : {c : Core S A V} {past : List Move} (run : IsRun h first past c) → first.world.next + length past ≤ depth →
       (k n : ℕ) → k + n ≤ length past → (nester : Path) (slot : ℕ) (ms : List Onward) → IsPlain (world_at run k) nester slot →
       IsSeenRun nester slot (world_at run k) (between run k n) ms →
       IsPlain (world_at run (k + n)) nester slot
@@ -156,9 +161,7 @@ module _ {J S A V : Type 0} (h : House J S A V) (first : Core S A V) (users : As
       let trace = traced run left in
       let sound = (stands h first users tidy start run left).sound k (omega (arith, low)) in
       let es = events_of run in
-      let parts : take k es ++ take n (drop k es) ≡ take (k + n) es =
-      ap (λ ys. ys ++ take n (drop k es)) (sym (take-take k (k + n) es (omega arith)))
-      ∙ (ap (λ ys. take k (take (k + n) es) ++ ys) (sym (drop-take k n es)) ∙ take-append-drop k (take (k + n) es)) in
+      let parts = take_both k n es in
       let here = trace.worlds k (omega (arith, low)) in
       let there : events_run (world_at run k) (between run k n) ≡ world_at run (k + n) =
       ap (λ (w : World). events_run w (take n (drop k es))) (sym here)
@@ -173,10 +176,6 @@ module _ {J S A V : Type 0} (h : House J S A V) (first : Core S A V) (users : As
       subst (λ (v : World). IsPlain v nester slot × ((told : List Told) × IsFurther (cut (world_at run k) nester slot) ms told (cut v nester slot))) there
       (proper_run_keeps (world_at run k) nester slot (between run k n) ms (savable_runnable (world_at run k) sound.whole sound.savable)
       (omega (arith, number, short, low, left)) proper seen plain)
-
-pub run_goes_on : {J S A V : Type 0} → RunGoesOn J S A V
-run_goes_on h first c past run users tidy start left k n low nester slot ms plain seen =
-    goes_on h first users tidy start run left k n low nester slot ms plain seen
 
 pub restored_goes_on : RestoredGoesOn
 restored_goes_on w v nester other slot place bind ms plain same =

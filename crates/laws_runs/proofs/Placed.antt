@@ -16,13 +16,14 @@ use Rattle.fk_model.specs.Searches.{depth}
 use Rattle.fk_model.specs.World.{World}
 use Rattle.fk_model.specs.Runs.{Event, after}
 use Rattle.fk_model.specs.Who.{event_of, space_born, named}
+use Rattle.fk_model.specs.Sound.{IsClean}
 use Rattle.laws_moves.specs.Frozen.Users.{is_users}
 use Rattle.laws_moves.specs.Frozen.Holding.{IsUsersMove}
 use Rattle.laws_moves.specs.Savable.Savable.{IsSound}
 use Rattle.laws_jobs.specs.Machines.{Head, Machine, heard, call_of, said_of, IsReadyAt, IsAtCall, Interleaved, AtWork}
 use Rattle.laws_jobs.specs.Machines.Head.{Stops, Asks}
 use Rattle.laws_jobs.specs.Machines.Interleaved.{Here, Another, Own}
-use Rattle.laws_jobs.specs.Jobs.{IsClean, MayBegin}
+use Rattle.laws_jobs.specs.Jobs.{MayBegin}
 use Rattle.laws_jobs.proofs.Filling.{users_owed}
 use Rattle.laws_runs.specs.Cores.{House, JobEnd, Work, Core, current, Asker, asker, work_of, IsReadyBy, others_moved, job_moved, job_hears, moved_by, Settles}
 use Rattle.laws_runs.specs.Cores.{IsRun, world_at}

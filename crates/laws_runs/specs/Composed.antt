@@ -11,8 +11,9 @@ use Rattle.laws_moves.specs.Frozen.Users.{is_users}
 use Rattle.laws_moves.specs.Savable.Savable.{IsSound}
 use Rattle.laws_jobs.specs.Machines.{Machine, AtWork, calls_made}
 use Rattle.fk_model.specs.World.{World}
+use Rattle.fk_model.specs.Sound.{IsClean}
 use Rattle.laws_jobs.specs.Machines.Head.{Stops}
-use Rattle.laws_jobs.specs.Jobs.{IsClean, MayBegin, IsTidyJob}
+use Rattle.laws_jobs.specs.Jobs.{MayBegin, IsTidyJob}
 use Rattle.laws_runs.specs.Cores.{JobEnd, House, Work, Core, Asker, asker, IsRun, world_at}
 use Rattle.laws_runs.specs.Cores.Asker.{Job}
 use Rattle.laws_runs.specs.Cores.IsRun.{Begins, Goes}

@@ -10,7 +10,8 @@ use Rattle.fk_model.specs.Cut.{cut, IsPlain}
 use Rattle.fk_model.specs.Closed.{IsClosed}
 use Rattle.fk_model.specs.Further.{Onward}
 use Rattle.fk_model.specs.Rebind.{rebound}
-use Rattle.laws_subtrees.specs.Further.ClosedLaws.{IsUncut, IsUsersAlone}
+use Rattle.fk_model.specs.Sound.{IsUncut}
+use Rattle.laws_subtrees.specs.Further.ClosedLaws.{IsUsersAlone}
 use Rattle.laws_jobs.specs.Jobs.{Saves, Restores}
 use Rattle.laws_runs.specs.Cores.{JobEnd, House, Core, IsRun, world_at}
 use Rattle.laws_runs.specs.Cores.JobEnd.{Worked}

@@ -5,12 +5,12 @@ use Rattle.fk_model.specs.declared.moves.Move.{Move}
 use Rattle.fk_model.specs.Places.{Path}
 use Rattle.fk_model.specs.World.{World}
 use Rattle.fk_model.specs.Searches.{depth}
-use Rattle.fk_model.specs.Runs.{Event}
+use Rattle.fk_model.specs.Runs.{Event, IsLegal}
 use Rattle.fk_model.specs.Who.{event_of}
 use Rattle.fk_model.specs.Cut.{cut, IsPlain}
 use Rattle.fk_model.specs.Further.{Onward, Told, IsFurther}
 use Rattle.fk_model.specs.Rebind.{rebound, rebound_told, rebound_move}
-use Rattle.laws_subtrees.specs.Further.Runs.{IsSeenRun}
+use Rattle.laws_subtrees.specs.Further.Runs.{IsSeenRun, SeesNoOther}
 use Rattle.laws_runs.specs.Cores.{House, Core, Asker, asker, IsRun, world_at}
 use Rattle.laws_runs.specs.Cores.Asker.{Nobody, Others, Job}
 use Rattle.laws_runs.specs.Cores.IsRun.{Begins, Goes}
@@ -31,15 +31,32 @@ events_of {h = h} (Goes past c m d run ready settles) = events_of run ++ event_b
 abbrev pub between : {J S A V : Type 0} {h : House J S A V} {first c : Core S A V} {past : List Move} → IsRun h first past c → ℕ → ℕ → List Event
 between run k n = take n (drop k (events_of run))
 
--- from any place of the history on where a subtree is plain, and up to the first move that it sees as other: the moves as which
--- it sees the run's are a further run of its cut, and end in the cut that it has there
+-- what a subtree does in n moves of a run, from the one with index k on: it sees them as one list of moves, and as no other. That list is a
+-- further run of its cut, and ends in the cut that it has there
+pub record GoesOn {J S A V : Type 0} {h : House J S A V} {first c : Core S A V} {past : List Move} (run : IsRun h first past c) (k n : ℕ)
+    (nester : Path) (slot : ℕ) : Type 0 where
+  pub came : List Onward
+  pub seen : IsSeenRun nester slot (world_at run k) (between run k n) came
+  pub only : (ms : List Onward) → IsSeenRun nester slot (world_at run k) (between run k n) ms → ms ≡ came
+  pub plain : IsPlain (world_at run (k + n)) nester slot
+  pub told : List Told
+  pub further : IsFurther (cut (world_at run k) nester slot) came told (cut (world_at run (k + n)) nester slot)
+
+-- so it is from any place of the history on where a subtree is plain, and up to the first move that it sees as other
 abbrev pub RunGoesOn : Type 0 → Type 0 → Type 0 → Type 0 → Type 0
 RunGoesOn J S A V = (h : House J S A V) (first c : Core S A V) (past : List Move) (run : IsRun h first past c) →
     AskAsUsers h → AreTidy h → IsStart first → first.world.next + length past ≤ depth →
-    (k n : ℕ) → k + n ≤ length past → (nester : Path) (slot : ℕ) (ms : List Onward) → IsPlain (world_at run k) nester slot →
-    IsSeenRun nester slot (world_at run k) (between run k n) ms →
-    IsPlain (world_at run (k + n)) nester slot
-    × ((told : List Told) × IsFurther (cut (world_at run k) nester slot) ms told (cut (world_at run (k + n)) nester slot))
+    (k n : ℕ) → k + n ≤ length past → (nester : Path) (slot : ℕ) → IsPlain (world_at run k) nester slot →
+    SeesNoOther nester slot (world_at run k) (between run k n) → GoesOn run k n nester slot
+
+-- ready moves, one after the other, are seen as a list of moves exactly where none of them is seen as other, and then as one list
+pub record IsSeenOnce (nester : Path) (slot : ℕ) (w : World) (es : List Event) : Type 0 where
+  pub sees : SeesNoOther nester slot w es → (ms : List Onward) × IsSeenRun nester slot w es ms
+  pub no_other : (ms : List Onward) → IsSeenRun nester slot w es ms → SeesNoOther nester slot w es
+  pub one : (ms ns : List Onward) → IsSeenRun nester slot w es ms → IsSeenRun nester slot w es ns → ms ≡ ns
+
+abbrev pub MovesAreSeenOnce : Type 0
+MovesAreSeenOnce = (w : World) (nester : Path) (slot : ℕ) (es : List Event) → IsLegal w es → IsSeenOnce nester slot w es
 
 -- a subtree whose cut is another's with other outward ports has the further runs that the other has, with these ports, and no others
 pub record GoesOnAs (bind : ℕ → ℕ) (c d : World) (ms : List Onward) : Type 0 where

@@ -1,14 +1,14 @@
 //! Whole runs: cores, turns of users, native servers and jobs, one after the other, and what a run is for the jobs that
 //! work in it and for the subtrees that it moves. Each law is the contract of a function that does nothing.
 //!
-//! It stands on `laws_subtrees::further` and `laws_jobs`. It names no store: a core of code says in its own clauses which of these
-//! cores it stands for.
+//! It stands on `laws_subtrees::further`, on `laws_jobs`, and on `laws_seen` for the moves that a subtree sees up to the first other one.
+//! It names no store: a core of code says in its own clauses which of these cores it stands for.
 #![tactic(auto)]
 
 ghost use Rattle.laws_runs.specs.Composed.{RunIsComposed, OneRun};
 ghost use Rattle.laws_runs.specs.Turning.{JobsMoves, JobsMovesInHistory};
 ghost use Rattle.laws_runs.specs.Headline.{CheckpointsHold, RestoresHold, RestoredGoOn};
-ghost use Rattle.laws_runs.specs.Onwards.{RunGoesOn, RestoredGoesOn};
+ghost use Rattle.laws_runs.specs.Onwards.{RunGoesOn, RestoredGoesOn, MovesAreSeenOnce};
 ghost use Rattle.laws_runs.specs.Events.{HistoryIsEvents};
 ghost use Rattle.laws_runs.specs.Ended.{EndsAreSo};
 ghost use Rattle.laws_runs.specs.Placed.{EndsAreThere};
@@ -53,9 +53,14 @@ pub fn ended_jobs_were_at_work<J, S, A, V>()
     ensures { EndsAreThere J S A V }
 {}
 
+/// Ready moves, one after the other, are seen as a list of moves exactly where none of them is seen as other; and then as one list alone.
+pub fn moves_are_seen_once()
+    ensures { MovesAreSeenOnce }
+{}
+
 /// From any place of a run's history on where a subtree is plain, and up to the first move that it
-/// sees as other, the moves as which it sees the run's are a further run of its cut, and end in the
-/// cut that it has there.
+/// sees as other, it sees the run's moves as one list of moves. That is a further run of its cut, and
+/// ends in the cut that it has there.
 pub fn a_run_goes_on<J, S, A, V>()
     ensures { RunGoesOn J S A V }
 {}

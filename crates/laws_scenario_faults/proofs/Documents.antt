@@ -42,7 +42,7 @@ split (Ok x) f e is bad more = more x refl is
 split (Err e2) f e is bad more = let same : e2 ≡ e = cc in bad (ap Err same)
 
 -- what the second step comes to, where the first one was right
-then-right : {A B E : Type 0} (r : Result A E) (f : A → Result B E) (x : A) (q : Result B E) → r ≡ Ok x → f x ≡ q → (r >>= f) ≡ q
+pub then-right : {A B E : Type 0} (r : Result A E) (f : A → Result B E) (x : A) (q : Result B E) → r ≡ Ok x → f x ≡ q → (r >>= f) ≡ q
 then-right r f x q is same = rw is same
 
 then-bad : {A B E : Type 0} (r : Result A E) (f : A → Result B E) (e : E) → r ≡ Err e → (r >>= f) ≡ Err e
@@ -50,7 +50,7 @@ then-bad r f e is = rw is refl
 
 -- ---- the top keys
 
-sections_in : Members → Sections
+unfoldable pub sections_in : Members → Sections
 sections_in ms = record {
   programs = unwrap_or (table (codes "programs") ms) no_members;
   spaces = unwrap_or (array (codes "space") ms) no_items;
@@ -59,10 +59,10 @@ sections_in ms = record {
   jobs = unwrap_or (array (codes "job") ms) no_items;
 }
 
-top_in : Members → Top
+unfoldable pub top_in : Members → Top
 top_in ms = record { budget = number (budget ms); workers = number (workers ms); sections = sections_in ms }
 
-top-read : (ms : Members) → top_of ms ≡ by_rules (top_asks ms) (top_in ms)
+pub top-read : (ms : Members) → top_of ms ≡ by_rules (top_asks ms) (top_in ms)
 unfolding top_of sections_of top_asks top_in sections_in
 top-read ms =
     ask _ _ _ (top_in ms) _ (known-read _ ms) (ask _ _ _ (top_in ms) _ (needed-integer-read _ ms)
@@ -73,7 +73,7 @@ top-read ms =
 
 -- ---- the second round
 
-work-read : (ss : List SpaceEntry) (vs : List ServerEntry) (done : List JobSpec) (js : List JobEntry) →
+pub work-read : (ss : List SpaceEntry) (vs : List ServerEntry) (done : List JobSpec) (js : List JobEntry) →
     jobs_from ss vs done js ≡ read 6 (work ss vs) done js
 unfolding jobs_from job_after read
 work-read ss vs done [] = refl
@@ -82,11 +82,11 @@ work-read ss vs done (j ∷ js) =
     (λ x. work-read ss vs (done ++ x ∷ []) js)
 
 -- aims and servers answer nothing: what their readings are without what they say
-abbrev nothing : {A : Type 0} → Result A ScenarioError → Result (Unit {0}) ScenarioError
+abbrev pub nothing : {A : Type 0} → Result A ScenarioError → Result (Unit {0}) ScenarioError
 nothing (Ok x) = Ok tt
 nothing (Err e) = Err e
 
-aims-same : (ss : List SpaceEntry) (os done more : List ObjectEntry) (index : ℕ) → index ≡ length done →
+pub aims-same : (ss : List SpaceEntry) (os done more : List ObjectEntry) (index : ℕ) → index ≡ length done →
     aims_from ss os index more ≡ nothing (read 4 (aims ss os) done more)
 unfolding aims_from read by_rules
 aims-same ss os done [] index at = refl
@@ -99,7 +99,7 @@ aims-same ss os done (o ∷ more) index at =
     by true others = others
     by false others = ap (λ n. Err (record { rule = 7; section = 4; index = n })) at
 
-serving-same : (os : List ObjectEntry) (done more : List ServerEntry) (ports aliases : List (List ℕ)) → ports ≡ map (λ s. s.port) done →
+pub serving-same : (os : List ObjectEntry) (done more : List ServerEntry) (ports aliases : List (List ℕ)) → ports ≡ map (λ s. s.port) done →
     aliases ≡ flat_map (λ s. alias_of s.service) done → serving_from os ports aliases more ≡ nothing (read 5 (serving os) done more)
 unfolding serving_from read by_rules
 serving-same os done [] ports aliases at at2 = refl
@@ -121,12 +121,12 @@ bad-of : {A : Type 0} (r : Result A ScenarioError) (e : ScenarioError) → nothi
 bad-of (Ok x) e is = absurd (cc)
 bad-of (Err e2) e is = let same : e2 ≡ e = cc in ap Err same
 
-good-of : {A C : Type 0} (r : Result A ScenarioError) → nothing r ≡ Ok tt → ((x : A) → r ≡ Ok x → C) → C
+pub good-of : {A C : Type 0} (r : Result A ScenarioError) → nothing r ≡ Ok tt → ((x : A) → r ≡ Ok x → C) → C
 good-of (Ok x) is follows = follows x refl
 good-of (Err e) is follows = absurd (cc)
 
 -- what is left of the reading behind the first round of what all sections say
-abbrev second : ℕ → ℕ → Said → Result Scenario ScenarioError
+abbrev pub second : ℕ → ℕ → Said → Result Scenario ScenarioError
 second budget workers r =
     second_round budget workers (record { programs = r.programs; spaces = r.spaces; objects = r.objects; servers = r.servers; jobs = r.jobs })
 
@@ -183,7 +183,7 @@ module _ (rules : List (List ℕ × Rule)) (ms : Members) where
       place_of e 6 broken.1 (OfJob _ _ _ vs e.index e.rule say vs_keep broken.0))
       (λ js are_js is. absurd (cc))))
 
-  round-says : (r : _) → AreKept (top_asks ms) → first_round rules (sections_in ms) ≡ Ok r →
+  pub round-says : (r : _) → AreKept (top_asks ms) → first_round rules (sections_in ms) ≡ Ok r →
       SaysRound rules ms (record { programs = r.programs; spaces = r.spaces; objects = r.objects; servers = r.servers; jobs = r.jobs })
   unfolding first_round sections_in
   round-says r top is =
@@ -218,7 +218,7 @@ module _ (rules : List (List ℕ × Rule)) (ms : Members) where
       (λ js are_js is. absurd (cc))))))
 
 -- the rounds
-abbrev rounds : List (List ℕ × Rule) → Top → Result Scenario ScenarioError
+abbrev pub rounds : List (List ℕ × Rule) → Top → Result Scenario ScenarioError
 rounds rules top =
     first_round rules top.sections >>= λ round. second_round top.budget top.workers round
 
@@ -262,7 +262,7 @@ module _ (rules : List (List ℕ × Rule)) (ms : Members) where
       then-right (programs_from [] _) _ ps _ (good-programs ps say.programs_keep) (then-right (spaces_from ps [] _) _ ss _ (good-spaces ps ss say.spaces_keep)
       (then-right (objects_from ss [] _) _ os _ (good-objects ss os say.objects_keep) refl))
 
-  good-round : (r : Said) → SaysRound rules ms r → first_round rules (sections_in ms)
+  pub good-round : (r : Said) → SaysRound rules ms r → first_round rules (sections_in ms)
       ≡ Ok (record { programs = r.programs; spaces = r.spaces; objects = r.objects; servers = r.servers; jobs = r.jobs })
   unfolding first_round sections_in
   good-round r say =
@@ -290,10 +290,10 @@ module _ (rules : List (List ℕ × Rule)) (ms : Members) where
   unfolding sections_in top_in
   bad-second r e say bad = after-top e say.places.top (then-right (first_round rules (sections_in ms)) _ _ _ (good-round r say) bad)
 
-  good-aims : (r : Said) (aimed : List ObjectEntry) → AllKeep (aims r.spaces r.objects) [] r.objects aimed → aims_from r.spaces r.objects 0 r.objects ≡ Ok tt
+  pub good-aims : (r : Said) (aimed : List ObjectEntry) → AllKeep (aims r.spaces r.objects) [] r.objects aimed → aims_from r.spaces r.objects 0 r.objects ≡ Ok tt
   good-aims r aimed keep = aims-same r.spaces r.objects [] r.objects 0 refl ∙ ap nothing (keep_reads 4 (aims r.spaces r.objects) [] r.objects aimed keep)
 
-  good-serving : (r : Said) (served : List ServerEntry) → AllKeep (serving r.objects) [] r.servers served → serving_from r.objects [] [] r.servers ≡ Ok tt
+  pub good-serving : (r : Said) (served : List ServerEntry) → AllKeep (serving r.objects) [] r.servers served → serving_from r.objects [] [] r.servers ≡ Ok tt
   good-serving r served keep =
       serving-same r.objects [] r.servers [] [] refl refl ∙ ap nothing (keep_reads 5 (serving r.objects) [] r.servers served keep)
 

@@ -3,3 +3,9 @@ pub mod Fields
 pub mod Entries
 pub mod Objects
 pub mod Documents
+pub mod Paths
+pub mod Keys
+pub mod Said
+pub mod SaidObjects
+pub mod SaidWork
+pub mod Scenarios

@@ -3,3 +3,5 @@ pub mod Tables
 pub mod Entries
 pub mod Objects
 pub mod Refusals
+pub mod Keys
+pub mod Scenarios

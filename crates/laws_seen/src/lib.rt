@@ -1,6 +1,6 @@
 //! Whatever a move does, a subtree sees it in one of three ways. The law is the contract of a function that does nothing.
 //!
-//! It stands on `fk_model`, whose definition of how a subtree sees a move it is about.
+//! It stands on `fk_model`, whose definition of how a subtree sees a move it is about. `laws_runs` says the same of a history's moves.
 #![tactic(auto)]
 
 ghost use Rattle.laws_seen.specs.Ways.{WhatIsntOtherIsOnwardOrUnseen};

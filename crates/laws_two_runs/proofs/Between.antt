@@ -1,7 +1,9 @@
 -- The law of rebinding leads from one run to another, by the picture of the image that both have.
-use Rattle.std.proofs.Common.{◌≡◌, ℕ, ◌+◌, true, List, map, Some, refl, sym, subst}
+use Rattle.std.proofs.Common.{◌≡◌, ℕ, ◌+◌, ◌≤◌, true, List, length, map, Some, refl, sym, subst}
 use Rattle.fk_model.specs.World.{World}
-use Rattle.fk_model.specs.Cut.{cut}
+use Rattle.fk_model.specs.declared.moves.Move.{Move}
+use Rattle.fk_model.specs.Places.{Path}
+use Rattle.fk_model.specs.Cut.{cut, IsPlain}
 use Rattle.fk_model.specs.Further.{Onward, Told, IsFurther}
 use Rattle.fk_model.specs.Rebind.{rebound, rebound_told, rebound_move}
 use Rattle.fk_image.specs.declared.image.image.Image.{Image}
@@ -11,11 +13,14 @@ use Rattle.fk_image.proofs.InFormat.RoundTrip.{one_image}
 use Rattle.laws_subtrees.proofs.InCut.joined.Rebinding.{run_rebinds}
 use Rattle.laws_pictures.proofs.Cuts.{picture_is_cut_world}
 use Rattle.laws_isolation.proofs.Once.{further_once}
-use Rattle.laws_runs.specs.Cores.{world_at}
+use Rattle.laws_subtrees.specs.Further.Runs.{IsSeenRun}
+use Rattle.laws_runs.proofs.Seen.{no_other}
+use Rattle.laws_runs.specs.Cores.{Servers, Core, IsRun, world_at}
 use Rattle.laws_runs.specs.Headline.{Restored}
 use Rattle.laws_restore.specs.Rooms.Restoring.{bound_by}
-use Rattle.laws_runs.specs.Onwards.{GoesOnAs}
-use Rattle.laws_house.specs.Houses.{house, valid_one}
+use Rattle.laws_runs.specs.Onwards.{between, GoesOnAs}
+use Rattle.laws_house.specs.Houses.{Job, State, End, house, valid_one}
+use Rattle.laws_house.specs.Headline.{HasHeadline}
 use Rattle.laws_house.specs.Houses.Source.{Given}
 use Rattle.laws_two_runs.specs.TwoRuns.{CopiesGoOn, CopiesTellTheSame, SavedSubtreesGoOnInAnotherRun}
 
@@ -53,20 +58,32 @@ saved_go_on jobs others servers fellows first c start d past moves run other hea
     copies_go_on (house jobs servers) first c past run (house others fellows) start d moves other saved i.nester slot hold release j.nester place made done
     (bound_by pairs) kept.0 kept.1 (subst (λ (x : Image). Restored other j.nester place made done (bound_by pairs) (picture x)) one built)
 
+-- what the moves of a history are seen as is what a plain subtree does there
+does_as_seen : {V : Type 0} (jobs : List Job) (servers : Servers V) (first c : Core State End V) (past : List Move)
+    (run : IsRun (house jobs servers) first past c) → HasHeadline run → (k n : ℕ) → k + n ≤ length past → (nester : Path) (slot : ℕ) (came : List Onward)
+    → IsPlain (world_at run k) nester slot → IsSeenRun nester slot (world_at run k) (between run k n) came
+    → (told : List Told) × IsFurther (cut (world_at run k) nester slot) came told (cut (world_at run (k + n)) nester slot)
+does_as_seen jobs servers first c past run headline k n low nester slot came plain seen =
+    let on = headline.goes_on k n low nester slot plain (no_other nester slot (world_at run k) (between run k n) came seen) in (
+      on.told,
+      subst (λ (ms : List Onward). IsFurther (cut (world_at run k) nester slot) ms on.told (cut (world_at run (k + n)) nester slot)) (sym (on.only came seen))
+          on.further,
+    )
+
 pub copies_tell_the_same : {V U : Type 0} → CopiesTellTheSame V U
 copies_tell_the_same jobs others servers fellows first c start d past moves run other headline again image birth slot hold release birth_there place made done
     bind valid from to k n came low high plain seen seen_there =
-    let mine = headline.goes_on hold k low from.nester slot came plain seen in
-    let theirs = again.goes_on (done + 1) n high to.nester place (map (rebound_move bind) came) to.plain seen_there in
+    let mine = does_as_seen jobs servers first c past run headline hold k low from.nester slot came plain seen in
+    let theirs = does_as_seen others fellows start d moves other again (done + 1) n high to.nester place (map (rebound_move bind) came) to.plain seen_there in
     let law = goes_on_as (cut (world_at run hold) from.nester slot) (cut (world_at other (done + 1)) to.nester place) image bind came valid from.picture
     to.cut_there in
-    let forth = law.forth mine.1.0 (cut (world_at run (hold + k)) from.nester slot) mine.1.1 in
+    let forth = law.forth mine.0 (cut (world_at run (hold + k)) from.nester slot) mine.1 in
     let once = further_once (cut (world_at other (done + 1)) to.nester place) (cut (world_at other (done + 1 + n)) to.nester place)
-    (rebound bind (cut (world_at run (hold + k)) from.nester slot)) (map (rebound_move bind) came) theirs.1.0 (map (rebound_told bind) mine.1.0) theirs.1.1 forth in
+    (rebound bind (cut (world_at run (hold + k)) from.nester slot)) (map (rebound_move bind) came) theirs.0 (map (rebound_told bind) mine.0) theirs.1 forth in
     record {
-      told = mine.1.0;
-      tells = mine.1.1;
+      told = mine.0;
+      tells = mine.1;
       tells_there = subst (λ (t : List Told). IsFurther (cut (world_at other (done + 1)) to.nester place) (map (rebound_move bind) came) t
-          (cut (world_at other (done + 1 + n)) to.nester place)) once.0 theirs.1.1;
+          (cut (world_at other (done + 1 + n)) to.nester place)) once.0 theirs.1;
       same = once.1;
     }

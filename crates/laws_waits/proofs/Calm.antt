@@ -179,7 +179,7 @@ module _ (w : World) (me : Path) (e : Edit) (t : Thread) (there : thread_at w me
 
 -- ---- both
 
-calm-touches : (w : World) (me : Path) (c : Change) (x : Path) (r : Reason) → IsCalm w me c → IsStuck w x r → IsApart me x r → IsUntouched w c x r
+pub calm-touches : (w : World) (me : Path) (c : Change) (x : Path) (r : Reason) → IsCalm w me c → IsStuck w x r → IsApart me x r → IsUntouched w c x r
 calm-touches w me (Alter y edit) x r calm stuck apart =
     subst (λ c. IsUntouched w c x r) (sym calm.is) (quiet-touches w me calm.edit calm.thread calm.there calm.quiet calm.plain x r stuck apart)
 calm-touches w me (PutPage space page words) x r calm stuck apart = put-touches w me space page words x r calm apart

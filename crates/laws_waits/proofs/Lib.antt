@@ -6,6 +6,7 @@ pub mod Rows
 pub mod Unready
 pub mod Memory
 pub mod Calm
+pub mod Mild
 pub mod Few
 pub mod Found
 pub mod Wakes

@@ -14,7 +14,7 @@ use Rattle.fk_model.specs.Searches.{talk_at}
 use Rattle.fk_model.specs.Holds.{holder_of, decider}
 use Rattle.fk_model.specs.Readers.{handled}
 use Rattle.fk_model.specs.LinkRows.{portset_of}
-use Rattle.fk_model.specs.Talks.{first_stage, other_side, receiving, is_reference_in, is_handled}
+use Rattle.fk_model.specs.Talks.{first_stage, other_side, is_reference_in, is_handled}
 use Rattle.fk_model.specs.Outcomes.{Outcome, listed}
 use Rattle.fk_model.specs.Outcomes.Outcome.{Refused, Waits, Goes}
 use Rattle.fk_model.specs.Moves.{outcome, step, stepped}

@@ -18,7 +18,7 @@ use Rattle.fk_model.specs.Searches.{thread_at, talk_at, fault_at, is_service}
 use Rattle.fk_model.specs.Holds.{holder_of, is_frozen_for, is_user}
 use Rattle.fk_model.specs.SpaceRows.{is_held_by_other}
 use Rattle.fk_model.specs.Readers.{handled}
-use Rattle.fk_model.specs.Talks.{first_stage, receiving, same_side, other_side, path_to, awaited, is_handled, is_reference_in, receive_on}
+use Rattle.fk_model.specs.Talks.{first_stage, same_side, other_side, path_to, awaited, is_handled, is_reference_in, receive_on}
 use Rattle.fk_model.specs.LinkRows.{connecting_to, is_member, is_open, is_parked, portset_of}
 use Rattle.fk_model.specs.Valid.{kind_there}
 use Rattle.fk_model.specs.Reach.{reach_word}

@@ -9,7 +9,7 @@
 //! It stands on `fk_model`, whose definitions the laws are about, and on `laws_moves::machine`. It names no store and no queue.
 #![tactic(auto)]
 
-ghost use Rattle.laws_waits.specs.Calm.{CalmTouchesNobody};
+ghost use Rattle.laws_waits.specs.Calm.{CalmTouchesNobody, MildChangesTouchNobody};
 ghost use Rattle.laws_waits.specs.Chains.{JoinsLast, Leaves, OthersStay};
 ghost use Rattle.laws_waits.specs.Complete.{UnheldThreadsHaveReasons};
 ghost use Rattle.laws_waits.specs.Few.{ClientsAreFound, ThreadEditsTouchFew};
@@ -36,11 +36,18 @@ pub fn stuck_is_unready()
     ensures { StuckIsUnready }
 {}
 
-/// A thread's own instructions, the end of its call and words in a page that is there touch nobody
-/// else's reason.
+/// A thread's own instructions, a step of its call to its end or to a stage at which nobody reaches it, and words in a page that
+/// is there touch nobody else's reason.
 #[tactic(auto, using(crate::proofs::Calm::calm_touches_nobody_lem))]
 pub fn calm_touches_nobody()
     ensures { CalmTouchesNobody }
+{}
+
+/// Nor do changes by several threads, each such a change of its own thread, and mutexes that are set, but for those who lock
+/// these.
+#[tactic(auto, using(crate::proofs::Mild::mild_changes_touch_nobody_lem))]
+pub fn mild_changes_touch_nobody()
+    ensures { MildChangesTouchNobody }
 {}
 
 /// An edit of a thread touches the thread, its peer, its taker, its client, and the waits to which it

@@ -365,7 +365,7 @@ booted-few s keeps =
 none-full : HasFullPages first_world
 none-full s page words h = absurd (cc)
 
-booted-full : (s : Scenario) → KeepsScenario s → HasWords s → HasFullPages (booted s)
+pub booted-full : (s : Scenario) → KeepsScenario s → HasWords s → HasFullPages (booted s)
 unfolding booted
 booted-full s keeps words = all-full (boot_changes s) first_world none-full (boot-first s keeps words)
 

@@ -1,8 +1,8 @@
--- The spaces that are left to read, and a path outwards.
+-- The spaces that are left to read, and a path from the root.
 use Rattle.std.proofs.Common.{◌≡◌, ℕ, zero, suc, ◌-◌, ◌<◌, ◌≤◌, Bool, true, false, List}
-use Rattle.std.proofs.Common.{[], ◌∷◌, ◌++◌, map, filter, length, take, drop, refl, sym, ap, ◌∙◌, arith, append_assoc}
-use Rattle.std.specs.Prelude.{slice_index, slice_get}
-use Rattle.std.proofs.lemmas.List.{take_all, append-nil}
+use Rattle.std.proofs.Common.{[], ◌∷◌, ◌++◌, map, filter, length, drop, refl, sym, ap, ◌∙◌, arith}
+use Rattle.std.specs.Prelude.{slice_get}
+use Rattle.std.proofs.lemmas.List.{reverse-append}
 use Rattle.fk_model.specs.Places.{Path}
 use Rattle.laws_checkpoint.specs.Walk.{Met}
 use Rattle.laws_checkpoint.specs.Assembly.{is_space_number, spaces_met}
@@ -50,27 +50,7 @@ pub all_left : (mets : List CodeMet) (at : ℕ) (left : List (List ℕ)) → at 
 all_left mets zero left past is = ap (λ ps. [] ∷ ps) (sym is)
 all_left mets (suc at) left past is = absurd (omega (arith, past))
 
--- ---- outwards
+-- ---- from the root down to an object
 
-up_one : (place : List ℕ) (at : ℕ) → at < length place → up (take (suc at) place) ≡ slice_index place at ∷ up (take at place)
-up_one place at less = ap up (one place at less) ∙ up_more (take at place) (slice_index place at)
-  where
-    one : (place : List ℕ) (at : ℕ) → at < length place → take (suc at) place ≡ take at place ++ slice_index place at ∷ []
-    one [] at less = absurd (omega (arith, less))
-    one (k ∷ place) zero less = refl
-    one (k ∷ place) (suc at) less = ap (λ ks. k ∷ ks) (one place at (omega (arith, less)))
-
-pub out_begins : (place path : List ℕ) → path ++ up (take (length place) place) ≡ path ++ up place
-out_begins place path = ap (λ p. path ++ up p) (take_all (length place) place (omega arith))
-
-pub out_on : (place : List ℕ) (at : ℕ) (path more all : List ℕ) → 0 < at → at ≤ length place → more ≡ path ++ slice_index place (at - 1) ∷ [] →
-    path ++ up (take at place) ≡ all → more ++ up (take (at - 1) place) ≡ all
-out_on place at path more all some within pushed whole =
-    let k = slice_index place (at - 1) in
-    let rest = up (take (at - 1) place) in
-    ap (λ p. p ++ rest) pushed ∙ append_assoc path (k ∷ []) rest
-    ∙ ap (λ q. path ++ q) (sym (ap (λ n. up (take n place)) (before at some) ∙ up_one place (at - 1) (omega (arith, some, within)))) ∙ whole
-
-pub out_ends : (place : List ℕ) (at : ℕ) (path all : List ℕ) → at ≤ 0 → path ++ up (take at place) ≡ all → path ≡ all
-out_ends place zero path all past whole = sym (append-nil path) ∙ whole
-out_ends place (suc at) path all past whole = absurd (omega (arith, past))
+pub met_last : (slot : ℕ) (place : List ℕ) (own : ℕ) → up (slot ∷ place ++ own ∷ []) ≡ own ∷ (up place ++ slot ∷ [])
+met_last slot place own = up_more (slot ∷ place) own ∙ ap (λ p. own ∷ p) (reverse-append (slot ∷ []) place)

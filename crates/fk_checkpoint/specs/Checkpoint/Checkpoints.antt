@@ -1,5 +1,5 @@
 -- What a checkpoint in code is about to end with.
-use Rattle.std.specs.Prelude.{ℕ, Option, Some, None}
+use Rattle.std.specs.Prelude.{ℕ, reverse, Option, Some, None}
 use Rattle.fk_finish.specs.declared.finish.Place.{Place as CodePlace}
 use Rattle.fk_model.specs.Closed.{Place}
 use Rattle.fk_image.specs.declared.image.image.Image.{Image}
@@ -16,8 +16,9 @@ use Rattle.fk_finish.specs.declared.finish.Finish.TheVariants as finishes
 use Rattle.fk_checkpoint.specs.declared.checkpoint.ending.Ending.{Ending}
 use Rattle.fk_checkpoint.specs.declared.checkpoint.ending.Ending.TheVariants as endings
 
+-- a place whose path goes from the root down, by the path that the machine has
 abbrev pub shown_place : CodePlace → Place
-shown_place p = record { path = p.path; field = p.field }
+shown_place p = record { path = reverse p.path; field = p.field }
 
 -- how it has ended, as the machine says it; a checkpoint ends in the first three ways alone
 abbrev pub end_of : Finish → End

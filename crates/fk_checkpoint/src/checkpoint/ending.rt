@@ -3,7 +3,7 @@ ghost use Rattle.std.specs.Prelude.{◌≡◌, IfOk, IfSome, IfNone, OnOk};
 ghost use Rattle.fk_checkpoint.specs.Checkpoint.Checkpoints.{end_of, ending_of, IsReady};
 
 use crate::assembly::assembled;
-use crate::checkpoint::left::outwards;
+use crate::checkpoint::left::from_root;
 use crate::checkpoint::way::Way;
 use crate::gathering::{Content, Lead};
 use crate::seeking::{Walk, met_at};
@@ -49,7 +49,7 @@ fn made(alloc: Global, slot: u8, ending: &Ending) -> Result<Option<Way>, NoMemor
 {
     match ending {
         Ending::Foreign { walk, at, field } => {
-            let path = outwards(alloc, slot, met_at(walk.mets(), *at))?;
+            let path = from_root(alloc, slot, met_at(walk.mets(), *at))?;
             Ok(Some(Way::new(Finish::Foreign(Place {
                 path,
                 field: *field,

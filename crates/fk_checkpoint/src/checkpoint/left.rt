@@ -1,4 +1,4 @@
-//! The spaces of a subtree that are to be read, and the way outwards from an object.
+//! The spaces of a subtree that are to be read, and the way from the subtree's root down to an object.
 ghost use Rattle.std.specs.Prelude.{◌≡◌, ◌++◌, ◌∷◌, [], option_map, slice_get, IfOk, OnOk};
 ghost use Rattle.fk_checkpoint.specs.Seeking.Seeking.{met_of, mets_of, task_for, up};
 ghost use Rattle.fk_checkpoint.specs.Gathering.Gathering.{paths_left};
@@ -56,27 +56,16 @@ pub fn spaces_left(alloc: Global, mets: &[Met]) -> Result<Vec<List<u8>>, NoMemor
     Ok(left)
 }
 
-/// The slots from an object outwards to the subtree's root.
-pub fn outwards(alloc: Global, slot: u8, met: Option<&Met>) -> Result<List<u8>, NoMemory>
-    ensures { IfOk result (λ path. path ≡ (task_for (option_map (λ m. m.now) met.entry)).path ++ slot ∷ []) }
+/// The slots from that of the subtree's root down to an object's own.
+#[tactic(auto, using(crate::proofs::InCheckpoint::Lefts::met_last))]
+pub fn from_root(alloc: Global, slot: u8, met: Option<&Met>) -> Result<List<u8>, NoMemory>
+    ensures { IfOk result (λ path. up path ≡ (task_for (option_map (λ m. m.now) met.entry)).path ++ slot ∷ []) }
 {
     let mut path = Vec::new(alloc);
-    if let Some(met) = met {
-        path.push(met.slot)?;
-        push_up(&mut path, met.place.as_slice())?;
-    }
     path.push(slot)?;
-    Ok(List::of(path))
-}
-
-/// Adds a path's slots, the last one first.
-fn push_up(path: &mut Vec<u8>, place: &[u8]) -> Result<(), NoMemory>
-    ensures { OnOk result (path.new.items ≡ path.old.items ++ up place.now) }
-{
-    let mut at = place.len();
-    while at > 0 {
-        at -= 1;
-        path.push(place[at])?;
+    if let Some(met) = met {
+        path.extend_from_slice(met.place.as_slice())?;
+        path.push(met.slot)?;
     }
-    Ok(())
+    Ok(List::of(path))
 }

@@ -8,7 +8,8 @@ ghost use Rattle.fk_image.specs.Format.Offsets.{wrong_link};
 ghost use Rattle.fk_image.specs.Format.Reading as words;
 ghost use Rattle.fk_image.specs.Format.Spells.{SpellsImage};
 ghost use Rattle.fk_codec.specs.Reading.Given.{Decodes, IsFault};
-ghost use Rattle.fk_codec.specs.Codec.Given.{Reads};
+ghost use Rattle.fk_image.specs.Form.Formed.{IsFormed};
+ghost use Rattle.fk_codec.specs.Codec.Given.{IsFirstBreak, Reads};
 
 use crate::codec::fail::{ImageError, ReadFail};
 use crate::reading::{
@@ -239,10 +240,14 @@ fn checked_image(alloc: Global, bytes: &[u8]) -> Result<Image, ReadFail>
 pub fn read(alloc: Global, bytes: &[u8]) -> Result<Image, ReadFail>
     // What is read is spelled so, and valid.
     ensures found { IfOk result (λ i. SpellsImage bytes.now i) }
+    // Its records have the form of an image.
+    ensures formed { IfOk result (λ i. IsFormed i) }
     // The image that they spell is read, unless memory runs out.
     ensures only { (i : Image) → SpellsImage bytes.now i → Reads result (Ok i) }
     // Else it is the first fault.
     ensures exact { Reads result (words.image_reading bytes.now) }
+    // Up to there the bytes have the form of an image, and there they, or the records that they spell, break it.
+    ensures first { IfErr result (λ fail. IsFirstBreak bytes.now fail) }
 {
     checked_image(alloc, bytes)
 }

@@ -32,6 +32,7 @@ use Rattle.fk_core.specs.Rounds.Served.{Services, asked, hears_of, news_at, afte
 use Rattle.fk_core.specs.Cores.Bursts.{MakesMoves}
 use Rattle.fk_core.specs.Cores.Cores.{RunCore, house, core_at}
 use Rattle.fk_core.specs.Cores.Goings.{HasCome}
+use Rattle.fk_core.proofs.InCores.Starts.{gives}
 use Rattle.fk_natives.specs.Natives as natives
 use Rattle.fk_core.specs.Rounds.Served.{servers}
 use Rattle.fk_core.proofs.InRounds.Acts.{servers_ask_as_users}
@@ -85,9 +86,10 @@ no-porter w slot space t g sound there runs = by (slot == 255) refl
 -- the world to which a run has come is sound
 pub come_sound : (jobs : List Job) (budget : ℕ) (c : RunCore) → HasCome jobs budget c → c.events ≤ budget → IsSound c.world
 come_sound jobs budget c come below =
-    let long : c.events ≡ length come.past = counted jobs come.first c come.past come.run come.start.events in
-    let few = come.few in
-    let stand = stands (house jobs) come.first servers_ask_as_users (house_is_tidy jobs servers come.slots) come.start come.run
+    let its = gives jobs budget come.first come.begins in
+    let long : c.events ≡ length come.past = counted jobs come.first c come.past come.run its.start.events in
+    let few = its.few in
+    let stand = stands (house jobs) come.first servers_ask_as_users (house_is_tidy jobs servers its.slots) its.start come.run
     (omega (arith, few, long, below)) in
     subst IsSound stand.last (stand.sound (length come.past) (omega arith))
 

@@ -27,6 +27,7 @@ use Rattle.fk_core.proofs.InRounds.Acts.{servers_ask_as_users}
 use Rattle.fk_core.specs.Rounds.Kernels.{Kept}
 use Rattle.fk_core.specs.Cores.Cores.{RunCore, house, core_at, is_porter, IsReadyMove, IsTurned, IsTried, IsAdvanced}
 use Rattle.fk_core.specs.Cores.Goings.{HasCome}
+use Rattle.fk_core.proofs.InCores.Starts.{gives}
 use Rattle.fk_core.proofs.InRounds.Asking.{asks_for}
 
 settled_events : (jobs : List Job) (c d : RunCore) → Settles (house jobs) c d → d.events ≡ c.events
@@ -60,18 +61,17 @@ goes_on jobs budget c d m come ready turned = record {
   first = come.first;
   past = come.past ++ m ∷ [];
   run = Goes come.past c m d come.run ready turned;
-  start = come.start;
-  slots = come.slots;
-  few = come.few;
+  begins = come.begins;
 }
 
 -- what a job asks for is fit
 pub job_fits : (jobs : List Job) (budget : ℕ) (c : RunCore) → HasCome jobs budget c → c.events < budget → (who : Who) (begun : ℕ) (s : State) (stage : Stage)
     (words : List ℕ) → asker (house jobs) c who ≡ OfJob begun s stage words → is_fit c.world (named c.world who) (asks.Call stage words) ≡ true
 job_fits jobs budget c come below who begun s stage words asks =
-    let long = counted jobs come.first c come.past come.run come.start.events in
-    let few : come.first.world.next + length come.past ≤ depth = (let enough = come.few in omega (arith, long, enough, below)) in
-    (jobs_ask_fitly jobs servers come.first c come.past come.run servers_ask_as_users come.slots come.start few who begun s stage words asks).0
+    let its = gives jobs budget come.first come.begins in
+    let long = counted jobs come.first c come.past come.run its.start.events in
+    let few : come.first.world.next + length come.past ≤ depth = (let enough = its.few in omega (arith, long, enough, below)) in
+    (jobs_ask_fitly jobs servers come.first c come.past come.run servers_ask_as_users its.slots its.start few who begun s stage words asks).0
 
 pub call_fits : (q : Queue) (w : World) (services : Services) (events budget : ℕ) (who : Who) (ask : Ask)
     → HasCome q.jobs budget (core_of w services q events) →

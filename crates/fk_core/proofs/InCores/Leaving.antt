@@ -52,6 +52,7 @@ use Rattle.fk_core.specs.Rounds.Served.{servers}
 use Rattle.fk_core.proofs.InRounds.Acts.{servers_ask_as_users}
 use Rattle.fk_core.specs.Cores.Cores.{RunCore, house, IsReadyMove, IsTurned}
 use Rattle.fk_core.specs.Cores.Goings.{HasCome}
+use Rattle.fk_core.proofs.InCores.Starts.{gives}
 use Rattle.fk_core.specs.Cores.Leaves.{LeavesBeside, LeavesTheRest}
 use Rattle.fk_core.proofs.InCores.Going.{counted}
 
@@ -281,7 +282,8 @@ module _ (jobs : List Job) (c : RunCore) (m : Move) (d : RunCore) (ready : IsRea
 pub leaves_the_rest : (jobs : List Job) (budget : ℕ) (c : RunCore) (m : Move) (d : RunCore) → HasCome jobs budget c → c.events < budget →
     IsReadyMove jobs c m → IsTurned jobs c m d → LeavesTheRest jobs c m d
 leaves_the_rest jobs budget c m d come below ready turned begun state stage words asks =
-    let long = counted jobs come.first c come.past come.run come.start.events in
+    let its = gives jobs budget come.first come.begins in
+    let long = counted jobs come.first c come.past come.run its.start.events in
     let longer = length-append come.past (m ∷ []) in
-    let few = come.few in
-    leaves jobs c m d ready turned come.first come.past come.run come.slots come.start (omega (arith, long, longer, few, below)) begun state stage words asks
+    let few = its.few in
+    leaves jobs c m d ready turned come.first come.past come.run its.slots its.start (omega (arith, long, longer, few, below)) begun state stage words asks

@@ -30,7 +30,8 @@ use Rattle.fk_jobs.proofs.Turns.{job_moves}
 use Rattle.fk_core.specs.Rounds.Events.{step_of, is_who}
 use Rattle.fk_plans.specs.Plans.Hearers.{says_to, says_to_who}
 use Rattle.fk_core.specs.Rounds.Served.{Services, servers, hears_of, told}
-use Rattle.fk_core.specs.Cores.Cores.{RunCore, house, core_at, reply_to, porter_of, is_porter, IsTurned, IsCalledMove, IsCalledBy}
+use Rattle.fk_core.specs.Cores.Cores.{RunCore, house, core_at, reply_to, porter_of, is_porter, IsTurned, IsCalledMove}
+use Rattle.fk_served.specs.Acts.{IsReadyFor}
 use Rattle.fk_core.proofs.InRounds.Hearing.{goes, hears-alike}
 use Rattle.fk_core.proofs.InRounds.Asking.{AsksFor}
 use Rattle.fk_core.proofs.InRounds.Asking.{asks_for as job_asks_for}
@@ -125,13 +126,13 @@ pub hears-same : (m n : Kept) (services new : Services) (q r s : Queue) (events 
     → IsCalledMove q (core_at m services q events) mv × IsTurned q.jobs (core_at m services q events) mv d
 hears-same m n services new q r s events mv ask said ended d jobs ends work porter next ready made over tells heard hears_it settles =
     let there : is_porter r mv.who ≡ true = (λ i. is_who (porter_of (slice_get (jobs i) (length (ends i)))) mv.who) ∙ porter in
-    let call : IsCalledMove r (core_at m services r events) mv = subst (IsCalledBy (core_at m services r events) mv) (sym next) ready in
+    let call : IsCalledMove r (core_at m services r events) mv = subst (IsReadyFor (core_at m services r events).world mv) (sym next) ready in
     let turn : IsTurned r.jobs (core_at m services r events) mv d =
     job-turned m n services new r s events mv ask said ended d
     (job_asks_for r (world m) services events mv.who ask there next) made over tells heard hears_it settles in
     let is_state : state_of r ≡ state_of q = λ i. state_from (work i) (first_of (ends i) (slice_get (jobs i) (length (ends i)))) in
     let is_core : core_at m services r events ≡ core_at m services q events =
     λ i. record { world = world m; servers = services; ends = ends i; work = work i; events = events } in (
-      subst (IsCalledBy (core_at m services q events) mv) (ap asked_by is_state) call,
+      subst (IsReadyFor (core_at m services q events).world mv) (ap asked_by is_state) call,
       subst (λ c. IsTurned q.jobs c mv d) is_core (subst (λ j. IsTurned j (core_at m services r events) mv d) jobs turn),
     )

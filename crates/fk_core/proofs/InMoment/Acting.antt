@@ -1,129 +1,33 @@
--- Acts of servers: which there are, and that there are no others.
-use Rattle.std.proofs.Common.{◌≡◌, ℕ, ◌+◌, ◌<◌, Bool, true, false, if◌then◌else◌, nat_lt, length, Option, Some, None, option_map, IfNone, IfSome, refl, sym}
-use Rattle.std.proofs.Common.{ap, subst, ◌∙◌, arith}
-use Rattle.std.proofs.lemmas.Bool.{ltb-false}
-use Rattle.std.proofs.lemmas.Bool.Decides.{Decides-ltb}
-use Rattle.std.specs.List.{slice_get}
-use Rattle.fk_model.specs.declared.moves.Ask.{Ask}
+-- Acts of servers: where there is none, and no user's move either, no move is left but a job's.
+use Rattle.std.proofs.Common.{◌≡◌, ℕ, false, length, Option, Some, None, option_map, IfSome, sym, subst}
 use Rattle.fk_model.specs.declared.moves.Ask.TheVariants as asks
 use Rattle.fk_model.specs.declared.moves.Move.{Move}
-use Rattle.fk_model.specs.declared.names.Who.{Who}
-use Rattle.fk_model.specs.Moves.{IsReady, GoesAllowed, outcome, with_pick}
-use Rattle.fk_model.specs.Outcomes.{Outcome}
-use Rattle.fk_model.specs.Outcomes.Outcome.{Refused, Waits, Goes}
-use Rattle.fk_model.specs.Places.{Path}
 use Rattle.fk_model.specs.Who.{named, event_of}
 use Rattle.fk_model.specs.World.{World}
 use Rattle.laws_jobs.specs.Machines.{IsReadyAt}
-use Rattle.fk_model.specs.Places.Ptr.{At}
-use Rattle.fk_model.specs.Valid.{is_served_port}
-use Rattle.fk_natives.specs.Natives.{State}
 use Rattle.laws_runs.specs.Cores.{IsOtherReady}
-use Rattle.fk_jobs.specs.Jobs.{Queue}
+use Rattle.fk_jobs.specs.Jobs.{Queue, current}
 use Rattle.fk_jobs.specs.Turns.{core_of}
-use Rattle.fk_served.specs.Served.{Services, serving, asked, asked_of}
-use Rattle.fk_core.specs.Moment.Moments.{RunCore, house, is_act, is_porter, AreUsersIdle, IsOthersMove, HasNoAct, HaveNoActs}
-use Rattle.fk_served.proofs.Acts.{found, never-calls, runs}
+use Rattle.fk_served.specs.Acts.{IsReadyFor, HaveNoActs}
+use Rattle.fk_served.specs.Served.{Services, asked}
+use Rattle.fk_served.proofs.Acts.{runs}
+use Rattle.fk_served.proofs.Idle.{no-asked}
+use Rattle.fk_core.specs.Moment.Moments.{house, porter_of, is_porter, AreUsersIdle, IsOthersMove}
 use Rattle.fk_core.proofs.InMoment.Asking.{IsAsked, asked_other, other_name, runs_move}
-
--- who needs no pick has none
-no-pick : (w : World) (x p : Path) (o : Outcome) → GoesAllowed w x (with_pick false (Some p) o) → ⊥
-no-pick w x p (Refused status) h = h
-no-pick w x p Waits h = h
-no-pick w x p (Goes changes said) h = h
-
-unpicked-ready : (w : World) (x p : Path) (ask : Ask) → is_act ask ≡ true → (ask ≡ asks.Accept → ⊥) → IsReady w x (Some p) ask → ⊥
-unfolding outcome
-unpicked-ready w x p asks.Run act other h = cc
-unpicked-ready w x p (asks.Call stage words) act other h = cc
-unpicked-ready w x p asks.Accept act other h = other refl
-unpicked-ready w x p (asks.Give words len) act other h = no-pick w x p _ h
-unpicked-ready w x p asks.Over act other h = no-pick w x p _ h
-
-pub no-act : (c : RunCore) (port : Who) (ask : Ask) → asked c.servers c.world port ≡ Some ask → (ask ≡ asks.Accept → ⊥)
-    → (IsReadyAt c.world (event_of c.world ask (record { who = port; pick = None })) → ⊥) → HasNoAct c port
-no-act c port ask is other unready m asked_for who asks_it act ready = by m.pick refl
-  where
-    same : asked_for ≡ ask
-    same = let e : Some asked_for ≡ Some ask = sym asks_it ∙ is in let f : asked_for ≡ ask = cc in f
-
-    at : (pick : Option Who) → Move
-    at pick = record { who = port; pick = pick }
-
-    there : (pick : Option Who) → m.pick ≡ pick → IsReadyAt c.world (event_of c.world ask (record { who = port; pick = pick }))
-    there pick e =
-        let whole : IsReadyAt c.world (event_of c.world ask (record { who = m.who; pick = m.pick })) = subst
-        (λ a. IsReadyAt c.world (event_of c.world a m)) same ready in
-        subst (λ k. IsReadyAt c.world (event_of c.world ask (record { who = k; pick = pick }))) who
-        (subst (λ p. IsReadyAt c.world (event_of c.world ask (record { who = m.who; pick = p }))) e whole)
-
-    by : (pick : Option Who) → m.pick ≡ pick → ⊥
-    by None e = unready (there None e)
-    by (Some p) e =
-        unpicked-ready c.world (named c.world port) (named c.world p) ask (subst (λ a. is_act a ≡ true) same act) other (there (Some p) e)
-
-pub if-none : {A : Type 0} (o : Option A) (X Y : Type 0) → (X → Y) → IfNone o X → IfNone o Y
-if-none None X Y f h = f h
-if-none (Some a) X Y f h = tt
-
--- ---- one server after the other
-
-pub no-acts : (q : Queue) (c : RunCore) (from : ℕ) → HaveNoActs q c from from
-no-acts q c from k served low high is other = absurd (omega (arith, low, high))
-
-least : (k at : ℕ) → k < at + 1 → (k < at → ⊥) → k ≡ at
-least k at high other = by (nat_lt k at) refl
-  where
-    by : (t : Bool) → nat_lt k at ≡ t → k ≡ at
-    by true e = absurd (other ((Decides-ltb k at).0 e))
-    by false e = let above = ltb-false k at e in omega (arith, high, above)
-
-pub one-more : (q : Queue) (c : RunCore) (from at : ℕ) (port : Who) → option_map (λ (s : Who × State). s.0) (slice_get c.servers at) ≡ Some port →
-    (is_porter q port ≡ false → HasNoAct c port) → HaveNoActs q c from at → HaveNoActs q c from (at + 1)
-one-more q c from at port is none before k served low high there other = by (nat_lt k at) refl
-  where
-    by : (t : Bool) → nat_lt k at ≡ t → HasNoAct c served.0
-    by true e = before k served low ((Decides-ltb k at).0 e) there other
-    by false e =
-        let here : k ≡ at = least k at high (λ less. let no = (Decides-ltb k at).1 less in cc) in
-        let name : Some served.0 ≡ Some port = sym (ap (option_map (λ (s : Who × State). s.0)) (subst (λ j. slice_get c.servers j ≡ Some served) here there))
-        ∙ is in
-        let same : served.0 ≡ port = cc in
-        subst (HasNoAct c) (sym same) (none (subst (λ w. is_porter q w ≡ false) same other))
 
 -- ---- no move is left
 
 pub over : (q : Queue) (w : World) (services : Services) (events : ℕ) →
-    AreUsersIdle q w → HaveNoActs q (core_of w services q events) 0 (length services) →
+    AreUsersIdle q w → HaveNoActs services w (porter_of (current q)) 0 (length services) →
     IsOtherReady (house q.jobs) (core_of w services q events) → ⊥
-over q w services events users acts (m, ask, as_others, ready) = by_ask ask wants.is ready
+over q w services events users acts (m, ask, as_others, ready) =
+    no-asked services w (porter_of (current q)) users acts m other (subst (IsReadyFor w m) (sym wants.is) ready)
   where
     other : is_porter q m.who ≡ false
     other = other_name q w services events m.who ask as_others
 
     wants : IsAsked (asked services w m.who) ask
     wants = asked_other q w services events m.who ask as_others
-
-    run : (ask : Ask) → is_act ask ≡ true → Some asks.Run ≡ Some ask → ⊥
-    run ask is e = let same : asks.Run ≡ ask = cc in let not : is_act asks.Run ≡ true = subst (λ a. is_act a ≡ true) (sym same) is in cc
-
-    act : (ask : Ask) → is_act ask ≡ true → asked services w m.who ≡ Some ask → IsReadyAt w (event_of w ask m) → ⊥
-    act ask is wants ready = by (is_served_port w (At (named w m.who))) (serving services m.who) refl wants
-      where
-        by : (port : Bool) (state : Option State) → serving services m.who ≡ state → (if port then asked_of state else Some asks.Run) ≡ Some ask → ⊥
-        by true (Some state) serves e =
-            let there = found services m.who state serves in
-            acts there.0 there.1 (omega arith) there.3 there.2 (subst (λ k. is_porter q k ≡ false) (sym there.4) other)
-            m ask (sym there.4) (subst (λ k. asked services w k ≡ Some ask) (sym there.4) wants) is ready
-        by true None serves e = run ask is e
-        by false state serves e = run ask is e
-
-    by_ask : (ask : Ask) → asked services w m.who ≡ Some ask → IsReadyAt w (event_of w ask m) → ⊥
-    by_ask asks.Run wants ready = users m other ready
-    by_ask (asks.Call stage words) wants ready = never-calls services w m.who stage words wants
-    by_ask asks.Accept wants ready = act asks.Accept refl wants ready
-    by_ask (asks.Give words len) wants ready = act (asks.Give words len) refl wants ready
-    by_ask asks.Over wants ready = act asks.Over refl wants ready
 
 -- who is ready to run is ready in a core, where it is no porter whose job's turn it is
 pub runs-other : (q : Queue) (w : World) (services : Services) (events : ℕ) (m : Move) → is_porter q m.who ≡ false → IsReadyAt w (event_of w asks.Run m) →

@@ -21,8 +21,9 @@ use Rattle.fk_jobs.specs.Jobs.{Queue, current, first_of, state_from, state_of, c
 use Rattle.fk_jobs.specs.Plain.{picks_nobody}
 use Rattle.fk_jobs.proofs.Plainly.{pick_nobody}
 use Rattle.fk_jobs.specs.Turns.{core_of}
+use Rattle.fk_served.specs.Acts.{IsReadyAsked, IsReadyFor}
 use Rattle.fk_served.specs.Served.{Services, asked}
-use Rattle.fk_core.specs.Moment.Moments.{house, porter_of, is_porter, IsReadyMove, IsAnyMove, IsDue, IsOthersMove, IsAskedMove, IsCalledMove, IsCalledBy}
+use Rattle.fk_core.specs.Moment.Moments.{house, porter_of, is_porter, IsReadyMove, IsAnyMove, IsDue, IsOthersMove, IsAskedMove, IsCalledMove}
 
 -- what an asker that stands for this call is
 pub record AsksFor (ask : Ask) (a : Asker State) : Type 0 where
@@ -138,14 +139,14 @@ module _ (q : Queue) (w : World) (services : Services) (events : ℕ) where
       IsReadyMove q.jobs (core_of w services q events) m
   called_ready m is due called = by (asked_by (state_of q)) refl called
     where
-      by : (o : Option Ask) → asked_by (state_of q) ≡ o → IsCalledBy (core_of w services q events) m o → IsReadyMove q.jobs (core_of w services q events) m
+      by : (o : Option Ask) → asked_by (state_of q) ≡ o → IsReadyFor w m o → IsReadyMove q.jobs (core_of w services q events) m
       by None e called = absurd called
       by (Some ask) e called = job_ready m ask is e due called
 
   pub ready_called : (m : Move) → is_porter q m.who ≡ true → IsReadyMove q.jobs (core_of w services q events) m → IsCalledMove q (core_of w services q events) m
   ready_called m is ready = by (asked_by (state_of q)) refl
     where
-      by : (o : Option Ask) → asked_by (state_of q) ≡ o → IsCalledBy (core_of w services q events) m o
+      by : (o : Option Ask) → asked_by (state_of q) ≡ o → IsReadyFor w m o
       by None e = absurd (idle_job m is e ready)
       by (Some ask) e = (ready_job m ask is e ready).1
 
@@ -219,6 +220,28 @@ module _ (q : Queue) (w : World) (services : Services) (events : ℕ) where
   pub asked_ready : (m : Move) → is_porter q m.who ≡ false → IsAskedMove q.jobs (core_of w services q events) m
       → IsReadyMove q.jobs (core_of w services q events) m
   asked_ready m other is = subst (λ (T : Type 0). T) (sym (asked_is m other)) is
+
+  -- where what is asked for is words it is ready as that of a user or a server exactly where it is ready for what its mover asks for
+  pub as_asked : (m : Move) → IfSome (asked services w m.who) (λ ask. has_all_words ask ≡ true) →
+      IsReadyAsked services w m ≡ IsAskedMove q.jobs (core_of w services q events) m
+  as_asked m words = by (asked services w m.who) words
+    where
+      by : (o : Option Ask) → IfSome o (λ ask. has_all_words ask ≡ true) →
+          IsReadyFor w m o ≡ IsReadyBy (house q.jobs) (core_of w services q events) m (others_ask o)
+      by None words = refl
+      by (Some ask) words = ap (λ (b : Bool). IsReadyBy (house q.jobs) (core_of w services q events) m (if b then Others ask else Nobody)) (sym words)
+
+  -- an act that is ready for what the server of its port asks for
+  pub ready_act : (act : Option Move) → IfSome act (λ m. is_porter q m.who ≡ false) →
+      IfSome act (λ m. IfSome (asked services w m.who) (λ ask. has_all_words ask ≡ true)) → IfSome act (IsReadyAsked services w) →
+      IfSome act (IsReadyMove q.jobs (core_of w services q events))
+  ready_act None other words ready = tt
+  ready_act (Some m) other words ready = asked_ready m other (subst (λ (T : Type 0). T) (as_asked m words) ready)
+
+  pub other_act : (act : Option Move) → IfSome act (λ m. is_porter q m.who ≡ false) → IfSome act (IsReadyMove q.jobs (core_of w services q events)) →
+      IfSome act (IsOthersMove q.jobs (core_of w services q events))
+  other_act None other ready = tt
+  other_act (Some m) other ready = ready_other m other ready
 
   pub runs_move : (m : Move) → is_porter q m.who ≡ false → asked services w m.who ≡ Some asks.Run → IsReadyAt w (event_of w asks.Run m) →
       IsOthersMove q.jobs (core_of w services q events) m

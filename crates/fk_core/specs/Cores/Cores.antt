@@ -10,7 +10,7 @@ use Rattle.laws_runs.specs.Cores.{moved, Settles}
 use Rattle.fk_core.specs.declared.cores.turns.Core as cores
 pub use Rattle.fk_core.specs.Rounds.Moments.{house, RunCore, core_at, porter_of, is_porter, is_timely, has_come}
 pub use Rattle.fk_core.specs.Cores.Memory.{may_lack, may_lack_asked, may_lack_called, IsLacking}
-pub use Rattle.fk_core.specs.Rounds.Moments.{IsReadyMove, IsAnyMove, IsAskedMove, IsCalledBy, IsCalledMove, IsOthersMove, IsDue, IsFirstDue, IsOver}
+pub use Rattle.fk_core.specs.Rounds.Moments.{IsReadyMove, IsAnyMove, IsAskedMove, IsCalledMove, IsOthersMove, IsDue, IsFirstDue, IsOver}
 
 -- what a core in code has come to
 abbrev pub run_core : {S W : Type 0} → cores.Core S W → RunCore

@@ -20,6 +20,7 @@ use Rattle.laws_house.specs.Houses.{Job, End}
 use Rattle.laws_jobs.specs.Machines.{IsReadyAt}
 use Rattle.laws_runs.specs.Cores.{House, Core, IsReadyIn, IsReadyBy, IsDueJob, asker, others_ask}
 use Rattle.laws_runs.specs.Cores.Asker.{Others}
+use Rattle.fk_served.specs.Acts.{IsReadyFor}
 use Rattle.fk_served.specs.Served.{Services, asked, servers}
 use Rattle.fk_core.specs.declared.moment.moment.Moment as moments
 
@@ -67,12 +68,8 @@ abbrev pub IsAskedMove : List Job → RunCore → Move → Type 0
 IsAskedMove jobs c m = IsReadyBy (house jobs) c m (others_ask (asked c.servers c.world m.who))
 
 -- the call that the job asks for whose turn it is is ready, were it due
-abbrev pub IsCalledBy : RunCore → Move → Option Ask → Type 0
-IsCalledBy c m None = ⊥
-IsCalledBy c m (Some ask) = IsReadyAt c.world (event_of c.world ask m)
-
 abbrev pub IsCalledMove : Queue → RunCore → Move → Type 0
-IsCalledMove q c m = IsCalledBy c m (asked_by (state_of q))
+IsCalledMove q c m = IsReadyFor c.world m (asked_by (state_of q))
 
 -- ---- the job whose turn it is
 
@@ -103,24 +100,6 @@ IsFirstDue q budget c chosen = c.events % 2 ≡ 0 → c.events < budget → (m :
     → IfSome chosen (λ m. is_porter q m.who ≡ true)
 
 -- ---- acts of servers
-
--- an act of the native server of a port
-abbrev pub is_act : Ask → Bool
-is_act asks.Run = false
-is_act (asks.Call stage words) = false
-is_act asks.Accept = true
-is_act (asks.Give words len) = true
-is_act asks.Over = true
-
--- the server at a place has no ready act
-abbrev pub HasNoAct : RunCore → Who → Type 0
-HasNoAct c port = (m : Move) (ask : Ask) → m.who ≡ port → asked c.servers c.world port ≡ Some ask → is_act ask ≡ true
-    → IsReadyAt c.world (event_of c.world ask m) → ⊥
-
--- nor have those from a place up to another, but one that stands by the name of a job's porter
-abbrev pub HaveNoActs : Queue → RunCore → ℕ → ℕ → Type 0
-HaveNoActs q c from to = (k : ℕ) (served : Who × State) → from ≤ k → k < to → slice_get c.servers k ≡ Some served →
-    is_porter q served.0 ≡ false → HasNoAct c served.0
 
 -- no user's move is ready, but maybe the porter's whose job's turn it is
 abbrev pub AreUsersIdle : Queue → World → Type 0

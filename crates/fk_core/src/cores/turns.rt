@@ -1,12 +1,14 @@
 //! The core: a kernel with its native servers and its jobs.
 ghost use Rattle.fk_model.specs.declared.moves.Rule.{Rule};
-ghost use Rattle.std.specs.Prelude.{◌≡◌, ◌↔◌, List, [], ◌+◌, ◌<◌, Some, true, false, IsOk, IsTrue, OnOk, OnErr, map};
+ghost use Rattle.fk_model.specs.Places.{Path};
+ghost use Rattle.fk_model.specs.Sound.{IsSoundStart};
+ghost use Rattle.std.specs.Prelude.{◌≡◌, ◌↔◌, List, [], ◌+◌, ◌<◌, Some, None, true, false, IsOk, IsTrue, OnOk, OnErr, map};
 ghost use Rattle.std.specs.Bool.{OnTrue, OnFalse};
 ghost use Rattle.fk_core.specs.Rounds.Served.{AllFit, shown};
 ghost use Rattle.fk_core.specs.Cores.Cores.{run_core, is_porter, reply_to, IsReadyMove, IsAskedMove, IsCalledMove, IsTurned, IsTried, IsAdvanced, is_timely};
 ghost use Rattle.fk_core.specs.Cores.Memory.{may_lack, may_lack_asked, may_lack_called};
 ghost use Rattle.fk_core.specs.Cores.Cuts.{KeepsCuts, LeavesStrangers};
-ghost use Rattle.fk_core.specs.Cores.Goings.{IsGoing};
+ghost use Rattle.fk_core.specs.Cores.Goings.{start_at, IsGoing};
 ghost use Rattle.fk_core.specs.Cores.Leaves.{LeavesTheRest};
 ghost use Rattle.fk_core.specs.Rounds.Kernels.{world_of as world};
 ghost use Rattle.fk_jobs.specs.Jobs.{hears};
@@ -87,13 +89,15 @@ fn tell_jobs<W: Worker + Drop>(jobs: &mut Jobs<W>, events: u64, said: &Said)
 }
 
 impl<S: Service + Drop, W: Worker + Drop> Core<S, W> {
-    /// A kernel with its servers, each by its port, and its jobs, before the first of so many moves.
+    /// A kernel with its servers, each by its port, and its jobs, before the first of so many moves. It goes on where these are a sound start.
     pub fn new(kernel: Kernel, services: Vec<(Who, S)>, jobs: Jobs<W>, budget: u64) -> Core<S, W>
         ensures kernel { result.kernel ≡ kernel }
         ensures services { result.services.list ≡ shown S.meaning services.items }
         ensures jobs { result.jobs ≡ jobs }
         ensures budget { result.budget ≡ budget }
         ensures events { result.events ≡ 0 }
+        ensures begins { (nesters : List Path) → IsSoundStart (start_at jobs.jobs budget nesters (run_core result)) → jobs.ends ≡ [] → jobs.work ≡ None →
+            IsGoing result }
     {
         Core {
             kernel,

@@ -1,60 +1,25 @@
 //! Acts of servers.
-ghost use Rattle.std.specs.Prelude.{◌≡◌, ◌≤◌, false, None, IfSome, IfNone, length};
-ghost use Rattle.fk_core.specs.Moment.Moments.{seen, is_porter, IsReadyNow, IsAskedMove, IsOthersMove, HasNoAct, HaveNoActs};
+ghost use Rattle.std.specs.Prelude.{◌≡◌, ◌≤◌, false, IfSome, IfNone, length};
+ghost use Rattle.fk_core.specs.Moment.Moments.{seen, is_porter, porter_of, IsReadyNow, IsOthersMove};
+ghost use Rattle.fk_jobs.specs.Jobs.{current};
+ghost use Rattle.fk_served.specs.Acts.{HasNoAct, HaveNoActs};
 ghost use Rattle.fk_served.specs.Kernels.{world_of as world};
-ghost use Rattle.fk_model.specs.Who.{event_of};
-ghost use Rattle.laws_jobs.specs.Machines.{IsReadyAt};
 
 use crate::moment::moment::Moment;
 use fk_jobs::Worker;
 use fk_links::connecting_to;
-use fk_model::{Ask, Move, Who};
+use fk_model::{Move, Who};
 use fk_natives::Service;
+use fk_served::asking::{act_unless, find_act};
 
 impl<'a, S: Service + Drop, W: Worker + Drop> Moment<'a, S, W> {
-    /// The act of a server that picks nobody, where it is ready.
-    fn unpicked(&self, port: Who, ask: &Ask) -> Option<Move>
-        ensures ready { IfSome result (λ m. (m.who ≡ port) × IsReadyAt (world self.now.kernel.now) (event_of (world self.now.kernel.now) ask.now m)) }
-        ensures none { IfNone result (IsReadyAt (world self.now.kernel.now)
-            (event_of (world self.now.kernel.now) ask.now (record { who = port; pick = None })) → ⊥) }
-    {
-        let m = Move {
-            who: port,
-            pick: None,
-        };
-        if self.kernel.ready(&m, ask) {
-            Some(m)
-        } else {
-            None
-        }
-    }
-
-    /// A ready act of the server of a port.
-    fn act_of(&self, port: Who) -> Option<Move>
-        ensures who { IfSome result (λ m. m.who ≡ port) }
-        ensures ready { IfSome result (λ m. IsAskedMove self.now.jobs.now.jobs (seen self.now) m) }
-        ensures none { IfNone result (HasNoAct (seen self.now) port) }
-    {
-        match self.ask(port)? {
-            Ask::Run | Ask::Call { .. } => None,
-            Ask::Accept => Some(Move {
-                who: port,
-                pick: Some(self.kernel.ready_accept(port)?),
-            }),
-            ask => self.unpicked(port, &ask),
-        }
-    }
-
-    /// The same where the port isn't the name of the porter whose job's turn it is.
+    /// A ready act of the server of a port that isn't the name of the porter whose job's turn it is.
     pub fn act_besides(&self, port: Who) -> Option<Move>
         ensures ready { IfSome result (λ m. IsReadyNow self.now m) }
         ensures other { IfSome result (λ m. IsOthersMove self.now.jobs.now.jobs (seen self.now) m) }
-        ensures none { IfNone result (is_porter self.now.jobs.now port ≡ false → HasNoAct (seen self.now) port) }
+        ensures none { IfNone result (is_porter self.now.jobs.now port ≡ false → HasNoAct self.now.services.now.list (world self.now.kernel.now) port) }
     {
-        if self.is_porter(port) {
-            return None;
-        }
-        self.act_of(port)
+        act_unless(self.kernel, self.services, self.porter(), port)
     }
 
     /// A ready act of a server from a place up to another.
@@ -62,14 +27,9 @@ impl<'a, S: Service + Drop, W: Worker + Drop> Moment<'a, S, W> {
         requires { to ≤ length self.now.services.now.list }
         ensures ready { IfSome result (λ m. IsReadyNow self.now m) }
         ensures other { IfSome result (λ m. IsOthersMove self.now.jobs.now.jobs (seen self.now) m) }
-        ensures none { IfNone result (HaveNoActs self.now.jobs.now (seen self.now) from to) }
+        ensures none { IfNone result (HaveNoActs self.now.services.now.list (world self.now.kernel.now) (porter_of (current self.now.jobs.now)) from to) }
     {
-        for at in from..to {
-            if let Some(m) = self.act_besides(self.services.port(at)) {
-                return Some(m);
-            }
-        }
-        None
+        find_act(self.kernel, self.services, self.porter(), from, to)
     }
 
     /// A ready act of the server at a place, where there is one.
@@ -88,7 +48,7 @@ impl<'a, S: Service + Drop, W: Worker + Drop> Moment<'a, S, W> {
         requires { to ≤ length self.now.services.now.list }
         ensures ready { IfSome result (λ m. IsReadyNow self.now m) }
         ensures other { IfSome result (λ m. IsOthersMove self.now.jobs.now.jobs (seen self.now) m) }
-        ensures none { IfNone result (HaveNoActs self.now.jobs.now (seen self.now) 0 to) }
+        ensures none { IfNone result (HaveNoActs self.now.services.now.list (world self.now.kernel.now) (porter_of (current self.now.jobs.now)) 0 to) }
     {
         match self.met() {
             Some(m) => Some(m),

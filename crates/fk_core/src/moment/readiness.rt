@@ -7,8 +7,9 @@ ghost use Rattle.fk_served.specs.Kernels.{world_of as world};
 
 use crate::moment::moment::Moment;
 use fk_jobs::Worker;
-use fk_model::{Ask, Body, Move, Who};
+use fk_model::{Ask, Move, Who};
 use fk_natives::Service;
+use fk_served::asking::{asked_by, is_ready};
 
 impl<'a, S: Service + Drop, W: Worker + Drop> Moment<'a, S, W> {
     /// What a mover asks for that is no job's porter: what it gives is words. Whoever isn't a served port runs.
@@ -16,12 +17,7 @@ impl<'a, S: Service + Drop, W: Worker + Drop> Moment<'a, S, W> {
         ensures asked { result ≡ asked self.now.services.now.list (world self.now.kernel.now) who }
         ensures words { IfSome result (λ ask. has_all_words ask ≡ true) }
     {
-        let store = self.kernel.store();
-        store.names();
-        match store.at(who) {
-            Some(Body::Port { served: true, .. }) => self.services.ask(who),
-            _ => Some(Ask::Run),
-        }
+        asked_by(self.kernel, self.services, who)
     }
 
     /// Whether a move is ready: what its mover asks for is, and a job's is due.
@@ -39,10 +35,7 @@ impl<'a, S: Service + Drop, W: Worker + Drop> Moment<'a, S, W> {
     fn ready_asked(&self, m: &Move) -> bool
         ensures { IsTrue result ↔ IsAskedMove self.now.jobs.now.jobs (seen self.now) m.now }
     {
-        match self.ask(m.who) {
-            Some(ask) => self.kernel.ready(m, &ask),
-            None => false,
-        }
+        is_ready(self.kernel, self.services, m)
     }
 
     /// The same of a job's move.

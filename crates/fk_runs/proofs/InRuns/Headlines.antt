@@ -33,10 +33,10 @@ module _ (s : Scenario) (given : Images) (first : RunCore) (report : Report) (is
 
 pub reports_have_the_headline : ReportsHaveTheHeadline
 reports_have_the_headline s given first report keeps is_first is =
-    let run = programs_have_the_headline s given first is.last report.history is.run keeps is_first.world is_first.sound is_first.ends is_first.work is_first.events
-    is.within in
-    let grounded = programs_are_grounded s given first report.history keeps is_first.world is_first.sound is_first.ends is_first.work is_first.events
-    is.within in
+    let run = programs_have_the_headline s given first is.last report.history is.run keeps is_first.world
+    (record { whole = is_first.sound.whole; savable = is_first.sound.savable }) is_first.ends is_first.work is_first.events is.within in
+    let grounded = programs_are_grounded s given first report.history keeps is_first.world
+    (record { whole = is_first.sound.whole; savable = is_first.sound.savable }) is_first.ends is_first.work is_first.events is.within in
     record {
       run = run;
       saved = λ index moment birth path slot name image hold release at told.

@@ -2,15 +2,13 @@
 use Rattle.std.proofs.Common.{◌≡◌, ℕ, ◌+◌, ◌≤◌, List, refl, sym, subst, ◌∙◌, arith}
 use Rattle.fk_model.specs.declared.moves.Move.{Move}
 use Rattle.fk_model.specs.Runs.{Event}
-use Rattle.fk_model.specs.Searches.{depth}
 use Rattle.fk_first.specs.Cores.{RunCore, house}
-use Rattle.fk_first.specs.Goings.{HasCome}
+use Rattle.fk_first.specs.Goings.{IsFirstCore, HasCome}
 use Rattle.fk_workers.specs.Workers.Shown.{IsSound}
 use Rattle.laws_house.specs.Houses as houses
 use Rattle.laws_house.specs.Houses.{Job}
 use Rattle.laws_jobs.specs.Machines.{Head}
 use Rattle.laws_jobs.specs.Machines.Head.{Stops, Asks}
-use Rattle.laws_runs.specs.Composed.{IsStart}
 use Rattle.laws_runs.specs.Cores.{IsRun, IsReadyBy, Asker, asker, moved_by, job_moved, with_end, Settles}
 use Rattle.laws_runs.specs.Cores.Asker.{Nobody, Others, Job as OfJob}
 use Rattle.laws_runs.specs.Cores.IsRun.{Begins, Goes}
@@ -40,8 +38,4 @@ has_made_none jobs first _ _ (Goes past c m d run ready settles) none =
 pub may_begin : (jobs : List Job) (budget : ℕ) (c : RunCore) → HasCome jobs budget c → c.events ≡ 0 → IsSound (record { jobs = jobs; budget = budget; core = c })
 may_begin jobs budget c come none =
     let same : c ≡ come.first = has_made_none jobs come.first c come.past come.run none in
-    record {
-      start = subst (λ (d : RunCore). IsStart d) (sym same) come.start;
-      slots = come.slots;
-      few = subst (λ (d : RunCore). d.world.next + budget ≤ depth) (sym same) come.few;
-    }
+    subst (λ (d : RunCore). IsFirstCore jobs budget d) (sym same) come.begins

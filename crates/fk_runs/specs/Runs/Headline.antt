@@ -33,7 +33,8 @@ pub record HasReportHeadline (s : Scenario) (given : Images) (first : RunCore) (
       slice_get s.jobs index ≡ Some (Checkpoint moment birth path slot name) →
       slice_get report.jobs index ≡ Some (Some (told.Checkpointed hold release image)) →
       (is_valid image ≡ true) × Checkpointed is.run birth slot hold release (picture image)
-  -- and is plain at its hold: so from there on, and from its release on, the moves that it sees are a further run of it (`run.goes_on`)
+  -- and is plain at its hold: so from there on, and from its release on, up to the first move that it sees as other, what it sees of the
+  -- history is a further run of it (`run.goes_on`)
   pub plain : (index moment birth : ℕ) (path : List ℕ) (slot : ℕ) (name : List ℕ) (image : Image) (hold release : ℕ) →
       slice_get s.jobs index ≡ Some (Checkpoint moment birth path slot name) →
       slice_get report.jobs index ≡ Some (Some (told.Checkpointed hold release image)) →

@@ -8,6 +8,8 @@ use Rattle.std.specs.Result.{result_ok}
 use Rattle.std.specs.Str.{bytes_eq}
 use Rattle.toml.specs.Data.{Data, Members, as_str, as_table}
 use Rattle.fk_model.specs.Names.{is_name}
+use Rattle.fk_model.specs.Sound.{are_apart, bind_same}
+use Rattle.fk_model.proofs.walks.Apart.{apart_push}
 use Rattle.fk_model.specs.Numbers.{is_digit, value_of, number_up_to, has_leading_zero, plain_number_up_to}
 use Rattle.fk_asm.specs.Assembler.{assembled}
 use Rattle.fk_asm.specs.declared.fail.AsmError.{AsmError}
@@ -252,8 +254,20 @@ distinct_same done [] all h = let same : done ≡ all = cc in append-nil done �
 distinct_same done (p ∷ ps) all h =
     after (unless 6 (not (is_bound done p.0))) _ all h (λ _ _ h. sym (append_assoc done (p ∷ []) ps) ∙ distinct_same (done ++ p ∷ []) ps all h)
 
+is_off : (b : Bool) → not b ≡ true → b ≡ false
+is_off true h = absurd (cc)
+is_off false h = refl
+
+-- and each first slot among them is there once
+distinct_apart : (done ps all : List (ℕ × ℕ)) → distinct_from done ps ≡ Ok all → are_apart bind_same done ≡ true → are_apart bind_same all ≡ true
+unfolding distinct_from
+distinct_apart done [] all h apart = let same : done ≡ all = cc in subst (λ (ps : List (ℕ × ℕ)). are_apart bind_same ps ≡ true) same apart
+distinct_apart done (p ∷ ps) all h apart =
+    after (unless 6 (not (is_bound done p.0))) _ all h (λ u is_new h.
+    distinct_apart (done ++ p ∷ []) ps all h (apart_push bind_same done p apart (is_off (is_bound done p.0) (unless-Ok 6 (not (is_bound done p.0)) u is_new))))
+
 kind_kept : (kind : List ℕ) (pairs : List (ℕ × ℕ)) (k : JobKind) → job_kind kind pairs ≡ Ok k → ArePairs pairs → BindsSlots k
-unfolding job_kind
+unfolding job_kind are_apart
 kind_kept kind pairs k h kept = by (is_restore kind) (bytes_eq kind (codes "checkpoint")) h
   where
     by : (restore checkpoint : Bool) →
@@ -261,7 +275,7 @@ kind_kept kind pairs k h kept = by (is_restore kind) (bytes_eq kind (codes "chec
     by true checkpoint h =
         after (distinct_from [] pairs) _ k h (λ bind is_bind h.
         let same : kinds.Restore bind ≡ k = cc in
-        subst BindsSlots same (subst ArePairs (distinct_same [] pairs bind is_bind) kept))
+        subst BindsSlots same (subst ArePairs (distinct_same [] pairs bind is_bind) kept, distinct_apart [] pairs bind is_bind refl))
     by false true h = let same : kinds.Checkpoint ≡ k = cc in subst BindsSlots same tt
     by false false h = absurd (cc)
 

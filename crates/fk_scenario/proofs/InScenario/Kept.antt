@@ -82,7 +82,7 @@ job_done ss vs done j x h kept =
   where
     by : (k : JobKind) → BindsSlots k → (birth : ℕ) → job_spec birth j k ≡ x → HasSlots x
     by kinds.Checkpoint bound birth same = subst HasSlots same (kept.nester, kept.slot)
-    by (kinds.Restore bind) bound birth same = subst HasSlots same (kept.slot, bound)
+    by (kinds.Restore bind) bound birth same = subst HasSlots same (kept.slot, bound.0, bound.1)
 
 jobs_done : (ss : List SpaceEntry) (vs : List ServerEntry) (done : List JobSpec) (js : List JobEntry) (all : List JobSpec) → jobs_from ss vs done js ≡ Ok all
     → All HasSlots done → All KeepsJob js → All HasSlots all

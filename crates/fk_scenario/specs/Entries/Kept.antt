@@ -1,5 +1,6 @@
 -- What every object and every job that is read keeps.
-use Rattle.std.specs.Prelude.{ℕ, ◌+◌, ◌<◌, ◌≤◌, List, length, All, IfSome}
+use Rattle.std.specs.Prelude.{◌≡◌, ℕ, ◌+◌, ◌<◌, ◌≤◌, true, List, length, All, IfSome}
+use Rattle.fk_model.specs.Sound.{are_apart, bind_same}
 use Rattle.fk_scenario.specs.declared.entries.types.ObjectEntry.{ObjectEntry}
 use Rattle.fk_scenario.specs.declared.entries.jobs.JobEntry.{JobEntry}
 use Rattle.fk_scenario.specs.declared.entries.jobs.JobKind.{JobKind}
@@ -32,10 +33,10 @@ pub record KeepsEntry (o : ObjectEntry) : Type 0 where
 abbrev pub ArePairs : List (ℕ × ℕ) → Type 0
 ArePairs pairs = All (λ p. (p.0 ≤ 239) × (p.1 ≤ 239)) pairs
 
--- what a restore binds
+-- what a restore binds, each slot once
 abbrev pub BindsSlots : JobKind → Type 0
 BindsSlots kinds.Checkpoint = Unit {0}
-BindsSlots (kinds.Restore bind) = ArePairs bind
+BindsSlots (kinds.Restore bind) = ArePairs bind × (are_apart bind_same bind ≡ true)
 
 -- a job by itself
 pub record KeepsJob (j : JobEntry) : Type 0 where

@@ -1,11 +1,12 @@
 -- What every scenario that is read keeps, and a machine that begins with it rests on.
-use Rattle.std.specs.Prelude.{◌≡◌, ℕ, ◌≤◌, List, [], length, map, All, Some, Ok}
+use Rattle.std.specs.Prelude.{◌≡◌, ℕ, ◌≤◌, true, List, [], length, map, All, Some, Ok}
 use Rattle.std.specs.List.{slice_get}
 use Rattle.fk_model.specs.declared.moves.Rule.{Rule}
 use Rattle.fk_scenario.specs.declared.entries.types.ServiceSpec.{ServiceSpec}
 use Rattle.fk_scenario.specs.declared.entries.types.ServiceSpec.TheVariants.{Console, Listed}
 use Rattle.fk_model.specs.declared.job.JobSpec.{JobSpec}
 use Rattle.fk_model.specs.declared.job.JobSpec.TheVariants as jobs
+use Rattle.fk_model.specs.Sound.{are_apart, bind_same}
 use Rattle.fk_scenario.specs.declared.entries.jobs.JobEntry.{JobEntry}
 use Rattle.fk_scenario.specs.Entries.Kept.{AreSlots, ArePairs}
 use Rattle.fk_scenario.specs.Sections.Spaces.{count_beneath}
@@ -15,10 +16,10 @@ use Rattle.fk_scenario.specs.Scenario.Aims.{aims_from}
 use Rattle.fk_scenario.specs.Scenario.Servers.{serving_from}
 use Rattle.fk_scenario.specs.Scenario.Jobs.{jobs_from}
 
--- the slots of a job are ones that users may name
+-- the slots of a job are ones that users may name, and it binds none twice
 abbrev pub HasSlots : JobSpec → Type 0
 HasSlots (jobs.Checkpoint moment nester path slot image) = AreSlots path × (slot ≤ 239)
-HasSlots (jobs.Restore moment nester slot image bind) = (slot ≤ 239) × ArePairs bind
+HasSlots (jobs.Restore moment nester slot image bind) = (slot ≤ 239) × ArePairs bind × (are_apart bind_same bind ≡ true)
 
 -- some entries say the jobs: the nester of each is there, and in what it saves no nester and no server lies
 abbrev pub AreAsked : Scenario → Type 0

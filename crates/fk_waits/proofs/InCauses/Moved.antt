@@ -69,13 +69,15 @@ module _ (c : Causes) (q : Queues) (same : SameHeads c.queues.lines q.lines) whe
     filed = filed;
     ready = stays.head_stays c.ready placed.ready;
     free_head = stays.head_stays p.head (filed_middle c.queues.order c.queues.lines a p b placed.filed.filed).head;
+    idle = stays.head_stays c.idle placed.idle;
     known = stays.known_stays placed.known;
     found = stays.found_stays placed.found;
     full = λ g is off.
-        ap (λ (l : List ℕ). among g (p.head ∷ l)) (heads_moved a b (at_head p head)) ∙ sym (among_moved g head p.head (heads a) (heads b))
-        ∙ ap (λ (l : List ℕ). among g (head ∷ l)) (sym (heads_split a p b)) ∙ placed.full g (same.none g is) off;
-    count = placed.count ∙ ap (λ (l : List ℕ). kinds c.ready (head ∷ l)) (heads_split a p b) ∙ kinds_moved c.ready head p.head (heads a) (heads b)
-        ∙ ap (λ (l : List ℕ). kinds c.ready (p.head ∷ l)) (sym (heads_moved a b (at_head p head)));
+        ap (λ (l : List ℕ). among g (p.head ∷ c.idle ∷ l)) (heads_moved a b (at_head p head)) ∙ sym (among_moved g head p.head (c.idle ∷ heads a) (heads b))
+        ∙ ap (λ (l : List ℕ). among g (head ∷ c.idle ∷ l)) (sym (heads_split a p b)) ∙ placed.full g (same.none g is) off;
+    count = placed.count ∙ ap (λ (l : List ℕ). kinds c.ready (head ∷ c.idle ∷ l)) (heads_split a p b)
+        ∙ kinds_moved c.ready head p.head (c.idle ∷ heads a) (heads b)
+        ∙ ap (λ (l : List ℕ). kinds c.ready (p.head ∷ c.idle ∷ l)) (sym (heads_moved a b (at_head p head)));
     order = let long = long_moved a b p (at_head p head) in omega (arith, order, placed.order, long);
     lines = let long = long_moved a b p (at_head p head) in omega (arith, lines, placed.lines, long);
     few = let long = long_moved a b p (at_head p head) in omega (arith, placed.few, long);
@@ -88,13 +90,15 @@ module _ (c : Causes) (q : Queues) (same : SameHeads c.queues.lines q.lines) whe
     filed = filed;
     ready = stays.head_stays c.ready placed.ready;
     free_head = stays.head_stays p.head (filed_middle c.queues.order c.queues.lines a p b placed.filed.filed).head;
+    idle = stays.head_stays c.idle placed.idle;
     known = stays.known_stays placed.known;
     found = stays.found_stays placed.found;
     full = λ g is off.
-        ap (λ (l : List ℕ). among g (p.head ∷ l)) (keys_split head_of a b) ∙ sym (among_middle g (heads a) p.head (heads b))
-        ∙ ap (among g) (sym (heads_split a p b)) ∙ sym (among_rest g c.ready (heads (a ++ p ∷ b)) off) ∙ placed.full g (same.none g is) off;
-    count = placed.count ∙ kinds_besides c.ready (heads (a ++ p ∷ b)) ∙ ap (kinds c.ready) (heads_split a p b)
-        ∙ kinds_middle c.ready (heads a) p.head (heads b) ∙ ap (λ (l : List ℕ). kinds c.ready (p.head ∷ l)) (sym (keys_split head_of a b));
+        ap (λ (l : List ℕ). among g (p.head ∷ c.idle ∷ l)) (keys_split head_of a b) ∙ sym (among_middle g (c.idle ∷ heads a) p.head (heads b))
+        ∙ ap (λ (k : List ℕ). among g (c.idle ∷ k)) (sym (heads_split a p b))
+        ∙ sym (among_rest g c.ready (c.idle ∷ heads (a ++ p ∷ b)) off) ∙ placed.full g (same.none g is) off;
+    count = placed.count ∙ kinds_besides c.ready (c.idle ∷ heads (a ++ p ∷ b)) ∙ ap (λ (k : List ℕ). kinds c.ready (c.idle ∷ k)) (heads_split a p b)
+        ∙ kinds_middle c.ready (c.idle ∷ heads a) p.head (heads b) ∙ ap (λ (l : List ℕ). kinds c.ready (p.head ∷ c.idle ∷ l)) (sym (keys_split head_of a b));
     order = let long = long_left a b p in omega (arith, order, placed.order, long);
     lines = let long = long_left a b p in omega (arith, lines, placed.lines, long);
     few = let long = long_left a b p in omega (arith, placed.few, long);
@@ -108,13 +112,16 @@ module _ (c : Causes) (q : Queues) (same : SameHeads c.queues.lines q.lines) whe
     filed = filed;
     ready = stays.head_stays c.ready placed.ready;
     free_head = stays.head_stays c.ready placed.ready;
+    idle = stays.head_stays c.idle placed.idle;
     known = stays.known_stays placed.known;
     found = stays.found_stays placed.found;
     full = λ g is off.
-        among_more g c.ready (heads (l ++ p ∷ []))
-        (ap (among g) (keys_split head_of l (p ∷ [])) ∙ among_last g (heads l) p.head ∙ placed.full g (same.none g is) off);
-    count = placed.count ∙ sym (kinds_last c.ready (heads l) p.head) ∙ ap (kinds c.ready) (sym (keys_split head_of l (p ∷ [])))
-        ∙ sym (kinds_besides c.ready (heads (l ++ p ∷ [])));
+        among_more g c.ready (c.idle ∷ heads (l ++ p ∷ []))
+        (ap (λ (k : List ℕ). among g (c.idle ∷ k)) (keys_split head_of l (p ∷ []))
+        ∙ among_last g (c.idle ∷ heads l) p.head ∙ placed.full g (same.none g is) off);
+    count = placed.count ∙ sym (kinds_last c.ready (c.idle ∷ heads l) p.head)
+        ∙ ap (λ (k : List ℕ). kinds c.ready (c.idle ∷ k)) (sym (keys_split head_of l (p ∷ [])))
+        ∙ sym (kinds_besides c.ready (c.idle ∷ heads (l ++ p ∷ [])));
     order = let long = long_last l p in omega (arith, order, placed.order, long);
     lines = let long = long_last l p in omega (arith, lines, placed.lines, long);
     few = let long = long_last l p in omega (arith, seat, long);
@@ -128,10 +135,11 @@ module _ (c : Causes) (q : Queues) (same : SameHeads c.queues.lines q.lines) whe
     filed = filed;
     ready = stays.head_stays c.ready placed.ready;
     free_head = stays.head_stays c.ready placed.ready;
+    idle = stays.head_stays c.idle placed.idle;
     known = stays.known_stays placed.known;
     found = stays.found_stays placed.found;
-    full = λ g is off. ap (λ (l : List ℕ). among g (c.ready ∷ l)) (same_heads a p b who) ∙ placed.full g (same.none g is) off;
-    count = placed.count ∙ ap (λ (l : List ℕ). kinds c.ready (c.ready ∷ l)) (sym (same_heads a p b who));
+    full = λ g is off. ap (λ (l : List ℕ). among g (c.ready ∷ c.idle ∷ l)) (same_heads a p b who) ∙ placed.full g (same.none g is) off;
+    count = placed.count ∙ ap (λ (l : List ℕ). kinds c.ready (c.ready ∷ c.idle ∷ l)) (sym (same_heads a p b who));
     order = let long = long_named a b p (with_name p who) in omega (arith, order, placed.order, long);
     lines = let long = long_named a b p (with_name p who) in omega (arith, lines, placed.lines, long);
     few = let long = long_named a b p (with_name p who) in omega (arith, placed.few, long);

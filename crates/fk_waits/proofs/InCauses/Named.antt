@@ -86,6 +86,7 @@ module _ (c : Causes) (q : Queues) (names : List Name × ℕ) (h : ℕ) (from to
     filed = filed;
     ready = head_now c.ready p.ready;
     free_head = head_now c.ready p.ready;
+    idle = head_now c.idle p.idle;
     known = λ n g is. known-now n g (is_same to n) refl (is_same from n) refl (sym (put n) ∙ is);
     found = λ n g is off. found-now n g is off (g == h) refl;
     full = λ g is off. p.full g (head_was g is) off;

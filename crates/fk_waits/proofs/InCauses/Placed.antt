@@ -1,7 +1,7 @@
 -- Placed: threads in the queues of causes, once a queue has come, or has somebody in it, or has gone.
 use Rattle.std.proofs.Common.{◌≡◌, ◌≢◌, ◌≤◌, ◌+◌, ◌==◌, ◌||◌, ℕ, suc, Bool, true, false, List, [], ◌∷◌, length, map, Option, Some, None}
 use Rattle.std.proofs.Common.{if◌then◌else◌, refl, sym, ap, subst, ◌∙◌, arith, eq-eqb}
-use Rattle.std.proofs.lemmas.Bool.{eqb-true, or_parts, or_right}
+use Rattle.std.proofs.lemmas.Bool.{eqb-true, or_from, or_parts, or_right}
 use Rattle.slab.specs.Slab.{Slab, slab_len}
 use Rattle.fk_model.specs.declared.names.Who.{Who}
 use Rattle.fk_waits.specs.Queues.Chains.{IsNoneOf}
@@ -14,13 +14,13 @@ use Rattle.fk_waits.specs.Queues.Places.{first_at, in_queue, node_in, who_in, wh
 use Rattle.fk_waits.specs.declared.queues.queues.Queues.{Queues}
 use Rattle.fk_waits.specs.Causes.Causes.{among, heads, standing_of, ArePlaced}
 use Rattle.fk_waits.specs.declared.causes.causes.Causes.{Causes}
-use Rattle.fk_waits.proofs.InCauses.Numbers.{among_first, among_more, among_rest, among_twice, clash, kinds_besides, kinds_few, kinds_more, kinds_same}
+use Rattle.fk_waits.proofs.InCauses.Numbers.{among_first, among_more, among_rest, among_twice, clash, kinds_besides, kinds_few, kinds_more, kinds_same, unlike}
 
 abbrev pub with_queues : Causes → Queues → Causes
-with_queues c q = record { queues = q; names = c.names; ready = c.ready; seats = c.seats }
+with_queues c q = record { queues = q; names = c.names; ready = c.ready; idle = c.idle; seats = c.seats }
 
 abbrev pub with_both : Causes → Queues → List Name × ℕ → Causes
-with_both c q names = record { queues = q; names = names; ready = c.ready; seats = c.seats }
+with_both c q names = record { queues = q; names = names; ready = c.ready; idle = c.idle; seats = c.seats }
 
 -- ---- what nodes show, and names
 
@@ -116,46 +116,50 @@ module _ (c : Causes) (l : List Place) where
     filed = p.filed;
     ready = p.ready;
     free_head = is;
+    idle = p.idle;
     known = p.known;
     found = p.found;
-    full = λ g head other. among_more g h (heads l) (stood g head other);
-    count = p.count ∙ kinds_besides c.ready (heads l) ∙ sym (kinds_same c.ready h (heads l) (or_right (h == c.ready) (among h (heads l)) (stood h is off)));
+    full = λ g head other. among_more g h (c.idle ∷ heads l) (stood g head other);
+    count = p.count ∙ kinds_besides c.ready (c.idle ∷ heads l)
+        ∙ sym (kinds_same c.ready h (c.idle ∷ heads l) (or_right (h == c.ready) (among h (c.idle ∷ heads l)) (stood h is off)));
     order = p.order;
     lines = p.lines;
     few = p.few;
   }
     where
-      stood : (g : ℕ) → IsHead c.queues.lines g → g ≢ c.ready → among g (heads l) ≡ true
-      stood g head other = sym (among_rest g c.ready (heads l) other) ∙ p.full g head other
+      stood : (g : ℕ) → IsHead c.queues.lines g → g ≢ c.ready → among g (c.idle ∷ heads l) ≡ true
+      stood g head other = sym (among_rest g c.ready (c.idle ∷ heads l) other) ∙ p.full g head other
 
   -- it isn't empty
-  pub settled : (h : ℕ) → ArePlaced c h l → among h (heads l) ≡ true → ArePlaced c c.ready l
+  pub settled : (h : ℕ) → ArePlaced c h l → among h (c.idle ∷ heads l) ≡ true → ArePlaced c c.ready l
   settled h p there = record {
     filed = p.filed;
     ready = p.ready;
     free_head = p.ready;
+    idle = p.idle;
     known = p.known;
     found = p.found;
-    full = λ g head other. among_more g c.ready (heads l) (among_twice g h (heads l) there (p.full g head other));
-    count = p.count ∙ kinds_same c.ready h (heads l) (or_right (h == c.ready) (among h (heads l)) there) ∙ sym (kinds_besides c.ready (heads l));
+    full = λ g head other. among_more g c.ready (c.idle ∷ heads l) (among_twice g h (c.idle ∷ heads l) there (p.full g head other));
+    count = p.count ∙ kinds_same c.ready h (c.idle ∷ heads l) (or_right (h == c.ready) (among h (c.idle ∷ heads l)) there)
+        ∙ sym (kinds_besides c.ready (c.idle ∷ heads l));
     order = p.order;
     lines = p.lines;
     few = p.few;
   }
 
   -- there are no more causes with a name than threads, but for the free one
-  pub names_few : (h : ℕ) → ArePlaced c h l → length c.names.0 ≤ length l + 1
-  names_few h p = let few = kinds_few c.ready (h ∷ heads l) in let long = length_heads l in omega (arith, p.count, few, long)
+  pub names_few : (h : ℕ) → ArePlaced c h l → length c.names.0 ≤ length l + 2
+  names_few h p = let few = kinds_few c.ready (h ∷ c.idle ∷ heads l) in let long = length_heads l in omega (arith, p.count, few, long)
     where
       length_heads : (k : List Place) → length (heads k) ≡ length k
       length_heads [] = refl
       length_heads (x ∷ k) = ap (λ (n : ℕ). suc n) (length_heads k)
 
-  pub names_fewer : ArePlaced c c.ready l → length c.names.0 ≤ length l
+  pub names_fewer : ArePlaced c c.ready l → length c.names.0 ≤ length l + 1
   names_fewer p =
-      let few = kinds_few c.ready (heads l) in
+      let few = kinds_few c.ready (c.idle ∷ heads l) in
       let long = length_heads l in
-      omega (arith, p.count ∙ kinds_besides c.ready (heads l), few, long)
+      omega (arith, p.count ∙ kinds_besides c.ready (c.idle ∷ heads l), few, long)
     where
       length_heads : (k : List Place) → length (heads k) ≡ length k
       length_heads [] = refl
@@ -174,10 +178,11 @@ module _ (c : Causes) (q : Queues) (names : List Name × ℕ) (h : ℕ) (name : 
     filed = filed;
     ready = (p.ready.0, others c.ready (head_apart c.queues.lines c.ready h new p.ready) ∙ p.ready.1);
     free_head = (name, shown);
+    idle = (p.idle.0, others c.idle (head_apart c.queues.lines c.idle h new p.idle) ∙ p.idle.1);
     known = λ n g is. known n g (is_same name n) refl (sym (put n) ∙ is);
     found = λ n g is off. found n g is off (g == h) refl;
     full = λ g is off. full g is off (g == h) refl;
-    count = more ∙ ap (λ (n : ℕ). n + 1) (p.count ∙ kinds_besides c.ready (heads l)) ∙ sym (kinds_more c.ready h (heads l) apart none);
+    count = more ∙ ap (λ (n : ℕ). n + 1) (p.count ∙ kinds_besides c.ready (c.idle ∷ heads l)) ∙ sym (kinds_more c.ready h (c.idle ∷ heads l) apart none);
     order = order ∙ p.order;
     lines = omega (arith, lines, p.lines, more);
     few = p.few;
@@ -186,8 +191,9 @@ module _ (c : Causes) (q : Queues) (names : List Name × ℕ) (h : ℕ) (name : 
       apart : h ≢ c.ready
       apart = turn_round c.ready h (head_apart c.queues.lines c.ready h new p.ready)
 
-      none : among h (heads l) ≡ false
-      none = vacant_heads c.queues.order c.queues.lines h new l p.filed.filed
+      none : among h (c.idle ∷ heads l) ≡ false
+      none = or_from (c.idle == h) (among h (heads l)) (unlike c.idle h (head_apart c.queues.lines c.idle h new p.idle))
+          (vacant_heads c.queues.order c.queues.lines h new l p.filed.filed)
 
       known : (n : Who) (g : ℕ) (t : Bool) → is_same name n ≡ t → (if is_same name n then Some h else key_at c.names.0 n) ≡ Some g →
           (shown_at q.lines g ≡ Some (n, g)) × (g ≢ c.ready)
@@ -214,11 +220,11 @@ module _ (c : Causes) (q : Queues) (names : List Name × ℕ) (h : ℕ) (name : 
           by true is_so was = none_key g (sym unknown ∙ ap (key_at c.names.0) (same_who name n is_so) ∙ was)
           by false not_so was = rw not_so was
 
-      full : (g : ℕ) → IsHead q.lines g → g ≢ c.ready → (t : Bool) → (g == h) ≡ t → among g (h ∷ heads l) ≡ true
-      full g is off true e = subst (λ (m : ℕ). among m (h ∷ heads l) ≡ true) (sym (eqb-true g h e)) (among_first h (heads l))
+      full : (g : ℕ) → IsHead q.lines g → g ≢ c.ready → (t : Bool) → (g == h) ≡ t → among g (h ∷ c.idle ∷ heads l) ≡ true
+      full g is off true e = subst (λ (m : ℕ). among m (h ∷ c.idle ∷ heads l) ≡ true) (sym (eqb-true g h e)) (among_first h (c.idle ∷ heads l))
       full g is off false e =
           let apart_from : g ≢ h = λ (same : g ≡ h). clash (g == h) (eq-eqb g h same) e in
-          among_more g h (heads l) (sym (among_rest g c.ready (heads l) off) ∙ p.full g (is.0, sym (others g apart_from) ∙ is.1) off)
+          among_more g h (c.idle ∷ heads l) (sym (among_rest g c.ready (c.idle ∷ heads l) off) ∙ p.full g (is.0, sym (others g apart_from) ∙ is.1) off)
 
 -- ---- a queue goes
 
@@ -226,16 +232,17 @@ module _ (c : Causes) (q : Queues) (names : List Name × ℕ) (h : ℕ) (name : 
     (gone : shown_at q.lines h ≡ None) (others : (m : ℕ) → m ≢ h → shown_at q.lines m ≡ shown_at c.queues.lines m)
     (taken : (other : Who) → key_at names.0 other ≡ (if is_same name other then None else key_at c.names.0 other))
     (fewer : length names.0 + 1 ≡ length c.names.0)
-    (order : slab_len q.order ≡ slab_len c.queues.order) (lines : slab_len q.lines + 1 ≡ slab_len c.queues.lines) where
-  pub closed : (l : List Place) → ArePlaced c h l → among h (heads l) ≡ false → AreFiled q l → ArePlaced (with_both c q names) c.ready l
+    (order : slab_len q.order ≡ slab_len c.queues.order) (lines : slab_len q.lines + 1 ≡ slab_len c.queues.lines) (idle_apart : h ≢ c.idle) where
+  pub closed : (l : List Place) → ArePlaced c h l → among h (c.idle ∷ heads l) ≡ false → AreFiled q l → ArePlaced (with_both c q names) c.ready l
   closed l p none filed = record {
     filed = filed;
     ready = ready;
     free_head = ready;
+    idle = (p.idle.0, others c.idle (turn_round h c.idle idle_apart) ∙ p.idle.1);
     known = λ n g is. known n g (is_same name n) refl (sym (taken n) ∙ is);
     found = found;
-    full = λ g is off. among_more g c.ready (heads l) (sym (among_rest g h (heads l) (heads_apart g is)) ∙ p.full g (was g is) off);
-    count = omega (arith, fewer, p.count ∙ kinds_more c.ready h (heads l) apart none, kinds_besides c.ready (heads l));
+    full = λ g is off. among_more g c.ready (c.idle ∷ heads l) (sym (among_rest g h (c.idle ∷ heads l) (heads_apart g is)) ∙ p.full g (was g is) off);
+    count = omega (arith, fewer, p.count ∙ kinds_more c.ready h (c.idle ∷ heads l) apart none, kinds_besides c.ready (c.idle ∷ heads l));
     order = order ∙ p.order;
     lines = omega (arith, lines, p.lines, fewer);
     few = p.few;

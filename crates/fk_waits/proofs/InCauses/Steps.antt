@@ -12,11 +12,13 @@ use Rattle.fk_waits.proofs.InQueues.Places.{filed_middle}
 use Rattle.fk_waits.proofs.InQueues.Turned.{all_without}
 use Rattle.fk_waits.proofs.InQueues.Heads.{all_before, all_behind}
 use Rattle.fk_waits.proofs.InQueues.Walk.{head_is}
-use Rattle.fk_waits.specs.Causes.Causes.{cause_of, first_of, front_of, recaused, standing_of, ArePlaced, AreStanding, HasSeat, IsRoomy, Stand, Standing}
+use Rattle.fk_waits.specs.Causes.Causes.{among, cause_of, first_of, front_of, heads, recaused, standing_of, ArePlaced, AreStanding}
+use Rattle.fk_waits.specs.Causes.Causes.{HasSeat, IsRoomy, Stand, Standing}
 use Rattle.fk_waits.specs.declared.causes.causes.Causes.{Causes}
-use Rattle.fk_waits.proofs.InCauses.Numbers.{kinds_besides, unlike}
+use Rattle.fk_waits.proofs.InCauses.Numbers.{among_first, among_more, among_swap, kinds_besides, kinds_swap, unlike}
 use Rattle.fk_waits.proofs.InCauses.Placed.{alike, alike_but, closed, freed, names_few, names_fewer, none_first, opened, settled, some_first, vacant_heads}
-use Rattle.fk_waits.proofs.InCauses.Placed.{with_both, with_queues}
+use Rattle.fk_waits.proofs.InCauses.Placed.{turn_round, with_both, with_queues}
+use Rattle.std.proofs.lemmas.Bool.{or_from}
 use Rattle.fk_waits.proofs.InCauses.Moved.{at_head, come, gone, moved, named, with_name}
 use Rattle.fk_waits.proofs.InCauses.Named.{cause_named, causes_named, causes_same}
 use Rattle.fk_waits.proofs.InCauses.Shown.{first_is, none_waits, parts, shown_long, shown_split, Parts}
@@ -258,8 +260,46 @@ stays_so c h who first l standing =
     record {
       places = standing.places;
       shown = standing.shown;
-      placed = settled c standing.places h standing.placed (some_first h standing.places who (first standing.places standing.placed.filed));
+      placed = settled c standing.places h standing.placed (among_more h c.idle (heads standing.places)
+          (some_first h standing.places who (first standing.places standing.placed.filed)));
       roomy = standing.roomy;
+    }
+
+-- the queue that is kept may be empty
+pub idle_so : (c : Causes) (h : ℕ) → c.idle ≡ h → (l : List Standing) → AreStanding c h l → AreStanding c c.ready l
+idle_so c h is l standing =
+    record {
+      places = standing.places;
+      shown = standing.shown;
+      placed = settled c standing.places h standing.placed
+          (subst (λ (n : ℕ). among n (c.idle ∷ heads standing.places) ≡ true) is (among_first c.idle (heads standing.places)));
+      roomy = standing.roomy;
+    }
+
+abbrev pub with_idle : Causes → ℕ → Causes
+with_idle c h = record { queues = c.queues; names = c.names; ready = c.ready; idle = h; seats = c.seats }
+
+-- one is kept in place of another, which may be empty then
+pub swapped_so : (c : Causes) (h : ℕ) (l : List Standing) → AreStanding c h l → AreStanding (with_idle c h) c.idle l
+swapped_so c h l standing =
+    let p = standing.placed in
+    record {
+      places = standing.places;
+      shown = standing.shown;
+      placed = record {
+        filed = p.filed;
+        ready = p.ready;
+        free_head = p.idle;
+        idle = p.free_head;
+        known = p.known;
+        found = p.found;
+        full = λ g head off. among_swap g c.idle h (heads standing.places) ∙ p.full g head off;
+        count = p.count ∙ kinds_swap c.ready h c.idle (heads standing.places);
+        order = p.order;
+        lines = p.lines;
+        few = p.few;
+      };
+      roomy = record { order = standing.roomy.order; lines = standing.roomy.lines; names = standing.roomy.names };
     }
 
 module _ (c : Causes) (q : Queues) (names : List Name × ℕ) (h : ℕ) (name : Who) (at : Some name ≡ who_shown (shown_at c.queues.lines h)) (apart : h ≢ c.ready)
@@ -268,7 +308,7 @@ module _ (c : Causes) (q : Queues) (names : List Name × ℕ) (h : ℕ) (name : 
     (fewer : key_at c.names.0 name ≡ Some h → length names.0 + 1 ≡ length c.names.0) (wide : c.names.1 ≡ names.1)
     (order : slab_len q.order ≡ slab_len c.queues.order) (lines : slab_len q.lines + 1 ≡ slab_len c.queues.lines)
     (room : SameRoom c.queues q) (filed : (l : List Place) → AreFiled c.queues l → in_queue h l ≡ [] → AreFiled q l)
-    (empty : (l : List Place) → AreFiled c.queues l → None ≡ first_at h l) where
+    (empty : (l : List Place) → AreFiled c.queues l → None ≡ first_at h l) (idle_apart : h ≢ c.idle) where
   pub closed_so : (l : List Standing) → AreStanding c h l → AreStanding (with_both c q names) c.ready l
   closed_so l standing =
       let none = none_first h standing.places (empty standing.places standing.placed.filed) in
@@ -276,11 +316,14 @@ module _ (c : Causes) (q : Queues) (names : List Name × ℕ) (h : ℕ) (name : 
       record {
         places = standing.places;
         shown = alike_but c q names h standing.places none.0 others_same ∙ standing.shown;
-        placed = closed c q names h name shown apart gone_now others_same taken (fewer (standing.placed.found name h shown apart)) order lines
-            standing.places standing.placed none.0 (filed standing.places standing.placed.filed none.1);
+        placed = closed c q names h name shown apart gone_now others_same taken (fewer (standing.placed.found name h shown apart)) order lines idle_apart
+            standing.places standing.placed (nobody none.0) (filed standing.places standing.placed.filed none.1);
         roomy = roomy_still c q names room (omega (arith, wide)) standing.roomy;
       }
     where
+      nobody : among h (heads standing.places) ≡ false → among h (c.idle ∷ heads standing.places) ≡ false
+      nobody none = or_from (c.idle == h) (among h (heads standing.places)) (unlike c.idle h (turn_round h c.idle idle_apart)) none
+
       who_or : Option Who → Who
       who_or None = name
       who_or (Some x) = x
@@ -380,8 +423,8 @@ taken_long c names after fewer more = omega (arith, fewer, more)
 
 pub wider_so : (c : Causes) (q : Queues) (names : List Name × ℕ) (seats : ℕ) → ((l : List Place) → AreFiled c.queues l → AreFiled q l) →
     ((h : ℕ) → shown_at q.lines h ≡ shown_at c.queues.lines h) → slab_len q.order ≡ slab_len c.queues.order → slab_len q.lines ≡ slab_len c.queues.lines →
-    names.0 ≡ c.names.0 → c.seats ≤ seats → (IsRoomy c → IsRoomy (record { queues = q; names = names; ready = c.ready; seats = seats })) →
-    (l : List Standing) → AreStanding c c.ready l → AreStanding (record { queues = q; names = names; ready = c.ready; seats = seats }) c.ready l
+    names.0 ≡ c.names.0 → c.seats ≤ seats → (IsRoomy c → IsRoomy (record { queues = q; names = names; ready = c.ready; idle = c.idle; seats = seats })) →
+    (l : List Standing) → AreStanding c c.ready l → AreStanding (record { queues = q; names = names; ready = c.ready; idle = c.idle; seats = seats }) c.ready l
 wider_so c q names seats filed shown order lines same more room l standing =
     let p = standing.placed in
     record {
@@ -391,6 +434,7 @@ wider_so c q names seats filed shown order lines same more room l standing =
         filed = filed standing.places p.filed;
         ready = (p.ready.0, shown c.ready ∙ p.ready.1);
         free_head = (p.free_head.0, shown c.ready ∙ p.free_head.1);
+        idle = (p.idle.0, shown c.idle ∙ p.idle.1);
         known = λ name h is. let k = p.known name h (sym (ap (λ (n : List Name). key_at n name) same) ∙ is) in (shown h ∙ k.0, k.1);
         found = λ name h is off. ap (λ (n : List Name). key_at n name) same ∙ p.found name h (sym (shown h) ∙ is) off;
         full = λ h is off. p.full h (was h is) off;
@@ -421,16 +465,16 @@ wider_both c q names filed shown order lines first second same wide l standing =
 
 pub reserved_so : (c : Causes) (q : Queues) (names : List Name × ℕ) (seats : ℕ) → ((l : List Place) → AreFiled c.queues l → AreFiled q l) →
     ((h : ℕ) → shown_at q.lines h ≡ shown_at c.queues.lines h) → slab_len q.order ≡ slab_len c.queues.order → slab_len q.lines ≡ slab_len c.queues.lines →
-    names.0 ≡ c.names.0 → c.seats ≤ seats → HasRoomFor q.order (2 * seats + 2) → HasRoomFor q.lines (2 * seats + 2) → HasRoom names (seats + 1) →
-    (l : List Standing) → AreStanding c c.ready l → AreStanding (record { queues = q; names = names; ready = c.ready; seats = seats }) c.ready l
+    names.0 ≡ c.names.0 → c.seats ≤ seats → HasRoomFor q.order (2 * seats + 3) → HasRoomFor q.lines (2 * seats + 3) → HasRoom names (seats + 2) →
+    (l : List Standing) → AreStanding c c.ready l → AreStanding (record { queues = q; names = names; ready = c.ready; idle = c.idle; seats = seats }) c.ready l
 reserved_so c q names seats filed shown order lines same more first second third l standing =
     wider_so c q names seats filed shown order lines same more
     (λ r. record { order = omega (arith, first); lines = omega (arith, second); names = omega (arith, third) }) l standing
 
 pub none_so : (q r : Queues) (names : List Name × ℕ) (ready : ℕ) (name : Who) → AreFiled r [] → ((h : ℕ) → shown_at q.lines h ≡ None) →
     shown_at r.lines ready ≡ Some (name, ready) → ((m : ℕ) → m ≢ ready → shown_at r.lines m ≡ shown_at q.lines m) → names.0 ≡ [] →
-    slab_len r.order ≡ 1 → slab_len r.lines ≡ 1 → 1 ≤ r.order.capacity → 2 ≤ r.lines.capacity → 1 ≤ names.1 →
-    AreStanding (record { queues = r; names = names; ready = ready; seats = 0 }) ready []
+    slab_len r.order ≡ 1 → slab_len r.lines ≡ 1 → 1 ≤ r.order.capacity → 3 ≤ r.lines.capacity → 2 ≤ names.1 →
+    AreStanding (record { queues = r; names = names; ready = ready; idle = ready; seats = 0 }) ready []
 none_so q r names ready name filed none shown others empty order lines first second third = record {
   places = [];
   shown = refl;
@@ -438,10 +482,11 @@ none_so q r names ready name filed none shown others empty order lines first sec
     filed = filed;
     ready = (name, shown);
     free_head = (name, shown);
+    idle = (name, shown);
     known = λ n h is. no_key (sym (ap (λ (k : List Name). key_at k n) empty) ∙ is);
     found = λ n h is off. no_shown (sym (none h) ∙ sym (others h off) ∙ is);
     full = λ h is off. no_shown (sym (none h) ∙ sym (others h off) ∙ is.1);
-    count = ap (λ (k : List Name). length k) empty ∙ sym (kinds_besides ready []);
+    count = ap (λ (k : List Name). length k) empty ∙ sym (kinds_besides ready (ready ∷ []) ∙ kinds_besides ready []);
     order = order;
     lines = let long = ap (λ (k : List Name). length k) empty in omega (arith, lines, long);
     few = omega arith;

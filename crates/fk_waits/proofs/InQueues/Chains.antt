@@ -1,5 +1,6 @@
 -- Chains: a node joins, a node leaves, others stay.
-use Rattle.std.proofs.Common.{◌≡◌, ◌≢◌, ℕ, List, [], ◌∷◌, ◌++◌, refl, ap, sym, subst, ◌∙◌, ne_eqb, eq-eqb}
+use Rattle.std.proofs.Common.{◌≡◌, ◌≢◌, ◌==◌, ℕ, Bool, true, false, List, [], ◌∷◌, ◌++◌, refl, ap, sym, subst, ◌∙◌, ne_eqb, eq-eqb}
+use Rattle.std.proofs.lemmas.Bool.{eqb-true}
 use Rattle.fk_waits.specs.Queues.Chains.{put_at, AllAre, IsWay, IsNoneOf, AreApart, IsList}
 
 pub put-same : (f : ℕ → ℕ) (n a : ℕ) → put_at f n a n ≡ a
@@ -7,6 +8,16 @@ put-same f n a = rw (eq-eqb n n refl) refl
 
 pub put-other : (f : ℕ → ℕ) (n a m : ℕ) → m ≢ n → put_at f n a m ≡ f m
 put-other f n a m apart = rw (ne_eqb m n apart) refl
+
+-- two changes of a function at different numbers are made in either order
+pub put-swap : (f : ℕ → ℕ) (a x b y m : ℕ) → a ≢ b → put_at (put_at f a x) b y m ≡ put_at (put_at f b y) a x m
+put-swap f a x b y m apart = by (m == a) refl (m == b) refl
+  where
+    by : (s : Bool) → (m == a) ≡ s → (t : Bool) → (m == b) ≡ t → put_at (put_at f a x) b y m ≡ put_at (put_at f b y) a x m
+    by true e true g = absurd (apart (sym (eqb-true m a e) ∙ eqb-true m b g))
+    by true e false g = rw (e, g) refl
+    by false e true g = rw (e, g) refl
+    by false e false g = rw (e, g) refl
 
 flip : (a b : ℕ) → a ≢ b → b ≢ a
 flip a b h e = h (sym e)

@@ -6,7 +6,8 @@ use Rattle.slab.proofs.SlabLemmas.{Updates-with_value}
 use Rattle.fk_waits.specs.Queues.Chains.{put_at, IsList, IsNoneOf}
 use Rattle.fk_waits.specs.Queues.Nodes.{next_in, prev_in, next_of, prev_of, AreDisjoint, IsListed}
 use Rattle.fk_waits.specs.declared.queues.lists.Node.{Node}
-use Rattle.fk_waits.proofs.InQueues.Chains.{put-same, same_everywhere, joins_last, leaves_list, list_agrees, others_stay, last_is, before_is, behind_is}
+use Rattle.fk_waits.proofs.InQueues.Chains.{put-same, put-swap, same_everywhere, joins_last, leaves_list, list_agrees, others_stay, last_is, before_is}
+use Rattle.fk_waits.proofs.InQueues.Chains.{behind_is}
 
 -- one node stands right before another now
 pub record AreLinked (old new : Slab Node) (before behind : ℕ) : Type 0 where
@@ -26,22 +27,34 @@ pub linked_elsewhere : (old new : Slab Node) (before behind head : ℕ) (l : Lis
 linked_elsewhere old new before behind head l linked is off out =
     relisted old new before behind head l linked (others_stay (next_of old) (prev_of old) head l before behind behind before is off out)
 
-pub joined : (s t u : Slab Node) (head node last : ℕ) (l : List ℕ) → prev_of s head ≡ last → AreLinked s t last node → AreLinked t u node head →
-    IsListed s head l → IsNoneOf node (head ∷ l) → IsListed u head (l ++ node ∷ [])
-joined s t u head node last l end first second is off =
-    let made = subst (λ (p : ℕ). IsList (put_at (put_at (next_of s) p node) node head) (put_at (put_at (prev_of s) node p) head node) head (l ++ node ∷ [])) end
-    (joins_last (next_of s) (prev_of s) head node l is off) in
-    relisted t u node head head (l ++ node ∷ []) second
-    (subst (λ (f : ℕ → ℕ). IsList (put_at f node head) (put_at (prev_of t) head node) head (l ++ node ∷ [])) (sym (same_everywhere first.next))
-    (subst (λ (g : ℕ → ℕ). IsList (put_at (put_at (next_of s) last node) node head) (put_at g head node) head (l ++ node ∷ []))
-    (sym (same_everywhere first.prev)) made))
+-- a node was linked last behind a head: its last node, the node itself and the head say so
+pub record IsLinkedLast (s u : Slab Node) (head node last : ℕ) : Type 0 where
+  pub next : (m : ℕ) → next_of u m ≡ put_at (put_at (next_of s) last node) node head m
+  pub prev : (m : ℕ) → prev_of u m ≡ put_at (put_at (prev_of s) head node) node last m
 
-pub joined_elsewhere : (s t u : Slab Node) (head node last h : ℕ) (k l : List ℕ) → prev_of s head ≡ last → AreLinked s t last node → AreLinked t u node head →
+-- a list of the nodes as they are linked then
+linked_so : (s u : Slab Node) (head node last h : ℕ) (l : List ℕ) → IsLinkedLast s u head node last →
+    IsList (put_at (put_at (next_of s) last node) node head) (put_at (put_at (prev_of s) head node) node last) h l → IsListed u h l
+linked_so s u head node last h l linked is =
+    subst (λ f. IsList f (prev_of u) h l) (sym (same_everywhere linked.next))
+    (subst (λ g. IsList (put_at (put_at (next_of s) last node) node head) g h l) (sym (same_everywhere linked.prev)) is)
+
+pub joined : (s u : Slab Node) (head node last : ℕ) (l : List ℕ) → last ≡ prev_of s head → IsLinkedLast s u head node last →
+    IsListed s head l → IsNoneOf node (head ∷ l) → IsListed u head (l ++ node ∷ [])
+joined s u head node last l end linked is off =
+    let made = subst (λ (p : ℕ). IsList (put_at (put_at (next_of s) p node) node head) (put_at (put_at (prev_of s) node p) head node) head (l ++ node ∷ []))
+    (sym end) (joins_last (next_of s) (prev_of s) head node l is off) in
+    linked_so s u head node last head (l ++ node ∷ []) linked
+    (subst (λ (g : ℕ → ℕ). IsList (put_at (put_at (next_of s) last node) node head) g head (l ++ node ∷ []))
+    (same_everywhere (λ m. put-swap (prev_of s) node last head node m off.0)) made)
+
+pub joined_elsewhere : (s u : Slab Node) (head node last h : ℕ) (k l : List ℕ) → last ≡ prev_of s head → IsLinkedLast s u head node last →
     IsListed s head k → IsListed s h l → AreDisjoint (head ∷ k) (h ∷ l) → IsNoneOf node (h ∷ l) → IsListed u h l
-joined_elsewhere s t u head node last h k l end first second mine is apart off =
+joined_elsewhere s u head node last h k l end linked mine is apart off =
     let other = last_is (λ (n : ℕ). IsNoneOf n (h ∷ l)) (next_of s) (prev_of s) head k head mine.way apart in
-    linked_elsewhere t u node head h l second
-    (linked_elsewhere s t last node h l first is (subst (λ (n : ℕ). IsNoneOf n (h ∷ l)) end other) off) off apart.0
+    let first = others_stay (next_of s) (prev_of s) h l last node head node is (subst (λ (n : ℕ). IsNoneOf n (h ∷ l)) (sym end) other) apart.0 in
+    linked_so s u head node last h l linked
+    (others_stay (put_at (next_of s) last node) (put_at (prev_of s) head node) h l node head node last first off off)
 
 pub left : (s t : Slab Node) (node before behind h : ℕ) (l k : List ℕ) → prev_of s node ≡ before → next_of s node ≡ behind → AreLinked s t before behind →
     IsListed s h (l ++ node ∷ k) → IsListed t h (l ++ k)

@@ -1,5 +1,5 @@
 -- Settled: threads by their names, once one has come, has turned, has gone, or has another name.
-use Rattle.std.proofs.Common.{◌≡◌, ◌≤◌, ◌<◌, ◌^◌, ◌+◌, ◌==◌, ◌||◌, ℕ, suc, Bool, true, false, List, [], ◌∷◌, ◌++◌, length, length-append, map}
+use Rattle.std.proofs.Common.{◌≡◌, ◌≢◌, ◌≤◌, ◌<◌, ◌^◌, ◌+◌, ◌==◌, ◌||◌, ℕ, suc, Bool, true, false, List, [], ◌∷◌, ◌++◌, length, length-append, map}
 use Rattle.std.proofs.Common.{Option, Some, None}
 use Rattle.std.proofs.Common.{is_some, if◌then◌else◌, refl, sym, ap, subst, ◌∙◌, arith}
 use Rattle.std.proofs.lemmas.Bool.{eqb-true, or_left, or_right}
@@ -304,7 +304,7 @@ caused_there t c from to rename seats l there =
     long_map [] = refl
     long_map (x ∷ k) = ap (λ (n : ℕ). suc n) (long_map k)
 
--- a cause for which nobody waits has no queue
+-- a cause for which nobody waits has no queue, where none is kept
 queue_waits : (c : Causes) (h : ℕ) (cause : Who) → cause_of c h ≡ Some cause → (l : List Place) → among h (heads l) ≡ true →
     is_waited_for cause (map pair_of (map (standing_of c) l)) ≡ true
 queue_waits c h cause is [] there = absurd (cc)
@@ -321,8 +321,8 @@ queue_waits c h cause is (p ∷ l) there = by (p.head == h) refl there (λ rest.
     by false e is_so more =
         or_right (is_same_cause (cause_of c p.head) (Some cause)) (is_waited_for cause (map pair_of (map (standing_of c) l))) (more (rw e at is_so))
 
-pub unused_queue : (t : Threads) (cause : Who) → IsUnused t cause → key_at t.causes.names.0 cause ≡ None
-unused_queue t cause unused = by (key_at t.causes.names.0 cause) refl
+pub unused_queue : (t : Threads) (cause : Who) → IsUnused t cause → t.causes.idle ≡ t.causes.ready → key_at t.causes.names.0 cause ≡ None
+unused_queue t cause unused none_idle = by (key_at t.causes.names.0 cause) refl
   where
     standing : AreStanding t.causes t.causes.ready unused.there.list
     standing = unused.there.standing
@@ -332,7 +332,9 @@ unused_queue t cause unused = by (key_at t.causes.names.0 cause) refl
     by (Some h) e =
         let p = standing.placed in
         let known = p.known cause h e in
-        let there = sym (among_rest h t.causes.ready (heads standing.places) known.1) ∙ p.full h (cause, known.0) known.1 in
+        let off : h ≢ t.causes.idle = λ (same : h ≡ t.causes.idle). known.1 (same ∙ none_idle) in
+        let there = sym (among_rest h t.causes.idle (heads standing.places) off)
+        ∙ sym (among_rest h t.causes.ready (t.causes.idle ∷ heads standing.places) known.1) ∙ p.full h (cause, known.0) known.1 in
         let not_so = unlike h t.causes.ready known.1 in
         let is : cause_of t.causes h ≡ Some cause = rw not_so (ap who_shown known.0) in
         let waited = queue_waits t.causes h cause is standing.places there in

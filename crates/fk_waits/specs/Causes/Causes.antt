@@ -36,24 +36,25 @@ abbrev pub kinds : ℕ → List ℕ → ℕ
 kinds besides [] = 0
 kinds besides (h ∷ l) = if (h == besides) || among h l then kinds besides l else kinds besides l + 1
 
--- there is a queue for each cause that has a name, and somebody stands in it, but maybe in one that is free
+-- there is a queue for each cause that has a name, and somebody stands in it, but maybe in the idle one, and in one that is free
 pub record ArePlaced (c : Causes) (free : ℕ) (l : List Place) : Type 0 where
   pub filed : AreFiled c.queues l
   pub ready : IsHead c.queues.lines c.ready
   pub free_head : IsHead c.queues.lines free
+  pub idle : IsHead c.queues.lines c.idle
   pub known : (name : Who) (h : ℕ) → key_at c.names.0 name ≡ Some h → (shown_at c.queues.lines h ≡ Some (name, h)) × (h ≢ c.ready)
   pub found : (name : Who) (h : ℕ) → shown_at c.queues.lines h ≡ Some (name, h) → h ≢ c.ready → key_at c.names.0 name ≡ Some h
-  pub full : (h : ℕ) → IsHead c.queues.lines h → h ≢ c.ready → among h (free ∷ heads l) ≡ true
-  pub count : length c.names.0 ≡ kinds c.ready (free ∷ heads l)
+  pub full : (h : ℕ) → IsHead c.queues.lines h → h ≢ c.ready → among h (free ∷ c.idle ∷ heads l) ≡ true
+  pub count : length c.names.0 ≡ kinds c.ready (free ∷ c.idle ∷ heads l)
   pub order : slab_len c.queues.order ≡ length l + 1
   pub lines : slab_len c.queues.lines ≡ length l + length c.names.0 + 1
   pub few : length l ≤ c.seats
 
--- there is room for so many threads in all, each with a cause of its own, and for one queue more
+-- there is room for so many threads in all, each with a cause of its own, and for two queues more
 pub record IsRoomy (c : Causes) : Type 0 where
   pub order : c.seats + 1 ≤ c.queues.order.capacity
-  pub lines : c.seats + c.seats + 2 ≤ c.queues.lines.capacity
-  pub names : c.seats + 1 ≤ c.names.1
+  pub lines : c.seats + c.seats + 3 ≤ c.queues.lines.capacity
+  pub names : c.seats + 2 ≤ c.names.1
 
 -- threads stand so
 pub record AreStanding (c : Causes) (free : ℕ) (l : List Standing) : Type 0 where

@@ -16,6 +16,8 @@ pub struct Causes {
     queues: Queues,
     names: Names,
     ready: usize,
+    /// The queue that was left empty last, or that of the ready. It is kept, for its cause is likely to be waited for again.
+    idle: usize,
     seats: usize,
 }
 
@@ -26,14 +28,15 @@ impl Causes {
         ensures seats { IfOk result (λ c. c.seats ≡ 0) }
     {
         let mut queues = Queues::new(alloc)?;
-        queues.reserve(2)?;
+        queues.reserve(3)?;
         let mut names = Names::new(alloc);
-        names.reserve(1)?;
+        names.reserve(2)?;
         let ready = queues.open(Who { space: 0, slot: 0 });
         Ok(Causes {
             queues,
             names,
             ready,
+            idle: ready,
             seats: 0,
         })
     }
@@ -53,8 +56,8 @@ impl Causes {
         ensures seats { OnOk result (self.new.seats ≡ seats) }
         ensures same { OnErr result (self.new.seats ≡ self.old.seats) }
     {
-        self.names.reserve(seats + 1)?;
-        self.queues.reserve(2 * seats + 2)?;
+        self.names.reserve(seats + 2)?;
+        self.queues.reserve(2 * seats + 3)?;
         self.seats = seats;
         Ok(())
     }
@@ -179,7 +182,7 @@ impl Causes {
         ensures ready { self.new.ready ≡ self.old.ready }
         ensures seats { self.new.seats ≡ self.old.seats }
     {
-        match self.names.find(name) {
+        match self.names.find_near(name) {
             Some(head) => head,
             None => {
                 let head = self.queues.open(name);
@@ -209,9 +212,7 @@ impl Causes {
         ensures ready { self.new.ready ≡ self.old.ready }
         ensures seats { self.new.seats ≡ self.old.seats }
     {
-        let left = self.queues.queue_of(key);
-        self.queues.turn(key, head);
-        left
+        self.queues.turn(key, head)
     }
 
     /// A thread goes. The queue that it leaves may be empty then.
@@ -224,15 +225,57 @@ impl Causes {
         ensures ready { self.new.ready ≡ self.old.ready }
         ensures seats { self.new.seats ≡ self.old.seats }
     {
-        let left = self.queues.queue_of(key);
-        self.queues.leave(key);
-        left
+        self.queues.leave(key)
     }
 
-    /// A queue goes where nobody stands in it, unless it is the one of the ready.
+    /// No queue is kept in which nobody stands.
+    pub fn forget_idle(&mut self)
+        requires { Stand self.old self.old.ready }
+        ensures standing { (l : List Standing) → AreStanding self.old self.old.ready l → AreStanding self.new self.new.ready l }
+        ensures idle { self.new.idle ≡ self.new.ready }
+        ensures seats { self.new.seats ≡ self.old.seats }
+    {
+        let old = self.idle;
+        self.idle = self.ready;
+        self.drop_idle(old);
+    }
+
+    /// Where nobody stands in a queue it is the one that is kept now, unless it is the one of the ready.
     fn drop_empty(&mut self, head: usize)
         requires { Stand self.old head }
         ensures standing { (l : List Standing) → AreStanding self.old head l → AreStanding self.new self.new.ready l }
+        ensures seats { self.new.seats ≡ self.old.seats }
+    {
+        if head == self.ready {
+            return;
+        }
+        match self.queues.first(head) {
+            Some(_) => {}
+            None => self.keep_idle(head),
+        }
+    }
+
+    /// A queue is kept, in which nobody stands, and the one that was kept before goes.
+    fn keep_idle(&mut self, head: usize)
+        requires { Stand self.old head }
+        ensures standing { (l : List Standing) → AreStanding self.old head l → AreStanding self.new self.new.ready l }
+        ensures seats { self.new.seats ≡ self.old.seats }
+    {
+        let old = self.idle;
+        if old == head {
+            return;
+        }
+        self.idle = head;
+        self.drop_idle(old);
+    }
+
+    /// A queue that is kept no more goes where nobody stands in it, unless it is the one of the ready.
+    fn drop_idle(&mut self, head: usize)
+        requires stand { Stand self.old head }
+        requires other { head ≢ self.old.ready → head ≢ self.old.idle }
+        ensures standing { (l : List Standing) → AreStanding self.old head l → AreStanding self.new self.new.ready l }
+        ensures ready { self.new.ready ≡ self.old.ready }
+        ensures idle { self.new.idle ≡ self.old.idle }
         ensures seats { self.new.seats ≡ self.old.seats }
     {
         if head == self.ready {
@@ -249,7 +292,10 @@ impl Causes {
         requires stand { Stand self.old head }
         requires empty { (l : List Place) → AreFiled self.old.queues l → first_at head l ≡ None }
         requires other { head ≢ self.old.ready }
+        requires idle { head ≢ self.old.idle }
         ensures standing { (l : List Standing) → AreStanding self.old head l → AreStanding self.new self.new.ready l }
+        ensures ready { self.new.ready ≡ self.old.ready }
+        ensures idle { self.new.idle ≡ self.old.idle }
         ensures seats { self.new.seats ≡ self.old.seats }
     {
         let Some(name) = self.queues.name_of(head) else {

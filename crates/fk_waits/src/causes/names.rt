@@ -1,12 +1,26 @@
 //! Names in order.
-ghost use Rattle.std.specs.Prelude.{◌≡◌, ◌+◌, ◌≤◌, ◌<◌, ℕ, [], length, true, false, Some, None, IfSome, IsSome, OnOk, if◌then◌else◌, slice_index_or};
+ghost use Rattle.std.specs.Prelude.{◌≡◌, ◌≢◌, ◌+◌, ◌≤◌, ◌<◌, ℕ, List, [], length, true, false, Some, None, IfOk, IfSome, IsSome, OnOk};
+ghost use Rattle.std.specs.Prelude.{if◌then◌else◌, slice_index_or};
 ghost use Rattle.std.specs.Bool.{OnTrue};
 ghost use Rattle.fk_model.specs.declared.names.Who as names_of;
-ghost use Rattle.fk_waits.specs.Causes.Names.{is_same, key_at, rank, HasRoom, IsRising};
+ghost use Rattle.fk_waits.specs.Causes.Names.{hint_at, hint_place, is_same, key_at, nowhere, rank, AreHinted, HasRoom, IsRising};
+ghost use Rattle.fk_waits.specs.declared.causes.names.Name as name_of;
 
 use fk_model::{NoMemory, Who};
 use std::alloc::Global;
 use std::marker::Model;
+
+/// So many hints more than names are made, so that few names share one where there are few.
+const FEW: usize = 14;
+
+/// The hint where no name was put.
+const NOWHERE: usize = 1 << 62;
+
+/// What a rank is mixed by: the golden section of the number below, so that ranks in a row lie far apart.
+const MIX: u64 = 10_368_889;
+
+/// So many mixed ranks there are.
+const MIXED: u64 = 1 << 24;
 
 /// A name, and the number that belongs to it.
 #[derive(Clone, Copy)]
@@ -18,21 +32,23 @@ pub struct Name {
 /// Names, each once, by rising rank, with their numbers.
 #[derive(Drop)]
 pub struct Names {
+    alloc: Global,
     items: Vec<Name>,
-    /// Behind where a name was found last. Who looks for one name after another finds the next one there.
-    next: usize,
+    /// Where names were found or put last, each by its mixed rank. A name that stands where its hint says is found by one look, and one whose hint says
+    /// that none was put is none.
+    hints: Vec<usize>,
 }
 
 impl Model for Names {
     ghost use Rattle.std.specs.Prelude.{ℕ, List, vec_capacity};
-    ghost use Rattle.fk_waits.specs.Causes.Names.{IsRising};
+    ghost use Rattle.fk_waits.specs.Causes.Names.{AreHinted, IsRising};
     ghost use Rattle.fk_waits.specs.declared.causes.names.Name.{Name};
 
     ghost Value = { List Name × ℕ };
 
     ghost view = { λ s. (s.items.items, vec_capacity s.items) };
 
-    ghost invariant = { λ s. IsRising s.items.items };
+    ghost invariant = { λ s. IsRising s.items.items × AreHinted s.hints.items s.items.items };
 }
 
 /// The place of a name in the order of spaces and slots.
@@ -98,6 +114,7 @@ fn place_within(items: &[Name], who: Who) -> usize
 }
 
 /// The number of a name, where the name is at a place.
+#[inline]
 fn key_in(items: &[Name], at: usize, who: Who) -> Option<usize>
     ensures there { IfSome result (λ key. (at < length items.now)
         × ((d : Name) → (is_same (slice_index_or items.now at d).who who ≡ true) × ((slice_index_or items.now at d).key ≡ key))) }
@@ -111,9 +128,55 @@ fn key_in(items: &[Name], at: usize, who: Who) -> Option<usize>
     }
 }
 
-/// The place behind one. It is where a look begins, so any would do.
-fn behind(at: usize) -> usize {
-    at.wrapping_add(1)
+/// Which of so many hints is a name's.
+#[inline]
+fn hint_of(hints: usize, who: Who) -> usize
+    ensures { result ≡ hint_place hints who }
+{
+    let mixed = rank(who) * MIX % MIXED;
+    (mixed.wrapping_mul(hints as u64) / MIXED) as usize
+}
+
+/// The hint of a name.
+#[inline]
+fn hint_in(hints: &[usize], who: Who) -> usize
+    ensures { result ≡ hint_at hints.now who }
+{
+    let place = hint_of(hints.len(), who);
+    if place < hints.len() { hints[place] } else { 0 }
+}
+
+/// A place that a hint may say.
+fn known(at: usize) -> usize
+    ensures { result ≢ nowhere }
+{
+    if at == NOWHERE { 0 } else { at }
+}
+
+/// A name is here, maybe.
+fn set_hint(hints: &mut Vec<usize>, who: Who, at: usize)
+    ensures mine { hint_at hints.new.items who ≢ nowhere }
+    ensures others { (l : List name_of.Name) → AreHinted hints.old.items l → AreHinted hints.new.items l }
+{
+    let place = hint_of(hints.len(), who);
+    let hint = known(at);
+    if place < hints.len() {
+        hints[place] = hint;
+    }
+}
+
+/// So many hints, for these names.
+fn hints_for(alloc: Global, many: usize, items: &[Name]) -> Result<Vec<usize>, NoMemory>
+    ensures { IfOk result (λ hints. AreHinted hints.items items.now) }
+{
+    let mut hints = Vec::new(alloc);
+    hints.resize(many, NOWHERE)?;
+    let mut at = items.len();
+    while at > 0 {
+        at -= 1;
+        set_hint(&mut hints, items[at].who, at);
+    }
+    Ok(hints)
 }
 
 impl Names {
@@ -122,8 +185,9 @@ impl Names {
         ensures { result.0 ≡ [] }
     {
         Names {
+            alloc,
             items: Vec::new(alloc),
-            next: 0,
+            hints: Vec::new(alloc),
         }
     }
 
@@ -141,40 +205,80 @@ impl Names {
         ensures kept { self.old.1 ≤ self.new.1 }
     {
         match self.items.reserve(more) {
-            Ok(()) => Ok(()),
+            Ok(()) => self.reserve_hints(more),
             Err(_) => Err(NoMemory),
         }
     }
 
+    /// Makes room for the hints of so many names.
+    fn reserve_hints(&mut self, more: usize) -> Result<(), NoMemory>
+        ensures { self.new ≡ self.old }
+    {
+        if more.saturating_add(FEW) <= self.hints.len() {
+            return Ok(());
+        }
+        let many = more.saturating_add(more / 2).saturating_add(FEW);
+        self.hints = hints_for(self.alloc, many, &self.items)?;
+        Ok(())
+    }
+
+    /// Where a name was found last, maybe.
+    #[inline]
+    fn hint(&self, who: Who) -> usize
+        ensures none { result ≡ nowhere → key_at self.now.0 who ≡ None }
+    {
+        hint_in(&self.hints, who)
+    }
+
     /// The number of a name.
+    #[inline]
     pub fn find(&self, who: Who) -> Option<usize>
+        ensures { result ≡ key_at self.now.0 who }
+    {
+        let hint = self.hint(who);
+        if hint == NOWHERE {
+            return None;
+        }
+        match key_in(&self.items, hint, who) {
+            Some(key) => Some(key),
+            None => self.seek(who),
+        }
+    }
+
+    /// The same by halving.
+    #[inline(never)]
+    fn seek(&self, who: Who) -> Option<usize>
         ensures { result ≡ key_at self.now.0 who }
     {
         key_in(&self.items, place_of(&self.items, who), who)
     }
 
-    /// The same, sought first behind the name that was found so last.
+    /// The same, and where it is found by halving its hint says so.
+    #[inline]
     pub fn find_near(&mut self, who: Who) -> Option<usize>
         ensures found { result ≡ key_at self.old.0 who }
         ensures same { self.new ≡ self.old }
     {
-        match key_in(&self.items, self.next, who) {
-            Some(key) => {
-                self.next = behind(self.next);
-                Some(key)
-            }
+        let hint = self.hint(who);
+        if hint == NOWHERE {
+            return None;
+        }
+        match key_in(&self.items, hint, who) {
+            Some(key) => Some(key),
             None => self.find_far(who),
         }
     }
 
     /// The same by halving.
+    #[inline(never)]
     fn find_far(&mut self, who: Who) -> Option<usize>
         ensures found { result ≡ key_at self.old.0 who }
         ensures same { self.new ≡ self.old }
     {
         let at = place_of(&self.items, who);
-        self.next = behind(at);
-        key_in(&self.items, at, who)
+        let key = key_in(&self.items, at, who);
+        set_hint(&mut self.hints, who, at);
+        key
     }
 
     /// Puts in a name that isn't there, with a number.
@@ -190,6 +294,7 @@ impl Names {
             Ok(()) => {}
             Err(_) => unreachable!(),
         }
+        set_hint(&mut self.hints, who, at);
     }
 
     /// Takes a name out, and gives its number.
@@ -200,6 +305,9 @@ impl Names {
         ensures same { result ≡ None → self.new ≡ self.old }
         ensures kept { self.old.1 ≡ self.new.1 }
     {
+        if self.hint(who) == NOWHERE {
+            return None;
+        }
         let at = place_of(&self.items, who);
         match key_in(&self.items, at, who) {
             Some(key) => {

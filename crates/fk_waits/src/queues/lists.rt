@@ -3,6 +3,7 @@ ghost use Rattle.std.specs.Prelude.{◌≡◌, ◌≢◌, ◌+◌, ℕ, List, []
 ghost use Rattle.slab.specs.Slab.{get, slab_len, ContainsKey, HasRoomFor};
 ghost use Rattle.fk_waits.specs.Queues.Chains.{put_at, IsNoneOf};
 ghost use Rattle.fk_waits.specs.Queues.Nodes.{first_of, next_of, prev_of, shown_at, AreDisjoint, IsListed, ShowsAs};
+ghost use Rattle.fk_waits.specs.Queues.Places.{node_in};
 
 use fk_model::Who;
 use slab::Slab;
@@ -80,28 +81,27 @@ pub fn join(nodes: &mut Slab<Node>, head: usize, node: usize)
     ensures others { (h : ℕ) (k l : List ℕ) → IsListed nodes.old head k → IsListed nodes.old h l
         → AreDisjoint (head ∷ k) (h ∷ l) → IsNoneOf node (h ∷ l) → IsListed nodes.new h l }
 {
-    let last = match nodes.get(head) {
-        Some(node) => node.prev,
-        None => return,
-    };
-    link(nodes, last, node);
-    link(nodes, node, head);
+    let last = link_head(nodes, head, node);
+    link_next(nodes, last, node);
+    link_both(nodes, node, last, head);
 }
 
-/// A node leaves the list in which it stands.
-pub fn leave(nodes: &mut Slab<Node>, node: usize)
+/// A node leaves the list in which it stands. Tells the number that it shows.
+pub fn leave(nodes: &mut Slab<Node>, node: usize) -> usize
     requires next { ContainsKey nodes.old (next_of nodes.old node) }
     requires prev { ContainsKey nodes.old (prev_of nodes.old node) }
     ensures shown { ShowsAs nodes.old nodes.new }
     ensures leaves { (h : ℕ) (l k : List ℕ) → IsListed nodes.old h (l ++ node ∷ k) → IsListed nodes.new h (l ++ k) }
     ensures others { (g h : ℕ) (k m l : List ℕ) → IsListed nodes.old g (k ++ node ∷ m) → IsListed nodes.old h l
         → AreDisjoint (g ∷ (k ++ node ∷ m)) (h ∷ l) → IsListed nodes.new h l }
+    ensures number { result ≡ node_in (shown_at nodes.old node) }
 {
-    let (prev, next) = match nodes.get(node) {
-        Some(node) => (node.prev, node.next),
-        None => return,
+    let (prev, next, at) = match nodes.get(node) {
+        Some(node) => (node.prev, node.next, node.at),
+        None => return 0,
     };
     link(nodes, prev, next);
+    at
 }
 
 /// Makes one node stand right before another.
@@ -114,6 +114,35 @@ fn link(nodes: &mut Slab<Node>, before: usize, behind: usize)
 {
     link_next(nodes, before, behind);
     link_prev(nodes, behind, before);
+}
+
+/// Tells a head which node is last now, and tells which one was.
+fn link_head(nodes: &mut Slab<Node>, head: usize, node: usize) -> usize
+    requires { ContainsKey nodes.old head }
+    ensures last { result ≡ prev_of nodes.old head }
+    ensures shown { ShowsAs nodes.old nodes.new }
+    ensures next { (m : ℕ) → next_of nodes.new m ≡ next_of nodes.old m }
+    ensures prev { (m : ℕ) → prev_of nodes.new m ≡ put_at (prev_of nodes.old) head node m }
+{
+    let Some(head) = nodes.get_mut(head) else {
+        return 0;
+    };
+    let last = head.prev;
+    head.prev = node;
+    last
+}
+
+/// Tells a node what is before it and behind it.
+fn link_both(nodes: &mut Slab<Node>, node: usize, before: usize, behind: usize)
+    requires { ContainsKey nodes.old node }
+    ensures shown { ShowsAs nodes.old nodes.new }
+    ensures next { (m : ℕ) → next_of nodes.new m ≡ put_at (next_of nodes.old) node behind m }
+    ensures prev { (m : ℕ) → prev_of nodes.new m ≡ put_at (prev_of nodes.old) node before m }
+{
+    if let Some(node) = nodes.get_mut(node) {
+        node.next = behind;
+        node.prev = before;
+    }
 }
 
 /// Tells a node what is behind it.

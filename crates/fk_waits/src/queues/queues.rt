@@ -30,9 +30,10 @@ fn go_last(nodes: &mut Slab<Node>, head: usize, node: usize)
     join(nodes, head, node);
 }
 
-/// A thread's node leaves its queue, for it belongs to another one.
-fn turn_from(lines: &mut Slab<Node>, node: usize, who: Who, head: usize)
+/// A thread's node leaves its queue, for it belongs to another one. Tells which one it leaves, by its head.
+fn turn_from(lines: &mut Slab<Node>, node: usize, who: Who, head: usize) -> usize
     requires { HasLine lines.old node }
+    ensures left { result ≡ node_in (shown_at lines.old node) }
     ensures len { slab_len lines.new ≡ slab_len lines.old }
     ensures capacity { lines.new.capacity ≡ lines.old.capacity }
     ensures shown { shown_at lines.new node ≡ Some (who, head) }
@@ -40,8 +41,9 @@ fn turn_from(lines: &mut Slab<Node>, node: usize, who: Who, head: usize)
     ensures lines { (order : _) (a b : List Place) (p : Place) → AllFiled order lines.old (a ++ p ∷ b) → AreLines lines.old (a ++ p ∷ b) → p.node ≡ node
         → (h : ℕ) → IsHead lines.old h → IsListed lines.new h (in_queue h (a ++ b)) }
 {
-    leave(lines, node);
+    let left = leave(lines, node);
     show(lines, node, who, head);
+    left
 }
 
 /// A node leaves its list, and goes.
@@ -56,9 +58,10 @@ fn take_out(nodes: &mut Slab<Node>, head: usize, node: usize)
     remove(nodes, node);
 }
 
-/// A thread's node leaves its queue, and goes.
-fn leave_line(lines: &mut Slab<Node>, node: usize)
+/// A thread's node leaves its queue, and goes. Tells which queue it was, by its head.
+fn leave_line(lines: &mut Slab<Node>, node: usize) -> usize
     requires { HasLine lines.old node }
+    ensures left { result ≡ node_in (shown_at lines.old node) }
     ensures len { slab_len lines.new + 1 ≡ slab_len lines.old }
     ensures capacity { lines.new.capacity ≡ lines.old.capacity }
     ensures gone { shown_at lines.new node ≡ None }
@@ -66,8 +69,9 @@ fn leave_line(lines: &mut Slab<Node>, node: usize)
     ensures lines { (order : _) (a b : List Place) (p : Place) → AllFiled order lines.old (a ++ p ∷ b) → AreLines lines.old (a ++ p ∷ b) → p.node ≡ node
         → (h : ℕ) → IsHead lines.old h → IsNoneOf node (h ∷ in_queue h (a ++ b)) → IsListed lines.new h (in_queue h (a ++ b)) }
 {
-    leave(lines, node);
+    let left = leave(lines, node);
     remove(lines, node);
+    left
 }
 
 /// Whom a node shows.
@@ -167,10 +171,11 @@ impl Queues {
         key
     }
 
-    /// The thread with a node in the order goes last, and last in a queue.
-    pub fn turn(&mut self, key: usize, head: usize)
+    /// The thread with a node in the order goes last, and last in a queue. Tells in which queue it stood, by its head.
+    pub fn turn(&mut self, key: usize, head: usize) -> usize
         requires place { HasPlace self.old key }
         requires head { IsHead self.old.lines head }
+        ensures left { result ≡ (place_at self.old key).head }
         ensures filed { (a b : List Place) (p : Place) → AreFiled self.old (a ++ p ∷ b) → p.key ≡ key
             → AreFiled self.new ((a ++ b) ++ record p { head = head } ∷ []) }
         ensures heads { SameHeads self.old.lines self.new.lines }
@@ -178,29 +183,31 @@ impl Queues {
         ensures room { SameRoom self.old self.new }
     {
         let Some(place) = self.order.get(key) else {
-            return;
+            return 0;
         };
         let node = place.at;
         let who = place.who;
         go_last(&mut self.order, self.first, key);
-        turn_from(&mut self.lines, node, who, head);
+        let left = turn_from(&mut self.lines, node, who, head);
         join(&mut self.lines, head, node);
+        left
     }
 
-    /// The thread with a node in the order goes.
-    pub fn leave(&mut self, key: usize)
+    /// The thread with a node in the order goes. Tells in which queue it stood, by its head.
+    pub fn leave(&mut self, key: usize) -> usize
         requires { HasPlace self.old key }
+        ensures left { result ≡ (place_at self.old key).head }
         ensures filed { (a b : List Place) (p : Place) → AreFiled self.old (a ++ p ∷ b) → p.key ≡ key → AreFiled self.new (a ++ b) }
         ensures heads { SameHeads self.old.lines self.new.lines }
         ensures len { (slab_len self.new.order + 1 ≡ slab_len self.old.order) × (slab_len self.new.lines + 1 ≡ slab_len self.old.lines) }
         ensures room { SameRoom self.old self.new }
     {
         let Some(place) = self.order.get(key) else {
-            return;
+            return 0;
         };
         let node = place.at;
         take_out(&mut self.order, self.first, key);
-        leave_line(&mut self.lines, node);
+        leave_line(&mut self.lines, node)
     }
 
     /// Who is first in a queue.
@@ -277,13 +284,6 @@ impl Queues {
         ensures room { SameRoom self.old self.new }
     {
         remove(&mut self.lines, head);
-    }
-
-    /// The queue of the thread with a node in the order, by its head.
-    pub fn queue_of(&self, key: usize) -> usize
-        ensures { result ≡ (place_at self.now key).head }
-    {
-        number_at(&self.lines, number_at(&self.order, key))
     }
 
     /// The name of a queue.

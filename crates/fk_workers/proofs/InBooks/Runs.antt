@@ -4,12 +4,11 @@ use Rattle.std.proofs.Common.{length, length-append, append-nil, append_assoc, S
 use Rattle.std.proofs.lemmas.List.{length-replicate}
 use Rattle.fk_model.specs.declared.moves.Move.{Move}
 use Rattle.fk_model.specs.declared.moves.Rule.{Rule}
-use Rattle.fk_model.specs.Searches.{depth}
-use Rattle.laws_house.specs.Laws.{NameUsersSlots}
 use Rattle.laws_runs.specs.Cores.{IsRun}
 use Rattle.laws_runs.specs.Cores.IsRun.{Begins, Goes}
 use Rattle.fk_core.specs.Cores.Cores.{house, IsReadyMove, IsTurned}
 use Rattle.fk_core.specs.Cores.Served.{AllFit}
+use Rattle.fk_core.specs.Cores.Goings.{IsFirstCore}
 use Rattle.fk_burst.specs.Burst.Lease.{Lease}
 use Rattle.fk_workers.specs.Books.Shown.{Shown, IsSound, Moves, HasRun, HasComeTo, IsFirstDue, moves_of}
 use Rattle.fk_workers.specs.Books.Told.{Told, GoesOn, IsKept, IsSame, HasOneMore, HasMore, TakesDue, BeginsDue}
@@ -22,7 +21,7 @@ no_run s sound = record {
   jobs = refl;
   budget = refl;
   run = Begins;
-  events = sound.start.events;
+  events = sound.events;
   within = omega arith;
 }
 
@@ -67,9 +66,8 @@ come first s past run = record {
   first = first.core;
   past = past;
   run = subst (λ jobs. IsRun (house jobs) first.core past s.core) (sym run.jobs) run.run;
-  start = run.sound.start;
-  slots = subst NameUsersSlots (sym run.jobs) run.sound.slots;
-  few = subst (λ n. first.core.world.next + n ≤ depth) (sym run.budget) run.sound.few;
+  begins = subst (λ jobs. IsFirstCore jobs s.budget first.core) (sym run.jobs)
+      (subst (λ budget. IsFirstCore first.jobs budget first.core) (sym run.budget) run.sound);
 }
 
 -- ---- a book goes on

@@ -3,16 +3,13 @@ use Rattle.std.specs.Prelude.{◌≡◌, ℕ, ◌+◌, ◌-◌, ◌<◌, ◌≤�
 use Rattle.std.specs.List.{slice_get}
 use Rattle.fk_model.specs.declared.moves.Move.{Move}
 use Rattle.fk_model.specs.declared.names.Who.{Who}
-use Rattle.fk_model.specs.Searches.{depth}
 use Rattle.fk_burst.specs.Burst.Commits.{MayCommit}
 use Rattle.fk_burst.specs.Burst.Lease.{Lease}
 use Rattle.laws_house.specs.Houses.{Job}
-use Rattle.laws_house.specs.Laws.{NameUsersSlots}
 use Rattle.laws_runs.specs.Cores.{IsRun}
-use Rattle.laws_runs.specs.Composed.{IsStart}
 use Rattle.fk_core.specs.Cores.Events.{is_who}
 use Rattle.fk_core.specs.Cores.Cores.{RunCore, house, may_lack, porter_of, IsReadyMove, IsTurned, IsOver}
-use Rattle.fk_core.specs.Cores.Goings.{HasCome}
+use Rattle.fk_core.specs.Cores.Goings.{IsFirstCore, HasCome}
 
 -- the scenario's jobs, the most moves of a run, and what they have come to
 pub record Shown : Type 0 where
@@ -71,11 +68,9 @@ MayBurst s l = MayCommit s.core.world l (s.budget - s.core.events)
 
 -- ---- runs
 
--- a run may begin so: nobody works at a job yet, and the birth numbers stay small
-pub record IsSound (s : Shown) : Type 0 where
-  pub start : IsStart s.core
-  pub slots : NameUsersSlots s.jobs
-  pub few : s.core.world.next + s.budget ≤ depth
+-- a run may begin so
+abbrev pub IsSound : Shown → Type 0
+IsSound s = IsFirstCore s.jobs s.budget s.core
 
 -- these moves are a legal history from the first to the last one, within the budget
 pub record HasRun (first : Shown) (history : List Move) (last : Shown) : Type 0 where

@@ -21,11 +21,12 @@ use Rattle.fk_model.specs.Outcomes.Said.{Answered}
 use Rattle.fk_model.specs.Runs.{Event, after}
 use Rattle.fk_model.specs.Rebind.{rebound}
 use Rattle.fk_model.specs.Cut.{cut, IsPlain, seen_by, unheld}
+use Rattle.fk_model.specs.Sound.{IsClean}
 use Rattle.laws_moves.specs.Savable.Savable.{IsSound}
 use Rattle.laws_jobs.specs.Machines.{Reply, IsAnswered, no_words, call_of, said_of, reply_of, heard, IsReadyAt, Interleaved, AtWork}
 use Rattle.laws_jobs.specs.Machines.Head.{Stops}
 use Rattle.laws_jobs.specs.Machines.Interleaved.{Here, Another, Own}
-use Rattle.laws_jobs.specs.Jobs.{IsClean, MayBegin}
+use Rattle.laws_jobs.specs.Jobs.{MayBegin}
 use Rattle.laws_jobs.specs.Holds.{released_world}
 use Rattle.laws_jobs.proofs.Holds.{release_comes_to}
 use Rattle.laws_jobs.proofs.Goings.{goes_by}

@@ -8,10 +8,11 @@ use Rattle.fk_model.specs.Places.{Path}
 use Rattle.fk_model.specs.World.{World}
 use Rattle.fk_model.specs.Valid.{is_fit}
 use Rattle.fk_model.specs.Cut.{unheld}
+use Rattle.fk_model.specs.Sound.{IsClean}
 use Rattle.laws_moves.specs.Savable.Savable.{IsSound, LeavesNoScratch}
 use Rattle.laws_jobs.specs.Machines.{porter, no_words, AtWork, IsOwedCall}
 use Rattle.laws_jobs.specs.Machines.Head.{Stops, Asks}
-use Rattle.laws_jobs.specs.Jobs.{IsClean, MayBegin, HasPorter}
+use Rattle.laws_jobs.specs.Jobs.{MayBegin, HasPorter}
 use Rattle.laws_jobs.proofs.Weaving.{now_sound}
 use Rattle.laws_jobs.proofs.Rows.{own-place}
 use Rattle.laws_restore.specs.Sites.Orders.{Site, Shows, stage_of, words_of, does_all}

@@ -13,9 +13,10 @@ use Rattle.fk_model.specs.ObjectRows.{is_scratch}
 use Rattle.fk_model.specs.Runs.{Event, after}
 use Rattle.fk_model.specs.Valid.{IsValid, birth_of, birth_at}
 use Rattle.fk_model.specs.Whole.{is_scratch_slot}
+use Rattle.fk_model.specs.Sound.{IsClean}
 use Rattle.fk_model.proofs.walks.PlaceLaws.{same_path_eq, strip_some}
 use Rattle.laws_moves.specs.Frozen.Holding.{IsUsersMove}
-use Rattle.laws_jobs.specs.Jobs.{IsClean, MayBegin}
+use Rattle.laws_jobs.specs.Jobs.{MayBegin}
 use Rattle.laws_jobs.proofs.Filling.{users_fill_low, scratch_high}
 use Rattle.laws_jobs.proofs.Nesters.{nester_stays}
 use Rattle.laws_restore.specs.Sites.Near.{is_near, IsNearChange, AreNear, IsNearCall}

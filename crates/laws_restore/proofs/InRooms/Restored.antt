@@ -2,6 +2,7 @@
 use Rattle.std.proofs.Common.{◌≡◌, ℕ, ◌≤◌, Bool, true, false, cond, leb, ◌&&◌, ◌==◌, List, [], ◌∷◌}
 use Rattle.std.proofs.lemmas.Bool.{and_parts, leb-true}
 use Rattle.fk_model.specs.declared.limits.TheConstants.{LAST_USER_SLOT}
+use Rattle.fk_model.specs.Sound.{are_user_pairs}
 use Rattle.fk_image.specs.declared.image.image.Image.{Image}
 use Rattle.fk_image.specs.Image.Picture.{picture}
 use Rattle.laws_restore.specs.Restore.Roomed.{IsRoomed}
@@ -9,7 +10,7 @@ use Rattle.laws_restore.proofs.InRestore.Coming.{restores, ends_so}
 use Rattle.laws_restore.proofs.InRestore.Owing.{is_owed}
 use Rattle.laws_restore.proofs.InRestore.Bounds.{restore_is_bounded}
 use Rattle.laws_restore.specs.Rooms.Rooms.{IsBinding, rooms_of}
-use Rattle.laws_restore.specs.Rooms.Restoring.{bound_by, are_user_pairs, IsRestoreJob, ImageIsRestored, ImageRestoreEndsSo, ImageRestoreIsOwed, ImageRestoreIsBounded}
+use Rattle.laws_restore.specs.Rooms.Restoring.{bound_by, IsRestoreJob, ImageIsRestored, ImageRestoreEndsSo, ImageRestoreIsOwed, ImageRestoreIsBounded}
 use Rattle.laws_restore.proofs.InRooms.Roomed.{valid_is_roomed}
 
 pub pairs_bind : (pairs : List (ℕ × ℕ)) → are_user_pairs pairs ≡ true → IsBinding (bound_by pairs)

@@ -1,10 +1,10 @@
 -- The restore of an image in a slot, with the nester's ports bound to others: the machine over the image's rooms.
-use Rattle.std.specs.Prelude.{◌≡◌, ℕ, ◌+◌, ◌*◌, ◌≤◌, Bool, true, ◌&&◌, ◌==◌, nat_le, List, [], ◌∷◌, if◌then◌else◌}
-use Rattle.std.specs.List.{list_all}
+use Rattle.std.specs.Prelude.{◌≡◌, ℕ, ◌+◌, ◌*◌, ◌≤◌, true, ◌==◌, List, [], ◌∷◌, if◌then◌else◌}
 use Rattle.fk_model.specs.declared.limits.TheConstants.{LAST_USER_SLOT}
 use Rattle.fk_model.specs.declared.stage.Stage.{Stage}
 use Rattle.fk_model.specs.Places.{Path}
 use Rattle.fk_model.specs.World.{World}
+use Rattle.fk_model.specs.Sound.{are_user_pairs}
 use Rattle.fk_image.specs.declared.image.image.Image.{Image}
 use Rattle.fk_image.specs.Image.Picture.{picture}
 use Rattle.fk_image.specs.Image.Valid.{is_valid}
@@ -21,10 +21,6 @@ use Rattle.laws_restore.specs.Rooms.Rooms.{rooms_of}
 abbrev pub bound_by : List (ℕ × ℕ) → ℕ → ℕ
 bound_by [] slot = slot
 bound_by (pair ∷ pairs) slot = if pair.0 == slot then pair.1 else bound_by pairs slot
-
--- pairs of users' slots
-abbrev pub are_user_pairs : List (ℕ × ℕ) → Bool
-are_user_pairs pairs = list_all (λ (pair : ℕ × ℕ). nat_le pair.0 LAST_USER_SLOT && nat_le pair.1 LAST_USER_SLOT) pairs
 
 -- the machine of a job is determined by its slot, its image and its pairs
 abbrev pub restore_of : ℕ → Image → List (ℕ × ℕ) → Machine State End

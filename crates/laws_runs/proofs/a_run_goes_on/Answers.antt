@@ -1,4 +1,4 @@
-use Rattle.laws_runs.proofs.Onwards.{run_goes_on}
+use Rattle.laws_runs.proofs.Seen.{run_goes_on}
 use Rattle.laws_runs.proofs.a_run_goes_on.Goals as goal
 
 pub returns : goal.returns

@@ -26,10 +26,11 @@ use Rattle.fk_model.specs.Whole.{stands_in}
 use Rattle.fk_model.specs.Cut.{ports_of, cut_out, cut_to, cut_ptr, is_out, cut_peer, cutting, seen_by, unheld, cut, is_far, has_far, is_inner_peer}
 use Rattle.fk_model.specs.Cut.{is_served_by}
 use Rattle.fk_model.specs.Closed.{when_bad, far_field, is_holders_scratch, leads_in_from, is_led_to, open_field, first_place, open_place, led_to_from_outside}
+use Rattle.fk_model.specs.Sound.{is_cut_pointer, IsUncut}
 use Rattle.fk_model.proofs.walks.Members.{IsIn, any_in}
 use Rattle.fk_model.proofs.walks.PlaceLaws.{same_path_refl, strip-append, strip_some}
 use Rattle.fk_model.proofs.walks.WalkLaws.{live_above, short, walked, in_objects}
-use Rattle.laws_subtrees.specs.Further.ClosedLaws.{is_cut_pointer, IsUncut, ClosedIsPlain}
+use Rattle.laws_subtrees.specs.Further.ClosedLaws.{ClosedIsPlain}
 
 -- ---- no first place: no place
 

@@ -21,9 +21,9 @@ use Rattle.fk_model.specs.FaultRows.{named_taker}
 use Rattle.fk_model.specs.ObjectRows.{pointer_to, pointer_in}
 use Rattle.fk_model.specs.StateRows.{Field, or_null, peer_field, thread_field, first_field, field_of, field_pointer, referable}
 use Rattle.fk_model.specs.StateRows.Field.{Pointer}
+use Rattle.fk_model.specs.Sound.{is_cut_pointer, IsUncut}
 use Rattle.fk_model.proofs.walks.Lowest.{lowest-found}
 use Rattle.laws_moves.proofs.InMachine.safety.Reads.{object_in-found, object-there}
-use Rattle.laws_subtrees.specs.Further.ClosedLaws.{is_cut_pointer, IsUncut}
 use Rattle.laws_subtrees.proofs.InUncut.Outcomes.{IsOurs, AreOurs}
 
 -- ---- pointers

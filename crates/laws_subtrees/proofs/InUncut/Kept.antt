@@ -16,7 +16,7 @@ use Rattle.fk_model.specs.Searches.{peer_pointer, option_list, talk_pointers, fa
 use Rattle.fk_model.specs.Outcomes.{Outcome}
 use Rattle.fk_model.specs.Outcomes.Outcome.{Refused, Waits, Goes}
 use Rattle.fk_model.specs.Moves.{stepped, outcome, step}
-use Rattle.laws_subtrees.specs.Further.ClosedLaws.{is_cut_pointer, IsUncut}
+use Rattle.fk_model.specs.Sound.{is_cut_pointer, IsUncut}
 use Rattle.laws_subtrees.specs.Uncut.Uncut.{MovesKeepUncut}
 use Rattle.laws_subtrees.proofs.InUncut.Outcomes.{IsOurs, AreOurs, IsOursEdit, SetsOurs, SetOurs, IsOursRow, OursOutcome}
 use Rattle.laws_subtrees.proofs.InUncut.Found.{first-ours, rest-ours, both-ours, left-ours, right-ours, one-ours}

@@ -18,6 +18,7 @@ use Rattle.fk_model.specs.Reach.Reach.{Missing}
 use Rattle.fk_model.specs.Outcomes.{Outcome, Caller}
 use Rattle.fk_model.specs.Records.{set_edits, record_registers, word}
 use Rattle.fk_model.specs.Moves.{outcome}
+use Rattle.fk_model.specs.Sound.{IsUncut}
 use Rattle.laws_moves.proofs.InMachine.safety.Reads.{object-there}
 use Rattle.laws_moves.specs.Rows.Stages.{Sets, Work, Step}
 use Rattle.laws_moves.specs.Rows.Stages.Sets.{Points, Clears, Gets_pointer, Sets_pointer, Holds, Releases, Restores_hold, Takes_fault, Resumes, Frees}
@@ -32,7 +33,6 @@ use Rattle.laws_moves.specs.Rows.Moves.Lists.{Moves_not, Runs, Calls, Is_told_no
 use Rattle.laws_moves.proofs.InRows.Walk.{new_all, drops-all, ends-all, ends-then, sleepers-all}
 use Rattle.laws_moves.proofs.InRows.Moves.{moves-listed}
 use Rattle.laws_moves.proofs.InFrozen.Users.{record_mode, goes_to}
-use Rattle.laws_subtrees.specs.Further.ClosedLaws.{IsUncut}
 use Rattle.laws_subtrees.proofs.InUncut.Outcomes.{AreOurs, IsOursEdit, SetOurs, IsOursRow, ours-row, OursIn, OursOutcome, row-then}
 use Rattle.laws_subtrees.proofs.InUncut.Found.{both-ours, pair-ours, one-ours, reference-ours, referred-ours, taker-ours, pointer-ours, field-ours, IsOursReach, word-ours}
 

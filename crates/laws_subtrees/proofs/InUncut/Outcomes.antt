@@ -12,7 +12,7 @@ use Rattle.fk_model.specs.Outcomes.Outcome.{Refused, Waits, Goes}
 use Rattle.fk_model.specs.Holds.{is_porter}
 use Rattle.fk_model.specs.StateRows.{is_native}
 use Rattle.fk_model.specs.declared.limits.TheConstants.{LAST_USER_SLOT}
-use Rattle.laws_subtrees.specs.Further.ClosedLaws.{is_cut_pointer}
+use Rattle.fk_model.specs.Sound.{is_cut_pointer}
 
 -- ---- pointers, and changes that set them
 

@@ -8,7 +8,7 @@ use Rattle.fk_model.specs.Runs.{Event, after, run}
 use Rattle.fk_model.specs.Cut.{cut, IsPlain}
 use Rattle.fk_model.specs.Further.{Onward, Told, IsFurther}
 use Rattle.fk_model.specs.Seen.{IsSeen}
-use Rattle.fk_model.specs.Seen.Seen.{Onwards, Unseen}
+use Rattle.fk_model.specs.Seen.Seen.{Onwards, Unseen, Other}
 use Rattle.laws_subtrees.specs.Cut.Likeness.{IsCutWorld}
 use Rattle.laws_moves.specs.Whole.Runnable.{IsRunnable, AreProper}
 
@@ -19,6 +19,11 @@ pub data IsSeenRun (nester : Path) (slot : ℕ) : World → List Event → List 
       IsSeen w nester slot e (Onwards m) → IsSeenRun nester slot (after w e) es ms → IsSeenRun nester slot w (e ∷ es) (m ∷ ms)
   Misses : (w : World) (e : Event) (es : List Event) (ms : List Onward) → IsReady w e.mover e.pick e.ask →
       IsSeen w nester slot e Unseen → IsSeenRun nester slot (after w e) es ms → IsSeenRun nester slot w (e ∷ es) ms
+
+-- none of these moves, one after the other, is seen as other
+abbrev pub SeesNoOther : Path → ℕ → World → List Event → Type 0
+SeesNoOther nester slot w [] = Unit {0}
+SeesNoOther nester slot w (e ∷ es) = (IsSeen w nester slot e Other → ⊥) × SeesNoOther nester slot (after w e) es
 
 -- the subtree does the moves as which it sees those of the run, and ends where the run does
 abbrev pub ProperRunKeepsCut : Type 0

@@ -8,7 +8,7 @@ use Rattle.fk_model.specs.Searches.{depth}
 use Rattle.fk_model.specs.StateRows.{is_native}
 use Rattle.fk_model.specs.Runs.{Event, after}
 use Rattle.fk_model.specs.Valid.{IsValid, is_fit, birth_at}
-use Rattle.laws_subtrees.specs.Further.ClosedLaws.{IsUncut}
+use Rattle.fk_model.specs.Sound.{IsUncut}
 
 -- who is a porter in the last slot of a space was one before the move
 abbrev pub PortersStood : Type 0

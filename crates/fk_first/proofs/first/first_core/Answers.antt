@@ -3,7 +3,7 @@ use Rattle.fk_core.specs.Cores.Cores.{run_core}
 use Rattle.fk_jobs.specs.Jobs.{Queue, job_of}
 use Rattle.fk_model.specs.Who.{named}
 use Rattle.fk_core.specs.Cores.Kernels.{world_of as world}
-use Rattle.fk_first.proofs.Grounds.{has-come}
+use Rattle.fk_first.proofs.Grounds.{has-come, shown-sound}
 use Rattle.fk_first.proofs.Servers.{all-fit, placed-first}
 use Rattle.laws_first.proofs.Users.{scenario_jobs_name_users_slots}
 use Rattle.laws_house.specs.Houses.{jobs_of}
@@ -22,7 +22,8 @@ returns-clause-first c =
     let w = world first.kernel in
     record {
       world = ap world made.kernel ∙ c.in_ok-first.ensures.world;
-      sound = rw made.kernel (record { whole = c.in_ok-first.ensures.runnable.whole; savable = c.in_ok-first.ensures.savable });
+      sound = rw made.kernel (shown-sound c.args.scenario.now w first.services.items c.new-2.result.services.list first.budget made.services
+          c.in_ok-first.ensures.budget c.in_ok-first.ensures.sound);
       servers = rw (made.kernel, made.services) (placed-first w first.services.items ∙ c.in_ok-first.ensures.services);
       ends = ap (λ (q : Queue). q.ends) made.jobs ∙ c.in_ok-jobs.ensures.ends;
       work = ap (λ (q : Queue). q.work) made.jobs ∙ c.in_ok-jobs.ensures.work;
@@ -35,7 +36,7 @@ returns-clause-come c =
     let planned : map job_of c.in_ok-plans.plans.items ≡ jobs_of c.args.scenario.now.jobs c.args.images.now = rw c.as_slice.ensures at c.in_ok-plans.ensures in
     let jobs : core.jobs.jobs ≡ jobs_of c.args.scenario.now.jobs c.args.images.now =
     ap (λ (q : Queue). q.jobs) c.new-2.ensures.jobs ∙ (c.in_ok-jobs.ensures.jobs ∙ planned) in
-    has-come c.args.scenario.now c.args.images.now (run_core core) core.jobs.jobs core.budget c.requires (returns-clause-first c) jobs
+    has-come c.args.scenario.now c.args.images.now (run_core core) core.jobs.jobs core.budget (returns-clause-first c) jobs
     (c.new-2.ensures.budget ∙ c.in_ok-first.ensures.budget)
 
 pub returns-clause-fits : goal.returns-clause-fits

@@ -1,6 +1,7 @@
 use Rattle.fk_core.specs.Rounds.Kernels.{world_of as world}
 use Rattle.fk_core.specs.Rounds.Events.{IsReadyBesides}
-use Rattle.fk_core.proofs.InRounds.Acting.{runs-other, if-some, if-none}
+use Rattle.fk_served.proofs.Idle.{if-none}
+use Rattle.fk_core.proofs.InRounds.Acting.{runs-other, if-some}
 use Rattle.fk_core.proofs.InRounds.Asking.{others_ready}
 use Rattle.fk_core.specs.Cores.Cores.{run_core, IsReadyMove}
 use Rattle.fk_core.proofs.cores.turns.Core.next_user.Goals as goal

@@ -1,15 +1,20 @@
-use Rattle.std.proofs.Common.{arith}
-use Rattle.fk_core.specs.Moment.Moments.{seen}
-use Rattle.fk_core.proofs.InMoment.Acting.{no-acts, one-more}
+use Rattle.fk_served.specs.Kernels.{world_of as world}
+use Rattle.fk_core.proofs.InMoment.Asking.{ready_act, other_act}
 use Rattle.fk_core.proofs.moment.moment.Moment.act_between.Goals as goal
 
-pub loop-at-init : goal.loop-at-init
-loop-at-init g c = no-acts c.args.self.now.jobs.now (seen c.args.self.now) c.args.from
+pub returns-clause-ready : goal.returns-clause-ready
+returns-clause-ready g c =
+    let self = c.args.self.now in
+    ready_act self.jobs.now (world self.kernel.now) self.services.now.list self.events c.find_act.result
+    (rw c.porter.ensures at c.find_act.ensures.other) c.find_act.ensures.words c.find_act.ensures.ready
 
-pub loop-at-preserved : goal.loop-at-preserved
-loop-at-preserved g c =
-    one-more c.args.self.now.jobs.now (seen c.args.self.now) c.args.from c.loop-at.at
-    c.port.result c.port.ensures c.in_default.ensures.none c.loop-at.invariant
+pub returns-clause-other : goal.returns-clause-other
+returns-clause-other g c =
+    let self = c.args.self.now in
+    let other = rw c.porter.ensures at c.find_act.ensures.other in
+    other_act self.jobs.now (world self.kernel.now) self.services.now.list self.events c.find_act.result other
+    (ready_act self.jobs.now (world self.kernel.now) self.services.now.list self.events c.find_act.result
+    other c.find_act.ensures.words c.find_act.ensures.ready)
 
 pub returns-clause-none : goal.returns-clause-none
-returns-clause-none g c k served low high = c.loop-at.invariant k served low (omega (arith, high, c.loop-at-test.false))
+returns-clause-none g c = rw c.porter.ensures at c.find_act.ensures.none

@@ -1,7 +1,8 @@
 use Rattle.fk_served.specs.Kernels.{world_of as world}
 use Rattle.fk_served.specs.Events.{IsReadyBesides}
 use Rattle.fk_core.specs.Moment.Moments.{seen, IsOthersMove, IsReadyNow}
-use Rattle.fk_core.proofs.InMoment.Acting.{runs-other, if-some, if-none}
+use Rattle.fk_served.proofs.Idle.{if-none}
+use Rattle.fk_core.proofs.InMoment.Acting.{runs-other, if-some}
 use Rattle.fk_core.proofs.InMoment.Asking.{others_ready}
 use Rattle.fk_core.proofs.moment.moment.Moment.user.Goals as goal
 

@@ -13,4 +13,5 @@ returns-clause-standing c l standing =
     let k = c.take.ensures in
     let e = c.close.ensures in
     closed_so c.args.self.now c.close.new.self c.take.new.self c.args.head c.in-Some.name c.in-Some.ensures c.requires.other e.gone e.others k.left
-    (λ there. k.len (take_len k.taken there)) k.kept e.len.0 e.len.1 e.room e.kept (λ places filed. sym (c.requires.empty places filed)) l standing
+    (λ there. k.len (take_len k.taken there)) k.kept e.len.0 e.len.1 e.room e.kept (λ places filed. sym (c.requires.empty places filed))
+    c.requires.idle l standing

@@ -9,9 +9,9 @@ leave-requires c =
 pub returns-clause-standing : goal.returns-clause-standing
 returns-clause-standing c a b s standing is =
     let e = c.leave.ensures in
-    gone_so c.args.self.now c.leave.new.self e.heads e.room c.args.key c.queue_of-left.result c.queue_of-left.ensures e.filed e.len.0 e.len.1
+    gone_so c.args.self.now c.leave.new.self e.heads e.room c.args.key c.leave.result c.leave.ensures.left e.filed e.len.0 e.len.1
     a b s standing is
 
 pub returns-clause-waited : goal.returns-clause-waited
 returns-clause-waited c a b s standing is =
-    waited_by c.args.self.now c.args.self.now.ready c.args.key c.queue_of-left.result a s b standing is c.queue_of-left.ensures
+    waited_by c.args.self.now c.args.self.now.ready c.args.key c.leave.result a s b standing is c.leave.ensures.left

@@ -13,9 +13,9 @@ turn-requires c =
 pub returns-clause-standing : goal.returns-clause-standing
 returns-clause-standing c a b s standing is =
     let e = c.turn.ensures in
-    turned_so c.args.self.now c.turn.new.self e.heads e.room c.args.key c.args.head c.queue_of-left.result c.queue_of-left.ensures e.filed e.len.0 e.len.1
+    turned_so c.args.self.now c.turn.new.self e.heads e.room c.args.key c.args.head c.turn.result c.turn.ensures.left e.filed e.len.0 e.len.1
     a b s standing is
 
 pub returns-clause-waited : goal.returns-clause-waited
 returns-clause-waited c a b s standing is =
-    waited_by c.args.self.now c.args.head c.args.key c.queue_of-left.result a s b standing is c.queue_of-left.ensures
+    waited_by c.args.self.now c.args.head c.args.key c.turn.result a s b standing is c.turn.ensures.left

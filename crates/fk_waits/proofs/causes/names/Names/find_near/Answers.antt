@@ -11,5 +11,8 @@ returns-in-Some-clause-found c =
     let d : Name = record { who = c.args.who; key = 0 } in
     let there = rw c.deref.ensures.value at c.in-Some.ensures.there in
     let here = there.1 d in
-    sym (found_there l c.self.inside.next d c.args.who c.self.invariant there.0 here.0 ∙ ap (λ (k : ℕ). Some k) here.1)
+    sym (found_there l c.hint-hint.result d c.args.who c.self.invariant.0 there.0 here.0 ∙ ap (λ (k : ℕ). Some k) here.1)
     ∙ ap (λ (k : List Name). key_at k c.args.who) is
+
+pub returns-then-hint-eq-NOWHERE-clause-found : goal.returns-then-hint-eq-NOWHERE-clause-found
+returns-then-hint-eq-NOWHERE-clause-found c = sym (c.hint-hint.ensures.none c.if-hint-eq-NOWHERE.true)

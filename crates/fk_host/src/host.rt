@@ -1,0 +1,114 @@
+//! One kernel with its native servers.
+ghost use Rattle.std.specs.Prelude.{◌≡◌, ◌↔◌, ◌≤◌, IsTrue, IfNone, IfOk, IfSome, OnErr, length, map};
+ghost use Rattle.fk_host.specs.Hosts.{IsFitWith, IsReadyWith, IsTurn, asked_with};
+ghost use Rattle.fk_model.specs.declared.moves.Move as moves;
+ghost use Rattle.fk_served.specs.Acts.{IsReadyAsked};
+ghost use Rattle.fk_served.specs.Kernels.{world_of as world};
+ghost use Rattle.fk_served.specs.Served.{AllFit, shown};
+
+use fk_model::{Ask, Move, NoMemory, Said, Who};
+use fk_natives::Service;
+use fk_responders::Table;
+use fk_served::asking::{asked_by, is_ready, ready_act};
+use fk_served::{Kernel, Services};
+
+/// A kernel with its native servers. Who has it says which move is made, and what a porter asks for.
+#[derive(Drop)]
+pub struct Host<S: Service + Drop> {
+    kernel: Kernel,
+    services: Services<S>,
+}
+
+impl<S: Service + Drop> Host<S> {
+    /// A kernel with the server of each of its served ports. `NoMemory` where there is none for what the servers may hear.
+    pub fn new(kernel: Kernel, services: Vec<(Who, S)>) -> Result<Host<S>, NoMemory>
+        ensures kernel { IfOk result (λ host. host.kernel ≡ kernel) }
+        ensures services { IfOk result (λ host. host.services.list ≡ shown S.meaning services.items) }
+    {
+        let mut services = Services::of(services);
+        services.reserve()?;
+        Ok(Host { kernel, services })
+    }
+
+    /// The kernel.
+    pub fn kernel(&self) -> &Kernel
+        ensures { result.now ≡ self.now.kernel }
+    {
+        &self.kernel
+    }
+
+    /// The servers with their ports.
+    pub fn services(&self) -> &[(Who, S)]
+        ensures { shown S.meaning result.now ≡ self.now.services.list }
+    {
+        self.services.as_slice()
+    }
+
+    /// What a mover asks for: the call that is handed in; else what the server of a port does, or to run.
+    fn ask(&self, who: Who, ask: &Ask) -> Option<Ask>
+        ensures { result ≡ asked_with self.now.services.list (world self.now.kernel) who ask.now }
+    {
+        match ask {
+            Ask::Call { .. } => Some(*ask),
+            _ => asked_by(&self.kernel, &self.services, who),
+        }
+    }
+
+    /// Whether a move is ready. `ask` is what a porter asks for; for everybody else it is `Run`.
+    pub fn ready(&self, m: &Move, ask: &Ask) -> bool
+        ensures { IsTrue result ↔ IsReadyWith self.now.services.list (world self.now.kernel) m.now ask.now }
+    {
+        match ask {
+            Ask::Call { .. } => self.kernel.ready(m, ask),
+            _ => is_ready(&self.kernel, &self.services, m),
+        }
+    }
+
+    /// Makes a move, which is ready and fit, has each server hear what it tells, and answers what that is. `ask` is what a porter asks for; for
+    /// everybody else it is `Run`. `NoMemory` where there is none for an object, a page or what servers hear; all is as before then.
+    pub fn turn(&mut self, table: &Table, m: &Move, ask: &Ask) -> Result<Said, NoMemory>
+        requires ready { IsReadyWith self.old.services.list (world self.old.kernel) m.now ask.now }
+        requires fit { IsFitWith self.old.services.list (world self.old.kernel) m.now ask.now }
+        requires fits { AllFit (map (λ r. r.rule) table.now.list.items) self.old.services.list }
+        ensures turn { IfOk result (λ said. IsTurn self.old.kernel self.old.services.list m.now ask.now said self.new.kernel self.new.services.list) }
+        ensures fits { AllFit (map (λ r. r.rule) table.now.list.items) self.new.services.list }
+        ensures lacking_kernel { OnErr result (self.new.kernel ≡ self.old.kernel) }
+        ensures lacking_services { OnErr result (self.new.services.list ≡ self.old.services.list) }
+    {
+        self.services.reserve()?;
+        let Some(ask) = self.ask(m.who, ask) else {
+            unreachable!()
+        };
+        let Some(told) = self.kernel.attempt(m, &ask)? else {
+            unreachable!()
+        };
+        self.services.hear(table, &told);
+        Ok(told.said)
+    }
+
+    /// A ready act of the server at a place or behind it.
+    fn act_from(&self, from: usize) -> Option<Move>
+        ensures ready { IfSome result (λ m. IsReadyAsked self.now.services.list (world self.now.kernel) m) }
+        ensures none { IfNone result (HaveNoActs self.now.services.list (world self.now.kernel) from (length self.now.services.list)) }
+    {
+        for at in from..self.services.len() {
+            if let Some(m) = ready_act(&self.kernel, &self.services, self.services.port(at)) {
+                return Some(m);
+            }
+        }
+        None
+    }
+
+    /// A ready move of a user or a server; none exactly where there is none.
+    pub fn choose(&mut self) -> Option<Move>
+        ensures ready { IfSome result (λ m. IsReadyAsked self.old.services.list (world self.old.kernel) m) }
+        ensures none { IfNone result ((m : moves.Move) → IsReadyAsked self.old.services.list (world self.old.kernel) m → ⊥) }
+        ensures world { world self.new.kernel ≡ world self.old.kernel }
+        ensures services { self.new.services.list ≡ self.old.services.list }
+    {
+        match self.kernel.next() {
+            Some(m) => Some(m),
+            None => self.act_from(0),
+        }
+    }
+}

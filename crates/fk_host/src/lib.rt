@@ -1,0 +1,12 @@
+//! A host: one kernel with its native servers, turned from outside.
+//!
+//! It stands on `fk_served` for servers and on `fk_kernel` for the machine's steps. It is generic in its servers. It has no jobs and no budget: whoever
+//! has it hands in what a porter asks for, and says who moves next.
+//!
+//! It promises that a move is called ready exactly where it is, that a turn is the machine's step, of which each server hears what it tells at its port,
+//! and that a move is found wherever a user or a server has one (`specs/Hosts.antt`).
+#![tactic(auto)]
+
+mod host;
+
+pub use host::Host;

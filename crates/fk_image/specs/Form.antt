@@ -1,0 +1,4 @@
+pub mod Order
+pub mod Holding
+pub mod Standing
+pub mod Formed

@@ -1,0 +1,4 @@
+mod Left
+mod Found
+pub mod Calls
+pub mod Reported

@@ -1,0 +1,80 @@
+-- Two calls with a report: the run of the one has left an image on the shelf, and the run of the other has found it there.
+use Rattle.std.specs.Prelude.{◌≡◌, ⊤, ℕ, ◌+◌, ◌<◌, List, [], take, Option, Some, None, Ok}
+use Rattle.std.specs.List.{slice_get}
+use Rattle.fk_causes.specs.Shelf.{FileMap}
+use Rattle.fk_commands.specs.declared.outcome.Outcome.{Outcome}
+use Rattle.fk_commands.specs.declared.outcome.Report.{Report}
+use Rattle.fk_run.specs.Files.{image_name}
+use Rattle.fk_image.specs.declared.image.image.Image.{Image}
+use Rattle.fk_model.specs.declared.job.JobSpec.TheVariants.{Checkpoint, Restore}
+use Rattle.fk_model.specs.declared.moves.Rule.{Rule}
+use Rattle.fk_run.specs.Commands.{Command, Run, Play}
+use Rattle.fk_run.specs.Cores.{RunCore}
+use Rattle.fk_run.specs.Headline.{HasReportHeadline}
+use Rattle.fk_run.specs.Images.{FindsImages}
+use Rattle.fk_run.specs.Made.{Images}
+use Rattle.fk_run.specs.Runs.{IsReported}
+use Rattle.fk_run.specs.Jobs.{HoldsOf}
+use Rattle.fk_run.specs.Puts.{PutsRun}
+use Rattle.fk_report.specs.declared.job_end.JobEnd.TheVariants as told
+use Rattle.fk_run.specs.Top.{IsDue}
+use Rattle.fk_scenario.specs.declared.scenario.scenario.Scenario.{Scenario}
+use Rattle.laws_house.specs.Houses.{maker_from}
+use Rattle.laws_house.specs.Laws.{GoesOnAgain}
+use Rattle.laws_restore.specs.Rooms.Restoring.{bound_by}
+use Rattle.laws_runs.specs.Cores.{world_at}
+
+-- the run that a report is of: its scenario, the images that the files of the shelf gave for its jobs, and its first core
+pub record ReportedRun (files : FileMap) (report : Report) : Type 0 where
+  pub scenario : Scenario
+  pub given : Images
+  pub found : FindsImages (Some files) [] scenario.jobs (Ok given)
+  pub first : RunCore
+  pub is : IsReported scenario.jobs given first scenario.budget report
+  pub headline : HasReportHeadline scenario given first report is
+
+-- ---- from a call of the top to its run
+
+-- the commands that run a scenario with jobs
+abbrev pub RunsJobs : Command → Type 0
+RunsJobs (Run trace) = ⊤
+RunsJobs (Play name) = ⊤
+RunsJobs other = ⊥
+
+-- a call that did what its words call for, over files that the shelf tells, and has a report: that is of such a run
+abbrev pub ReportsAreOfRuns : Type 0
+ReportsAreOfRuns = (rules : List (List ℕ × Rule)) (command : Command) (left : Option (List ℕ)) (files : FileMap) (outcome : Outcome) (report : Report)
+    (text : List ℕ) → RunsJobs command → outcome.report ≡ Some report → IsDue rules (Some command) left (Some files) outcome text →
+    HoldsOf rules (Some report) → ReportedRun files report
+
+-- ---- from one run to the other
+
+-- a checkpoint of the run is told as done, and is the last job that leaves an image under its name
+pub record LeavesImage {files : FileMap} {report : Report} (run : ReportedRun files report) (birth slot hold : ℕ) (name : List ℕ) : Type 0 where
+  pub index : ℕ
+  pub moment : ℕ
+  pub path : List ℕ
+  pub release : ℕ
+  pub image : Image
+  pub entry : slice_get run.scenario.jobs index ≡ Some (Checkpoint moment birth path slot name)
+  pub done : slice_get report.jobs index ≡ Some (Some (told.Checkpointed hold release image))
+  pub last : (later from to : ℕ) (other : Image) → index < later → slice_get report.images later ≡ Some name →
+      slice_get report.jobs later ≡ Some (Some (told.Checkpointed from to other)) → ⊥
+
+-- a restore of the run is told as done, and no earlier job makes the image of its name: that is the shelf's
+pub record TakesImage {files : FileMap} {report : Report} (run : ReportedRun files report) (birth slot make done : ℕ) (name : List ℕ)
+    (bind : List (ℕ × ℕ)) : Type 0 where
+  pub index : ℕ
+  pub moment : ℕ
+  pub entry : slice_get run.scenario.jobs index ≡ Some (Restore moment birth slot name bind)
+  pub ended : slice_get report.jobs index ≡ Some (Some (told.Restored make done))
+  pub unmade : maker_from 0 (take index run.scenario.jobs) name ≡ None
+
+-- what the one run has left under the checkpoint's name, the other found under the restore's: the subtree that it has made has exactly the
+-- further runs that the saved one had at its hold, with its ports bound
+abbrev pub SavedGoesOnInAnotherCall : Type 0
+SavedGoesOnInAnotherCall = (before left found : FileMap) (report other : Report) (run : ReportedRun before report) (later : ReportedRun found other)
+    (trace : Option (List ℕ)) (birth slot hold there place make done : ℕ) (name taken : List ℕ) (bind : List (ℕ × ℕ)) →
+    PutsRun trace report (Some before) (Some left) → LeavesImage run birth slot hold name →
+    TakesImage later there place make done taken bind → found (image_name taken) ≡ left (image_name name) →
+    GoesOnAgain birth slot (world_at run.is.run hold) there place (world_at later.is.run make) (world_at later.is.run (done + 1)) (bound_by bind)

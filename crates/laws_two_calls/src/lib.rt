@@ -1,0 +1,20 @@
+//! Two calls of the top: what the run of one has left on the shelf, and the run of another has made again. Each law is the contract of a
+//! function that does nothing.
+//!
+//! It stands on `fk_run` for what a call says of its report and of the shelf, and on `laws_two_runs` for what a subtree and its copy do in
+//! two runs.
+#![tactic(auto)]
+
+ghost use Rattle.laws_two_calls.specs.TwoCalls.{ReportsAreOfRuns, SavedGoesOnInAnotherCall};
+
+/// A call of `run` or `play` that did what its words call for, over files that the shelf tells: its report is of a run of the scenario that
+/// it read, with the images that the files have, and that run has the headline.
+pub fn reports_are_of_runs()
+    ensures { ReportsAreOfRuns }
+{}
+
+/// A run has left a checkpoint's image on the shelf, and a restore of another run has found these bytes there: what that has made has
+/// exactly the further runs of what the checkpoint saved, with its ports bound.
+pub fn saved_subtrees_go_on_in_another_call()
+    ensures { SavedGoesOnInAnotherCall }
+{}
