@@ -4,13 +4,13 @@ use Rattle.std.specs.List.{slice_get}
 use Rattle.fk_causes.specs.declared.shelf.ShelfFail.{ShelfFail}
 use Rattle.fk_causes.specs.Shelf.{FileMap, KeepsOthers}
 use Rattle.fk_commands.specs.declared.outcome.Report.{Report}
-use Rattle.fk_commands.specs.Files.{image_name, trace_name}
+use Rattle.fk_commands.specs.Files.{image_name, record_name, trace_name}
 use Rattle.fk_report.specs.Jobs.{end_in}
 use Rattle.fk_report.specs.declared.job_end.JobEnd.{JobEnd}
 use Rattle.fk_report.specs.declared.job_end.JobEnd.TheVariants.{Checkpointed, Foreign, Dead, Restored, NoImage, Occupied, NoPort}
 use Rattle.fk_model.specs.declared.moves.Move.{Move}
-use Rattle.fk_words.specs.Commands.{Files, NoFiles, RunFiles}
-use Rattle.fk_puts.specs.Puts.{IsImageName, IsTraceName, KeepsBut, KeepsButTrace, KeepsFiles, OpensEnd, PutImages, PutSomeImages, PutsEnd, PutsTrace, PutsRun, PutsSome, HasPut, HasPutSome}
+use Rattle.fk_words.specs.Commands.{Files, NoFiles, RunFiles, RecordFiles}
+use Rattle.fk_puts.specs.Puts.{IsImageName, IsTraceName, KeepsBut, KeepsButTrace, KeepsFiles, OpensEnd, PutImages, PutSomeImages, PutsEnd, PutsTrace, PutsRun, PutsSome, PutsRecord, PutsRecorded, PutsSomeRecorded, HasPut, HasPutSome}
 
 module _ (May : List ℕ → Type 0) where
   same : (old new : Option FileMap) → new ≡ old → KeepsBut May old new
@@ -86,15 +86,44 @@ whole_of : (trace : Option (List ℕ)) (report : Report) (old new : Option FileM
 whole_of trace report old new h =
     then_ (May trace) old h.0 new (all (May trace) (images trace) report.jobs 0 report.images old h.0 h.1) (traced trace report.history h.0 new h.2)
 
+-- ---- with a record
+
+abbrev MayRecord : List ℕ → List ℕ → Type 0
+MayRecord name file = May (Some name) file ⊎ (file ≡ record_name name)
+
+-- what keeps all but images and a trace keeps all but these and a record
+wider : (name : List ℕ) (old new : Option FileMap) → KeepsBut (May (Some name)) old new → KeepsBut (MayRecord name) old new
+wider name None new h = tt
+wider name (Some old) None h = h
+wider name (Some old) (Some new) h = λ file not. h file (λ may. not (inl may))
+
+recorded : (name : List ℕ) (text : Option (List ℕ)) (old new : Option FileMap) → PutsRecord name text old new → KeepsBut (MayRecord name) old new
+recorded name None old new h = same (MayRecord name) old new h
+recorded name (Some text) old new h = but_one (MayRecord name) (record_name name) old new (inr refl) h.1
+
+all_recorded : (name : List ℕ) (report : Report) (old new : Option FileMap) → PutsRecorded name report old new → KeepsBut (MayRecord name) old new
+all_recorded name report old new h =
+    then_ (MayRecord name) old h.0 new (wider name old h.0 (whole_of (Some name) report old h.0 h.1)) (recorded name report.recorded h.0 new h.2)
+
+some_recorded : (name : List ℕ) (report : Report) (old new : Option FileMap) → PutsSomeRecorded name report old new → KeepsBut (MayRecord name) old new
+some_recorded name report old new (inl h) = wider name old new (some_of (Some name) report old new h)
+some_recorded name report old new (inr h) =
+    then_ (MayRecord name) old h.0 new (wider name old h.0 (whole_of (Some name) report old h.0 h.1))
+    (but_one (MayRecord name) (record_name name) h.0 new (inr refl) h.2)
+
 kept : (left : Files) (report : Option Report) (old new : Option FileMap) → HasPut left report old new → KeepsFiles left old new
 kept NoFiles report old new h = h
 kept (RunFiles trace) None old new h = same (May trace) old new h
 kept (RunFiles trace) (Some report) old new h = whole_of trace report old new h
+kept (RecordFiles name) None old new h = same (MayRecord name) old new h
+kept (RecordFiles name) (Some report) old new h = all_recorded name report old new h
 
 kept_some : (left : Files) (report : Option Report) (old new : Option FileMap) → HasPutSome left report old new → KeepsFiles left old new
 kept_some NoFiles report old new h = h
 kept_some (RunFiles trace) None old new h = same (May trace) old new h
 kept_some (RunFiles trace) (Some report) old new h = some_of trace report old new h
+kept_some (RecordFiles name) None old new h = same (MayRecord name) old new h
+kept_some (RecordFiles name) (Some report) old new h = some_recorded name report old new h
 
 -- whether or not all of it was put
 pub kept_by : (r : Result (Unit {0}) ShelfFail) (left : Files) (report : Option Report) (old new : Option FileMap) →

@@ -191,7 +191,8 @@ module _ (spaces : List SpaceRec) where
   taker-goes port None at named = let same : at ≡ at + 0 = omega arith in goes-to [] named at (at + 0) (Ok (walk_at at named)) same (none-goes at named)
   taker-goes port (Some taker) at named = server-goes port taker at named
 
-  fault-goes : (o : Option FaultRec) (at : ℕ) (named : Named) → Goes spaces (fault_events o at) named (at + fault_size o) (fault_walk spaces o (walk_at at named))
+  fault-goes : (o : Option FaultRec) (at : ℕ) (named : Named)
+      → Goes spaces (fault_events o at) named (at + fault_size o) (fault_walk spaces o (walk_at at named))
   fault-goes None at named = none-goes (at + 1) named
   fault-goes (Some fault) at named =
       let port = event (at + 3) (Points AtPort fault.port) ∷ [] in

@@ -81,7 +81,8 @@ module _ (spaces : List SpaceRec) (order : AreInOrder spaces) where
   set-of (Sets objects set) = (objects, set)
   set-of (Points f to) = ([], 0)
 
-  set-wrong : (start behind : ℕ) (s : SpaceRec) (o : ObjectRec) (what : What) (objects : List ObjectRec) (set : ℕ) → ObjectAt spaces start s o → what ≡ Sets objects set
+  set-wrong : (start behind : ℕ) (s : SpaceRec) (o : ObjectRec) (what : What) (objects : List ObjectRec) (set : ℕ)
+      → ObjectAt spaces start s o → what ≡ Sets objects set
       → StandsIn s.objects o.body behind what → is_set_of objects set ≡ false → IsWrongAt spaces (start + behind)
   unfolding set-of
   set-wrong start _ s o _ objects set there is (InPointer behind f to has) off = absurd cc
@@ -112,7 +113,8 @@ module _ (spaces : List SpaceRec) (order : AreInOrder spaces) where
   wrong-bad _ (Again earlier at slot n port other one lt two) =
       Twice earlier at slot n port other (there-pointer earlier (Server port) (In slot n) one) lt (there-pointer at (Server other) (In slot n) two)
   wrong-bad _ (BadSet start set s o there is wrong) =
-      NotRight (start + 2) (Sets s.objects set) (stands-event spaces (start + 2) (Sets s.objects set) (OfBody start 2 s o (Sets s.objects set) there (InSet set is)))
+      NotRight (start + 2) (Sets s.objects set)
+      (stands-event spaces (start + 2) (Sets s.objects set) (OfBody start 2 s o (Sets s.objects set) there (InSet set is)))
       (isnt (is_set_of s.objects set) (λ right. wrong (set-may s.objects set right)))
 
   -- ---- the walk

@@ -105,7 +105,8 @@ any-lies p slot n [] s e parent at = absurd cc
 any-lies p slot zero (t ∷ ss) s e parent at =
     let same : t ≡ s = cc in
     ap (λ b. b || list_any (lies_in p slot) ss)
-    (both (t.parent == p) (t.slot == slot) (eq-eqb t.parent p (ap (λ (s : SpaceRec). s.parent) same ∙ parent)) (eq-eqb t.slot slot (ap (λ (s : SpaceRec). s.slot) same ∙ at)))
+    (both (t.parent == p) (t.slot == slot) (eq-eqb t.parent p (ap (λ (s : SpaceRec). s.parent) same ∙ parent))
+    (eq-eqb t.slot slot (ap (λ (s : SpaceRec). s.slot) same ∙ at)))
 any-lies p slot (suc n) (t ∷ ss) s e parent at = by (lies_in p slot t) (any-lies p slot n ss s e parent at)
   where
     by : (b : Bool) → list_any (lies_in p slot) ss ≡ true → (b || list_any (lies_in p slot) ss) ≡ true
@@ -117,7 +118,8 @@ lies-any : (p slot : ℕ) (ss : List SpaceRec) → list_any (lies_in p slot) ss 
 lies-any p slot [] e = absurd cc
 lies-any p slot (t ∷ ss) e = by (lies_in p slot t) refl (lies-any p slot ss) e
   where
-    by : (b : Bool) → lies_in p slot t ≡ b → (list_any (lies_in p slot) ss ≡ true → (n : ℕ) × (s : SpaceRec) × (slice_get ss n ≡ Some s) × (s.parent ≡ p) × (s.slot ≡ slot))
+    by : (b : Bool) → lies_in p slot t ≡ b
+        → (list_any (lies_in p slot) ss ≡ true → (n : ℕ) × (s : SpaceRec) × (slice_get ss n ≡ Some s) × (s.parent ≡ p) × (s.slot ≡ slot))
         → (b || list_any (lies_in p slot) ss) ≡ true → (n : ℕ) × (s : SpaceRec) × (slice_get (t ∷ ss) n ≡ Some s) × (s.parent ≡ p) × (s.slot ≡ slot)
     by true is more e = let h = and2 (t.parent == p) (t.slot == slot) is in (0, t, refl, eqb-true t.parent p h.0, eqb-true t.slot slot h.1)
     by false is more e = let h = more e in (suc h.0, h.1, h.2, h.3, h.4)

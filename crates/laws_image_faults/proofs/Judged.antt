@@ -73,7 +73,8 @@ rises-low low high (e ∷ es) r f m = by (among-cons f e es (e ∷ es) refl m) (
     by (inr m) more = let first = r.0 in let le = more m in omega (arith, first, le)
 
 -- all before an event of a list in order stand before it, all behind it behind
-rises-before : (low high : ℕ) (done : List Event) (e : Event) (rest : List Event) → Rises low (done ++ (e ∷ rest)) high → (f : Event) → Among f done → f.at < e.at
+rises-before : (low high : ℕ) (done : List Event) (e : Event) (rest : List Event)
+    → Rises low (done ++ (e ∷ rest)) high → (f : Event) → Among f done → f.at < e.at
 rises-before low high [] e rest r f m = absurd (among-none f [] refl m)
 rises-before low high (d ∷ done) e rest r f m = by (among-cons f d done (d ∷ done) refl m) (rises-before (suc d.at) high done e rest r.1 f)
   where
@@ -84,7 +85,8 @@ rises-before low high (d ∷ done) e rest r f m = by (among-cons f d done (d ∷
         omega (arith, same, le)
     by (inr m) more = more m
 
-rises-behind : (low high : ℕ) (done : List Event) (e : Event) (rest : List Event) → Rises low (done ++ (e ∷ rest)) high → (f : Event) → Among f rest → e.at < f.at
+rises-behind : (low high : ℕ) (done : List Event) (e : Event) (rest : List Event)
+    → Rises low (done ++ (e ∷ rest)) high → (f : Event) → Among f rest → e.at < f.at
 rises-behind low high [] e rest r f m = rises-low (suc e.at) high rest r.1 f m
 rises-behind low high (d ∷ done) e rest r f m = rises-behind (suc d.at) high done e rest r.1 f m
 

@@ -66,7 +66,8 @@ module _ (bytes : List ℕ) where
       subst (λ b. Holds image b (Whole x)) (sym all) held.held
 
   of_version : (new : Bool) (i : Image) (shows : Bool) (offset reason : ℕ) → run image bytes ≡ Ok ((new, i), []) → AllRight i.spaces →
-      image_shows i ≡ shows → if◌then◌else◌ {A = Result Image (ℕ × ℕ)} (new && not shows) (Err (8, reasons.NEWER)) (Ok i) ≡ Err (offset, reason) → Says bytes offset reason
+      image_shows i ≡ shows → if◌then◌else◌ {A = Result Image (ℕ × ℕ)} (new && not shows) (Err (8, reasons.NEWER)) (Ok i) ≡ Err (offset, reason)
+      → Says bytes offset reason
   of_version true i false offset reason whole right is told =
       subst (λ at. Says bytes at reason) (same_offset 8 reasons.NEWER offset reason told)
       (subst (Says bytes 8) (same_reason 8 reasons.NEWER offset reason told) (OfVersion i (all_held (true, i) whole) right is))

@@ -138,8 +138,10 @@ module _ (new : Bool) where
   same-behind zero d ds path good bytes = refl
   same-behind (suc n) d ds path good bytes =
       run-bind (λ x. many (space new) after_space n (after_space (d ∷ ds, path) x) (d ∷ (ds ++ x ∷ []))) (inner new (d ∷ ds) path) bytes
-      ∙ ap (λ r. r >>= λ x. run (many (space new) after_space n (after_space (d ∷ ds, path) x.0) (d ∷ (ds ++ x.0 ∷ []))) x.1) (same-inner new (d ∷ ds) path good bytes)
-      ∙ by (λ x f after. same-behind n d (ds ++ x ∷ []) (path_after (d ∷ ds) x path) (good-more d ds path x good f) after) (run (forms.inner new (d ∷ ds)) bytes) refl
+      ∙ ap (λ r. r >>= λ x. run (many (space new) after_space n (after_space (d ∷ ds, path) x.0) (d ∷ (ds ++ x.0 ∷ []))) x.1)
+      (same-inner new (d ∷ ds) path good bytes)
+      ∙ by (λ x f after. same-behind n d (ds ++ x ∷ []) (path_after (d ∷ ds) x path) (good-more d ds path x good f) after)
+      (run (forms.inner new (d ∷ ds)) bytes) refl
       ∙ sym (run-bind (λ x. many (forms.space new) with_space n (d ∷ (ds ++ x ∷ [])) (d ∷ (ds ++ x ∷ []))) (forms.inner new (d ∷ ds)) bytes)
     where
       by : ((x : SpaceRec) → Follows (d ∷ ds) x → (after : List ℕ) →
@@ -172,7 +174,8 @@ module _ (new : Bool) where
   unfolding many run
   ordered-behind zero d ds path good bytes x is = subst (λ ss. AreInOrder ss) (same_said _ _ _ _ is) good.order
   ordered-behind (suc n) d ds path good bytes x is =
-      by (λ s f after. ordered-behind n d (ds ++ s ∷ []) (path_after (d ∷ ds) s path) (good-more d ds path s good f) after x) (run (forms.inner new (d ∷ ds)) bytes) refl
+      by (λ s f after. ordered-behind n d (ds ++ s ∷ []) (path_after (d ∷ ds) s path) (good-more d ds path s good f) after x)
+      (run (forms.inner new (d ∷ ds)) bytes) refl
       (sym (run-bind (λ s. many (forms.space new) with_space n (d ∷ (ds ++ s ∷ [])) (d ∷ (ds ++ s ∷ []))) (forms.inner new (d ∷ ds)) bytes) ∙ is)
     where
       by : ((s : SpaceRec) → Follows (d ∷ ds) s → (after : List ℕ) →

@@ -63,8 +63,11 @@ module _ (objects : List ObjectRec) (t : ThreadRec) (at : ℕ) (e : Event) where
       let second = at + talk_begins + 3 + link_size talk.port in
       two-events objects (Thread t) at (event (at + talk_begins + 3) (Points AtPort talk.port)) (event second (Points (Server talk.port) talk.server) ∷ []) e
       (talk_begins + 3, omega arith, InPointer (talk_begins + 3) AtPort talk.port (TalkPort t talk is))
-      (λ n. two-events objects (Thread t) at (event second (Points (Server talk.port) talk.server)) [] e
-      (talk_begins + 3 + link_size talk.port, omega arith, InPointer (talk_begins + 3 + link_size talk.port) (Server talk.port) talk.server (TalkServer t talk is))
+      (λ n. two-events objects (Thread t) at (event second (Points (Server talk.port) talk.server)) [] e (
+        talk_begins + 3 + link_size talk.port,
+        omega arith,
+        InPointer (talk_begins + 3 + link_size talk.port) (Server talk.port) talk.server (TalkServer t talk is),
+      )
       (λ none. absurd (among-none e [] refl none)) n) m
 
   taker-stands : (fault : FaultRec) → t.fault ≡ Some fault → (o : Option Link) → fault.taker ≡ o
