@@ -1,11 +1,17 @@
 -- Lacking: moves that may lack memory, and what is answered where they do.
-use Rattle.std.proofs.Common.{◌≡◌, ◌↔◌, ◌||◌, ℕ, ◌<◌, Bool, true, false, if◌then◌else◌, IsTrue, List, Option, Some, None, Result, Ok, Err, IfOk, IsOk, OnErr}
+use Rattle.std.proofs.Common.{◌≡◌, ◌↔◌, ◌||◌, ℕ, ◌<◌, ◌≤◌, Bool, true, false, if◌then◌else◌, IsTrue, List, Option, Some, None, Result, Ok, Err, IfOk, IsOk, OnErr}
 use Rattle.std.proofs.Common.{refl, sym, ap, subst, ◌∙◌}
 use Rattle.fk_model.specs.declared.moves.Ask.{Ask}
 use Rattle.fk_model.specs.declared.moves.Ask.TheVariants as asks
 use Rattle.fk_model.specs.declared.moves.Move.{Move}
+use Rattle.fk_model.specs.declared.moves.Said as says_of
 use Rattle.fk_model.specs.declared.names.Who.{Who}
-use Rattle.fk_model.specs.Who.{event_of}
+use Rattle.fk_model.specs.Endings.{has_ended}
+use Rattle.fk_model.specs.Moves.{Step}
+use Rattle.fk_model.specs.Runs.{Event, after}
+use Rattle.fk_model.specs.Searches.{depth}
+use Rattle.fk_model.specs.Valid.{IsValid}
+use Rattle.fk_model.specs.Who.{event_of, named}
 use Rattle.fk_model.specs.World.{World}
 use Rattle.laws_moves.specs.Whole.Runnable.{has_all_words}
 use Rattle.laws_house.specs.Houses.{Job, State, End, machine}
@@ -15,12 +21,18 @@ use Rattle.laws_runs.specs.Cores.{Asker, Work, IsReadyBy, asker, job_asks, other
 use Rattle.laws_runs.specs.Cores.Asker.{Nobody, Others, Job as OfJob}
 use Rattle.fk_jobs.specs.Jobs.{Queue, asked_by, call_at, current, first_of, grows, grows_by, state_from, state_of}
 use Rattle.fk_jobs.specs.Turns.{core_of}
+use Rattle.fk_core.specs.Rounds.Events.{is_who, step_of, IsReadyEvent}
 use Rattle.fk_core.specs.Rounds.Kernels.{Kept}
-use Rattle.fk_core.specs.Rounds.Served.{Services, asked}
+use Rattle.fk_core.specs.Rounds.Kernels.{path_of as path}
+use Rattle.fk_core.specs.Rounds.Kernels.{world_of as world}
+use Rattle.fk_core.specs.Rounds.Served.{Services, asked, some_told}
+use Rattle.fk_plans.specs.Plans.Hearers.{says_to, says_to_who}
+use Rattle.fk_store.specs.Store.Moves.{said_by}
+use Rattle.fk_served.proofs.Growing.{told-same}
 use Rattle.fk_core.specs.Rounds.Tolds.{Told}
 use Rattle.fk_core.specs.Rounds.Tried.{tried_of}
 use Rattle.fk_core.specs.Cores.Cores.{RunCore, house, core_at, is_porter, IsReadyMove, IsAskedMove, IsCalledMove, IsTried, IsLacking}
-use Rattle.fk_core.specs.Cores.Memory.{does_lack, may_lack, may_lack_by, may_lack_asked, may_lack_call, may_lack_called}
+use Rattle.fk_core.specs.Cores.Memory.{IsStill, does_lack, may_lack, may_lack_by, may_lack_asked, may_lack_call, may_lack_called}
 use Rattle.fk_core.proofs.InRounds.Asking.{as_job, as_other}
 
 -- ---- answers
@@ -36,13 +48,6 @@ pub lacks_tried : {E : Type 0} (r : Result Bool E) (told room : Told) (b : Bool)
 lacks_tried (Ok made) told room b done = tt
 lacks_tried (Err e) told room true done = refl
 lacks_tried (Err e) told room false done = absurd (let is = done refl in cc)
-
--- and the other way round
-pub done-of : {E ready : Type 0} (r : Result Bool E) (b : Bool) (jobs : List Job) (c : RunCore) (m : Move) (d : RunCore) →
-    IsTried ready (b ≡ true) jobs c m d r → b ≡ false → IsOk r
-done-of (Ok true) b jobs c m d tried none = refl
-done-of (Ok false) b jobs c m d tried none = refl
-done-of (Err e) b jobs c m d tried none = absurd (let yes = tried.1 in cc)
 
 -- a move that isn't made, since it isn't ready or lacks memory
 pub tried-unmade : {E : Type 0} (r : Result Bool E) (b : Bool) (ready lacks : Type 0) (jobs : List Job) (c : RunCore) (m : Move) (d : RunCore) →
@@ -62,6 +67,17 @@ or-right false b is = is
 pub or-left : (a b : Bool) → a ≡ true → (a || b) ≡ true
 or-left true b is = refl
 or-left false b is = absurd (cc)
+
+-- where no server grows by a move that was made, none grows by what was told of it
+pub still-told : (m n : Kept) (e : Event) (said : says_of.Said) (ended : Option Who) (services : Services) → IsReadyEvent (world m) e →
+    step_of (world m) e ≡ record { world = world n; said = said_by (path n) said } →
+    ((port : Who) → has_ended (world m) (world n) (named (world m) port) ≡ is_who ended port) →
+    ((port : Who) → says_to (step_of (world m) e).said (named (world m) port) ≡ says_to_who said port) →
+    IsValid (world n) → (world n).next ≤ depth → IsStill (world m) e services → some_told said ended services ≡ false
+still-told m n e said ended services ready made ends tells valid few still =
+    let goes : after (world m) e ≡ world n = ap (λ (t : Step). t.world) made in
+    sym (told-same m n e said ended made ends tells services)
+    ∙ still ready (subst IsValid (sym goes) valid) (subst (λ (w : World). w.next ≤ depth) (sym goes) few)
 
 -- ---- who asks
 

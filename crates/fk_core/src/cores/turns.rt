@@ -2,7 +2,7 @@
 ghost use Rattle.fk_model.specs.declared.moves.Rule.{Rule};
 ghost use Rattle.fk_model.specs.Places.{Path};
 ghost use Rattle.fk_model.specs.Sound.{IsSoundStart};
-ghost use Rattle.std.specs.Prelude.{◌≡◌, ◌↔◌, List, [], ◌+◌, ◌<◌, Some, None, true, false, IsOk, IsTrue, OnOk, OnErr, map};
+ghost use Rattle.std.specs.Prelude.{◌≡◌, ◌↔◌, List, [], ◌+◌, ◌<◌, Some, None, true, false, IsTrue, OnOk, OnErr, map};
 ghost use Rattle.std.specs.Bool.{OnTrue, OnFalse};
 ghost use Rattle.fk_core.specs.Rounds.Served.{AllFit, shown};
 ghost use Rattle.fk_core.specs.Cores.Cores.{run_core, is_porter, reply_to, IsReadyMove, IsAskedMove, IsCalledMove, IsTurned, IsTried, IsAdvanced, is_timely};
@@ -161,8 +161,8 @@ impl<S: Service + Drop, W: Worker + Drop> Core<S, W> {
         self.events
     }
 
-    /// Makes a move that is ready, and tells the servers, or the jobs. For want of memory all is as before. That a run has come here
-    /// makes it known that what a job asks for is fit.
+    /// Makes a move that is ready, and tells the servers, or the jobs. For want of memory all is as before, and memory lacks only for a move that
+    /// may want it. That a run has come here makes it known that what a job asks for is fit.
     pub fn turn(&mut self, table: &Table, m: &Move) -> Result<(), NoMemory>
         requires ready { IsReadyMove self.old.jobs.jobs (run_core self.old) m.now }
         requires few { self.old.events < self.old.budget }
@@ -170,7 +170,7 @@ impl<S: Service + Drop, W: Worker + Drop> Core<S, W> {
         requires fits { AllFit (map (λ r. r.rule) table.now.list.items) self.old.services.list }
         ensures turned { OnOk result (IsTurned self.old.jobs.jobs (run_core self.old) m.now (run_core self.new)) }
         ensures lacking { OnErr result (run_core self.new ≡ run_core self.old) }
-        ensures done { may_lack self.old.jobs.jobs (run_core self.old) m.now ≡ false → IsOk result }
+        ensures lacks { OnErr result (may_lack self.old.jobs.jobs (run_core self.old) m.now ≡ true) }
         ensures lacking_kernel { OnErr result (self.new.kernel ≡ self.old.kernel) }
         ensures fits { AllFit (map (λ r. r.rule) table.now.list.items) self.new.services.list }
         ensures budget { self.new.budget ≡ self.old.budget }
@@ -186,14 +186,13 @@ impl<S: Service + Drop, W: Worker + Drop> Core<S, W> {
     }
 
     /// Makes a move where it is ready, tells the servers, and answers whether it was. Where it wasn't, and for
-    /// want of memory, all is as before.
+    /// want of memory, all is as before. Memory lacks only for a ready move that may want it.
     pub fn go(&mut self, table: &Table, m: &Move) -> Result<bool, NoMemory>
         requires few { self.old.events < self.old.budget }
         requires come { IsGoing self.old }
         requires fits { AllFit (map (λ r. r.rule) table.now.list.items) self.old.services.list }
         ensures tried { IsTried (IsReadyMove self.old.jobs.jobs (run_core self.old) m.now)
             (may_lack self.old.jobs.jobs (run_core self.old) m.now ≡ true) self.old.jobs.jobs (run_core self.old) m.now (run_core self.new) result }
-        ensures done { may_lack self.old.jobs.jobs (run_core self.old) m.now ≡ false → IsOk result }
         ensures lacking_kernel { OnErr result (self.new.kernel ≡ self.old.kernel) }
         ensures fits { AllFit (map (λ r. r.rule) table.now.list.items) self.new.services.list }
         ensures budget { self.new.budget ≡ self.old.budget }

@@ -1,4 +1,4 @@
-use Rattle.fk_core.proofs.cores.lacking.Core.call_would_grow.Goals as goal
+use Rattle.fk_core.proofs.cores.turns.Core.call_would_grow.Goals as goal
 
 pub would_grow-requires : goal.would_grow-requires
 would_grow-requires g c = record { fit = rw c.words.ensures c.requires.fit }

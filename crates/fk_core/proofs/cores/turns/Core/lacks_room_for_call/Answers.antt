@@ -1,4 +1,4 @@
-use Rattle.fk_core.proofs.cores.lacking.Core.lacks_room_for_call.Goals as goal
+use Rattle.fk_core.proofs.cores.turns.Core.lacks_room_for_call.Goals as goal
 
 pub returns-in-Ok-clause-still : goal.returns-in-Ok-clause-still
 returns-in-Ok-clause-still g c nay unready = absurd (let yes = c.in-Ok.ensures.ready in cc)

@@ -3,7 +3,7 @@ use Rattle.fk_model.specs.Who.{event_of}
 use Rattle.fk_core.specs.Rounds.Kernels.{path_of as path}
 use Rattle.fk_core.specs.Rounds.Kernels.{world_of as world}
 use Rattle.fk_served.proofs.Growing.{foretold-grow, foretold-same}
-use Rattle.fk_core.proofs.cores.lacking.Core.would_grow.Goals as goal
+use Rattle.fk_core.proofs.cores.turns.Core.would_grow.Goals as goal
 
 pub returns-in-Some-clause-grows : goal.returns-in-Some-clause-grows
 returns-in-Some-clause-grows g c grow =
