@@ -7,7 +7,7 @@ use Rattle.fk_commands.specs.declared.outcome.Report.{Report}
 use Rattle.fk_commands.specs.Files.{image_name, record_name, trace_name}
 use Rattle.fk_report.specs.Jobs.{end_in}
 use Rattle.fk_report.specs.declared.job_end.JobEnd.{JobEnd}
-use Rattle.fk_report.specs.declared.job_end.JobEnd.TheVariants.{Checkpointed, Foreign, Dead, Restored, NoImage, Occupied, NoPort}
+use Rattle.fk_report.specs.declared.job_end.JobEnd.TheVariants.{Checkpointed}
 use Rattle.fk_model.specs.declared.moves.Move.{Move}
 use Rattle.fk_words.specs.Commands.{Files, NoFiles, RunFiles, RecordFiles}
 use Rattle.fk_puts.specs.Puts.{IsImageName, IsTraceName, KeepsBut, KeepsButTrace, KeepsFiles, OpensEnd, PutImages, PutSomeImages, PutsEnd, PutsTrace, PutsRun, PutsSome, PutsRecord, PutsRecorded, PutsSomeRecorded, HasPut, HasPutSome}
@@ -31,14 +31,8 @@ module _ (May : List ℕ → Type 0) where
 
   module _ (images : (name : List ℕ) → May (image_name name)) where
     one : (name : List ℕ) (end : Option JobEnd) (old new : Option FileMap) → PutsEnd name end old new → KeepsBut May old new
-    one name None old new h = same old new h
     one name (Some (Checkpointed hold release image)) old new h = but_one (image_name name) old new (images name) h.2.1
-    one name (Some (Foreign place hold release)) old new h = same old new h
-    one name (Some Dead) old new h = same old new h
-    one name (Some (Restored make release)) old new h = same old new h
-    one name (Some NoImage) old new h = same old new h
-    one name (Some Occupied) old new h = same old new h
-    one name (Some (NoPort port make release)) old new h = same old new h
+    one name other old new h = same old new h
 
     all : (ends : List (Option JobEnd)) (place : ℕ) (names : List (List ℕ)) (old new : Option FileMap) → PutImages ends place names old new → KeepsBut May old new
     all ends place [] old new h = same old new h
@@ -46,14 +40,8 @@ module _ (May : List ℕ → Type 0) where
         then_ old h.0 new (one name (end_in (slice_get ends place)) old h.0 h.1) (all ends (place + 1) names h.0 new h.2)
 
     opened : (name : List ℕ) (end : Option JobEnd) (old new : Option FileMap) → OpensEnd name end old new → KeepsBut May old new
-    opened name None old new h = same old new h
     opened name (Some (Checkpointed hold release image)) old new h = but_one (image_name name) old new (images name) h
-    opened name (Some (Foreign place hold release)) old new h = same old new h
-    opened name (Some Dead) old new h = same old new h
-    opened name (Some (Restored make release)) old new h = same old new h
-    opened name (Some NoImage) old new h = same old new h
-    opened name (Some Occupied) old new h = same old new h
-    opened name (Some (NoPort port make release)) old new h = same old new h
+    opened name other old new h = same old new h
 
     some : (ends : List (Option JobEnd)) (place : ℕ) (names : List (List ℕ)) (old new : Option FileMap) → PutSomeImages ends place names old new
         → KeepsBut May old new

@@ -9,7 +9,7 @@ use Rattle.fk_image.specs.Format.Spells.{SpellsImage}
 use Rattle.fk_model.specs.declared.moves.Move.{Move}
 use Rattle.fk_report.specs.Jobs.{end_in}
 use Rattle.fk_report.specs.declared.job_end.JobEnd.{JobEnd}
-use Rattle.fk_report.specs.declared.job_end.JobEnd.TheVariants.{Checkpointed, Foreign, Dead, Restored, NoImage, Occupied, NoPort}
+use Rattle.fk_report.specs.declared.job_end.JobEnd.TheVariants.{Checkpointed}
 use Rattle.fk_words.specs.Commands.{Files, NoFiles, RunFiles, RecordFiles}
 use Rattle.fk_trace_text.specs.Trace.{trace_text}
 
@@ -27,14 +27,8 @@ PutsImage name image old new = (bytes : List ℕ) × SpellsImage bytes image × 
 
 -- the image of a job, where it has made one
 abbrev pub PutsEnd : List ℕ → Option JobEnd → Option FileMap → Option FileMap → Type 0
-PutsEnd name None old new = new ≡ old
 PutsEnd name (Some (Checkpointed hold release image)) old new = PutsImage name image old new
-PutsEnd name (Some (Foreign place hold release)) old new = new ≡ old
-PutsEnd name (Some Dead) old new = new ≡ old
-PutsEnd name (Some (Restored make release)) old new = new ≡ old
-PutsEnd name (Some NoImage) old new = new ≡ old
-PutsEnd name (Some Occupied) old new = new ≡ old
-PutsEnd name (Some (NoPort port make release)) old new = new ≡ old
+PutsEnd name other old new = new ≡ old
 
 -- the images of jobs with these names, one after the other, the first of which has this place
 abbrev pub PutImages : List (Option JobEnd) → ℕ → List (List ℕ) → Option FileMap → Option FileMap → Type 0
@@ -64,14 +58,8 @@ PutsRecorded name report old new =
 
 -- of a job's image, where it has made one
 abbrev pub OpensEnd : List ℕ → Option JobEnd → Option FileMap → Option FileMap → Type 0
-OpensEnd name None old new = new ≡ old
 OpensEnd name (Some (Checkpointed hold release image)) old new = KeepsOthers old new (image_name name)
-OpensEnd name (Some (Foreign place hold release)) old new = new ≡ old
-OpensEnd name (Some Dead) old new = new ≡ old
-OpensEnd name (Some (Restored make release)) old new = new ≡ old
-OpensEnd name (Some NoImage) old new = new ≡ old
-OpensEnd name (Some Occupied) old new = new ≡ old
-OpensEnd name (Some (NoPort port make release)) old new = new ≡ old
+OpensEnd name other old new = new ≡ old
 
 abbrev pub PutSomeImages : List (Option JobEnd) → ℕ → List (List ℕ) → Option FileMap → Option FileMap → Type 0
 PutSomeImages ends place [] old new = new ≡ old

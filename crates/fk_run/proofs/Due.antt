@@ -21,7 +21,7 @@ use Rattle.fk_gen.specs.Soak.{scenario}
 use Rattle.fk_plays.specs.Play.{IsSoak}
 use Rattle.fk_scenario.specs.Scenario.Reading.{scenario_reading}
 use Rattle.fk_puts.specs.Puts.{HasPutSome}
-use Rattle.fk_run.specs.Top.{IsDue, IsDone, IsCutOff, IsUnput, HasFailed, GetsToShelf}
+use Rattle.fk_run.specs.Top.{IsDue, IsDone, IsCutOff, HasFailed, GetsToShelf}
 
 -- what a source may hold: what it tells, or else anything
 pub held : (left : Option (List ℕ)) → (bytes : List ℕ) × MayHold left bytes

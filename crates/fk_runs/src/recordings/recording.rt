@@ -14,6 +14,7 @@ ghost use Rattle.laws_house.specs.Houses.{jobs_of};
 
 use crate::recordings::ports::ports_of;
 use crate::recordings::texts::record_text;
+use crate::run_reports::prepared;
 use fk_commands::{Prepared, Report, Status};
 use fk_core::Core;
 use fk_finish::ValidImage;
@@ -21,7 +22,6 @@ use fk_first::tapped_core;
 use fk_model::{NoMemory, Text};
 use fk_porters::Porter;
 use fk_responders::{Table, Watch};
-use crate::run_reports::prepared;
 use fk_scenario::Scenario;
 use fk_trace::Post;
 use fk_workers::Book;

@@ -8,6 +8,7 @@ ghost use Rattle.fk_scenario.specs.Scenario.Kept.{KeepsScenario, HasRules};
 ghost use Rattle.fk_trace.specs.Posts.{words_of_all};
 
 use crate::recordings::ports::ports_of;
+use crate::runs::play_core;
 use fk_commands::{Prepared, Status};
 use fk_finish::ValidImage;
 use fk_first::replaying_core;
@@ -15,7 +16,6 @@ use fk_model::Reply;
 use fk_record_text::{Entry, RecordFail, read_record};
 use fk_recorded::lists_of;
 use fk_responders::Table;
-use crate::runs::play_core;
 use fk_scenario::Scenario;
 use std::alloc::Global;
 
