@@ -3,10 +3,10 @@
 //! instructions, calls and statuses in words.
 //!
 //! An image is shown one thing a line (`images`), a program so that what is written assembles to the same words (`words`), and a store as the
-//! tree of its spaces (`store`).
+//! tree of its spaces (`store`). A scenario with names is written without them (`plain`).
 //!
 //! It stands on `fk_causes` for the shelf, on `fk_isa` for the instruction in a word, on `fk_stages` for porters' calls, on `fk_asm` for
-//! programs, on `toml` for what is wrong in a scenario, on `fk_image` for images, and on `fk_store` for what stands there. It promises no more
+//! programs, on `toml` and `toml_parser` for a scenario's text, on `fk_image` for images, and on `fk_store` for what stands there. It promises no more
 //! than that each function ends, whatever bytes it is given.
 #![tactic(auto)]
 
@@ -16,6 +16,7 @@ mod faults;
 mod files;
 mod images;
 mod instructions;
+mod plain;
 mod problem;
 mod refusal;
 mod sheet;
@@ -30,6 +31,7 @@ pub use faults::given;
 pub use files::{file_of, source_text};
 pub use images::{push_differences, push_image};
 pub use instructions::push_instruction;
+pub use plain::push_plain;
 pub use problem::Problem;
 pub use refusal::refused_scenario;
 pub use sheet::{Sheet, line_at};

@@ -15,6 +15,7 @@ pub const HELP: &[u8] = b"lens: shows what a program, a scenario, a trace and an
     lens image NAME OTHER             the lines by which NAME.img and OTHER.img differ: - NAME alone, + OTHER alone
     lens words < PROGRAM              the program's text, each word as a line that assembles to it
     lens page NAME < SCENARIO         the run of NAME.trc as one HTML page
+    lens plain < SCENARIO             the scenario without the names that its programs use, as fluke takes it
     lens --help                       this text
     lens --version                    the program's version
 

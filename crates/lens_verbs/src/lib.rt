@@ -12,6 +12,7 @@
 mod help;
 mod images;
 mod page;
+mod plain;
 mod runs;
 mod shows;
 mod steps;

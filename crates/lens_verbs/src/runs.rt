@@ -11,6 +11,18 @@ use fk_responders::Table;
 use fk_scenario::Scenario;
 use lens_text::{Asked, Sheet, Verb, file_of, refused_scenario};
 
+/// Says that a text isn't taken for a scenario, by the status with which it is refused.
+pub fn refuse_scenario(sheet: &Sheet, text: &[u8], status: &Status) {
+    match status {
+        Status::BadScenario {
+            rule,
+            section,
+            index,
+        } => refused_scenario(sheet, text, *rule, *section, *index),
+        _ => sheet.lacks(),
+    }
+}
+
 /// The run of a scenario by the trace with these bytes, and who is shown it; the text is the scenario's.
 #[derive(Drop)]
 struct Run<'a, 's, H: Shelf> {
@@ -47,14 +59,7 @@ impl<H: Shelf> ScenarioReader for Run<'_, '_, H> {
     }
 
     fn refused(&mut self, status: &Status) {
-        match status {
-            Status::BadScenario {
-                rule,
-                section,
-                index,
-            } => refused_scenario(self.files.sheet, self.text, *rule, *section, *index),
-            _ => self.files.sheet.lacks(),
-        }
+        refuse_scenario(self.files.sheet, self.text, status);
     }
 }
 
