@@ -42,6 +42,7 @@ fn seen<'a>(core: &'a Core<Native, Porter>, job: Option<Job>) -> Seen<'a> {
         store: core.kernel().store(),
         services: core.services(),
         job,
+        jobs: core.jobs(),
         events: core.events(),
     }
 }
@@ -129,7 +130,11 @@ fn image_for<I: Images>(
 }
 
 /// The images that jobs need of who has them, in their order: one for each, or none.
-fn images_for<I: Images>(
+///
+/// # Errors
+///
+/// There is no memory, or an image can't be had.
+pub fn images_for<I: Images>(
     alloc: Global,
     jobs: &[JobSpec],
     images: &mut I,

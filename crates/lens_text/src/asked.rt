@@ -23,6 +23,8 @@ pub enum Verb {
     Why,
     /// The run of a trace as a page.
     Page,
+    /// What went wrong in the run of a trace.
+    Sums,
     /// A scenario without the names that it uses.
     Plain,
 }
@@ -42,13 +44,13 @@ pub struct Asked<'a> {
 }
 
 /// What there is, where a word is wrong.
-const VERBS: &str = "one of tree, steps, why, image, words, page, plain, --help, --version";
+const VERBS: &str = "one of tree, steps, why, sums, image, words, page, plain, --help, --version";
 
 /// The most moves that a scenario's budget allows.
 const MOST: u64 = 1_000_000;
 
 /// The words of the verbs.
-const WORDS: [&str; 9] = [
+const WORDS: [&str; 10] = [
     "tree",
     "steps",
     "why",
@@ -57,6 +59,7 @@ const WORDS: [&str; 9] = [
     "page",
     "--help",
     "--version",
+    "sums",
     "plain",
 ];
 
@@ -69,6 +72,7 @@ no word
 a name
 no word
 no word
+a name
 no word";
 
 /// What is expected of a word behind a verb: a number of moves, or a name.
@@ -155,7 +159,8 @@ pub fn asked_in<'a>(line: &Sheet, words: &'a [String]) -> Option<Asked<'a>> {
         (5, 1) => Verb::Page,
         (6, 0) => Verb::Help,
         (7, 0) => Verb::Version,
-        (8, 0) => Verb::Plain,
+        (8, 1) => Verb::Sums,
+        (9, 0) => Verb::Plain,
         _ => {
             line.put_around(b"after ", word.as_str(), b": expected ");
             line.add(line_at(BEHIND, place as u64));

@@ -9,7 +9,7 @@ use fk_commands::{ScenarioReader, Status, lend_scenario};
 use fk_first::{Trace, watch};
 use fk_responders::Table;
 use fk_scenario::Scenario;
-use lens_text::{Asked, Sheet, Verb, file_of, refused_scenario};
+use lens_text::{Asked, Sheet, Verb, file_of, programs_of, refused_scenario};
 
 /// Says that a text isn't taken for a scenario, by the status with which it is refused.
 pub fn refuse_scenario(sheet: &Sheet, text: &[u8], status: &Status) {
@@ -40,6 +40,7 @@ impl<H: Shelf> ScenarioReader for Run<'_, '_, H> {
 
     fn scenario(&mut self, table: &Table, scenario: &Scenario) {
         let (sheet, asked) = (self.files.sheet, self.asked);
+        self.show.note_spaces(scenario.spaces.as_slice());
         let trace = Trace {
             bytes: self.bytes,
             most: asked.end,
@@ -70,7 +71,7 @@ pub fn show_run<H: Shelf>(sheet: &Sheet, asked: &Asked<'_>, text: &[u8], shelf: 
         _ => file_of(sheet, shelf, asked.name, ".trc"),
     };
     if let Some(bytes) = bytes {
-        let mut show = show_of(sheet, asked);
+        let mut show = show_of(sheet, asked, programs_of(sheet, text));
         let mut run = Run {
             asked,
             text,
