@@ -23,6 +23,10 @@ pub enum Verb {
     Why,
     /// The run of a trace as a page.
     Page,
+    /// What went wrong in the run of a trace.
+    Sums,
+    /// A scenario without the names that it uses.
+    Plain,
 }
 
 /// What the words of the command line ask for: the verb, its names and its moves.
@@ -40,13 +44,13 @@ pub struct Asked<'a> {
 }
 
 /// What there is, where a word is wrong.
-const VERBS: &str = "one of tree, steps, why, image, words, page, --help, --version";
+const VERBS: &str = "one of tree, steps, why, sums, image, words, page, plain, --help, --version";
 
 /// The most moves that a scenario's budget allows.
 const MOST: u64 = 1_000_000;
 
 /// The words of the verbs.
-const WORDS: [&str; 8] = [
+const WORDS: [&str; 10] = [
     "tree",
     "steps",
     "why",
@@ -55,6 +59,8 @@ const WORDS: [&str; 8] = [
     "page",
     "--help",
     "--version",
+    "sums",
+    "plain",
 ];
 
 /// What is expected behind each.
@@ -65,6 +71,8 @@ one name or two
 no word
 a name
 no word
+no word
+a name
 no word";
 
 /// What is expected of a word behind a verb: a number of moves, or a name.
@@ -151,6 +159,8 @@ pub fn asked_in<'a>(line: &Sheet, words: &'a [String]) -> Option<Asked<'a>> {
         (5, 1) => Verb::Page,
         (6, 0) => Verb::Help,
         (7, 0) => Verb::Version,
+        (8, 1) => Verb::Sums,
+        (9, 0) => Verb::Plain,
         _ => {
             line.put_around(b"after ", word.as_str(), b": expected ");
             line.add(line_at(BEHIND, place as u64));

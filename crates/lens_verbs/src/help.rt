@@ -11,10 +11,12 @@ pub const HELP: &[u8] = b"lens: shows what a program, a scenario, a trace and an
     lens steps NAME < SCENARIO        the trace NAME.trc with what each move does: columns by tabs
     lens steps NAME A B < SCENARIO    the same of the moves A to B, the last one included
     lens why NAME K < SCENARIO        after K moves of NAME.trc: why threads aren't ready, and who could end that
+    lens sums NAME < SCENARIO         what went wrong in the run of NAME.trc: faults, refused calls, jobs that failed, who can't move
     lens image NAME                   the image NAME.img, one thing a line
     lens image NAME OTHER             the lines by which NAME.img and OTHER.img differ: - NAME alone, + OTHER alone
     lens words < PROGRAM              the program's text, each word as a line that assembles to it
     lens page NAME < SCENARIO         the run of NAME.trc as one HTML page
+    lens plain < SCENARIO             the scenario without the names that its programs use, as fluke takes it
     lens --help                       this text
     lens --version                    the program's version
 

@@ -1,6 +1,7 @@
 //! The top call: the words of the command line, over the source and the shelf.
 use crate::help::{HELP, VERSION};
 use crate::images::{show_differences, show_image};
+use crate::plain::show_plain;
 use crate::runs::show_run;
 use fk_causes::{Shelf, Source};
 use lens_text::{Problem, Sheet, Shown, Verb, asked_in, push_words, source_text};
@@ -20,6 +21,7 @@ fn show<R: Source, H: Shelf>(sheet: &Sheet, words: &[String], source: &mut R, sh
             if let Some(text) = source_text(sheet, source) {
                 match asked.verb {
                     Verb::Words => push_words(sheet, &text),
+                    Verb::Plain => show_plain(sheet, &text),
                     _ => show_run(sheet, &asked, &text, shelf),
                 }
             }
