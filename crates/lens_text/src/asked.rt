@@ -1,4 +1,5 @@
 //! What the words of the command line ask for.
+use crate::hunted::hunt_asked;
 use crate::sheet::{Sheet, line_at, text_at};
 use fk_model::{is_name, plain_number_up_to};
 
@@ -23,6 +24,10 @@ pub enum Verb {
     Why,
     /// The run of a trace as a page.
     Page,
+    /// The ends of runs by schedules that are drawn at random.
+    Hunt,
+    /// The first move in which two traces differ in what they do.
+    Apart,
 }
 
 /// What the words of the command line ask for: the verb, its names and its moves.
@@ -33,26 +38,28 @@ pub struct Asked<'a> {
     pub name: &'a str,
     /// The other image.
     pub other: &'a str,
-    /// The first move that is shown.
+    /// The first move that is shown; of a hunt the number of its first schedule.
     pub first: u64,
-    /// Before which move a run is to stop; the last number where it is to go on to the end.
+    /// Before which move a run is to stop; the last number where it is to go on to the end. Of a hunt how many schedules it has.
     pub end: u64,
 }
 
 /// What there is, where a word is wrong.
-const VERBS: &str = "one of tree, steps, why, image, words, page, --help, --version";
+const VERBS: &str = "one of tree, steps, why, image, words, page, hunt, diff, --help, --version";
 
 /// The most moves that a scenario's budget allows.
 const MOST: u64 = 1_000_000;
 
 /// The words of the verbs.
-const WORDS: [&str; 8] = [
+const WORDS: [&str; 10] = [
     "tree",
     "steps",
     "why",
     "image",
     "words",
     "page",
+    "hunt",
+    "diff",
     "--help",
     "--version",
 ];
@@ -64,6 +71,8 @@ a name and a number of moves
 one name or two
 no word
 a name
+a number of schedules, perhaps the seed of the first, and perhaps --until quiet, --until fault or --until TEXT
+two names
 no word
 no word";
 
@@ -93,7 +102,7 @@ fn end_of(words: &[String]) -> u64 {
 /// there the line says so.
 fn asked_of<'a>(line: &Sheet, verb: Verb, words: &'a [String]) -> Option<Asked<'a>> {
     let names = match verb {
-        Verb::Differences => 2,
+        Verb::Differences | Verb::Apart => 2,
         _ => 1,
     };
     for (place, word) in words.iter().enumerate() {
@@ -149,8 +158,10 @@ pub fn asked_in<'a>(line: &Sheet, words: &'a [String]) -> Option<Asked<'a>> {
         (3, 2) => Verb::Differences,
         (4, 0) => Verb::Words,
         (5, 1) => Verb::Page,
-        (6, 0) => Verb::Help,
-        (7, 0) => Verb::Version,
+        (6, 1..=4) => return hunt_asked(line, rest),
+        (7, 2) => Verb::Apart,
+        (8, 0) => Verb::Help,
+        (9, 0) => Verb::Version,
         _ => {
             line.put_around(b"after ", word.as_str(), b": expected ");
             line.add(line_at(BEHIND, place as u64));

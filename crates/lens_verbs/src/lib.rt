@@ -9,7 +9,9 @@
 //! shelf. It knows no core. It promises no more than that each function ends, whatever bytes it is given.
 #![tactic(auto)]
 
+mod apart;
 mod help;
+mod hunt;
 mod images;
 mod page;
 mod runs;
