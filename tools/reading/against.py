@@ -8,7 +8,7 @@ import random
 import subprocess
 import tempfile
 
-from . import commands, images, jobs, runs, seeds, texts
+from . import commands, images, jobs, records, runs, seeds, texts
 from .cases import Answer
 
 SECONDS = 120
@@ -57,7 +57,9 @@ def hold(program, kind, seed, index):
 def judged(program, dice, words, source, files):
     """Judges a run by its trace."""
     status, line, output, after = called(program, words, source, files)
-    trace = after.pop(words[2] + ".trc")
+    name = words[1] if words[0] == "record" else words[2]
+    trace = after.pop(name + ".trc")
+    record = after.pop(name + ".rec") if words[0] == "record" else None
     scenario = commands.scenario_of(source)
     told = [each for each in output.decode().split("\n") if each.startswith("job ")]
 
@@ -76,8 +78,27 @@ def judged(program, dice, words, source, files):
     if after != files | made:
         raise Differs(f"images {[name for name in after | made if after.get(name) != (files | made).get(name)]}")
     expect(program, ["play", "t"], source, files | {"t.trc": trace}, wanted)
+    if record is not None:
+        expect_replays(program, dice, words[2], source, files | {"t.trc": trace}, (record, records.written(run.servers, words[2])), wanted)
     expect_refusal(program, dice, source, files, trace, begun())
     return True
+
+
+def expect_replays(program, dice, watch, source, files, both, wanted):
+    """The record is the reading's, and replays; and one that is changed somewhere comes to what the reading says."""
+    record, own = both
+    if record != own:
+        raise Differs(f"the record {record}\n    the reading's {own}")
+    if watch != "said":
+        expect(program, ["replay", "t"], source, files | {"t.rec": record}, wanted)
+    at = dice.randrange(len(record))
+    changed = dice.choice((record[:at], record[:at] + dice.choice((b"0", b"7", b" ", b"\n", b"/")) + record[at + dice.randrange(2):]))
+    spoilt = files | {"t.rec": changed}
+    try:
+        answer = commands.answer(["replay", "t"], source, spoilt)
+    except jobs.Untold:
+        return
+    expect(program, ["replay", "t"], source, spoilt, answer)
 
 
 def answered(run):

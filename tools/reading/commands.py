@@ -5,7 +5,7 @@ A run may make its moves in any order, so what `run` writes isn't told here, but
 import functools
 import re
 
-from . import assembler, images, runs, scenarios, texts
+from . import assembler, images, records, runs, scenarios, texts
 from .cases import Answer
 
 LENGTH = 1048576
@@ -45,10 +45,14 @@ def done(words, source, files):
         raise texts.bad_scenario(refusal) from None
     if form == "check":
         return texts.checked(scenario)
-    run = runs.Run(scenario, needed(scenario, files))
+    images_needed = needed(scenario, files)
     if form == "run":
         raise Runs(words[2] if len(words) > 1 else None)
-    return played(run, words[1], files)
+    if form == "record":
+        raise Runs(words[1])
+    if form == "replay":
+        return replayed(scenario, images_needed, words[1], files)
+    return played(runs.Run(scenario, images_needed), words[1], files)
 
 
 @functools.lru_cache(maxsize=4)
@@ -60,8 +64,10 @@ def scenario_of(source):
 def form_of(words):
     """Which command the words are."""
     named = len(words) > 1 and NAME.fullmatch(words[-1])
-    if words in (["exec"], ["check"], ["run"]) or len(words) == 2 and words[0] in ("play", "show") and named:
+    if words in (["exec"], ["check"], ["run"]) or len(words) == 2 and words[0] in ("play", "replay", "show") and named:
         return words[0]
+    if len(words) == 3 and words[0] == "record" and NAME.fullmatch(words[1]) and words[2] in ("all", "replies", "said"):
+        return "record"
     if len(words) == 3 and words[:2] == ["run", "--trace"] and named:
         return "run"
     raise texts.usage()
@@ -98,6 +104,24 @@ def executed(source):
     if halt is None:
         raise texts.budget(runs.EXECUTED, output)
     return output
+
+
+def replayed(scenario, images_needed, name, files):
+    """What a replay writes. All of the trace is spelled, and the record is read, before any move is made."""
+    if name + ".trc" not in files:
+        raise texts.absent(name)
+    try:
+        runs.spelled(files[name + ".trc"])
+    except runs.BadTrace as refusal:
+        raise texts.bad_trace(refusal.index) from None
+    if name + ".rec" not in files:
+        raise texts.absent(name)
+    ports = [texts.path(entry.port) for entry in scenario.servers if entry.get("alias") is None]
+    try:
+        replies = records.read(ports, files[name + ".rec"])
+    except records.BadRecord as refusal:
+        raise texts.bad_record(refusal.line) from None
+    return played(runs.Run(scenario, images_needed, replies=replies), name, files)
 
 
 def played(run, name, files):

@@ -203,7 +203,7 @@ WHOLE = {
 }
 ANSWERED = (
     "plays", "plays-objects", "plays-memory", "plays-messages", "plays-references", "plays-states", "plays-servers", "check", "texts",
-    "images", "images-versions", "bytes", "promises", "sends", "replays", "workers-all",
+    "images", "images-versions", "bytes", "promises", "sends", "replays", "workers-all", "records",
 )
 NAMES = ("pieces", *ANSWERED, *WHOLE, *families.FILES)
 

@@ -2,7 +2,7 @@
 import re
 
 from . import jobs, moves, texts, words
-from .servers import Server
+from .servers import Replay, Server
 from .world import KIND_OF, NATIVE, PAGE, PAGES, PORTER, THREAD, World
 
 EXECUTED = 100000
@@ -28,7 +28,7 @@ def pages_of(program):
 class Run:
     """A scenario on its way: its world, its servers and jobs in the order of the file, how many moves were made."""
 
-    def __init__(self, scenario, images=None, told=None):
+    def __init__(self, scenario, images=None, told=None, replies=None):
         self.budget, self.events = scenario.budget, 0
         self.world = World()
         self.servers = []
@@ -37,10 +37,17 @@ class Run:
         self.objects(scenario)
         for entry in scenario.servers:
             port = self.named[entry.port]
-            server = Server(port, entry.rule, entry.get("config", ()), entry.get("alias"))
+            server = self.server(port, entry, replies)
             port.served = server
             self.servers.append(server)
         self.jobs = jobs.of(scenario, self.named, images or {}, told)
+
+    @staticmethod
+    def server(port, entry, replies):
+        """A native server; of those that are no consoles a replay of the next list of replies, where such are given."""
+        if replies is None or entry.get("alias") is not None:
+            return Server(port, entry.rule, entry.get("config", ()), entry.get("alias"))
+        return Replay(port, replies.pop(0))
 
     def spaces(self, scenario):
         """The spaces, their pages and their porters."""
@@ -161,15 +168,36 @@ def play(run, trace):
         raise BadTrace(len(lines))
 
 
-def move(run, index, line):
-    """Makes the move of a line."""
+def named_in(index, line):
+    """The names in the line of a move."""
     spelled = LINE.fullmatch(line)
-    if index >= run.budget or spelled is None:
+    if spelled is None:
         raise BadTrace(index)
     birth, slot, *pick = (int(part) for part in spelled.groups() if part is not None)
     named = [(birth, slot)] + ([tuple(pick)] if pick else [])
     if any(birth >= 1 << 32 or slot > 255 for birth, slot in named):
         raise BadTrace(index)
+    return named
+
+
+def spelled(trace):
+    """Raises BadTrace with the index of the first line that is misspelled, whatever the moves are."""
+    head, feed, rest = trace.partition(b"\n")
+    if head != HEAD or not feed:
+        raise BadTrace(0)
+    lines = rest.split(b"\n")
+    last = lines.pop()
+    for index, line in enumerate(lines):
+        named_in(index, line)
+    if last:
+        raise BadTrace(len(lines))
+
+
+def move(run, index, line):
+    """Makes the move of a line."""
+    if index >= run.budget:
+        raise BadTrace(index)
+    named = named_in(index, line)
     things = [run.world.at(*name) for name in named]
     deed = run.deed(*things) if None not in things else None
     if deed is None:

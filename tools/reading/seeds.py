@@ -119,8 +119,14 @@ def asks_jobs(dice):
     return ["run", "--trace", "t"], any_program.Scenario(dice, any_program.JOBS).document().encode(), {}
 
 
+def asks_record(dice):
+    """A run with native servers, of which a record is made."""
+    watch = dice.choice(("all", "replies", "said"))
+    return ["record", "t", watch], any_program.Scenario(dice, any_program.SERVERS).document().encode(), {}
+
+
 KINDS = {
-    "texts": asks_text, "toml": asks_toml, "check": asks_check, "images": asks_image, "restored": asks_restored, "runs": asks_run, "jobs": asks_jobs,
+    "texts": asks_text, "toml": asks_toml, "check": asks_check, "images": asks_image, "restored": asks_restored, "runs": asks_run, "jobs": asks_jobs, "records": asks_record,
     **{name if name == "plays" else f"plays-{name}": asks_play(level) for level, name in enumerate(any_program.LEVELS[:any_program.JOBS])},
 }
 

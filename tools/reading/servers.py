@@ -28,31 +28,55 @@ class Server:
         self.position, self.request, self.left, self.client = 0, [], [], None
         # What a console was sent.
         self.printed = []
+        # What passes at the port, each as the words of a record's line.
+        self.notes = []
+
+    def notes_seen(self, watch):
+        """The notes that an observer sees."""
+        return [note for note in self.notes if watch == "all" or note[0] == {"replies": "reply", "said": "said"}[watch]]
+
+    def replied(self):
+        """Its next reply, which is computed now."""
+        answer = reply(self.rule, self.config, self.position, self.request)
+        if self.alias is None:
+            self.position = min(self.position + 1, words.ALL)
+        return answer
 
     def words(self, given):
         """The client sends words."""
+        self.notes.append(("said", *given))
         if self.alias is not None:
             self.printed += given
         else:
             self.request = (self.request + given)[:KEPT]
 
     def over(self):
-        """The client hands over: the reply is computed."""
-        self.left = reply(self.rule, self.config, self.position, self.request)
-        if self.alias is None:
-            self.position = min(self.position + 1, words.ALL)
+        """The client hands over, and it replies."""
+        self.notes.append(("over",))
+        self.replies()
+
+    def replies(self):
+        """The reply is computed."""
+        self.left = self.replied()
+        self.notes.append(("reply", *self.left))
         self.request = []
 
     def ended(self):
         """The talk has ended."""
+        self.notes.append(("ended",))
         self.client, self.request, self.left = None, [], []
 
     def taken(self, client):
         """A client is taken, or taken up with an empty request; at its own turn what was moved of the reply is left out."""
         self.client, self.request, self.left = client, [], []
+        self.notes.append(("taken", "client" if client.talk.turn == CLIENT else "server", client.talk.moved))
         if client.talk.turn != CLIENT:
-            self.over()
-            self.left = self.left[client.talk.moved:]
+            self.replies()
+            self.left = self.left[self.moved_before(client.talk):]
+
+    def moved_before(self, talk):
+        """How many words of its reply it leaves out, since they were moved before."""
+        return talk.moved
 
     def deed(self, world, pick):
         """What its next act does; nothing where it isn't ready."""
@@ -100,3 +124,19 @@ class Server:
             self.client.registers[1] = 0
         calls.end_call(self.client, calls.OK)
         calls.hand_over(talk)
+
+
+class Replay(Server):
+    """What gives the replies of a list in the place of a server: each whole, and empty ones behind the end."""
+
+    def __init__(self, port, given):
+        super().__init__(port, None)
+        self.given = list(given)
+
+    def replied(self):
+        """The next reply of its list."""
+        return self.given.pop(0) if self.given else []
+
+    def moved_before(self, talk):
+        """It leaves nothing out."""
+        return 0

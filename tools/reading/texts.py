@@ -96,3 +96,8 @@ def job_refused(index, output):
 def budget(number, output):
     """The budget is used."""
     return Fault(10, f"budget {number}", output)
+
+
+def bad_record(line):
+    """A line of a record is bad."""
+    return Fault(16, f"bad record line {line}")

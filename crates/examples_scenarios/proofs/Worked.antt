@@ -1,5 +1,6 @@
 -- The worked document says its scenario.
-use Rattle.std.proofs.Common.{◌≡◌, ◌≢◌, ◌≤◌, ◌+◌, inl, inr, ℕ, pos, true, false, List, [], ◌∷◌, map, All, Option, Some, None, Ok, codes, decimal, refl, sym, ap, ◌∙◌, arith, true≢false, suc-ne-zero}
+use Rattle.std.proofs.Common.{◌≡◌, ◌≢◌, ◌≤◌, ◌+◌, inl, inr, ℕ, pos, true, false, List, [], ◌∷◌, map, All, Option, Some, None, Ok, codes, decimal, refl}
+use Rattle.std.proofs.Common.{sym, ap, ◌∙◌, arith, true≢false, suc-ne-zero}
 use Rattle.std.proofs.lemmas.List.Elements.{All-from_recursion}
 use Rattle.toml.specs.Data.{Data, no_items, item, Members, no_members, member, string, integer, array, table}
 use Rattle.fk_scenario.specs.declared.scenario.scenario.Scenario.{Scenario}

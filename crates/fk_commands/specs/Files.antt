@@ -8,3 +8,7 @@ trace_name name = name ++ codes ".trc"
 -- the name under which an image lies there
 abbrev pub image_name : List ℕ → List ℕ
 image_name name = name ++ codes ".img"
+
+-- the name under which a record lies there
+abbrev pub record_name : List ℕ → List ℕ
+record_name name = name ++ codes ".rec"

@@ -12,6 +12,8 @@ pub struct Report {
     /// The names of the jobs' images, in the order of the jobs.
     pub images: Items<Text>,
     pub end: End,
+    /// The record of its native servers, where the run was recorded.
+    pub recorded: Option<Text>,
 }
 
 /// What a call comes to.

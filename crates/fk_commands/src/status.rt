@@ -39,6 +39,9 @@ pub enum Status {
     ShelfFault,
     /// There is no memory for what was asked.
     NoMemory,
+    /// This line of the record, counted from 1, is the first that is misspelled, names no port of a server that is no console, or
+    /// names one that comes before that of an earlier line.
+    BadRecord { line: u64 },
 }
 
 impl Status {
@@ -61,6 +64,7 @@ impl Status {
             Status::WriteFault => 12,
             Status::ShelfFault => 13,
             Status::NoMemory => 14,
+            Status::BadRecord { .. } => 16,
         }
     }
 }
@@ -120,6 +124,7 @@ pub fn fault_line(alloc: Global, status: &Status) -> Result<String, NoMemory>
         Status::WriteFault => String::from_str(alloc, "fluke: write fault")?,
         Status::ShelfFault => String::from_str(alloc, "fluke: shelf fault")?,
         Status::NoMemory => String::from_str(alloc, "fluke: no memory")?,
+        Status::BadRecord { line } => format!(in alloc; "fluke: bad record line {line}")?,
     };
     Ok(line)
 }

@@ -15,7 +15,7 @@ use Rattle.fk_core.specs.Cores.Cores.{RunCore}
 use Rattle.fk_core.specs.Cores.Goings.{errand_by, errand_of, start_at, HasCome}
 use Rattle.fk_core.specs.Cores.Served.{shown}
 use Rattle.fk_core.proofs.InCores.Histories.{begun}
-use Rattle.fk_first.specs.First.{IsFirst}
+use Rattle.fk_first.specs.First.{IsBegun, IsFirst}
 use Rattle.fk_image.specs.declared.image.image.Image.{Image}
 use Rattle.fk_natives.specs.declared.native.Native.{Native}
 use Rattle.fk_natives.specs.Both.{meaning}
@@ -99,6 +99,9 @@ begins-soundly s given c jobs budget sound ends work events same_jobs same_budge
     events = events;
   };
 }
+
+pub first-begun : (s : Scenario) (c : RunCore) → IsFirst s c → IsBegun s c
+first-begun s c is = record { world = is.world; sound = is.sound; ends = is.ends; work = is.work; events = is.events }
 
 pub has-come : (s : Scenario) (given : List (Option Image)) (c : RunCore) (jobs : List Job) (budget : ℕ) → IsFirst s c
     → jobs ≡ jobs_of s.jobs given → budget ≡ s.budget → HasCome jobs budget c

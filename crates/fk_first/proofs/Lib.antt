@@ -3,3 +3,4 @@ pub use Rattle.laws_first.proofs.Programs
 pub mod Servers
 pub mod Grounds
 pub mod Planned
+pub mod Beginnings

@@ -6,7 +6,16 @@ use Rattle.fk_boot.specs.FirstWorld.{booted}
 use Rattle.fk_boot.specs.Services.{first_services}
 use Rattle.fk_boot.specs.Starts.{start_with, ports_by}
 use Rattle.fk_core.specs.Cores.Cores.{RunCore}
+use Rattle.fk_core.specs.Cores.Served.{Services}
 use Rattle.fk_scenario.specs.declared.scenario.scenario.Scenario.{Scenario}
+
+-- its first world, with which a run may begin where servers stand at these ports; no job has begun, whatever the servers are
+pub record IsBegun (s : Scenario) (c : RunCore) : Type 0 where
+  pub world : c.world ≡ booted s
+  pub sound : IsSoundStart (start_with s c.world (ports_by c.world c.servers) s.budget)
+  pub ends : c.ends ≡ []
+  pub work : c.work ≡ None
+  pub events : c.events ≡ 0
 
 -- its first world and its servers as they are at first, each at its port, with which a run may begin; no job has begun
 pub record IsFirst (s : Scenario) (c : RunCore) : Type 0 where
@@ -16,3 +25,9 @@ pub record IsFirst (s : Scenario) (c : RunCore) : Type 0 where
   pub ends : c.ends ≡ []
   pub work : c.work ≡ None
   pub events : c.events ≡ 0
+
+-- the same with others in the place of these servers
+pub record IsFirstWith (s : Scenario) (with : Services → Services) (c : RunCore) : Type 0 where
+  pub first : RunCore
+  pub is_first : IsFirst s first
+  pub same : c ≡ record { world = first.world; servers = with first.servers; ends = first.ends; work = first.work; events = first.events }

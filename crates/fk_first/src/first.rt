@@ -1,5 +1,5 @@
 //! The core with which a scenario begins.
-ghost use Rattle.std.specs.Prelude.{◌≡◌, List, IfOk};
+ghost use Rattle.std.specs.Prelude.{◌≡◌, [], List, None, IfOk};
 ghost use Rattle.fk_model.specs.declared.moves.Rule.{Rule};
 ghost use Rattle.fk_core.specs.Cores.Cores.{run_core};
 ghost use Rattle.fk_core.specs.Cores.Goings.{IsGoing};
@@ -19,6 +19,22 @@ use fk_porters::Porter;
 use fk_scenario::Scenario;
 use std::alloc::Global;
 
+/// The jobs of a scenario, none of which has begun. An image is given for each, or none; one that an earlier job makes needs none.
+pub fn first_jobs(
+    alloc: Global,
+    scenario: &Scenario,
+    images: &[Option<ValidImage>],
+) -> Result<Jobs<Porter>, NoMemory>
+    requires { KeepsScenario scenario.now }
+    ensures jobs { IfOk result (λ jobs. jobs.jobs ≡ jobs_of scenario.now.jobs images.now) }
+    ensures ends { IfOk result (λ jobs. jobs.ends ≡ []) }
+    ensures work { IfOk result (λ jobs. jobs.work ≡ None) }
+{
+    let plans = plans_of(alloc, scenario.jobs.as_slice(), images)?;
+    let jobs = Jobs::new(alloc, plans)?;
+    Ok(jobs)
+}
+
 /// The core with which a scenario begins. An image is given for each of its jobs, or none; one that an earlier job makes needs none. A table
 /// by which the scenario was read fits its servers.
 pub fn first_core(
@@ -35,7 +51,6 @@ pub fn first_core(
     ensures budget { IfOk result (λ core. core.budget ≡ scenario.now.budget) }
 {
     let first = boot(alloc, scenario)?;
-    let plans = plans_of(alloc, scenario.jobs.as_slice(), images)?;
-    let jobs = Jobs::new(alloc, plans)?;
+    let jobs = first_jobs(alloc, scenario, images)?;
     Ok(Core::new(first.kernel, first.services, jobs, first.budget))
 }

@@ -10,11 +10,13 @@
 
 mod first;
 mod plans;
+mod posts;
 mod ready;
 mod seen;
 mod watching;
 
-pub use first::first_core;
+pub use first::{first_core, first_jobs};
 pub use plans::maker_of;
+pub use posts::{replaying_core, tapped_core};
 pub use seen::{Images, Job, Ready, Seen, Stop, Trace, Watcher};
 pub use watching::{images_for, watch};

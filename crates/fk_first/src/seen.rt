@@ -1,7 +1,9 @@
 //! What is seen of a run, who watches it, and who has images for it.
 use fk_finish::ValidImage;
+use fk_jobs::Jobs;
 use fk_model::{Move, NoMemory, Stage, Who};
 use fk_natives::Native;
+use fk_porters::Porter;
 use fk_store::Store;
 use std::collections::BTreeMap;
 
@@ -23,6 +25,8 @@ pub struct Seen<'a> {
     /// The native servers with their ports, in the order of the file.
     pub services: &'a [(Who, Native)],
     pub job: Option<Job>,
+    /// All jobs: what is planned of each, and how those have ended that have.
+    pub jobs: &'a Jobs<Porter>,
     /// How many moves were made.
     pub events: u64,
 }

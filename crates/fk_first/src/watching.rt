@@ -42,6 +42,7 @@ fn seen<'a>(core: &'a Core<Native, Porter>, job: Option<Job>) -> Seen<'a> {
         store: core.kernel().store(),
         services: core.services(),
         job,
+        jobs: core.jobs(),
         events: core.events(),
     }
 }

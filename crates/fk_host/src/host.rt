@@ -1,5 +1,5 @@
 //! One kernel with its native servers.
-ghost use Rattle.std.specs.Prelude.{◌≡◌, ◌↔◌, ◌≤◌, IsTrue, IfNone, IfOk, IfSome, OnErr, length, map};
+ghost use Rattle.std.specs.Prelude.{◌≡◌, ◌↔◌, IsTrue, IfNone, IfOk, IfSome, OnErr, map};
 ghost use Rattle.fk_host.specs.Hosts.{IsFitWith, IsReadyWith, IsTurn, asked_with};
 ghost use Rattle.fk_model.specs.declared.moves.Move as moves;
 ghost use Rattle.fk_served.specs.Acts.{IsReadyAsked};
@@ -9,7 +9,7 @@ ghost use Rattle.fk_served.specs.Served.{AllFit, shown};
 use fk_model::{Ask, Move, NoMemory, Said, Who};
 use fk_natives::Service;
 use fk_responders::Table;
-use fk_served::asking::{asked_by, is_ready, ready_act};
+use fk_served::asking::{asked_by, find_act, is_ready};
 use fk_served::{Kernel, Services};
 
 /// A kernel with its native servers. Who has it says which move is made, and what a porter asks for.
@@ -86,19 +86,6 @@ impl<S: Service + Drop> Host<S> {
         Ok(told.said)
     }
 
-    /// A ready act of the server at a place or behind it.
-    fn act_from(&self, from: usize) -> Option<Move>
-        ensures ready { IfSome result (λ m. IsReadyAsked self.now.services.list (world self.now.kernel) m) }
-        ensures none { IfNone result (HaveNoActs self.now.services.list (world self.now.kernel) from (length self.now.services.list)) }
-    {
-        for at in from..self.services.len() {
-            if let Some(m) = ready_act(&self.kernel, &self.services, self.services.port(at)) {
-                return Some(m);
-            }
-        }
-        None
-    }
-
     /// A ready move of a user or a server; none exactly where there is none.
     pub fn choose(&mut self) -> Option<Move>
         ensures ready { IfSome result (λ m. IsReadyAsked self.old.services.list (world self.old.kernel) m) }
@@ -108,7 +95,7 @@ impl<S: Service + Drop> Host<S> {
     {
         match self.kernel.next() {
             Some(m) => Some(m),
-            None => self.act_from(0),
+            None => find_act(&self.kernel, &self.services, None, 0, self.services.len()),
         }
     }
 }

@@ -1,3 +1,7 @@
+pub use Rattle.fk_runs.proofs.InRecordings.Again
+pub use Rattle.fk_runs.proofs.InRecordings.Apart
+pub use Rattle.fk_runs.proofs.InRecordings.Records
 pub use Rattle.fk_runs.proofs.InRuns.Replayed
 pub use Rattle.fk_runs.proofs.InRuns.Headlines
 pub mod Found
+pub mod Refusals

@@ -1,3 +1,12 @@
+pub use Rattle.fk_runs.specs.Recordings.Again
+pub use Rattle.fk_runs.specs.Recordings.Replaying
+pub use Rattle.fk_runs.specs.Recordings.Recording
+pub use Rattle.fk_runs.specs.Recordings.Ports
+pub use Rattle.fk_runs.specs.Recordings.Trace
+pub use Rattle.fk_runs.specs.Recordings.Posts
+pub use Rattle.fk_runs.specs.Recordings.Record
+pub use Rattle.fk_runs.specs.Recordings.Pair
+pub use Rattle.fk_runs.specs.Recordings.Following
 pub use Rattle.fk_runs.specs.Runs.Runs
 pub use Rattle.fk_runs.specs.Runs.Headline
 pub use Rattle.fk_runs.specs.Runs.Made
@@ -7,3 +16,4 @@ pub use Rattle.fk_runs.specs.Runs.Shown
 pub use Rattle.fk_runs.specs.Runs.Cores
 pub mod Images
 pub mod Play
+pub mod Recorded

@@ -7,7 +7,9 @@
 //! report of their last core. It answers a fault of the shelf only where a get failed.
 #![tactic(auto)]
 
-mod images;
+pub mod images;
 pub mod play;
+pub mod record_command;
+pub mod replay_command;
 pub mod run;
 pub mod soak;

@@ -20,7 +20,12 @@ use fk_scenario::Scenario;
 use std::alloc::Global;
 
 /// The trace that the shelf has under a name.
-fn trace_of<H: Shelf>(alloc: Global, shelf: &mut H, name: &str) -> Result<Vec<u8>, Status>
+///
+/// # Errors
+///
+/// `Absent` with the name where the shelf has no such trace, `ShelfFault` where the get of it failed, and `NoMemory` where there is none for its
+/// bytes.
+pub fn trace_of<H: Shelf>(alloc: Global, shelf: &mut H, name: &str) -> Result<Vec<u8>, Status>
     ensures found { IfOk result (λ trace. HasAt (H.files shelf.old) (trace_name name.now) (Some trace.items)) }
     ensures fail { IfErr result (IsFileFail (trace_name name.now) name.now (H.files shelf.old) (H.failed_gets shelf.old) (H.failed_gets shelf.new)) }
     ensures kept_gets { StandsUnless is_shelf_fault (H.failed_gets shelf.old) (H.failed_gets shelf.new) result }

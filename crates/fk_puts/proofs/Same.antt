@@ -3,7 +3,7 @@ use Rattle.std.proofs.Common.{ℕ, List, Option, Some, None, refl}
 use Rattle.fk_causes.specs.Shelf.{FileMap, KeepsOthers}
 use Rattle.fk_commands.specs.Files.{image_name}
 use Rattle.fk_report.specs.declared.job_end.JobEnd.{JobEnd}
-use Rattle.fk_report.specs.declared.job_end.JobEnd.TheVariants.{Checkpointed, Foreign, Dead, Restored, NoImage, Occupied, NoPort}
+use Rattle.fk_report.specs.declared.job_end.JobEnd.TheVariants.{Checkpointed}
 use Rattle.fk_puts.specs.Puts.{OpensEnd}
 
 -- files that aren't touched are as before
@@ -13,11 +13,5 @@ keeps_same (Some files) name = λ other differs. refl
 
 -- nor is that of a job
 pub opens_same : (name : List ℕ) (end : Option JobEnd) (files : Option FileMap) → OpensEnd name end files files
-opens_same name None files = refl
 opens_same name (Some (Checkpointed hold release image)) files = keeps_same files (image_name name)
-opens_same name (Some (Foreign place hold release)) files = refl
-opens_same name (Some Dead) files = refl
-opens_same name (Some (Restored make release)) files = refl
-opens_same name (Some NoImage) files = refl
-opens_same name (Some Occupied) files = refl
-opens_same name (Some (NoPort port make release)) files = refl
+opens_same name other files = refl

@@ -3,14 +3,14 @@ use Rattle.std.specs.Prelude.{◌≡◌, ◌⊎◌, ⊤, ℕ, ◌+◌, List, [],
 use Rattle.std.specs.List.{slice_get}
 use Rattle.fk_causes.specs.Shelf.{FileMap, HasAt, KeepsOthers}
 use Rattle.fk_commands.specs.declared.outcome.Report.{Report}
-use Rattle.fk_commands.specs.Files.{image_name, trace_name}
+use Rattle.fk_commands.specs.Files.{image_name, record_name, trace_name}
 use Rattle.fk_image.specs.declared.image.image.Image.{Image}
 use Rattle.fk_image.specs.Format.Spells.{SpellsImage}
 use Rattle.fk_model.specs.declared.moves.Move.{Move}
 use Rattle.fk_report.specs.Jobs.{end_in}
 use Rattle.fk_report.specs.declared.job_end.JobEnd.{JobEnd}
-use Rattle.fk_report.specs.declared.job_end.JobEnd.TheVariants.{Checkpointed, Foreign, Dead, Restored, NoImage, Occupied, NoPort}
-use Rattle.fk_words.specs.Commands.{Files, NoFiles, RunFiles}
+use Rattle.fk_report.specs.declared.job_end.JobEnd.TheVariants.{Checkpointed}
+use Rattle.fk_words.specs.Commands.{Files, NoFiles, RunFiles, RecordFiles}
 use Rattle.fk_trace_text.specs.Trace.{trace_text}
 
 -- ---- one file
@@ -27,14 +27,8 @@ PutsImage name image old new = (bytes : List ℕ) × SpellsImage bytes image × 
 
 -- the image of a job, where it has made one
 abbrev pub PutsEnd : List ℕ → Option JobEnd → Option FileMap → Option FileMap → Type 0
-PutsEnd name None old new = new ≡ old
 PutsEnd name (Some (Checkpointed hold release image)) old new = PutsImage name image old new
-PutsEnd name (Some (Foreign place hold release)) old new = new ≡ old
-PutsEnd name (Some Dead) old new = new ≡ old
-PutsEnd name (Some (Restored make release)) old new = new ≡ old
-PutsEnd name (Some NoImage) old new = new ≡ old
-PutsEnd name (Some Occupied) old new = new ≡ old
-PutsEnd name (Some (NoPort port make release)) old new = new ≡ old
+PutsEnd name other old new = new ≡ old
 
 -- the images of jobs with these names, one after the other, the first of which has this place
 abbrev pub PutImages : List (Option JobEnd) → ℕ → List (List ℕ) → Option FileMap → Option FileMap → Type 0
@@ -51,18 +45,21 @@ abbrev pub PutsRun : Option (List ℕ) → Report → Option FileMap → Option 
 PutsRun trace report old new =
     (between : Option FileMap) × PutImages report.jobs 0 report.images old between × PutsTrace trace report.history between new
 
+abbrev pub PutsRecord : List ℕ → Option (List ℕ) → Option FileMap → Option FileMap → Type 0
+PutsRecord name None old new = new ≡ old
+PutsRecord name (Some text) old new = IsPut old (record_name name) text new
+
+-- and last its record, where it was recorded
+abbrev pub PutsRecorded : List ℕ → Report → Option FileMap → Option FileMap → Type 0
+PutsRecorded name report old new =
+    (between : Option FileMap) × PutsRun (Some name) report old between × PutsRecord name report.recorded between new
+
 -- ---- the same up to a put that failed: what was to be put before it is put, its own file is open, and all others are as before
 
 -- of a job's image, where it has made one
 abbrev pub OpensEnd : List ℕ → Option JobEnd → Option FileMap → Option FileMap → Type 0
-OpensEnd name None old new = new ≡ old
 OpensEnd name (Some (Checkpointed hold release image)) old new = KeepsOthers old new (image_name name)
-OpensEnd name (Some (Foreign place hold release)) old new = new ≡ old
-OpensEnd name (Some Dead) old new = new ≡ old
-OpensEnd name (Some (Restored make release)) old new = new ≡ old
-OpensEnd name (Some NoImage) old new = new ≡ old
-OpensEnd name (Some Occupied) old new = new ≡ old
-OpensEnd name (Some (NoPort port make release)) old new = new ≡ old
+OpensEnd name other old new = new ≡ old
 
 abbrev pub PutSomeImages : List (Option JobEnd) → ℕ → List (List ℕ) → Option FileMap → Option FileMap → Type 0
 PutSomeImages ends place [] old new = new ≡ old
@@ -77,6 +74,10 @@ abbrev pub PutsSome : Option (List ℕ) → Report → Option FileMap → Option
 PutsSome trace report old new = PutSomeImages report.jobs 0 report.images old new
     ⊎ ((between : Option FileMap) × PutImages report.jobs 0 report.images old between × KeepsButTrace trace between new)
 
+abbrev pub PutsSomeRecorded : List ℕ → Report → Option FileMap → Option FileMap → Type 0
+PutsSomeRecorded name report old new = PutsSome (Some name) report old new
+    ⊎ ((between : Option FileMap) × PutsRun (Some name) report old between × KeepsOthers between new (record_name name))
+
 -- ---- of a command
 
 -- what a command is to leave of its run is put; without a run nothing is
@@ -84,12 +85,16 @@ abbrev pub HasPut : Files → Option Report → Option FileMap → Option FileMa
 HasPut NoFiles report old new = new ≡ old
 HasPut (RunFiles trace) None old new = new ≡ old
 HasPut (RunFiles trace) (Some report) old new = PutsRun trace report old new
+HasPut (RecordFiles name) None old new = new ≡ old
+HasPut (RecordFiles name) (Some report) old new = PutsRecorded name report old new
 
 -- or some of it, up to a put that failed
 abbrev pub HasPutSome : Files → Option Report → Option FileMap → Option FileMap → Type 0
 HasPutSome NoFiles report old new = new ≡ old
 HasPutSome (RunFiles trace) None old new = new ≡ old
 HasPutSome (RunFiles trace) (Some report) old new = PutsSome trace report old new
+HasPutSome (RecordFiles name) None old new = new ≡ old
+HasPutSome (RecordFiles name) (Some report) old new = PutsSomeRecorded name report old new
 
 -- files with names of images, and the trace of a run
 abbrev pub IsImageName : List ℕ → Type 0
@@ -109,3 +114,4 @@ KeepsBut May (Some old) (Some new) = (file : List ℕ) → (May file → ⊥) �
 abbrev pub KeepsFiles : Files → Option FileMap → Option FileMap → Type 0
 KeepsFiles NoFiles old new = new ≡ old
 KeepsFiles (RunFiles trace) old new = KeepsBut (λ file. IsImageName file ⊎ IsTraceName trace file) old new
+KeepsFiles (RecordFiles name) old new = KeepsBut (λ file. (IsImageName file ⊎ IsTraceName (Some name) file) ⊎ (file ≡ record_name name)) old new

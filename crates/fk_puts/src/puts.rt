@@ -4,10 +4,11 @@ ghost use Rattle.std.specs.Bool.{OnFalse};
 ghost use Rattle.fk_causes.specs.Causes.{Rose, StandsUnless};
 ghost use Rattle.fk_causes.specs.Shelf.{KeepsOthers, is_failed};
 ghost use Rattle.fk_causes.specs.declared.shelf.ShelfFail.TheVariants as fails;
-ghost use Rattle.fk_commands.specs.Files.{image_name, trace_name};
+ghost use Rattle.fk_commands.specs.Files.{image_name, record_name, trace_name};
 ghost use Rattle.fk_puts.specs.Small.{AreSmall, IsSmall};
 ghost use Rattle.fk_words.specs.Commands.{leaves, uses_shelf, seen};
 ghost use Rattle.fk_puts.specs.Puts.{HasPut, HasPutSome, IsPut, KeepsButTrace, KeepsFiles, OpensEnd};
+ghost use Rattle.fk_puts.specs.Puts.{PutsRecord, PutsRecorded, PutsSomeRecorded};
 ghost use Rattle.fk_puts.specs.Puts.{PutImages, PutSomeImages, PutsEnd, PutsImage, PutsRun, PutsSome, PutsTrace};
 ghost use Rattle.fk_trace_text.specs.Trace as traces;
 
@@ -187,6 +188,49 @@ fn put_run<H: Shelf>(
     put_named(alloc, trace, report, shelf)
 }
 
+/// Puts the record of a run under a name, where it was recorded.
+///
+/// # Errors
+///
+/// `Failed` where the put failed, and `NoMemory` where there is no memory for the file's name.
+#[tactic(auto, using(crate::proofs::Same::keeps_same))]
+fn put_record<H: Shelf>(
+    alloc: Global,
+    name: &str,
+    told: &Option<Text>,
+    shelf: &mut H,
+) -> Result<(), ShelfFail>
+    ensures put { OnOk result (PutsRecord name.now told.now (H.files shelf.old) (H.files shelf.new)) }
+    ensures others { KeepsOthers (H.files shelf.old) (H.files shelf.new) (record_name name.now) }
+    ensures cause { result ≡ Err fails.Failed → Rose (H.failed_puts shelf.old) (H.failed_puts shelf.new) }
+    ensures kept { StandsUnless is_failed (H.failed_puts shelf.old) (H.failed_puts shelf.new) result }
+    ensures same_gets { H.failed_gets shelf.new ≡ H.failed_gets shelf.old }
+{
+    let file = format!(in alloc; "{name}.rec")?;
+    match told {
+        Some(told) => shelf.put(file.as_str(), told.as_str().as_bytes()),
+        None => Ok(()),
+    }
+}
+
+/// Puts what a run leaves that was recorded: the images that its jobs have made, then its trace, and then its record.
+fn put_recorded<H: Shelf>(
+    alloc: Global,
+    name: &str,
+    report: &Report,
+    shelf: &mut H,
+) -> Result<(), ShelfFail>
+    ensures put { OnOk result (PutsRecorded name.now report.now (H.files shelf.old) (H.files shelf.new)) }
+    ensures some { OnErr result (PutsSomeRecorded name.now report.now (H.files shelf.old) (H.files shelf.new)) }
+    ensures cause { result ≡ Err fails.Failed → Rose (H.failed_puts shelf.old) (H.failed_puts shelf.new) }
+    ensures kept { StandsUnless is_failed (H.failed_puts shelf.old) (H.failed_puts shelf.new) result }
+    ensures same_gets { H.failed_gets shelf.new ≡ H.failed_gets shelf.old }
+    ensures small { OnOk result (All traces.IsMove report.now.history) }
+{
+    put_run(alloc, Some(name), report, shelf)?;
+    put_record(alloc, name, &report.recorded, shelf)
+}
+
 /// Puts what a command puts of its run, and says of each command what is put.
 fn put_of<H: Shelf>(
     alloc: Global,
@@ -212,6 +256,11 @@ fn put_of<H: Shelf>(
         Command::Play(_) => Ok(()),
         Command::Show(_) => Ok(()),
         Command::Soak(_) => Ok(()),
+        Command::Record(name, _) => match report {
+            Some(report) => put_recorded(alloc, name, report, shelf),
+            None => Ok(()),
+        },
+        Command::Replay(_) => Ok(()),
     }
 }
 

@@ -19,6 +19,7 @@ mod threads;
 pub use end::End;
 pub use job_end::JobEnd;
 pub use jobs::{end_at, first_refused};
+pub use paths::push_down;
 pub use report::{end_word, outs_text, report_text, run_text};
 pub use resting::all_halted;
 pub use threads::{ThreadState, have_halted, threads_of};

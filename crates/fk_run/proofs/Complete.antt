@@ -2,6 +2,7 @@
 use Rattle.std.proofs.Common.{◌≡◌, ◌≤◌, ◌⊎◌, inl, inr, ℕ, Bool, false, nat_lt, List, [], ◌∷◌, ◌++◌, length, Option, Some, None, IfSome}
 use Rattle.std.proofs.Common.{Result, Ok, Err, IfErr, refl, sym, ap, subst, ◌∙◌, string_bytes, arith}
 use Rattle.std.specs.Bool.{MatchBool, OnFalse, OnTrue}
+use Rattle.std.specs.Prelude.{⊤}
 use Rattle.std.specs.Io.KnownBytes.{Appends}
 use Rattle.fk_asm.specs.Assembler.{assembled}
 use Rattle.fk_asm.specs.declared.fail.AsmError.{AsmError}
@@ -32,22 +33,36 @@ use Rattle.fk_plays.specs.Images.{needed, read_bytes, read_file, Finds, FindsIma
 use Rattle.fk_plays.specs.Images.FindsImages.{NoJob, Found, Refused, Later}
 use Rattle.fk_plays.specs.Play.{IsPlay, IsPlayedBy, IsScenario, IsSoak, IsTraced, IsWholeRun, IsWith, IsWithImages}
 use Rattle.fk_puts.specs.Puts.{HasPut}
+use Rattle.fk_plays.specs.Record.{Entry}
+use Rattle.fk_plays.proofs.Records.{spells_not_bad, spells_same}
+use Rattle.fk_plays.proofs.Apart.{are-ports}
+use Rattle.fk_plays.specs.Ports.{ports_of}
+use Rattle.fk_plays.specs.Recorded.{IsWholeRecord}
+use Rattle.fk_plays.specs.Recording.{watch_place, IsRecorded, IsRecordedFrom}
+use Rattle.fk_plays.specs.Recorded as replays
+use Rattle.fk_plays.specs.Recorded.{IsReplay, IsReplayedWith}
+use Rattle.fk_plays.specs.Replaying.{replies_by, IsReplayedBy}
 use Rattle.fk_report.specs.declared.end.End.{End}
 use Rattle.fk_report.specs.declared.end.End.TheVariants as ends
 use Rattle.fk_report.specs.declared.job_end.JobEnd.{JobEnd}
 use Rattle.fk_report.specs.Jobs.{refused_from}
 use Rattle.fk_run.proofs.Due.{done-whole, held}
-use Rattle.fk_run.specs.Complete.{AreRight, HasImage, HasImages, HasTrace, IsComplete, IsImageFile, IsProgram, IsRight, IsScenarioWith, IsTraceFile, IsWhole}
+use Rattle.fk_run.proofs.Headline.{read-keeps}
+use Rattle.fk_run.specs.Complete.{AreRight, HasImage, HasImages, HasReplay, HasTrace, IsComplete, IsImageFile, IsProgram, IsRight}
+use Rattle.fk_run.specs.Complete.{IsRecordFile, IsReplayFile, IsScenarioWith, IsTraceFile, IsWhole}
 use Rattle.fk_commands.specs.Tables.{Rules}
 use Rattle.fk_run.specs.Top.{IsUnlessTooLong, IsCalledFor, IsDue, IsDone}
 use Rattle.fk_plays.specs.Made.{Images, status_of_refused, status_of_end}
 use Rattle.fk_plays.specs.Runs.{begun, IsAlone, IsPlayed, IsRunFrom}
 use Rattle.fk_scenario.specs.declared.scenario.scenario.Scenario.{Scenario}
+use Rattle.fk_scenario.specs.Scenario.Kept.{KeepsScenario}
 use Rattle.fk_scenario.specs.Scenario.Reading.{scenario_reading}
 use Rattle.fk_scenario.specs.declared.fields.fail.ScenarioError.{ScenarioError}
 use Rattle.fk_trace_text.proofs.Traces.{Spells-not_bad}
+use Rattle.fk_plays.specs.Posts.{all_replaying}
 use Rattle.fk_trace_text.specs.Trace.{Spells}
-use Rattle.fk_words.specs.Commands.{Command, Exec, Check, Run, Play, Show, Soak, leaves}
+use Rattle.fk_plays.specs.Following.{core_with}
+use Rattle.fk_words.specs.Commands.{Command, Exec, Check, Run, Play, Show, Soak, Record, Replay, leaves}
 
 -- ---- how what is done ends
 
@@ -69,6 +84,11 @@ alone-ends : (Is : RunCore → Report → List ℕ → Type 0) (specs : List Job
     (report : Option Report) (text : List ℕ) → IsAlone Is specs given first budget status report text → progress_of status ≡ Finished
 alone-ends Is specs given first budget status None text ran = absurd ran
 alone-ends Is specs given first budget status (Some report) text ran = rw ran.2 (run-ends budget report.jobs report.end)
+
+recorded-ends : (watch : ℕ) (specs : List JobSpec) (given : Images) (first : RunCore) (budget : ℕ) (status : Status)
+    (report : Option Report) (text : List ℕ) → IsRecorded watch specs given first budget status report text → progress_of status ≡ Finished
+recorded-ends watch specs given first budget status None text ran = absurd ran
+recorded-ends watch specs given first budget status (Some report) text ran = rw ran.2 (run-ends budget report.jobs report.end)
 
 played-ends : (specs : List JobSpec) (given : Images) (first : RunCore) (budget : ℕ) (trace : List ℕ) (moves : List Move) (status : Status)
     (report : Option Report) (text : List ℕ) → Spells (MayPlay (begun specs given budget first)) trace moves
@@ -156,6 +176,57 @@ module _ (outcome : Outcome) (text : List ℕ) where
           let found = with-images files s (IsPlayedBy name files s) outcome text has.0 is in
           traced name files s found.0 found.1 found.2.0 (has.1 found.2.0 found.2.1) found.2.2
 
+  recorded : (watch : ℕ) (files : Option FileMap) (reading : Result Scenario ScenarioError) → IsScenarioWith (λ s. HasImages files [] s.jobs) reading
+      → IsWholeRecord watch files reading outcome text → progress_of outcome.status ≡ Finished
+  recorded watch files reading right =
+      subst (λ (r : Result Scenario ScenarioError). IsWholeRecord watch files r outcome text → progress_of outcome.status ≡ Finished) (sym right.1)
+      (of right.0 right.2)
+    where
+      of : (s : Scenario) → HasImages files [] s.jobs → IsWithImages files s (IsRecordedFrom watch s) outcome text → progress_of outcome.status ≡ Finished
+      of s has is =
+          let ran = (with-images files s (IsRecordedFrom watch s) outcome text has is).2 in
+          recorded-ends watch s.jobs _ ran.first s.budget outcome.status outcome.report text ran.ran
+
+  replayed-by : (files : Option FileMap) (s : Scenario) → KeepsScenario s → (given : Images) (trace bytes : List ℕ) → FindsImages files [] s.jobs (Ok given)
+      → IsRecordFile files s trace (Some bytes) → IsReplayedBy s given trace bytes outcome text → progress_of outcome.status ≡ Finished
+  replayed-by files s keeps given trace bytes finds right (inl (line, bad, refused)) =
+      absurd (spells_not_bad (ports_of s.servers) (are-ports s keeps) bytes right.0 line right.1 bad)
+  replayed-by files s keeps given trace bytes finds right (inr (entries, spells, is)) =
+      let same : right.0 ≡ entries = spells_same (ports_of s.servers) (are-ports s keeps) bytes right.0 entries right.1 spells in
+      let first = λ (es : List Entry). core_with is.first (all_replaying (replies_by s es) is.first.servers) in
+      let legal = right.2 given is.first finds is.is_first in
+      let spelled : Spells (MayPlay (begun s.jobs given s.budget (first entries))) trace legal.0 =
+      subst (λ (es : List Entry). Spells (MayPlay (begun s.jobs given s.budget (first es))) trace legal.0) same legal.1 in
+      played-ends s.jobs given (first entries) s.budget trace legal.0 outcome.status outcome.report text spelled is.played
+
+  replayed-file : (name : List ℕ) (files : Option FileMap) (s : Scenario) → KeepsScenario s → (given : Images) (trace : List ℕ)
+      → FindsImages files [] s.jobs (Ok given) → (told : Option (List ℕ)) → IsRecordFile files s trace told
+      → replays.IsRecordFile name s given trace told outcome text → progress_of outcome.status ≡ Finished
+  replayed-file name files s keeps given trace finds None right is = absurd right
+  replayed-file name files s keeps given trace finds (Some bytes) right is = replayed-by files s keeps given trace bytes finds right is
+
+  replayed-trace : (name : List ℕ) (files : Option FileMap) (s : Scenario) → KeepsScenario s → (given : Images) → FindsImages files [] s.jobs (Ok given)
+      → (trace : Option (List ℕ)) → IsReplayFile files name s trace → replays.IsTraceFile name files s given trace outcome text
+      → progress_of outcome.status ≡ Finished
+  replayed-trace name files s keeps given finds None right is = absurd right
+  replayed-trace name files s keeps given finds (Some trace) right (inl (index, bad, refused)) =
+      absurd (Spells-not_bad (λ _ _. ⊤) trace right.0.0 index right.0.1 bad)
+  replayed-trace name files s keeps given finds (Some trace) right (inr (moves, spells, is)) =
+      replayed-file name files s keeps given trace finds is.0 (right.1 is.0 is.1) is.2
+
+  replay : (name : List ℕ) (files : Option FileMap) (reading : Result Scenario ScenarioError) → ((s : Scenario) → reading ≡ Ok s → KeepsScenario s)
+      → IsScenarioWith (λ s. HasImages files [] s.jobs × HasReplay files name s) reading
+      → IsReplay name files reading outcome text → progress_of outcome.status ≡ Finished
+  replay name files reading keeps right =
+      subst (λ (r : Result Scenario ScenarioError). IsReplay name files r outcome text → progress_of outcome.status ≡ Finished) (sym right.1)
+      (of right.0 (keeps right.0 right.1) right.2)
+    where
+      of : (s : Scenario) → KeepsScenario s → HasImages files [] s.jobs × HasReplay files name s → IsWithImages files s (IsReplayedWith name files s) outcome text
+          → progress_of outcome.status ≡ Finished
+      of s keeps has is =
+          let found = with-images files s (IsReplayedWith name files s) outcome text has.0 is in
+          replayed-trace name files s keeps found.0 found.1 found.2.0 (has.1 found.2.0 found.2.1) found.2.2
+
   shown : (name : List ℕ) (file : Option (List ℕ)) → IsImageFile file → IsFileShown name file outcome text → progress_of outcome.status ≡ Finished
   shown name None right is = absurd right
   shown name (Some bytes) right is = by (image_reading bytes) right.1 is
@@ -181,6 +252,12 @@ module _ (outcome : Outcome) (text : List ℕ) where
       play name files (scenario_reading rules bytes) right.1 (unless-long bytes (IsPlay name files (scenario_reading rules bytes)) right.0 is)
   called rules (Some (Show name)) files bytes right is = shown name is.0 (right is.0 is.1) is.2
   called rules (Some (Soak count)) files bytes right is = soak count (scenario_reading rules (scenario count)) right is
+  called rules (Some (Record name watch)) files bytes right is =
+      recorded (watch_place watch) files (scenario_reading rules bytes) right.1
+      (unless-long bytes (IsWholeRecord (watch_place watch) files (scenario_reading rules bytes)) right.0 is)
+  called rules (Some (Replay name)) files bytes right is =
+      replay name files (scenario_reading rules bytes) (λ s reading. read-keeps rules bytes s reading) right.1
+      (unless-long bytes (IsReplay name files (scenario_reading rules bytes)) right.0 is)
 
   -- whatever the source may have held
   pub due-ends : (rules : Rules) (command : Option Command) (left : Option (List ℕ)) (files : Option FileMap) → AreRight rules command left files

@@ -7,7 +7,7 @@ use Rattle.fk_causes.specs.Shelf.{FileMap}
 use Rattle.fk_commands.specs.declared.prepared.Prepared.{Prepared}
 use Rattle.fk_commands.specs.declared.status.Status.{Status}
 use Rattle.fk_commands.specs.declared.status.Status.TheVariants.{Usage}
-use Rattle.fk_words.specs.Commands.{Command, Show, Soak, Files, NoFiles, RunFiles}
+use Rattle.fk_words.specs.Commands.{Command, Show, Soak, Files, NoFiles, RunFiles, RecordFiles}
 use Rattle.fk_commands.specs.Outcomes.{without_report}
 use Rattle.fk_commands.specs.declared.outcome.Outcome.{Outcome}
 use Rattle.fk_commands.specs.declared.outcome.Report.{Report}
@@ -21,7 +21,7 @@ use Rattle.fk_gen.specs.Soak.{scenario}
 use Rattle.fk_plays.specs.Play.{IsSoak}
 use Rattle.fk_scenario.specs.Scenario.Reading.{scenario_reading}
 use Rattle.fk_puts.specs.Puts.{HasPutSome}
-use Rattle.fk_run.specs.Top.{IsDue, IsDone, IsCutOff, IsUnput, HasFailed, GetsToShelf}
+use Rattle.fk_run.specs.Top.{IsDue, IsDone, IsCutOff, HasFailed, GetsToShelf}
 
 -- what a source may hold: what it tells, or else anything
 pub held : (left : Option (List ℕ)) → (bytes : List ℕ) × MayHold left bytes
@@ -80,6 +80,7 @@ show-refused rules AtSource AtShelf name left (Err status) h = by (row_of status
 pub puts_nothing : (left : Files) (old new : Option FileMap) → new ≡ old → HasPutSome left None old new
 puts_nothing NoFiles old new same = same
 puts_nothing (RunFiles trace) old new same = same
+puts_nothing (RecordFiles name) old new same = same
 
 module _ (rules : Rules) (command : Option Command) (left : Option (List ℕ)) (files : Option FileMap) (run : Prepared) (outcome : Outcome) where
   -- what is prepared is due, and was done whole

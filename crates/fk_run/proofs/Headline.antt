@@ -9,7 +9,7 @@ use Rattle.fk_scenario.specs.declared.scenario.scenario.Scenario.{Scenario}
 use Rattle.fk_scenario.specs.Scenario.Kept.{KeepsScenario}
 use Rattle.fk_scenario.specs.Scenario.Reading.{scenario_in, scenario_reading, tree_of}
 
-read-keeps : (rules : Rules) (bytes : List ℕ) (s : Scenario) → scenario_reading rules bytes ≡ Ok s → KeepsScenario s
+pub read-keeps : (rules : Rules) (bytes : List ℕ) (s : Scenario) → scenario_reading rules bytes ≡ Ok s → KeepsScenario s
 unfolding scenario_reading
 read-keeps rules bytes s read = by (tree_of bytes) read
   where
@@ -18,7 +18,7 @@ read-keeps rules bytes s read = by (tree_of bytes) read
     by (Some ms) read = scenario_kept rules ms s read
 
 has : (rules : Rules) (report : Report) → HasHeadline rules report
-has rules report = λ bytes s given first read is_first is. reports_have_the_headline s given first report (read-keeps rules bytes s read) is_first is
+has rules report = λ bytes s given first read is_begun is. reports_have_the_headline s given first report (read-keeps rules bytes s read) is_begun is
 
 pub holds : (rules : Rules) (report : Option Report) → HoldsOf rules report
 holds rules None = tt

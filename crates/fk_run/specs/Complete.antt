@@ -8,7 +8,7 @@ use Rattle.fk_causes.specs.declared.whole.TheConstants.{LIMIT}
 use Rattle.fk_causes.specs.Shelf.{FileMap, HasAt}
 use Rattle.fk_commands.specs.declared.outcome.Outcome.{Outcome}
 use Rattle.fk_commands.specs.declared.status.Status.TheVariants.{NoMemory}
-use Rattle.fk_commands.specs.Files.{image_name, trace_name}
+use Rattle.fk_commands.specs.Files.{image_name, record_name, trace_name}
 use Rattle.fk_commands.specs.Status.{progress_of, Finished}
 use Rattle.fk_plays.specs.Cores.{RunCore}
 use Rattle.fk_plays.specs.First.{IsFirst}
@@ -20,6 +20,11 @@ use Rattle.fk_model.specs.declared.moves.Move.{Move}
 use Rattle.fk_plays.specs.Images.{needed, FindsImages}
 use Rattle.fk_plays.specs.Play.{IsScenario}
 use Rattle.fk_puts.specs.Puts.{HasPut}
+use Rattle.fk_plays.specs.Record.{Entry, Spells as IsRecord}
+use Rattle.fk_plays.specs.Ports.{ports_of}
+use Rattle.fk_plays.specs.Replaying.{replies_by}
+use Rattle.fk_plays.specs.Posts.{all_replaying}
+use Rattle.fk_plays.specs.Following.{core_with}
 use Rattle.fk_commands.specs.Tables.{Rules}
 use Rattle.fk_run.specs.Top.{IsDone}
 use Rattle.fk_plays.specs.Made.{Images}
@@ -28,7 +33,7 @@ use Rattle.fk_scenario.specs.declared.scenario.scenario.Scenario.{Scenario}
 use Rattle.fk_scenario.specs.Scenario.Reading.{scenario_reading}
 use Rattle.fk_scenario.specs.declared.fields.fail.ScenarioError.{ScenarioError}
 use Rattle.fk_trace_text.specs.Trace.{Spells}
-use Rattle.fk_words.specs.Commands.{Command, Exec, Check, Run, Play, Show, Soak, leaves}
+use Rattle.fk_words.specs.Commands.{Command, Exec, Check, Run, Play, Show, Soak, Record, Replay, leaves}
 
 -- ---- what is needed is there
 
@@ -56,6 +61,22 @@ IsTraceFile files s (Some trace) = (given : Images) (first : RunCore) → FindsI
 abbrev pub HasTrace : Option FileMap → List ℕ → Scenario → Type 0
 HasTrace files name s = (trace : Option (List ℕ)) → HasAt files (trace_name name) trace → IsTraceFile files s trace
 
+-- a record of the ports of servers that are no consoles, by whose replies a trace may be played
+abbrev pub IsRecordFile : Option FileMap → Scenario → List ℕ → Option (List ℕ) → Type 0
+IsRecordFile files s trace None = ⊥
+IsRecordFile files s trace (Some bytes) = (entries : List Entry) × IsRecord (ports_of s.servers) bytes entries
+    × ((given : Images) (first : RunCore) → FindsImages files [] s.jobs (Ok given) → IsFirst s first
+    → (moves : List Move) × Spells (MayPlay (begun s.jobs given s.budget (core_with first (all_replaying (replies_by s entries) first.servers)))) trace moves)
+
+abbrev pub IsReplayFile : Option FileMap → List ℕ → Scenario → Option (List ℕ) → Type 0
+IsReplayFile files name s None = ⊥
+IsReplayFile files name s (Some trace) = ((moves : List Move) × Spells (λ _ _. ⊤) trace moves)
+    × ((told : Option (List ℕ)) → HasAt files (record_name name) told → IsRecordFile files s trace told)
+
+-- whatever the shelf may have under the name of a trace is spelled, and under that of its record is such
+abbrev pub HasReplay : Option FileMap → List ℕ → Scenario → Type 0
+HasReplay files name s = (trace : Option (List ℕ)) → HasAt files (trace_name name) trace → IsReplayFile files name s trace
+
 -- ---- right input
 
 -- a text that is assembled
@@ -77,6 +98,10 @@ IsRight rules (Some (Play name)) files bytes =
     (length bytes ≤ LIMIT) × IsScenarioWith (λ s. HasImages files [] s.jobs × HasTrace files name s) (scenario_reading rules bytes)
 IsRight rules (Some (Show name)) files bytes = HasImage files name
 IsRight rules (Some (Soak count)) files bytes = IsScenario (scenario_reading rules (scenario count))
+IsRight rules (Some (Record name watch)) files bytes =
+    (length bytes ≤ LIMIT) × IsScenarioWith (λ s. HasImages files [] s.jobs) (scenario_reading rules bytes)
+IsRight rules (Some (Replay name)) files bytes =
+    (length bytes ≤ LIMIT) × IsScenarioWith (λ s. HasImages files [] s.jobs × HasReplay files name s) (scenario_reading rules bytes)
 
 -- the same of whatever bytes the source may hold
 abbrev pub AreRight : Rules → Option Command → Option (List ℕ) → Option FileMap → Type 0

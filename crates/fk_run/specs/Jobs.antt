@@ -2,7 +2,7 @@
 use Rattle.std.specs.Prelude.{◌≡◌, ℕ, List, Option, Ok, IfSome}
 use Rattle.fk_commands.specs.declared.outcome.Report.{Report}
 use Rattle.fk_plays.specs.Cores.{RunCore}
-use Rattle.fk_plays.specs.First.{IsFirst}
+use Rattle.fk_plays.specs.First.{IsBegun}
 use Rattle.fk_commands.specs.Tables.{Rules}
 use Rattle.fk_plays.specs.Headline.{HasReportHeadline}
 use Rattle.fk_plays.specs.Made.{Images}
@@ -10,10 +10,10 @@ use Rattle.fk_plays.specs.Runs.{IsReported}
 use Rattle.fk_scenario.specs.declared.scenario.scenario.Scenario.{Scenario}
 use Rattle.fk_scenario.specs.Scenario.Reading.{scenario_reading}
 
--- whatever scenario some bytes have from whose first core its history is a run, and whatever images were given for the jobs
+-- whatever scenario some bytes have from whose first core its history is a run, whatever its servers are, and whatever images were given for the jobs
 abbrev pub HasHeadline : Rules → Report → Type 0
 HasHeadline rules report = (bytes : List ℕ) (s : Scenario) (given : Images) (first : RunCore) → scenario_reading rules bytes ≡ Ok s →
-    IsFirst s first → (is : IsReported s.jobs given first s.budget report) → HasReportHeadline s given first report is
+    IsBegun s first → (is : IsReported s.jobs given first s.budget report) → HasReportHeadline s given first report is
 
 -- of the run that was made, if one was
 abbrev pub HoldsOf : Rules → Option Report → Type 0

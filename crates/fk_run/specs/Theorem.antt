@@ -95,7 +95,7 @@ pub record CameSoFar {R W H : Type 0} (command : Option Command) (before after :
   pub nothing : OnTrue (has_written_nothing outcome.status) (Keeps before.written after.written)
   pub no_report : OnFalse (may_report outcome.status) (outcome.report ≡ None)
 
--- ---- 6. Files: a run's images and its trace are put, all other files are as before, and the trace plays again
+-- ---- 6. Files: a run's images, its trace and its record are put, all other files are as before, and the trace plays again, by the record too
 
 pub record PutsFiles {R W H : Type 0} (rules : Rules) (command : Option Command) (before after : Outside R W H) (outcome : Outcome) : Type 0 where
   pub put : OnTrue (has_put_all outcome.status) (HasPut (leaves command) outcome.report before.files after.files)
@@ -104,7 +104,7 @@ pub record PutsFiles {R W H : Type 0} (rules : Rules) (command : Option Command)
   pub no_put : OnTrue (has_put_none outcome.status) ((after.files ≡ before.files) × (after.failed_puts ≡ before.failed_puts))
   -- whatever the status
   pub others : KeepsFiles (leaves command) before.files after.files
-  -- by the trace that a run has left `play` comes to the same status, report and text
+  -- by the trace that a run has left `play` comes to the same status, report and text, and so does `replay` by the trace and the record
   pub again : OnTrue (has_put_all outcome.status) (PlaysAgain rules command after.files outcome.report)
 
 -- ---- 7. Transparency, the headline, is `HoldsOf` in Jobs.antt: it is about the run in the report alone

@@ -13,10 +13,13 @@ use Rattle.fk_commands.specs.declared.outcome.Report.{Report}
 use Rattle.fk_commands.specs.declared.outcome.Outcome.{Outcome}
 use Rattle.fk_commands.specs.Check.{IsCheck}
 use Rattle.fk_gen.specs.Soak.{scenario}
-use Rattle.fk_words.specs.Commands.{Command, Exec, Check, Run, Play, Show, Soak, reads_source}
+use Rattle.fk_words.specs.Commands.{Command, Exec, Check, Run, Play, Show, Soak, Record, Replay, reads_source}
 use Rattle.fk_commands.specs.Exec.{IsExec}
 use Rattle.fk_commands.specs.Outcomes.{IsRefused}
 use Rattle.fk_plays.specs.Play.{IsPlay, IsWholeRun, IsSoak, IsScenario, IsScenarioWithImages}
+use Rattle.fk_plays.specs.Recorded.{IsWholeRecord}
+use Rattle.fk_plays.specs.Recording.{watch_place}
+use Rattle.fk_plays.specs.Recorded.{IsReplay}
 use Rattle.fk_commands.specs.Show.{IsShow}
 use Rattle.fk_commands.specs.Status.{progress_of, is_past_reading, Finished}
 use Rattle.fk_commands.specs.Tables.{Rules}
@@ -34,6 +37,9 @@ IsCalledFor rules (Some (Run trace)) files bytes outcome text = IsUnlessTooLong 
 IsCalledFor rules (Some (Play name)) files bytes outcome text = IsUnlessTooLong bytes (IsPlay name files (scenario_reading rules bytes)) outcome text
 IsCalledFor rules (Some (Show name)) files bytes outcome text = IsShow name files outcome text
 IsCalledFor rules (Some (Soak count)) files bytes outcome text = IsSoak count (scenario_reading rules (scenario count)) outcome text
+IsCalledFor rules (Some (Record name watch)) files bytes outcome text =
+    IsUnlessTooLong bytes (IsWholeRecord (watch_place watch) files (scenario_reading rules bytes)) outcome text
+IsCalledFor rules (Some (Replay name)) files bytes outcome text = IsUnlessTooLong bytes (IsReplay name files (scenario_reading rules bytes)) outcome text
 
 -- the same over whatever the source holds: where it tells its bytes, these
 pub record IsDue (rules : Rules) (command : Option Command) (left : Option (List ℕ)) (files : Option FileMap) (outcome : Outcome) (text : List ℕ) : Type 0 where
@@ -65,7 +71,8 @@ pub record IsUnput (rules : Rules) (command : Option Command) (left : Option (Li
   pub text : List ℕ
   pub due : IsDue rules command left files (record outcome { status = status }) text
 
--- which commands get to the shelf over these bytes of the source: `play` only with a scenario, and `run` with one that needs an image
+-- which commands get to the shelf over these bytes of the source: `play` and `replay` only with a scenario, `run` and `record` with one that needs an
+-- image
 abbrev pub AsksShelf : Rules → Option Command → List ℕ → Type 0
 AsksShelf rules None bytes = ⊥
 AsksShelf rules (Some Exec) bytes = ⊥
@@ -74,6 +81,8 @@ AsksShelf rules (Some (Run trace)) bytes = (length bytes ≤ LIMIT) × IsScenari
 AsksShelf rules (Some (Play name)) bytes = (length bytes ≤ LIMIT) × IsScenario (scenario_reading rules bytes)
 AsksShelf rules (Some (Show name)) bytes = ⊤
 AsksShelf rules (Some (Soak count)) bytes = ⊥
+AsksShelf rules (Some (Record name watch)) bytes = (length bytes ≤ LIMIT) × IsScenarioWithImages (scenario_reading rules bytes)
+AsksShelf rules (Some (Replay name)) bytes = (length bytes ≤ LIMIT) × IsScenario (scenario_reading rules bytes)
 
 -- the same over whatever the source holds
 abbrev pub GetsToShelf : Rules → Option Command → Option (List ℕ) → Type 0

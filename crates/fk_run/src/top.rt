@@ -22,6 +22,8 @@ use fk_commands::exec::exec;
 use fk_commands::show::show;
 use fk_commands::{Outcome, Prepared, Report, Status};
 use fk_plays::play::play;
+use fk_plays::record_command::record_command;
+use fk_plays::replay_command::replay_command;
 use fk_plays::run::run;
 use fk_plays::soak::soak;
 use fk_puts::put_files;
@@ -62,6 +64,12 @@ fn prepare_alone<R: Source, H: Shelf>(
         Command::Check => check(alloc, table, &source_text(alloc, source)?),
         Command::Play(name) => play(alloc, table, name, &source_text(alloc, source)?, shelf),
         Command::Show(name) => show(alloc, name, shelf),
+        Command::Record(_, watch) => {
+            record_command(alloc, table, watch, &source_text(alloc, source)?, shelf)
+        }
+        Command::Replay(name) => {
+            replay_command(alloc, table, name, &source_text(alloc, source)?, shelf)
+        }
         Command::Run(_) => unreachable!(),
         Command::Soak(_) => unreachable!(),
     }
@@ -103,6 +111,8 @@ fn prepare_shared<T: Threads + Wait + Sync, R: Source, H: Shelf, G: Gate + Sync>
         Command::Check => unreachable!(),
         Command::Play(_) => unreachable!(),
         Command::Show(_) => unreachable!(),
+        Command::Record(..) => unreachable!(),
+        Command::Replay(_) => unreachable!(),
     }
 }
 

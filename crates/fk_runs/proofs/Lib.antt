@@ -1,2 +1,3 @@
 pub mod InRunReports
 pub mod InRuns
+pub mod InRecordings

@@ -1,2 +1,3 @@
 pub mod RunReports
 pub mod Runs
+pub mod Recordings

@@ -17,3 +17,4 @@ pub use again::a_run_plays_again;
 pub use begun::{play_first, run_first, soak_first};
 pub use fk_first::maker_of;
 pub use headline::reports_have_the_headline;
+pub use whole::play_core;

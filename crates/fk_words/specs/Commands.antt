@@ -3,6 +3,8 @@ use Rattle.std.specs.Prelude.{ℕ, ◌≤◌, ⊤, Bool, true, false, ◌&&◌, 
 use Rattle.std.specs.Cmp.Lexicographic.{pointwise}
 use Rattle.fk_model.specs.Names.{is_name}
 use Rattle.fk_model.specs.Numbers.{plain_number_up_to}
+use Rattle.fk_responders.specs.declared.note.Watch.{Watch}
+use Rattle.fk_responders.specs.declared.note.Watch.TheVariants as sights
 use Rattle.fk_words.specs.declared.command.Command as code
 use Rattle.fk_words.specs.declared.command.Command.TheVariants as variants
 
@@ -19,6 +21,10 @@ pub data Command : Type 0 where
   Show : (name : List ℕ) → Command
   -- the scenario with so many processes runs by itself, and its line is told
   Soak : (count : ℕ) → Command
+  -- the source's scenario runs by itself, and its trace and the record of what an observer sees are put under a name
+  Record : (name : List ℕ) (watch : Watch) → Command
+  -- the source's scenario is run by the moves of the trace with this name, and its servers reply what the record with this name says
+  Replay : (name : List ℕ) → Command
 
 -- the same as the code has it
 abbrev pub seen : code.Command → Command
@@ -28,6 +34,8 @@ seen (variants.Run trace) = Run (option_map (λ name. name.now) trace)
 seen (variants.Play name) = Play name.now
 seen (variants.Show name) = Show name.now
 seen (variants.Soak count) = Soak count
+seen (variants.Record name watch) = Record name.now watch
+seen (variants.Replay name) = Replay name.now
 
 -- a command with a name
 abbrev pub named : (List ℕ → Command) → List ℕ → Option Command
@@ -55,6 +63,7 @@ command_with word given =
     if pointwise nat_eq word (codes "soak") then option_map Soak (count_of given)
     else if pointwise nat_eq word (codes "play") then named Play given
     else if pointwise nat_eq word (codes "show") then named Show given
+    else if pointwise nat_eq word (codes "replay") then named Replay given
     else None
 
 -- of a word with an option and a name
@@ -62,13 +71,30 @@ abbrev pub command_traced : List ℕ → List ℕ → List ℕ → Option Comman
 command_traced word option name =
     if pointwise nat_eq word (codes "run") && pointwise nat_eq option (codes "--trace") then named (λ trace. Run (Some trace)) name else None
 
+-- the observer that a word names
+abbrev pub watch_of : List ℕ → Option Watch
+watch_of word =
+    if pointwise nat_eq word (codes "all") then Some sights.All
+    else if pointwise nat_eq word (codes "replies") then Some sights.Replies
+    else if pointwise nat_eq word (codes "said") then Some sights.Said
+    else None
+
+abbrev pub record_with : List ℕ → Option Watch → Option Command
+record_with name None = None
+record_with name (Some watch) = named (λ name. Record name watch) name
+
+-- of three words
+abbrev pub command_of_three : List ℕ → List ℕ → List ℕ → Option Command
+command_of_three word second third =
+    if pointwise nat_eq word (codes "record") then record_with second (watch_of third) else command_traced word second third
+
 -- the command that the words are; none where they are no command
 abbrev pub command_of : List (List ℕ) → Option Command
 command_of [] = None
 command_of (word ∷ []) = command_alone word
 command_of (word ∷ given ∷ []) = command_with word given
-command_of (word ∷ option ∷ name ∷ []) = command_traced word option name
-command_of (word ∷ option ∷ name ∷ more ∷ words) = None
+command_of (word ∷ second ∷ third ∷ []) = command_of_three word second third
+command_of (word ∷ second ∷ third ∷ more ∷ words) = None
 
 -- ---- what a command does with the outside: one row a word
 
@@ -77,6 +103,8 @@ pub data Files : Type 0 where
   NoFiles : Files
   -- the images that its run's jobs have made, and its trace under a name where one is given
   RunFiles : (trace : Option (List ℕ)) → Files
+  -- the images, and under a name its trace and its record
+  RecordFiles : (name : List ℕ) → Files
 
 pub record Row : Type 0 where
   -- whether it reads the source
@@ -98,6 +126,8 @@ row_of (Some (Run trace)) = row true true true (RunFiles trace)
 row_of (Some (Play name)) = row true true false NoFiles
 row_of (Some (Show name)) = row false true false NoFiles
 row_of (Some (Soak count)) = row false false true NoFiles
+row_of (Some (Record name watch)) = row true true false (RecordFiles name)
+row_of (Some (Replay name)) = row true true false NoFiles
 
 abbrev pub reads_source : Option Command → Bool
 reads_source command = (row_of command).source

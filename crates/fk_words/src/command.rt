@@ -3,6 +3,7 @@ ghost use Rattle.std.specs.Prelude.{◌≡◌, ◌≤◌, ⊤, map, option_map, 
 ghost use Rattle.fk_words.specs.Commands as commands;
 
 use fk_model::{is_name, plain_number_up_to};
+use fk_responders::Watch;
 
 /// What the words of the command line ask for.
 #[derive(Clone, Copy)]
@@ -19,6 +20,10 @@ pub enum Command<'a> {
     Show(&'a str),
     /// Runs the scenario with so many processes by itself, and tells its line.
     Soak(u32),
+    /// Runs the source's scenario by itself, and puts its trace under a name and the record of what an observer sees.
+    Record(&'a str, Watch),
+    /// Runs the source's scenario by the moves of the trace with this name, and its servers reply what the record with this name says.
+    Replay(&'a str),
 }
 
 /// The number of processes that a word says: 1 to 100.
@@ -70,6 +75,12 @@ fn command_with<'a>(word: &str, given: &'a str) -> Option<Command<'a>>
         } else {
             None
         }
+    } else if word == "replay" {
+        if is_name(given.as_bytes()) {
+            Some(Command::Replay(given))
+        } else {
+            None
+        }
     } else {
         None
     }
@@ -87,6 +98,50 @@ fn command_traced<'a>(word: &str, option: &str, name: &'a str) -> Option<Command
     }
 }
 
+/// The observer that a word names.
+fn watch_of(word: &str) -> Option<Watch>
+    ensures { result ≡ commands.watch_of word.now }
+{
+    if word == "all" {
+        Some(Watch::All)
+    } else if word == "replies" {
+        Some(Watch::Replies)
+    } else if word == "said" {
+        Some(Watch::Said)
+    } else {
+        None
+    }
+}
+
+/// The command `record` with a name and an observer.
+fn record_with<'a>(name: &'a str, watch: Option<Watch>) -> Option<Command<'a>>
+    ensures value { option_map commands.seen result ≡ commands.record_with name.now watch }
+    ensures count { IfSome result (λ command. commands.HasCount (commands.seen command)) }
+{
+    match watch {
+        Some(watch) => {
+            if is_name(name.as_bytes()) {
+                Some(Command::Record(name, watch))
+            } else {
+                None
+            }
+        }
+        None => None,
+    }
+}
+
+/// The command of three words.
+fn command_of_three<'a>(word: &str, second: &'a str, third: &'a str) -> Option<Command<'a>>
+    ensures value { option_map commands.seen result ≡ commands.command_of_three word.now second.now third.now }
+    ensures count { IfSome result (λ command. commands.HasCount (commands.seen command)) }
+{
+    if word == "record" {
+        record_with(second, watch_of(third))
+    } else {
+        command_traced(word, second, third)
+    }
+}
+
 /// The command of these words, if they are one.
 pub fn command_of(words: &[String]) -> Option<Command<'_>>
     ensures value { option_map commands.seen result ≡ commands.command_of (map string_bytes words.now) }
@@ -95,7 +150,9 @@ pub fn command_of(words: &[String]) -> Option<Command<'_>>
     match words {
         [word] => command_alone(word.as_str()),
         [word, given] => command_with(word.as_str(), given.as_str()),
-        [word, option, name] => command_traced(word.as_str(), option.as_str(), name.as_str()),
+        [word, second, third] => {
+            command_of_three(word.as_str(), second.as_str(), third.as_str())
+        }
         _ => None,
     }
 }
@@ -110,6 +167,14 @@ pub fn shared_command(words: &[String]) -> Option<Command<'_>>
     match command_of(words) {
         Some(Command::Run(trace)) => Some(Command::Run(trace)),
         Some(Command::Soak(count)) => Some(Command::Soak(count)),
-        Some(Command::Exec | Command::Check | Command::Play(_) | Command::Show(_)) | None => None,
+        Some(
+            Command::Exec
+            | Command::Check
+            | Command::Play(_)
+            | Command::Show(_)
+            | Command::Record(..)
+            | Command::Replay(_),
+        )
+        | None => None,
     }
 }

@@ -10,7 +10,7 @@ use Rattle.fk_record_text.proofs.Records.{spells_same}
 use Rattle.fk_record_text.proofs.Wholes.{records_read_back}
 use Rattle.fk_trace.specs.Posts.{all_replaying}
 use Rattle.laws_trace.specs.Following.{IsRunWith}
-use Rattle.fk_served.specs.Served.{Services, servers}
+use Rattle.laws_trace.specs.Served.{Services, servers}
 use Rattle.laws_trace.specs.Notes.{notes_at, replies_of, all_replayed}
 use Rattle.laws_trace.proofs.Noting.{replays_run, replies_are_seen}
 use Rattle.laws_pair.specs.Pair.{AreFresh, recorded, lists_of, RecordReplays}
@@ -31,7 +31,7 @@ lists_are entries from (s ∷ ss) is =
 -- who replays is what stands in a server's place
 module _ (port : Who → List ℕ) (notes : Who × State → List Note) (replies : Who × State → List (List ℕ))
     (same : (e : Who × State) → replies_of (notes e) ≡ replies e) where
-  posts : (es : Services) → AreFresh es → all_replaying (map (λ s. replies_of s.1) (recorded port notes es)) es ≡ all_replayed replies es
+  pub posts : (es : Services) → AreFresh es → all_replaying (map (λ s. replies_of s.1) (recorded port notes es)) es ≡ all_replayed replies es
   posts [] fresh = refl
   posts ((who, OfConsole alias words side) ∷ es) fresh = ap (λ xs. (who, OfConsole alias words side) ∷ xs) (posts es fresh.1)
   posts ((who, OfServer index rule config position request left side) ∷ es) fresh =

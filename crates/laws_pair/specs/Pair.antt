@@ -11,7 +11,7 @@ use Rattle.fk_record_text.specs.Whole.{record_of, ports_of, notes_of_place, AreA
 use Rattle.fk_trace.specs.Posts.{all_replaying}
 use Rattle.laws_runs.specs.Cores.{House, Core, IsRun}
 use Rattle.laws_trace.specs.Following.{house_with, IsRunWith}
-use Rattle.fk_served.specs.Served.{Services, servers}
+use Rattle.laws_trace.specs.Served.{Services, servers}
 use Rattle.laws_trace.specs.Notes.{notes_at, replies_of, all_replayed, printed_of}
 
 -- a server as a run begins: it has no client, and nothing is left of a reply

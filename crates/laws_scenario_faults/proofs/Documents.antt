@@ -290,7 +290,8 @@ module _ (rules : List (List ℕ × Rule)) (ms : Members) where
   unfolding sections_in top_in
   bad-second r e say bad = after-top e say.places.top (then-right (first_round rules (sections_in ms)) _ _ _ (good-round r say) bad)
 
-  pub good-aims : (r : Said) (aimed : List ObjectEntry) → AllKeep (aims r.spaces r.objects) [] r.objects aimed → aims_from r.spaces r.objects 0 r.objects ≡ Ok tt
+  pub good-aims : (r : Said) (aimed : List ObjectEntry) → AllKeep (aims r.spaces r.objects) [] r.objects aimed →
+      aims_from r.spaces r.objects 0 r.objects ≡ Ok tt
   good-aims r aimed keep = aims-same r.spaces r.objects [] r.objects 0 refl ∙ ap nothing (keep_reads 4 (aims r.spaces r.objects) [] r.objects aimed keep)
 
   pub good-serving : (r : Said) (served : List ServerEntry) → AllKeep (serving r.objects) [] r.servers served → serving_from r.objects [] [] r.servers ≡ Ok tt

@@ -1,9 +1,9 @@
 -- Keys: what an entry is asked of a key holds exactly where what stands there says what the entry says.
-use Rattle.std.proofs.Common.{◌≡◌, ◌≤◌, ◌⊎◌, inl, inr, ℕ, ℤ, pos, negsuc, Bool, true, false, not, ◌&&◌, nat_le, List, [], ◌∷◌, map, Option, Some, None}
-use Rattle.std.proofs.Common.{is_some, unwrap_or, option_map, option_and_then, refl, sym, ap, subst, ◌∙◌, arith}
+use Rattle.std.proofs.Common.{◌≡◌, ◌≤◌, inl, inr, ℕ, ℤ, pos, negsuc, Bool, true, false, ◌&&◌, nat_le, List, [], ◌∷◌, map, Option, Some, None}
+use Rattle.std.proofs.Common.{is_some, unwrap_or, option_map, option_and_then, refl, sym, ap, subst, ◌∙◌}
 use Rattle.std.proofs.lemmas.Bool.{leb-true, le-leb, and_from}
 use Rattle.std.specs.List.{list_all, AllZip}
-use Rattle.toml.specs.Data.{Data, Items, no_items, item, Members, no_members, string, integer, float, boolean, datetime, array, table, get_member}
+use Rattle.toml.specs.Data.{Data, Items, no_items, item, Members, no_members, string, integer, boolean, array, table, get_member}
 use Rattle.toml.specs.Data.{as_str, as_integer, as_bool, as_array, as_table}
 use Rattle.fk_model.specs.Names.{is_name}
 use Rattle.laws_scenario_faults.specs.Tables as told
@@ -11,7 +11,7 @@ use Rattle.laws_scenario_faults.specs.Tables.{table_of, each, is_so, is_so_if, h
 use Rattle.laws_scenario_faults.specs.Tables.{items, members, integer_of, integers, integers_at, is_in, is_in_if, number, number_or, is_path, path, is_path_if}
 use Rattle.laws_scenario_faults.specs.Tables.{path_if, text, text_at, entries}
 use Rattle.laws_scenario_faults.proofs.Paths.{path-written, path-back}
-use Rattle.laws_scenario_faults.specs.Keys.{path_text, IsText, IsFlag, IsNumber, IsName, IsPath, AreEach, AreValues, AreMembers, OfTable, At, IsAbsent, AtOr, AtIf}
+use Rattle.laws_scenario_faults.specs.Keys.{path_text, IsText, IsFlag, IsNumber, IsName, IsPath, AreEach, AreValues, AreMembers, At, AtOr, AtIf}
 
 pub both : (a b : Bool) → (a && b) ≡ true → (a ≡ true) × (b ≡ true)
 both true b h = (refl, h)

@@ -1,5 +1,5 @@
 -- Objects are read by what they are asked.
-use Rattle.std.proofs.Common.{◌≡◌, ℕ, ◌+◌, ℤ, Bool, true, false, not, ◌&&◌, nat_lt, List, [], ◌∷◌, ◌++◌, length, Option, Some, None, option_map, Result, Ok}
+use Rattle.std.proofs.Common.{◌≡◌, ℕ, ℤ, Bool, true, false, not, ◌&&◌, nat_lt, List, [], ◌∷◌, ◌++◌, length, Option, Some, None, option_map, Result, Ok}
 use Rattle.std.proofs.Common.{codes, refl, ap, ◌∙◌}
 use Rattle.std.proofs.lemmas.List.{append_assoc}
 use Rattle.toml.specs.Data.{Data, Items, no_items, item, Members}
@@ -15,7 +15,6 @@ use Rattle.fk_scenario.specs.Entries.Objects.{reference_spec, plain_spec, spec_o
 use Rattle.fk_scenario.specs.Sections.Spaces.{has_space, has_space_or_root}
 use Rattle.fk_scenario.specs.Sections.Objects.{has_object, object_after, objects_from}
 use Rattle.laws_scenario_faults.specs.Tables.{table_of, is_table, is_text, has, items, text, text_at, integer, is_in_if, number, is_path}
-use Rattle.laws_scenario_faults.specs.Objects as asked
 use Rattle.laws_scenario_faults.specs.Objects.{thread_asks, thread, mutex_asks, mutex, first, count, window_asks, mapping_asks, mapping, region_asks, region}
 use Rattle.laws_scenario_faults.specs.Objects.{port_asks, port, reference_asks, reference, plain_asks, is_kind, body_asks, body, place, object_asks, object_of}
 use Rattle.laws_scenario_faults.specs.Objects.{object_says, objects}

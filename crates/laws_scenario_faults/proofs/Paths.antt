@@ -1,6 +1,7 @@
 -- Paths: a text is that of a path exactly where it is the path's slots in decimal, each behind a slash.
-use Rattle.std.proofs.Common.{◌≡◌, ◌≢◌, ℕ, ◌≤◌, ◌<◌, Bool, true, false, cond, ◌&&◌, ◌==◌, List, [], ◌∷◌, ◌++◌, length, map, flat_map, All, Option, Some, None, is_some, unwrap_or}
-use Rattle.std.proofs.Common.{codes, decimal, refl, sym, ap, subst, ◌∙◌, arith, eqb-true}
+use Rattle.std.proofs.Common.{◌≡◌, ◌≢◌, ℕ, ◌≤◌, ◌<◌, Bool, true, false, cond, ◌&&◌, List, [], ◌∷◌, ◌++◌, length, map, flat_map, All, Option, Some, None}
+use Rattle.std.proofs.Common.{is_some, unwrap_or}
+use Rattle.std.proofs.Common.{codes, decimal, refl, sym, ap, ◌∙◌, arith, eqb-true}
 use Rattle.std.proofs.lemmas.Bool.{and_from}
 use Rattle.std.proofs.lemmas.Fmt.{decimal_nonempty}
 use Rattle.std.proofs.lemmas.List.{append-nil}
@@ -11,7 +12,7 @@ use Rattle.fk_model.specs.Numbers.{plain_number_up_to}
 use Rattle.fk_model.proofs.numbers.Decimals.{plain_number_up_to-decimal, plain_number_up_to-only, plain_number_up_to-le, decimal_avoids}
 use Rattle.fk_scenario.specs.Fields.Paths.{is_slash}
 use Rattle.fk_scenario.specs.Entries.Kept.{AreSlots}
-use Rattle.laws_scenario_faults.specs.Tables.{pieces, begins_with_slash, is_slot, slot, is_path, path}
+use Rattle.laws_scenario_faults.specs.Tables.{pieces, is_slot, slot, is_path, path}
 use Rattle.laws_scenario_faults.specs.Keys.{path_text}
 
 parts-of : (a b : Bool) → (a && b) ≡ true → (a ≡ true) × (b ≡ true)

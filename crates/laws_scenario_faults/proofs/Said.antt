@@ -1,33 +1,30 @@
 -- Entries: each keeps all that it is asked exactly where it says what it is read as.
-use Rattle.std.proofs.Common.{◌≡◌, ◌≢◌, ◌≤◌, ◌<◌, ◌⊎◌, inl, inr, ℕ, ◌+◌, ℤ, pos, Bool, true, false, not, cond, ◌&&◌, ◌||◌, ◌==◌, nat_le, nat_lt, List, [], ◌∷◌, ◌++◌}
-use Rattle.std.proofs.Common.{length, map, Option, Some, None, is_some, unwrap_or, option_and_then, option_map, Result, Ok, Err, if◌then◌else◌, codes}
-use Rattle.std.proofs.Common.{refl, sym, ap, subst, ◌∙◌, arith, suc, true≢false, eqb-true, suc-ne-zero}
-use Rattle.std.proofs.lemmas.Bool.{leb-true, le-leb, ltb-true, lt-ltb, and_from}
+use Rattle.std.proofs.Common.{◌≡◌, ◌≤◌, ℕ, ◌+◌, Bool, true, false, not, cond, ◌&&◌, ◌||◌, ◌==◌, nat_lt, List, [], ◌∷◌, ◌++◌}
+use Rattle.std.proofs.Common.{length, Option, Some, None, is_some, unwrap_or, option_and_then, Result, Ok, Err, codes}
+use Rattle.std.proofs.Common.{refl, sym, ap, subst, ◌∙◌, arith, true≢false, eqb-true, suc-ne-zero}
+use Rattle.std.proofs.lemmas.Bool.{ltb-true, lt-ltb}
 use Rattle.std.proofs.lemmas.List.{append-nil, append_assoc}
 use Rattle.std.proofs.lemmas.List.Sums.{sum_by_push}
 use Rattle.std.proofs.lemmas.Slice.Eq.{bytes_eq-Decides}
-use Rattle.std.specs.List.{list_all, AllZip}
 use Rattle.std.specs.Str.{bytes_eq}
 use Rattle.std.specs.Result.{result_ok}
-use Rattle.toml.specs.Data.{Data, Items, no_items, item, Members, no_members, string, integer, array, table, get_member, as_str, as_integer, as_array}
+use Rattle.toml.specs.Data.{Data, Members, string, get_member, as_str}
 use Rattle.fk_model.specs.Names.{is_name}
-use Rattle.fk_model.specs.declared.moves.Rule.{Rule}
-use Rattle.fk_model.specs.declared.moves.Rule.TheVariants.{Echo}
 use Rattle.fk_asm.specs.Assembler.{assembled}
 use Rattle.fk_asm.specs.declared.fail.AsmError.{AsmError}
-use Rattle.fk_scenario.specs.Fields.Paths.{enclosing, is_slash}
+use Rattle.fk_scenario.specs.Fields.Paths.{enclosing}
 use Rattle.fk_scenario.specs.declared.entries.types.Program.{Program}
 use Rattle.fk_scenario.specs.declared.entries.types.SpaceEntry.{SpaceEntry}
 use Rattle.fk_scenario.specs.Sections.Programs.{position_of}
 use Rattle.fk_scenario.specs.Sections.Spaces.{is_no_name, may_stand, has_room_for_space, count_beneath, has_space_or_root, has_space}
 use Rattle.laws_scenario_faults.specs.Asked.{AreKept, Section, AllKeep}
 use Rattle.laws_scenario_faults.specs.Asked.AllKeep.{NoEntry, Entry}
-use Rattle.laws_scenario_faults.specs.Tables.{table_of, is_table, is_text, is_so_if, has, may_have, text, text_at, is_slot, slot, is_path, path, pieces}
+use Rattle.laws_scenario_faults.specs.Tables.{table_of, is_text, is_so_if, may_have, text, text_at, is_path, path}
 use Rattle.laws_scenario_faults.specs.Entries.{program_asks, program_says, is_program_if, keys_of_space_ask, space_asks, space_of, space_says}
-use Rattle.laws_scenario_faults.specs.Keys.{path_text, At, AtOr, AtIf, OfTable, IsText, IsPath}
+use Rattle.laws_scenario_faults.specs.Keys.{path_text, AtIf, OfTable}
 use Rattle.laws_scenario_faults.specs.Scenarios.{EachSays, SaysProgram, IsProgram, SaysSpace}
 use Rattle.laws_scenario_faults.proofs.Paths.{path-written}
-use Rattle.laws_scenario_faults.proofs.Keys.{both, text-is, table-is, there, text-at, text-at-told, path-at, path-at-told, flag-or, flag-or-told}
+use Rattle.laws_scenario_faults.proofs.Keys.{text-is, table-is, there, path-at, path-at-told, flag-or, flag-or-told}
 use Rattle.laws_scenario_faults.proofs.Keys.{numbers-or, numbers-or-told}
 
 -- ---- what is asked, and sections
@@ -58,7 +55,8 @@ module _ {E X : Type 0} (s : Section E X) (Says : List X → E → X → Type 0)
       let (asked, same) = told done entry x say.0 in
       let rest = section-told told (done ++ x ∷ []) es xs say.1 in
       Entry done entry es (done ++ x ∷ xs) asked
-      (subst (λ (y : X). AllKeep s (done ++ y ∷ []) es (done ++ x ∷ xs)) (sym same) (subst (AllKeep s (done ++ x ∷ []) es) (append_assoc done (x ∷ []) xs) rest))
+      (subst (λ (y : X). AllKeep s (done ++ y ∷ []) es (done ++ x ∷ xs)) (sym same)
+      (subst (AllKeep s (done ++ x ∷ []) es) (append_assoc done (x ∷ []) xs) rest))
 
 -- the same of all of a section
 module _ {E X : Type 0} (s : Section E X) (Says : List X → E → X → Type 0) where
@@ -90,7 +88,8 @@ program-told done entry p say =
     let (text, is, words) = say.words in
     let here : unwrap_or (as_str entry.1) [] ≡ text = ap (λ (d : Data). unwrap_or (as_str d) []) is in
     let read : assembled (unwrap_or (as_str entry.1) []) ≡ Ok p.words = ap assembled here ∙ words in
-    let found : unwrap_or (result_ok (assembled (unwrap_or (as_str entry.1) []))) [] ≡ p.words = ap (λ (r : Result (List ℕ) AsmError). unwrap_or (result_ok r) []) read in (
+    let found : unwrap_or (result_ok (assembled (unwrap_or (as_str entry.1) []))) [] ≡ p.words =
+    ap (λ (r : Result (List ℕ) AsmError). unwrap_or (result_ok r) []) read in (
       (subst (λ (d : Data). is_text d ≡ true) (sym is) refl, (say.is_one, (ap (λ (r : Result (List ℕ) AsmError). is_some (result_ok r)) read, tt))),
       program-same p entry.0 _ (sym say.name) found,
     )
@@ -185,7 +184,31 @@ few-told done written s same is few = by (length s.path == 0) (bytes_eq written 
         lt-ltb (count_beneath done) 255 (omega (arith, few, count-last done s, ap added is_none))
 
 space-keys-say : (ps : List Program) (done : List SpaceEntry) (ms : Members) → AreKept (keys_of_space_ask ps done ms) → SaysSpace ps done ms (space_of ps ms)
-space-keys-say ps done ms (keys, (path_is, (program_is, (pages_are, (nester_is, (pages_in, (room, (is_path_text, (named, (stands, (there_is, _))))))))))) = record {
+space-keys-say ps done ms (
+  keys,
+  (
+    path_is,
+    (
+      program_is,
+      (
+        pages_are,
+        (
+          nester_is,
+          (
+            pages_in,
+            (
+              room,
+              (
+                is_path_text,
+                (named, (stands, (there_is, _))),
+              ),
+            ),
+          ),
+        ),
+      ),
+    ),
+  ),
+) = record {
   keys = keys;
   path = path-at (codes "path") ms path_is is_path_text;
   program = program-if ps ms program_is named there_is;

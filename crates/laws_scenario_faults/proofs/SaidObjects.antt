@@ -1,10 +1,10 @@
 -- Objects: each keeps all that it is asked exactly where it says what it is read as.
-use Rattle.std.proofs.Common.{◌≡◌, ◌≤◌, ℕ, ◌+◌, Bool, true, false, not, ◌&&◌, nat_le, nat_lt, List, [], ◌∷◌, ◌++◌, length, map, Option, unwrap_or, option_map}
-use Rattle.std.proofs.Common.{if◌then◌else◌, codes, refl, sym, ap, subst, ◌∙◌, true≢false}
+use Rattle.std.proofs.Common.{◌≡◌, ◌≤◌, ℕ, ◌+◌, Bool, true, false, not, ◌&&◌, nat_lt, List, [], ◌∷◌, length, map, Option, unwrap_or, option_map}
+use Rattle.std.proofs.Common.{if◌then◌else◌, codes, refl, sym, ap, subst, true≢false}
 use Rattle.std.proofs.lemmas.Bool.{leb-true, le-leb, ltb-true, lt-ltb, and_from}
 use Rattle.std.proofs.lemmas.Slice.Eq.{bytes_eq-Decides}
 use Rattle.std.specs.Str.{bytes_eq}
-use Rattle.toml.specs.Data.{Data, Members, table}
+use Rattle.toml.specs.Data.{Data, Members}
 use Rattle.fk_scenario.specs.Fields.Paths.{enclosing}
 use Rattle.fk_scenario.specs.declared.entries.types.SpaceEntry.{SpaceEntry}
 use Rattle.fk_scenario.specs.declared.entries.types.ObjectEntry.{ObjectEntry}
@@ -13,11 +13,11 @@ use Rattle.fk_scenario.specs.declared.entries.types.Spec.TheVariants.{Thread, Mu
 use Rattle.fk_scenario.specs.Sections.Spaces.{has_space, has_space_or_root}
 use Rattle.fk_scenario.specs.Sections.Objects.{has_object}
 use Rattle.laws_scenario_faults.specs.Asked.{AreKept}
-use Rattle.laws_scenario_faults.specs.Tables.{table_of, is_table, is_text, is_integer, has, may_have, text, text_at, flag, integer, integers_at}
-use Rattle.laws_scenario_faults.specs.Tables.{is_in_if, number, number_or, is_path, is_path_if, path_if}
+use Rattle.laws_scenario_faults.specs.Tables.{table_of, is_text, is_integer, has, may_have, text, text_at, flag, integer, integers_at}
+use Rattle.laws_scenario_faults.specs.Tables.{is_in_if, number, number_or, is_path_if, path_if}
 use Rattle.laws_scenario_faults.specs.Objects.{thread_asks, thread, mutex_asks, mutex, first, count, window_asks, mapping_asks, mapping, region_asks, region}
 use Rattle.laws_scenario_faults.specs.Objects.{port_asks, port, reference_asks, reference, plain_asks, is_kind, body_asks, body, place, place_asks, object_asks}
-use Rattle.laws_scenario_faults.specs.Objects.{object_of, object_says}
+use Rattle.laws_scenario_faults.specs.Objects.{object_says}
 use Rattle.laws_scenario_faults.specs.Keys.{At, IsText, OfTable}
 use Rattle.laws_scenario_faults.specs.Scenarios.{SaysThread, SaysMutex, SaysWindow, SaysMapping, SaysRegion, SaysPort, SaysReference, SaysSpec, SaysObject}
 use Rattle.laws_scenario_faults.proofs.Keys.{both, table-is, text-at, text-at-told, path-at, path-at-told, path-if, path-if-told, flag-or, flag-or-told}
@@ -90,7 +90,8 @@ module _ (ms : Members) where
   region_rest = (4, is_path_if (text (codes "keeper") ms)) ∷ []
 
   mapping-says : AreKept (mapping_asks ms) →
-      SaysMapping ms (path_if (text (codes "region") ms)) (first ms) (count ms) (number_or 0 (integer (codes "offset") ms)) (unwrap_or (flag (codes "write") ms) false)
+      SaysMapping ms (path_if (text (codes "region") ms)) (first ms) (count ms) (number_or 0 (integer (codes "offset") ms))
+      (unwrap_or (flag (codes "write") ms) false)
   mapping-says (keys, (r, (f, (c, (offset, (write, rest)))))) =
       let (window, others) = kept-append (window_asks ms) mapping_rest rest in
       record {
@@ -128,8 +129,10 @@ module _ (ms : Members) where
   region-told a b write keeper say =
       let (f, c, window, f_same, c_same) = window-told a b say.window in
       let (w, w_same) = flag-or-told (codes "write") ms write say.write_at in
-      let (k, k_in, k_same) = path-if-told (codes "keeper") ms keeper say.keeper_at in
-      ((say.keys, (f, (c, (w, (k, append-kept (window_asks ms) region_rest window (k_in, tt)))))), region-same _ a _ b _ write _ keeper f_same c_same w_same k_same)
+      let (k, k_in, k_same) = path-if-told (codes "keeper") ms keeper say.keeper_at in (
+        (say.keys, (f, (c, (w, (k, append-kept (window_asks ms) region_rest window (k_in, tt)))))),
+        region-same _ a _ b _ write _ keeper f_same c_same w_same k_same,
+      )
 
   port-says : AreKept (port_asks ms) → SaysPort ms (option_map number (integer (codes "set") ms))
   port-says (keys, (set, (set_in, _))) = record { keys = keys; set_at = number-if (codes "set") ms 0 239 set set_in }
@@ -247,5 +250,7 @@ object-told ss done value o (ms, is, say) =
     let in_space = subst (λ (p : List ℕ). has_space_or_root ss (enclosing p) ≡ true) (sym path_same) say.in_space in
     let free = subst (λ (p : List ℕ). (not (has_space ss p) && not (has_object done p)) ≡ true) (sym path_same)
     (and_from (not (has_space ss o.path)) (not (has_object done o.path)) (ap not say.no_space) (ap not say.no_object)) in
-    subst (λ (d : Data). AreKept (object_asks ss done d) × (object_says done d ≡ o)) (sym is)
-    ((refl, (at_is, (kind_is, append-kept (body_asks ms) (place_asks ss done ms) body (is_path_text, (inside, (in_space, (free, tt))))))), object-same o _ _ path_same spec_same)
+    subst (λ (d : Data). AreKept (object_asks ss done d) × (object_says done d ≡ o)) (sym is) (
+      (refl, (at_is, (kind_is, append-kept (body_asks ms) (place_asks ss done ms) body (is_path_text, (inside, (in_space, (free, tt))))))),
+      object-same o _ _ path_same spec_same,
+    )

@@ -1,12 +1,11 @@
 -- Servers and jobs: each keeps all that it is asked exactly where it says what it is read as.
-use Rattle.std.proofs.Common.{◌≡◌, ◌≢◌, ◌≤◌, ◌<◌, ◌⊎◌, inl, inr, ℕ, ℤ, pos, Bool, true, false, not, ◌&&◌, ◌||◌, nat_lt, List, [], ◌∷◌, ◌++◌, length, map, Option, Some, None}
+use Rattle.std.proofs.Common.{◌≡◌, ◌≢◌, ◌≤◌, inl, inr, ℕ, ℤ, pos, Bool, true, false, ◌&&◌, ◌||◌, List, [], ◌∷◌, length, map, Option, Some, None}
 use Rattle.std.proofs.Common.{is_some, unwrap_or, option_and_then, if◌then◌else◌, codes, refl, sym, ap, subst, ◌∙◌, arith, true≢false}
 use Rattle.std.proofs.lemmas.Bool.{ltb-true, lt-ltb, and_from}
 use Rattle.std.proofs.lemmas.Slice.Eq.{bytes_eq-Decides}
 use Rattle.std.specs.List.{list_all, AllZip}
 use Rattle.std.specs.Str.{bytes_eq}
-use Rattle.toml.specs.Data.{Data, Items, no_items, item, Members, get_member, integer, array, table, as_array}
-use Rattle.fk_model.specs.Names.{is_name}
+use Rattle.toml.specs.Data.{Data, Items, no_items, item, Members, get_member, integer, array, as_array}
 use Rattle.fk_model.specs.declared.moves.Rule.{Rule}
 use Rattle.fk_model.specs.declared.moves.Rule.TheVariants.{Echo}
 use Rattle.fk_model.specs.declared.job.JobSpec.{JobSpec}
@@ -19,17 +18,17 @@ use Rattle.fk_scenario.specs.declared.entries.jobs.JobKind.{JobKind}
 use Rattle.fk_scenario.specs.declared.entries.jobs.JobKind.TheVariants.{Checkpoint, Restore}
 use Rattle.fk_scenario.specs.Entries.Servers.{rule_from}
 use Rattle.fk_scenario.specs.Entries.Jobs.{is_restore}
-use Rattle.fk_scenario.specs.Scenario.Jobs.{nester_from, first_number, may_be_done, job_spec}
-use Rattle.laws_scenario_faults.specs.Asked.{AreKept, Section}
-use Rattle.laws_scenario_faults.specs.Tables as told
-use Rattle.laws_scenario_faults.specs.Tables.{table_of, is_table, is_text, is_integer, is_array, is_array_of, each, has, may_have, is_so_if, items, text_at, integer_of, integers}
-use Rattle.laws_scenario_faults.specs.Tables.{integers_at, is_in, number, number_or, entries, is_path}
+use Rattle.fk_scenario.specs.Scenario.Jobs.{nester_from, first_number, job_spec}
+use Rattle.laws_scenario_faults.specs.Asked.{AreKept}
+use Rattle.laws_scenario_faults.specs.Tables.{table_of, is_text, is_integer, is_array, is_array_of, each, has, may_have, is_so_if, items, text_at}
+use Rattle.laws_scenario_faults.specs.Tables.{integer_of, integers}
+use Rattle.laws_scenario_faults.specs.Tables.{integers_at, is_in, entries, is_path}
 use Rattle.laws_scenario_faults.specs.Entries.{console_asks, listed_asks, is_console, service_asks, listed, service_of, server_asks, server_says}
-use Rattle.laws_scenario_faults.specs.Entries.{restore_keys, checkpoint_keys, kind, list_of, bound, bind_asks, is_pair, pair, pairs, are_distinct, is_kind, binds_well}
-use Rattle.laws_scenario_faults.specs.Entries.{slot_at, other_keys_ask, job_asks, kind_of, job_of, job_says}
-use Rattle.laws_scenario_faults.specs.Tables.{has_only, is_in_if}
+use Rattle.laws_scenario_faults.specs.Entries.{restore_keys, checkpoint_keys, kind, list_of, bound, bind_asks, is_pair, pair, are_distinct, is_kind, binds_well}
+use Rattle.laws_scenario_faults.specs.Entries.{other_keys_ask, job_asks, kind_of, job_says}
+use Rattle.laws_scenario_faults.specs.Tables.{has_only}
 use Rattle.laws_scenario_faults.specs.Refusals.{work}
-use Rattle.laws_scenario_faults.specs.Keys.{At, AtOr, OfTable, IsText, IsNumber, AreEach}
+use Rattle.laws_scenario_faults.specs.Keys.{At, AtOr, OfTable, IsText, AreEach}
 use Rattle.laws_scenario_faults.specs.Scenarios.{SaysService, SaysServer, IsPair, SaysKind, SaysJob, IsJobOf}
 use Rattle.laws_scenario_faults.proofs.Keys.{both, array-is, table-is, number-says, number-in, there, text-at, text-at-told, name-at, name-at-told, path-at}
 use Rattle.laws_scenario_faults.proofs.Keys.{path-at-told, number-at, number-at-told, number-or, number-or-told, numbers-or, numbers-or-told}

@@ -1,20 +1,17 @@
 -- Scenarios: one is read of bytes exactly where they are a document that says it.
-use Rattle.std.proofs.Common.{◌≡◌, ◌≤◌, ◌↔◌, ◌⊎◌, inl, inr, ℕ, ℤ, pos, Bool, true, false, List, [], ◌∷◌, ◌++◌, map, flat_map, All, Option, Some, None, is_some, unwrap_or}
-use Rattle.std.proofs.Common.{option_and_then, Result, Ok, Err, codes, refl, sym, ap, subst, ◌∙◌}
+use Rattle.std.proofs.Common.{◌≡◌, inl, inr, ℕ, ℤ, pos, true, List, [], ◌∷◌, ◌++◌, Option, Some, None, is_some, unwrap_or}
+use Rattle.std.proofs.Common.{option_and_then, Ok, codes, refl, sym, ap, subst, ◌∙◌}
 use Rattle.std.proofs.lemmas.List.{append-nil, append_assoc}
 use Rattle.std.proofs.lemmas.List.Elements.{All-from_recursion, recursion_from_All}
 use Rattle.std.specs.List.{AllByRecursion}
-use Rattle.toml.specs.Data.{Data, Members, no_members, get_member, integer, as_integer}
+use Rattle.toml.specs.Data.{Data, Members, get_member, integer, as_integer}
 use Rattle.fk_model.specs.declared.moves.Rule.{Rule}
 use Rattle.fk_model.specs.declared.job.JobSpec.{JobSpec}
-use Rattle.fk_scenario.specs.Fields.Gives.{◌>>=◌, placed}
+use Rattle.fk_scenario.specs.Fields.Gives.{placed}
 use Rattle.fk_scenario.proofs.InFields.Steps.{after, placed-Ok}
-use Rattle.fk_scenario.specs.declared.fields.fail.ScenarioError.{ScenarioError}
-use Rattle.fk_scenario.specs.declared.entries.types.Program.{Program}
 use Rattle.fk_scenario.specs.declared.entries.types.SpaceEntry.{SpaceEntry}
 use Rattle.fk_scenario.specs.declared.entries.types.ObjectEntry.{ObjectEntry}
 use Rattle.fk_scenario.specs.declared.entries.types.ServerEntry.{ServerEntry}
-use Rattle.fk_scenario.specs.declared.entries.jobs.JobEntry.{JobEntry}
 use Rattle.fk_scenario.specs.Sections.Kept.{EachAfter}
 use Rattle.fk_scenario.specs.declared.scenario.scenario.Scenario.{Scenario}
 use Rattle.fk_scenario.specs.Scenario.Aims.{aims_from, aims_well, entry_space}
@@ -28,12 +25,12 @@ use Rattle.laws_scenario_faults.specs.Tables.{is_integer, is_so_if, is_in, may_h
 use Rattle.laws_scenario_faults.specs.Entries as asked
 use Rattle.laws_scenario_faults.specs.Entries.{top_asks, budget, workers}
 use Rattle.laws_scenario_faults.specs.Objects.{objects}
-use Rattle.laws_scenario_faults.specs.Refusals.{Said, aims, serving, work, program_entries, SaysPlaces, SaysRound}
+use Rattle.laws_scenario_faults.specs.Refusals.{Said, aims, serving, work, program_entries, SaysRound}
 use Rattle.laws_scenario_faults.specs.Keys.{At, AtOr, IsNumber, OfTable}
-use Rattle.laws_scenario_faults.specs.Scenarios.{EachSays, SectionSays, SaysProgram, SaysSpace, SaysObject, SaysServer, MayServe, SaysJob, IsJobOf, Says, BytesSay}
+use Rattle.laws_scenario_faults.specs.Scenarios.{SectionSays, SaysProgram, SaysSpace, SaysObject, SaysServer, MayServe, SaysJob, IsJobOf, Says, BytesSay}
 use Rattle.laws_scenario_faults.specs.Scenarios.{ScenariosAreSaid}
 use Rattle.laws_scenario_faults.proofs.Rules.{kept, read, read_keeps, read_kept, keep_reads}
-use Rattle.laws_scenario_faults.proofs.Documents.{then-right, sections_in, top_in, top-read, work-read, nothing, aims-same, serving-same, good-of, second}
+use Rattle.laws_scenario_faults.proofs.Documents.{then-right, sections_in, top_in, top-read, work-read, aims-same, serving-same, good-of, second}
 use Rattle.laws_scenario_faults.proofs.Documents.{round-says, rounds, good-round, good-aims, good-serving}
 use Rattle.laws_scenario_faults.proofs.Keys.{there, number-says, number-in, number-at, number-at-told, values-or, values-or-told, members-or, members-or-told}
 use Rattle.laws_scenario_faults.proofs.Said.{all-say, section-told, program-says, program-told, space-says, space-told}

@@ -1,7 +1,6 @@
 -- The scenario that a document says: each of its entries is right, and each field of the scenario is told by the entry that gives it.
-use Rattle.std.specs.Prelude.{◌≡◌, ◌≢◌, ◌<◌, ◌≤◌, ◌↔◌, ℕ, ◌+◌, pos, Bool, true, false, List, [], ◌∷◌, ◌++◌, length, map, flat_map, All, Option, Some, None, Ok, codes}
-use Rattle.std.specs.List.{AllZip}
-use Rattle.toml.specs.Data.{Data, Items, no_items, item, Members, string, integer, array}
+use Rattle.std.specs.Prelude.{◌≡◌, ◌≢◌, ◌<◌, ◌≤◌, ◌↔◌, ℕ, ◌+◌, pos, Bool, true, false, List, [], ◌∷◌, ◌++◌, length, map, flat_map, All, Option, Some, Ok, codes}
+use Rattle.toml.specs.Data.{Data, no_items, item, Members, string, integer, array}
 use Rattle.fk_model.specs.Names.{is_name}
 use Rattle.fk_model.specs.declared.moves.Rule.{Rule}
 use Rattle.fk_model.specs.declared.job.JobSpec.{JobSpec}

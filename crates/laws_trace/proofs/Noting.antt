@@ -150,7 +150,7 @@ taps_change_nothing g first c past run v is =
     (λ w e ahead v u same. all_bare_hear w e u ∙ (ap (λ es. map (hears_of w e) es) same ∙ sym (all_bare_hear w e v))) first run [] v is in
     (all.later, all.with, all.is, sym (all_bare_printed all.later) ∙ (ap printed_of all.is ∙ all_bare_printed c.servers))
 
-tap_hears : (watch : ℕ) (noted : List notes.Note) (s : State) (ns : List News) → after (OfTap watch noted s) ns
+pub tap_hears : (watch : ℕ) (noted : List notes.Note) (s : State) (ns : List News) → after (OfTap watch noted s) ns
     ≡ OfTap watch (noted ++ seen_of watch (noted_of s ns)) (after s ns)
 unfolding after noted_of
 tap_hears watch noted s [] = ap (λ ys. OfTap watch ys s) (sym (append-nil noted))

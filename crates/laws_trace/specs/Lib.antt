@@ -1,2 +1,3 @@
+pub use Rattle.fk_served.specs.Served
 pub mod Following
 pub mod Notes

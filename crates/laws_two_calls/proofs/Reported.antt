@@ -7,7 +7,9 @@ use Rattle.fk_commands.specs.declared.outcome.Outcome.{Outcome}
 use Rattle.fk_commands.specs.declared.outcome.Report.{Report}
 use Rattle.fk_commands.specs.declared.status.Status.{Status}
 use Rattle.fk_model.specs.declared.moves.Rule.{Rule}
-use Rattle.fk_run.specs.Commands.{Exec, Check, Run, Play, Show, Soak}
+use Rattle.fk_run.specs.Commands.{Exec, Check, Run, Play, Show, Soak, Record, Replay}
+use Rattle.fk_run.specs.Cores.{RunCore}
+use Rattle.fk_run.specs.First.{IsBegun, IsFirst}
 use Rattle.fk_run.specs.Images.{FindsImages}
 use Rattle.fk_run.specs.Jobs.{HoldsOf}
 use Rattle.fk_run.specs.Made.{Images, IsText}
@@ -18,6 +20,10 @@ use Rattle.fk_scenario.specs.declared.fields.fail.ScenarioError.{ScenarioError}
 use Rattle.fk_scenario.specs.declared.scenario.scenario.Scenario.{Scenario}
 use Rattle.fk_scenario.specs.Scenario.Reading.{scenario_reading}
 use Rattle.laws_two_calls.specs.TwoCalls.{ReportedRun, ReportsAreOfRuns}
+
+-- a first core is one in which a run begins
+begun : (s : Scenario) (c : RunCore) → IsFirst s c → IsBegun s c
+begun s c is = record { world = is.world; sound = is.sound; ends = is.ends; work = is.work; events = is.events }
 
 -- a refusal has no report
 refused : (status : Status) (outcome : Outcome) (text : List ℕ) (report : Report) → outcome.report ≡ Some report → IsRefused status outcome text → ⊥
@@ -40,7 +46,7 @@ module _ (rules : List (List ℕ × Rule)) (bytes : List ℕ) (files : FileMap) 
         found = found;
         first = is.first;
         is = ran.0.0;
-        headline = headline bytes s given is.first read is.is_first ran.0.0;
+        headline = headline bytes s given is.first read (begun s is.first is.is_first) ran.0.0;
       }
 
   of_play : (s : Scenario) (given : Images) (trace : List ℕ) → scenario_reading rules bytes ≡ Ok s → FindsImages (Some files) [] s.jobs (Ok given)
@@ -54,7 +60,7 @@ module _ (rules : List (List ℕ × Rule)) (bytes : List ℕ) (files : FileMap) 
         found = found;
         first = is.first;
         is = played.1.0;
-        headline = headline bytes s given is.first read is.is_first played.1.0;
+        headline = headline bytes s given is.first read (begun s is.first is.is_first) played.1.0;
       }
 
   of_trace : (name : List ℕ) (s : Scenario) (given : Images) → scenario_reading rules bytes ≡ Ok s → FindsImages (Some files) [] s.jobs (Ok given)
@@ -103,3 +109,5 @@ reports_are_of_runs rules Exec left files outcome report text runs has due headl
 reports_are_of_runs rules Check left files outcome report text runs has due headline = absurd runs
 reports_are_of_runs rules (Show name) left files outcome report text runs has due headline = absurd runs
 reports_are_of_runs rules (Soak count) left files outcome report text runs has due headline = absurd runs
+reports_are_of_runs rules (Record name watch) left files outcome report text runs has due headline = absurd runs
+reports_are_of_runs rules (Replay name) left files outcome report text runs has due headline = absurd runs

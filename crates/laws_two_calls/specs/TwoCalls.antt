@@ -1,22 +1,24 @@
 -- Two calls with a report: the run of the one has left an image on the shelf, and the run of the other has found it there.
-use Rattle.std.specs.Prelude.{◌≡◌, ⊤, ℕ, ◌+◌, ◌<◌, List, [], take, Option, Some, None, Ok}
+use Rattle.std.specs.Prelude.{◌≡◌, ⊤, ℕ, true, false, ◌+◌, ◌<◌, List, [], take, Option, Some, None, Ok}
 use Rattle.std.specs.List.{slice_get}
 use Rattle.fk_causes.specs.Shelf.{FileMap}
 use Rattle.fk_commands.specs.declared.outcome.Outcome.{Outcome}
 use Rattle.fk_commands.specs.declared.outcome.Report.{Report}
-use Rattle.fk_run.specs.Files.{image_name}
 use Rattle.fk_image.specs.declared.image.image.Image.{Image}
 use Rattle.fk_model.specs.declared.job.JobSpec.TheVariants.{Checkpoint, Restore}
 use Rattle.fk_model.specs.declared.moves.Rule.{Rule}
+use Rattle.fk_report.specs.declared.job_end.JobEnd.TheVariants as told
 use Rattle.fk_run.specs.Commands.{Command, Run, Play}
 use Rattle.fk_run.specs.Cores.{RunCore}
+use Rattle.fk_run.specs.Files.{image_name}
 use Rattle.fk_run.specs.Headline.{HasReportHeadline}
 use Rattle.fk_run.specs.Images.{FindsImages}
-use Rattle.fk_run.specs.Made.{Images}
-use Rattle.fk_run.specs.Runs.{IsReported}
 use Rattle.fk_run.specs.Jobs.{HoldsOf}
+use Rattle.fk_run.specs.Made.{Images}
 use Rattle.fk_run.specs.Puts.{PutsRun}
-use Rattle.fk_report.specs.declared.job_end.JobEnd.TheVariants as told
+use Rattle.fk_run.specs.Runs.{IsReported}
+use Rattle.fk_run.specs.Status.{was_cut_short, has_put_all}
+use Rattle.fk_run.specs.Theorem.{Outside, Theorem}
 use Rattle.fk_run.specs.Top.{IsDue}
 use Rattle.fk_scenario.specs.declared.scenario.scenario.Scenario.{Scenario}
 use Rattle.laws_house.specs.Houses.{maker_from}
@@ -72,9 +74,31 @@ pub record TakesImage {files : FileMap} {report : Report} (run : ReportedRun fil
 
 -- what the one run has left under the checkpoint's name, the other found under the restore's: the subtree that it has made has exactly the
 -- further runs that the saved one had at its hold, with its ports bound
+abbrev pub GoesOnFrom : {before found : FileMap} {report other : Report} → ReportedRun before report → FileMap → ReportedRun found other → Type 0
+GoesOnFrom {found = found} run left later = (birth slot hold there place make done : ℕ) (name taken : List ℕ) (bind : List (ℕ × ℕ)) →
+    LeavesImage run birth slot hold name → TakesImage later there place make done taken bind → found (image_name taken) ≡ left (image_name name) →
+    GoesOnAgain birth slot (world_at run.is.run hold) there place (world_at later.is.run make) (world_at later.is.run (done + 1)) (bound_by bind)
+
+-- where the one run's puts are made
 abbrev pub SavedGoesOnInAnotherCall : Type 0
 SavedGoesOnInAnotherCall = (before left found : FileMap) (report other : Report) (run : ReportedRun before report) (later : ReportedRun found other)
-    (trace : Option (List ℕ)) (birth slot hold there place make done : ℕ) (name taken : List ℕ) (bind : List (ℕ × ℕ)) →
-    PutsRun trace report (Some before) (Some left) → LeavesImage run birth slot hold name →
-    TakesImage later there place make done taken bind → found (image_name taken) ≡ left (image_name name) →
-    GoesOnAgain birth slot (world_at run.is.run hold) there place (world_at later.is.run make) (world_at later.is.run (done + 1)) (bound_by bind)
+    (trace : Option (List ℕ)) → PutsRun trace report (Some before) (Some left) → GoesOnFrom run left later
+
+-- ---- of two calls of the top
+
+-- a call that neither the outside nor the memory has cut short, with this report, over a shelf that tells its files: these, before it
+pub record WholeCall {R W H : Type 0} (rules : List (List ℕ × Rule)) (command : Command) (before after : Outside R W H) (outcome : Outcome)
+    (report : Report) (files : FileMap) : Type 0 where
+  pub promises : Theorem rules (Some command) before after outcome
+  pub whole : was_cut_short outcome.status ≡ false
+  pub has : outcome.report ≡ Some report
+  pub told : before.files ≡ Some files
+
+-- what a call of `run` has left, a later call of `run` or `play` goes on from, whatever happened to the shelf in between. The two calls may
+-- have other rules, scenarios, sources and shelves
+abbrev pub CallsGoOn : Type 0 → Type 0 → Type 0 → Type 0 → Type 0 → Type 0 → Type 0
+CallsGoOn R W H S K F = (rules others : List (List ℕ × Rule)) (trace : Option (List ℕ)) (command : Command) (before after : Outside R W H)
+    (start stop : Outside S K F) (outcome second : Outcome) (report other : Report) (files left found : FileMap) →
+    WholeCall rules (Run trace) before after outcome report files → has_put_all outcome.status ≡ true → after.files ≡ Some left →
+    RunsJobs command → WholeCall others command start stop second other found →
+    (run : ReportedRun files report) × (later : ReportedRun found other) × GoesOnFrom run left later

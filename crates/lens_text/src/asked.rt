@@ -24,6 +24,10 @@ pub enum Verb {
     Why,
     /// The run of a trace as a page.
     Page,
+    /// What went wrong in the run of a trace.
+    Sums,
+    /// A scenario without the names that it uses.
+    Plain,
     /// The ends of runs by schedules that are drawn at random.
     Hunt,
     /// The first move in which two traces differ in what they do.
@@ -45,23 +49,26 @@ pub struct Asked<'a> {
 }
 
 /// What there is, where a word is wrong.
-const VERBS: &str = "one of tree, steps, why, image, words, page, hunt, diff, --help, --version";
+const VERBS: &str =
+    "one of tree, steps, why, sums, image, words, page, plain, hunt, diff, --help, --version";
 
 /// The most moves that a scenario's budget allows.
 const MOST: u64 = 1_000_000;
 
 /// The words of the verbs.
-const WORDS: [&str; 10] = [
+const WORDS: [&str; 12] = [
     "tree",
     "steps",
     "why",
     "image",
     "words",
     "page",
-    "hunt",
-    "diff",
     "--help",
     "--version",
+    "sums",
+    "plain",
+    "hunt",
+    "diff",
 ];
 
 /// What is expected behind each.
@@ -71,10 +78,12 @@ a name and a number of moves
 one name or two
 no word
 a name
-a number of schedules, perhaps the seed of the first, and perhaps --until quiet, --until fault or --until TEXT
-two names
 no word
-no word";
+no word
+a name
+no word
+a number of schedules, perhaps the seed of the first, and perhaps --until quiet, --until fault or --until TEXT
+two names";
 
 /// What is expected of a word behind a verb: a number of moves, or a name.
 const EXPECTED: &str = "a number of moves, 0 to 1000000
@@ -158,10 +167,12 @@ pub fn asked_in<'a>(line: &Sheet, words: &'a [String]) -> Option<Asked<'a>> {
         (3, 2) => Verb::Differences,
         (4, 0) => Verb::Words,
         (5, 1) => Verb::Page,
-        (6, 1..=4) => return hunt_asked(line, rest),
-        (7, 2) => Verb::Apart,
-        (8, 0) => Verb::Help,
-        (9, 0) => Verb::Version,
+        (6, 0) => Verb::Help,
+        (7, 0) => Verb::Version,
+        (8, 1) => Verb::Sums,
+        (9, 0) => Verb::Plain,
+        (10, 1..=4) => return hunt_asked(line, rest),
+        (11, 2) => Verb::Apart,
         _ => {
             line.put_around(b"after ", word.as_str(), b": expected ");
             line.add(line_at(BEHIND, place as u64));

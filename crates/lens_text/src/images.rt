@@ -11,3 +11,4 @@ mod threads;
 
 pub use differences::push_differences;
 pub use lines::push_image;
+pub use paths::path_in;

@@ -3,10 +3,10 @@
 //! instructions, calls and statuses in words.
 //!
 //! An image is shown one thing a line (`images`), a program so that what is written assembles to the same words (`words`), and a store as the
-//! tree of its spaces (`store`).
+//! tree of its spaces (`store`). A scenario with names is written without them (`plain`).
 //!
 //! It stands on `fk_causes` for the shelf, on `fk_isa` for the instruction in a word, on `fk_stages` for porters' calls, on `fk_asm` for
-//! programs, on `toml` for what is wrong in a scenario, on `fk_image` for images, and on `fk_store` for what stands there. It promises no more
+//! programs, on `toml` and `toml_parser` for a scenario's text, on `fk_image` for images, and on `fk_store` for what stands there. It promises no more
 //! than that each function ends, whatever bytes it is given.
 #![tactic(auto)]
 
@@ -17,7 +17,9 @@ mod files;
 mod hunted;
 mod images;
 mod instructions;
+mod plain;
 mod problem;
+mod programs;
 mod refusal;
 mod sheet;
 mod shown;
@@ -26,18 +28,21 @@ mod store;
 mod words;
 
 pub use asked::{Asked, Verb, asked_in};
-pub use calls::{push_asked, push_call};
+pub use calls::{first_stage, push_asked, push_call};
 pub use faults::given;
 pub use files::{file_of, source_text};
-pub use images::{push_differences, push_image};
+pub use images::{path_in, push_differences, push_image};
 pub use instructions::push_instruction;
+pub use plain::push_plain;
 pub use problem::Problem;
+pub use programs::{Programs, Scene, programs_of, push_place};
 pub use refusal::refused_scenario;
 pub use sheet::{Sheet, line_at};
 pub use shown::Shown;
 pub use statuses::{HALTS, STATUSES};
 pub use store::{
-    handled, led_from, next_in_tree, next_stage, object_named, push_at, push_between, push_home,
-    push_named, push_object, push_path, push_thread, push_tree, word_at,
+    handled, kind_word, led_from, next_in_tree, next_stage, object_named, push_at, push_between,
+    push_held_there, push_home, push_named, push_object, push_path, push_pointer, push_refused,
+    push_thread, push_tree, word_at,
 };
 pub use words::push_words;

@@ -176,6 +176,15 @@ fn entry_of<'a>(document: &'a Table, heading: &str, index: u32) -> Option<&'a Ta
     }
 }
 
+/// Adds which entry of a section with this heading is spoken of, and its line where it has one.
+pub fn push_heading(sheet: &Sheet, text: &[u8], heading: &str, index: u32) {
+    if let Some(line) = line_of(text, heading, index) {
+        sheet.fill(b"line @, ", line, 0, 0);
+    }
+    sheet.add(heading);
+    sheet.fill(b" @: ", index as u64, 0, 0);
+}
+
 /// Adds where a document is no scenario, and what was expected there.
 fn push_refusal(sheet: &Sheet, text: &[u8], document: &Table, rule: u8, section: u8, index: u32) {
     let heading = line_at(HEADINGS, section as u64);
@@ -188,11 +197,7 @@ fn push_refusal(sheet: &Sheet, text: &[u8], document: &Table, rule: u8, section:
             }
         }
         3..=6 => {
-            if let Some(line) = line_of(text, heading, index) {
-                sheet.fill(b"line @, ", line, 0, 0);
-            }
-            sheet.add(heading);
-            sheet.fill(b" @: ", index as u64, 0, 0);
+            push_heading(sheet, text, heading, index);
             match entry_of(document, heading, index) {
                 Some(entry) => push_expected(sheet, entry, heading, rule),
                 None => sheet.put(b"expected a table"),

@@ -172,6 +172,13 @@ impl Sheet {
         self.text.set(whole);
     }
 
+    /// A copy of a text. Where there is no memory for it, that is noted here.
+    pub fn copied(&self, text: &str) -> String {
+        let copy = Sheet::new(self.alloc);
+        copy.add(text);
+        self.taken(copy)
+    }
+
     /// What another has; that there was no memory for a piece of it is noted here.
     pub fn taken(&self, other: Sheet) -> String {
         if other.problem.get().is_some() {

@@ -9,7 +9,19 @@ use fk_commands::{ScenarioReader, Status, lend_scenario};
 use fk_first::{Trace, watch};
 use fk_responders::Table;
 use fk_scenario::Scenario;
-use lens_text::{Asked, Sheet, Verb, file_of, refused_scenario};
+use lens_text::{Asked, Sheet, Verb, file_of, programs_of, refused_scenario};
+
+/// Says that a text isn't taken for a scenario, by the status with which it is refused.
+pub fn refuse_scenario(sheet: &Sheet, text: &[u8], status: &Status) {
+    match status {
+        Status::BadScenario {
+            rule,
+            section,
+            index,
+        } => refused_scenario(sheet, text, *rule, *section, *index),
+        _ => sheet.lacks(),
+    }
+}
 
 /// The run of a scenario by the trace with these bytes, and who is shown it; the text is the scenario's.
 #[derive(Drop)]
@@ -28,6 +40,7 @@ impl<H: Shelf> ScenarioReader for Run<'_, '_, H> {
 
     fn scenario(&mut self, table: &Table, scenario: &Scenario) {
         let (sheet, asked) = (self.files.sheet, self.asked);
+        self.show.note_spaces(scenario.spaces.as_slice());
         let trace = Trace {
             bytes: self.bytes,
             most: asked.end,
@@ -47,14 +60,7 @@ impl<H: Shelf> ScenarioReader for Run<'_, '_, H> {
     }
 
     fn refused(&mut self, status: &Status) {
-        match status {
-            Status::BadScenario {
-                rule,
-                section,
-                index,
-            } => refused_scenario(self.files.sheet, self.text, *rule, *section, *index),
-            _ => self.files.sheet.lacks(),
-        }
+        refuse_scenario(self.files.sheet, self.text, status);
     }
 }
 
@@ -65,7 +71,7 @@ pub fn show_run<H: Shelf>(sheet: &Sheet, asked: &Asked<'_>, text: &[u8], shelf: 
         _ => file_of(sheet, shelf, asked.name, ".trc"),
     };
     if let Some(bytes) = bytes {
-        let mut show = show_of(sheet, asked);
+        let mut show = show_of(sheet, asked, programs_of(sheet, text));
         let mut run = Run {
             asked,
             text,

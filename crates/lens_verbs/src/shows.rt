@@ -1,10 +1,12 @@
 //! What is shown of a run, by what is asked for.
 use crate::page::Page;
 use crate::steps::Steps;
-use crate::why::Why;
+use crate::sums::Sums;
+use crate::why::{Known, Why};
 use fk_first::{Ready, Seen, Stop, Watcher};
 use fk_model::{Move, NoMemory};
-use lens_text::{Asked, Sheet, Verb, push_tree};
+use fk_scenario::entries::SpaceEntry;
+use lens_text::{Asked, Programs, Scene, Sheet, Verb, push_tree};
 
 /// How a run is shown.
 #[derive(Drop)]
@@ -13,6 +15,7 @@ enum How {
     Tree,
     Steps(Steps),
     Why(Why),
+    Sums(Sums),
     Page(Page),
 }
 
@@ -20,48 +23,106 @@ enum How {
 #[derive(Drop)]
 pub struct Show<'a> {
     sheet: &'a Sheet,
+    /// The programs of the scenario.
+    programs: Programs,
     how: How,
+}
+
+/// What stands there, beside the programs.
+pub fn scene_of<'a>(programs: &'a Programs, seen: Seen<'a>) -> Scene<'a> {
+    Scene {
+        store: seen.store,
+        programs,
+    }
+}
+
+/// Notes with which programs the spaces of these entries begin. The root's birth number is 0, those of the others follow from 1 on.
+pub fn note_spaces(sheet: &Sheet, programs: &mut Programs, entries: &[SpaceEntry]) {
+    let mut birth = 0u32;
+    for entry in entries {
+        if entry.path.len() > 0 {
+            birth = birth.saturating_add(1);
+        }
+        let space = if entry.path.len() > 0 { birth } else { 0 };
+        if let Some(program) = entry.program {
+            programs.stands_in(sheet, space, program as usize);
+        }
+    }
+}
+
+impl Show<'_> {
+    /// Notes with which programs the spaces of these entries begin.
+    pub fn note_spaces(&mut self, entries: &[SpaceEntry]) {
+        note_spaces(self.sheet, &mut self.programs, entries);
+    }
 }
 
 impl Watcher for Show<'_> {
     fn before(&mut self, seen: Seen<'_>, one: &Move) -> Result<(), NoMemory> {
+        let scene = scene_of(&self.programs, seen);
         match &mut self.how {
             How::Tree => {}
-            How::Steps(steps) => steps.before(self.sheet, seen, one),
+            How::Steps(steps) => steps.before(self.sheet, seen, scene, one),
             How::Why(why) => why.before(seen.store, one.who),
-            How::Page(page) => page.before(self.sheet, seen, one),
+            How::Sums(sums) => sums.before(self.sheet, seen.store, one),
+            How::Page(page) => page.before(self.sheet, seen, scene, one),
         }
         Ok(())
     }
 
     fn after(&mut self, seen: Seen<'_>, one: &Move) -> Result<(), NoMemory> {
+        let scene = scene_of(&self.programs, seen);
         match &mut self.how {
             How::Tree => {}
             How::Steps(steps) => steps.after(self.sheet, seen, one),
-            How::Why(why) => why.after(self.sheet, seen.store, one.who),
+            How::Why(why) => why.after(self.sheet, seen, one.who),
+            How::Sums(sums) => sums.after(self.sheet, seen, scene, one),
             How::Page(page) => page.steps.after(self.sheet, seen, one),
         }
         Ok(())
     }
 
     fn stops(&mut self, seen: Seen<'_>, ready: &Ready, stop: Stop) -> Result<(), NoMemory> {
+        let scene = scene_of(&self.programs, seen);
         match &mut self.how {
-            How::Tree => push_tree(self.sheet, seen.store),
+            How::Tree => push_tree(self.sheet, scene),
             How::Steps(_) => {}
-            How::Why(why) => why.stops(self.sheet, seen, ready, stop),
-            How::Page(page) => page.stops(self.sheet, seen, stop),
+            How::Why(why) => {
+                let lockers = &why.locking.lockers;
+                let known = Known {
+                    seen,
+                    scene,
+                    lockers,
+                };
+                why.stops(self.sheet, known, ready, stop);
+            }
+            How::Sums(sums) => {
+                let lockers = &sums.locking.lockers;
+                let known = Known {
+                    seen,
+                    scene,
+                    lockers,
+                };
+                sums.stops(self.sheet, known, ready);
+            }
+            How::Page(page) => page.stops(self.sheet, scene, stop),
         }
         Ok(())
     }
 }
 
-/// What is asked for, of which nothing of the run is shown yet.
-pub fn show_of<'a>(sheet: &'a Sheet, asked: &Asked<'_>) -> Show<'a> {
+/// What is asked for of a scenario with these programs, of which nothing of the run is shown yet.
+pub fn show_of<'a>(sheet: &'a Sheet, asked: &Asked<'_>, programs: Programs) -> Show<'a> {
     let how = match asked.verb {
         Verb::Steps => How::Steps(Steps::new(sheet, asked.first)),
-        Verb::Why => How::Why(Why::new(sheet.alloc)),
+        Verb::Why => How::Why(Why::new(sheet)),
+        Verb::Sums => How::Sums(Sums::new(sheet)),
         Verb::Page => How::Page(Page::new(sheet, asked.name)),
         _ => How::Tree,
     };
-    Show { sheet, how }
+    Show {
+        sheet,
+        programs,
+        how,
+    }
 }

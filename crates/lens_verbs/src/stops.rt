@@ -26,7 +26,7 @@ pub fn check_stop(sheet: &Sheet, asked: &Asked<'_>, stop: Stop) {
             return given(sheet, asked.name, MORE, asked.end, 0, "");
         }
         (Stop::Enough | Stop::Ended, _) | (Stop::NoTrace, Verb::First) => return,
-        (Stop::Unready { .. } | Stop::Budget { .. }, Verb::Page) => return,
+        (Stop::Unready { .. } | Stop::Budget { .. }, Verb::Page | Verb::Sums) => return,
         (Stop::Unready { index, .. }, Verb::Why) if index == asked.end => return,
         (Stop::NoTrace, _) => (FIRST, 0),
         (Stop::Misspelled { index }, _) => (MOVE, index),

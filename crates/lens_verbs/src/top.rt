@@ -3,6 +3,7 @@ use crate::apart::show_apart;
 use crate::help::{HELP, VERSION};
 use crate::hunt::show_hunt;
 use crate::images::{show_differences, show_image};
+use crate::plain::show_plain;
 use crate::runs::show_run;
 use fk_causes::{Shelf, Source};
 use lens_text::{Problem, Sheet, Shown, Verb, asked_in, push_words, source_text};
@@ -22,6 +23,7 @@ fn show<R: Source, H: Shelf>(sheet: &Sheet, words: &[String], source: &mut R, sh
             if let Some(text) = source_text(sheet, source) {
                 match asked.verb {
                     Verb::Words => push_words(sheet, &text),
+                    Verb::Plain => show_plain(sheet, &text),
                     Verb::Hunt => show_hunt(sheet, &asked, &text, shelf),
                     Verb::Apart => show_apart(sheet, &asked, &text, shelf),
                     _ => show_run(sheet, &asked, &text, shelf),

@@ -44,7 +44,7 @@ module _ (Is : RunCore → Report → List ℕ → Type 0) (specs : List JobSpec
       subst (λ (e : End). IsEnd (jobs_of specs given) first.budget last.core e) listed is.ends in
       done open_.1 open_.0
       ) in
-      (rw is.report ((reported, is.written), not_listed, is.status), is.finished)
+      (rw is.report ((reported, is.written), not_listed, is.status, refl), is.finished)
 
 module _ (specs : List JobSpec) (given : Images) (first last : Shown) (history : List Move) (made : Prepared) (trace : List ℕ)
     (jobs : first.jobs ≡ jobs_of specs given) (run : HasRun first history last)
@@ -56,4 +56,4 @@ module _ (specs : List JobSpec) (given : Images) (first last : Shown) (history :
   played spells =
       let spelled : Spells (MayPlay (begun specs given first.budget first.core)) trace history =
       subst (λ (j : List Job). Spells (MayPlay (record { jobs = j; budget = first.budget; core = first.core })) trace history) jobs spells in
-      (rw is.report (spelled, (reported (IsText specs) specs given first last history made jobs run is, is.written), is.status), is.finished)
+      (rw is.report (spelled, (reported (IsText specs) specs given first last history made jobs run is, is.written), is.status, refl), is.finished)

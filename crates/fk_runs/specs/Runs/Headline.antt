@@ -3,7 +3,7 @@ use Rattle.std.specs.Prelude.{◌≡◌, ℕ, ◌+◌, ◌<◌, true, List, take
 use Rattle.std.specs.List.{slice_get}
 use Rattle.fk_commands.specs.declared.outcome.Report.{Report}
 use Rattle.fk_first.specs.Cores.{RunCore}
-use Rattle.fk_first.specs.First.{IsFirst}
+use Rattle.fk_first.specs.First.{IsBegun}
 use Rattle.fk_image.specs.declared.image.image.Image.{Image}
 use Rattle.fk_image.specs.Image.Picture.{picture}
 use Rattle.fk_image.specs.Image.Valid.{is_valid}
@@ -52,7 +52,7 @@ pub record HasReportHeadline (s : Scenario) (given : Images) (first : RunCore) (
       maker_from 0 (take index s.jobs) name ≡ Some from → from < index →
       GoesOnAgain birth slot (world_at is.run hold) other place (world_at is.run make) (world_at is.run (done + 1)) (bound_by bind)
 
--- of every scenario that was read, with whatever images
+-- of every scenario that was read, with whatever images and servers
 abbrev pub ReportsHaveTheHeadline : Type 0
-ReportsHaveTheHeadline = (s : Scenario) (given : Images) (first : RunCore) (report : Report) → KeepsScenario s → IsFirst s first →
+ReportsHaveTheHeadline = (s : Scenario) (given : Images) (first : RunCore) (report : Report) → KeepsScenario s → IsBegun s first →
     (is : IsReported s.jobs given first s.budget report) → HasReportHeadline s given first report is

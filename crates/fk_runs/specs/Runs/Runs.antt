@@ -34,19 +34,20 @@ IsWritten Is specs given first budget report text = (reported : IsReported specs
 abbrev pub begun : List JobSpec → Images → ℕ → RunCore → Shown
 begun specs given budget first = record { jobs = jobs_of specs given; budget = budget; core = first }
 
--- a run by a trace: the report's moves are the trace's; or the index of its first bad line
+-- a run by a trace, which makes no record: the report's moves are the trace's; or the index of its first bad line
 abbrev pub IsPlayed : List JobSpec → Images → RunCore → ℕ → List ℕ → Status → Option Report → List ℕ → Type 0
 IsPlayed specs given first budget trace status None text =
     (index : ℕ) × (status ≡ BadTrace index) × IsFirstBad (MayPlay (begun specs given budget first)) trace index × (text ≡ [])
 IsPlayed specs given first budget trace status (Some report) text =
     Spells (MayPlay (begun specs given budget first)) trace report.history × IsWritten (IsText specs) specs given first budget report text
-    × (status ≡ status_of_end budget report.jobs report.end)
+    × (status ≡ status_of_end budget report.jobs report.end) × (report.recorded ≡ None)
 
--- a run by itself goes on while a move is left
+-- a run by itself, which makes none either, goes on while a move is left
 abbrev pub IsAlone : (RunCore → Report → List ℕ → Type 0) → List JobSpec → Images → RunCore → ℕ → Status → Option Report → List ℕ → Type 0
 IsAlone Is specs given first budget status None text = ⊥
 IsAlone Is specs given first budget status (Some report) text =
     IsWritten Is specs given first budget report text × (¬ (report.end ≡ ends.Listed)) × (status ≡ status_of_end budget report.jobs report.end)
+    × (report.recorded ≡ None)
 
 -- a scenario is played from its first core, with images for its jobs
 pub record IsPlayedFrom (s : Scenario) (given : Images) (trace : List ℕ) (outcome : Outcome) (text : List ℕ) : Type 0 where

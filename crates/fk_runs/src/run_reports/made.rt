@@ -1,5 +1,5 @@
 //! What is prepared of a run that has come to a core.
-ghost use Rattle.std.specs.Prelude.{◌≡◌, ◌≤◌, [], Some, length, map, string_bytes, IfOk};
+ghost use Rattle.std.specs.Prelude.{◌≡◌, ◌≤◌, [], Some, None, length, map, string_bytes, IfOk};
 ghost use Rattle.fk_commands.specs.Status.{progress_of, Finished};
 ghost use Rattle.fk_core.specs.Cores.Cores.{run_core};
 ghost use Rattle.fk_job_ends.specs.Ends as definitions;
@@ -67,7 +67,7 @@ fn concluded(
     ensures status { IfOk result (λ made. made.status ≡ status_of_end budget jobs end) }
     ensures finished { IfOk result (λ made. progress_of made.status ≡ Finished) }
     ensures report { IfOk result (λ made. made.report
-        ≡ Some (record { history = history; jobs = jobs; images = map definitions.image_of specs.now; end = end })) }
+        ≡ Some (record { history = history; jobs = jobs; images = map definitions.image_of specs.now; end = end; recorded = None })) }
     ensures output { IfOk result (λ made. string_bytes made.output ≡ string_bytes output) }
 {
     let status = status_of(end, budget, jobs.as_slice())?;
@@ -79,6 +79,7 @@ fn concluded(
             jobs,
             images,
             end,
+            recorded: None,
         }),
         output,
     })

@@ -1,4 +1,5 @@
 //! Objects in words.
+use crate::programs::Scene;
 use crate::sheet::Sheet;
 use crate::store::names::{push_named, push_pointer};
 use crate::store::threads::push_thread;
@@ -34,7 +35,8 @@ pub fn push_home(sheet: &Sheet, store: &Store, birth: u32, holder: Option<Who>) 
 }
 
 /// Adds what an object is at.
-pub fn push_object(sheet: &Sheet, store: &Store, who: Who, body: &Body) {
+pub fn push_object(sheet: &Sheet, scene: Scene<'_>, who: Who, body: &Body) {
+    let store = scene.store;
     match *body {
         Body::Mutex { locked: true } => sheet.put(b"mutex, locked"),
         Body::Mutex { locked: false } => sheet.put(b"mutex"),
@@ -54,7 +56,7 @@ pub fn push_object(sheet: &Sheet, store: &Store, who: Who, body: &Body) {
         Body::Space { birth, holder } => push_home(sheet, store, birth, holder),
         Body::Thread(ref thread) => {
             sheet.put(b"thread ");
-            push_thread(sheet, store, who, thread);
+            push_thread(sheet, scene, who, thread);
         }
         Body::Mapping {
             first,

@@ -1,6 +1,7 @@
 //! Threads in words.
 use crate::calls::{first_stage, push_call};
 use crate::instructions::push_instruction;
+use crate::programs::{Scene, push_place};
 use crate::sheet::{Sheet, line_at};
 use crate::statuses::HALTS;
 use crate::store::names::{push_between, push_path};
@@ -28,23 +29,33 @@ pub fn next_stage(store: &Store, who: Who) -> Option<Stage> {
     }
 }
 
+/// Adds at which address a thread is, and by which line of its program's text.
+fn push_counter(sheet: &Sheet, scene: Scene<'_>, who: Who, thread: &Thread) {
+    sheet.add_number(thread.pc);
+    push_place(sheet, scene, b" (", who.space, thread.pc, b")");
+    sheet.put(b": ");
+}
+
 /// Adds what a thread does next: the instruction, or what is left of its call.
-pub fn push_at(sheet: &Sheet, store: &Store, who: Who, thread: &Thread) {
+pub fn push_at(sheet: &Sheet, scene: Scene<'_>, who: Who, thread: &Thread) {
     match thread.mode {
         Mode::Running => {
-            sheet.fill(b"running at @: ", thread.pc, 0, 0);
-            match word_at(store, who.space, thread.pc) {
+            sheet.put(b"running at ");
+            push_counter(sheet, scene, who, thread);
+            match word_at(scene.store, who.space, thread.pc) {
                 Some(word) => push_instruction(sheet, word),
                 None => sheet.put(b"no page is there"),
             }
         }
         Mode::Calling => {
-            sheet.fill(b"calling at @: ", thread.pc, 0, 0);
+            sheet.put(b"calling at ");
+            push_counter(sheet, scene, who, thread);
             push_call(sheet, &thread.regs, false);
         }
         Mode::Halted(code) => {
             let code = code as u64;
-            sheet.fill(b"halted @ at @: ", code, thread.pc, 0);
+            sheet.fill(b"halted @ at ", code, 0, 0);
+            push_counter(sheet, scene, who, thread);
             sheet.add(line_at(HALTS, code));
         }
         Mode::Native => sheet.put(b"a porter"),
@@ -61,8 +72,9 @@ fn push_peer(sheet: &Sheet, store: &Store, peer: Peer) {
 }
 
 /// Adds a thread: what it does next, how often it is stopped, its talk as a client, its fault.
-pub fn push_thread(sheet: &Sheet, store: &Store, who: Who, thread: &Thread) {
-    push_at(sheet, store, who, thread);
+pub fn push_thread(sheet: &Sheet, scene: Scene<'_>, who: Who, thread: &Thread) {
+    let store = scene.store;
+    push_at(sheet, scene, who, thread);
     match thread.stops {
         0 => {}
         1 => sheet.put(b"; stopped once"),

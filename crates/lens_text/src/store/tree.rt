@@ -1,11 +1,12 @@
 //! The tree of spaces.
+use crate::programs::Scene;
 use crate::sheet::Sheet;
 use crate::store::names::{next_in_tree, push_marked};
 use crate::store::objects::{push_home, push_object};
-use fk_store::Store;
 
-/// Adds all of a store, an object a line: each space before what lies in it, and what lies in one by rising slot.
-pub fn push_tree(sheet: &Sheet, store: &Store) {
+/// Adds all that stands there, an object a line: each space before what lies in it, and what lies in one by rising slot.
+pub fn push_tree(sheet: &Sheet, scene: Scene<'_>) {
+    let store = scene.store;
     // The root stands in no slot.
     sheet.put(b"/ ");
     push_home(sheet, store, 0, None);
@@ -19,7 +20,7 @@ pub fn push_tree(sheet: &Sheet, store: &Store) {
         push_marked(sheet, store, b"  ", who);
         if let Some(body) = store.at(who) {
             sheet.put(b" ");
-            push_object(sheet, store, who, body);
+            push_object(sheet, scene, who, body);
         }
         sheet.put(b"\n");
         next = next_in_tree(store, who);

@@ -1,8 +1,9 @@
 //! What each move of a trace does.
+use crate::shows::scene_of;
 use crate::steps::Steps;
 use fk_first::{Ready, Seen, Stop, Watcher};
 use fk_model::{Mode, Move, NoMemory};
-use lens_text::Sheet;
+use lens_text::{Programs, Sheet};
 use std::collections::BTreeMap;
 
 /// The movers of two traces by their paths, each with a number.
@@ -89,17 +90,19 @@ impl Deeds {
 pub struct Taker<'a> {
     sheet: &'a Sheet,
     movers: &'a mut Movers,
+    programs: Programs,
     steps: Steps,
     is_call: bool,
     pub deeds: Deeds,
 }
 
 impl<'a> Taker<'a> {
-    /// It has seen no move yet.
-    pub fn new(sheet: &'a Sheet, movers: &'a mut Movers) -> Taker<'a> {
+    /// It has seen no move yet of a scenario with these programs.
+    pub fn new(sheet: &'a Sheet, movers: &'a mut Movers, programs: Programs) -> Taker<'a> {
         Taker {
             sheet,
             movers,
+            programs,
             steps: Steps::new(&Sheet::new(sheet.alloc), 0),
             is_call: false,
             deeds: Deeds::new(sheet),
@@ -136,7 +139,8 @@ impl Watcher for Taker<'_> {
             Some(thread) => !matches!(thread.mode, Mode::Running),
             None => true,
         };
-        self.steps.before(self.sheet, seen, one);
+        let scene = scene_of(&self.programs, seen);
+        self.steps.before(self.sheet, seen, scene, one);
         Ok(())
     }
 

@@ -1,9 +1,12 @@
 //! Where two traces come apart, told.
-ghost use Rattle.std.specs.Prelude.{⊤};
+ghost use Rattle.std.specs.Prelude.{⊤, map};
+ghost use Rattle.fk_scenario.specs.Scenario.Kept.{KeepsScenario, HasRules};
 
 use crate::apart::compared::{Apart, Both, first_apart, last_before};
 use crate::apart::taken::{Deeds, Movers, Taker};
 use crate::images::Files;
+use crate::runs::refuse_scenario;
+use crate::shows::note_spaces;
 use crate::stops::check_stop;
 use fk_causes::Shelf;
 use fk_commands::{ScenarioReader, Status, lend_scenario};
@@ -11,7 +14,7 @@ use fk_first::{Trace, watch};
 use fk_model::NoMemory;
 use fk_responders::Table;
 use fk_scenario::Scenario;
-use lens_text::{Asked, Sheet, file_of, refused_scenario};
+use lens_text::{Asked, Sheet, file_of, programs_of};
 
 /// Two traces: their names, and what their moves do.
 #[derive(Drop)]
@@ -109,12 +112,41 @@ struct Runs<'a, H: Shelf> {
 }
 
 impl<H: Shelf> Runs<'_, H> {
-    /// The trace with these bytes, all of it.
-    fn trace(bytes: &[u8]) -> Trace<'_> {
-        Trace {
+    /// What the moves of the trace with this name and these bytes do; none where it can't be played, which the sheet says then.
+    fn deeds(
+        &mut self,
+        table: &Table,
+        scenario: &Scenario,
+        movers: &mut Movers,
+        name: &str,
+        bytes: &[u8],
+    ) -> Option<Deeds>
+        requires keeps { KeepsScenario scenario.now }
+        requires rules { HasRules (map (λ r. r.rule) table.now.list.items) scenario.now }
+    {
+        let (sheet, asked) = (self.files.sheet, *self.asked);
+        let mut programs = programs_of(sheet, self.text);
+        note_spaces(sheet, &mut programs, scenario.spaces.as_slice());
+        let mut taker = Taker::new(sheet, movers, programs);
+        let trace = Trace {
             bytes,
             most: u64::MAX,
             looks_ahead: false,
+        };
+        match watch(
+            sheet.alloc,
+            table,
+            scenario,
+            &mut self.files,
+            Some(trace),
+            &mut taker,
+        ) {
+            Ok(stop) => check_stop(sheet, &Asked { name, ..asked }, stop),
+            Err(problem) => sheet.fails(problem),
+        }
+        match sheet.problem() {
+            Some(_) => None,
+            None => Some(taker.deeds),
         }
     }
 }
@@ -125,48 +157,17 @@ impl<H: Shelf> ScenarioReader for Runs<'_, H> {
     ghost hears = { λ _ _ _. ⊤ };
 
     fn scenario(&mut self, table: &Table, scenario: &Scenario) {
-        let (sheet, asked) = (self.files.sheet, *self.asked);
+        let (sheet, names) = (self.files.sheet, (self.asked.name, self.asked.other));
+        let (one, two) = self.bytes;
         let mut movers = Movers::new(sheet.alloc);
-        let mut first = Taker::new(sheet, &mut movers);
-        let trace = Some(Self::trace(self.bytes.0));
-        match watch(
-            sheet.alloc,
-            table,
-            scenario,
-            &mut self.files,
-            trace,
-            &mut first,
-        ) {
-            Ok(stop) => check_stop(sheet, &asked, stop),
-            Err(problem) => sheet.fails(problem),
-        }
-        let first = first.deeds;
-        if sheet.problem().is_some() {
+        let Some(first) = self.deeds(table, scenario, &mut movers, names.0, one) else {
             return;
-        }
-        let mut second = Taker::new(sheet, &mut movers);
-        let trace = Some(Self::trace(self.bytes.1));
-        let other = Asked {
-            name: asked.other,
-            ..asked
         };
-        match watch(
-            sheet.alloc,
-            table,
-            scenario,
-            &mut self.files,
-            trace,
-            &mut second,
-        ) {
-            Ok(stop) => check_stop(sheet, &other, stop),
-            Err(problem) => sheet.fails(problem),
-        }
-        let second = second.deeds;
-        if sheet.problem().is_some() {
+        let Some(second) = self.deeds(table, scenario, &mut movers, names.1, two) else {
             return;
-        }
+        };
         let pair = Pair {
-            names: (asked.name, asked.other),
+            names,
             movers: &movers,
             deeds: (&first, &second),
         };
@@ -176,14 +177,7 @@ impl<H: Shelf> ScenarioReader for Runs<'_, H> {
     }
 
     fn refused(&mut self, status: &Status) {
-        match status {
-            Status::BadScenario {
-                rule,
-                section,
-                index,
-            } => refused_scenario(self.files.sheet, self.text, *rule, *section, *index),
-            _ => self.files.sheet.lacks(),
-        }
+        refuse_scenario(self.files.sheet, self.text, status);
     }
 }
 

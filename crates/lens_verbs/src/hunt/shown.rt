@@ -4,12 +4,13 @@ ghost use Rattle.std.specs.Prelude.{⊤};
 use crate::hunt::kinds::{Until, until_of};
 use crate::hunt::many::{Found, Hunt, hunt_all};
 use crate::images::Files;
+use crate::runs::refuse_scenario;
 use fk_causes::Shelf;
 use fk_commands::{ScenarioReader, Status, lend_scenario};
 use fk_first::images_for;
 use fk_responders::Table;
 use fk_scenario::Scenario;
-use lens_text::{Asked, Problem, Sheet, refused_scenario};
+use lens_text::{Asked, Problem, Sheet};
 
 /// The trace of a run without moves.
 const NO_MOVES: &str = "fluke-trace 1\n";
@@ -59,14 +60,7 @@ impl<H: Shelf> ScenarioReader for Hunting<'_, H> {
     }
 
     fn refused(&mut self, status: &Status) {
-        match status {
-            Status::BadScenario {
-                rule,
-                section,
-                index,
-            } => refused_scenario(self.files.sheet, self.text, *rule, *section, *index),
-            _ => self.files.sheet.lacks(),
-        }
+        refuse_scenario(self.files.sheet, self.text, status);
     }
 }
 

@@ -4,8 +4,7 @@ use crate::page::template::{HEAD, SCRIPT};
 use crate::steps::Steps;
 use fk_first::{Seen, Stop};
 use fk_model::{Move, Who};
-use fk_store::Store;
-use lens_text::{Sheet, push_home};
+use lens_text::{Scene, Sheet, push_home};
 use std::collections::BTreeMap;
 
 /// Watches a run and writes its page.
@@ -32,9 +31,10 @@ impl Page {
     }
 
     /// Adds what isn't as it was before the last move, and at first all.
-    fn push_changes(&mut self, sheet: &Sheet, store: &Store) {
-        if let Some(few) = &self.steps.few {
-            return push_objects(sheet, &mut self.known, store, few);
+    fn push_changes(&mut self, sheet: &Sheet, scene: Scene<'_>) {
+        let store = scene.store;
+        if let Some(few) = &self.steps.kept.few {
+            return push_objects(sheet, &mut self.known, scene, few);
         }
         sheet.put(b"=/\t/\t");
         push_home(sheet, store, 0, None);
@@ -51,18 +51,18 @@ impl Page {
             }
             next = store.after(next);
         }
-        push_objects(sheet, &mut self.known, store, &self.names);
+        push_objects(sheet, &mut self.known, scene, &self.names);
     }
 
     /// It sees what stands before a move, and adds what the one before has changed.
-    pub fn before(&mut self, sheet: &Sheet, seen: Seen<'_>, one: &Move) {
-        self.push_changes(sheet, seen.store);
-        self.steps.before(sheet, seen, one);
+    pub fn before(&mut self, sheet: &Sheet, seen: Seen<'_>, scene: Scene<'_>, one: &Move) {
+        self.push_changes(sheet, scene);
+        self.steps.before(sheet, seen, scene, one);
     }
 
     /// It sees what stands where the run stops, adds what the last move has changed, and says why no further one was made.
-    pub fn stops(&mut self, sheet: &Sheet, seen: Seen<'_>, stop: Stop) {
-        self.push_changes(sheet, seen.store);
+    pub fn stops(&mut self, sheet: &Sheet, scene: Scene<'_>, stop: Stop) {
+        self.push_changes(sheet, scene);
         match stop {
             Stop::Unready { .. } => sheet.put(b"the trace goes on with a move that isn't ready"),
             Stop::Budget { .. } => sheet.put(b"the trace goes on, but the budget is used"),

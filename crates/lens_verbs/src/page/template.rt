@@ -113,7 +113,7 @@ function mode(text) {
 function whom(text) {
   const talk = /; talk at ([/0-9]+) with ([/0-9]*)/.exec(text);
   if (talk) return talk[2] || talk[1];
-  const found = /; fault, .* (?:raised at|taken by) ([^;]+)/.exec(text) || /^thread calling at [0-9]+: ([^,;]+)/.exec(text);
+  const found = /; fault, .* (?:raised at|taken by) ([^;]+)/.exec(text) || /^thread calling at [0-9]+(?: [(][^)]*[)])?: ([^,;]+)/.exec(text);
   return found ? found[1] : '';
 }
 
@@ -131,7 +131,7 @@ function otherSide(state, who) {
 // The data are lines, with tabs between their parts: the trace's name; the lines of `lens steps`; before the first move and behind each, of each
 // object that isn't as it was, = with the birth number of its space and its slot (=/ for the root), its path and what it is at, or nothing
 // more where it is gone; at last why the run ends. Of a move is kept who made it, what that did, the registers, what servers were told, its
-// pick, the other side, what has changed by paths (null for what is gone), and whether its pick or the other side has a fault.
+// pick, the other side, what has changed by paths (null for what is gone), whether its pick or the other side has a fault, and its label and line.
 const D = (function read() {
   const lines = get('data').textContent.trim().split(String.fromCharCode(10)), data = { name: lines[0], end: '', first: [], moves: [] };
   const state = new Map(), pathOf = new Map();
@@ -150,10 +150,10 @@ const D = (function read() {
     if (line.startsWith('=')) { objects.push(parts); continue; }
     into.push(...changes());
     if (parts.length === 1) { data.end = line; continue; }
-    const [ids, , who, act, changed, told] = parts, pick = pathOf.get('=' + ids.split(' ')[1]) || '', other = otherSide(state, who);
+    const [ids, , who, act, changed, told, place] = parts, pick = pathOf.get('=' + ids.split(' ')[1]) || '', other = otherSide(state, who);
     const fault = [pick, other].some(path => mode(state.get(path)) === 'fault');
     into = [];
-    data.moves.push([who, act, changed, told, pick, other, into, fault]);
+    data.moves.push([who, act, changed, told, pick, other, into, fault, place]);
   }
   return data;
 })();
@@ -291,8 +291,8 @@ function drawArrows(from, to) {
 function say(state) {
   const lines = [];
   if (at < count) {
-    const [who, act, changed, told] = moves[at];
-    lines.push('move ' + at + ' of ' + who + ': ' + act);
+    const [who, act, changed, told, , , , , place] = moves[at];
+    lines.push('move ' + at + ' of ' + who + (place ? ' at ' + place : '') + ': ' + act);
     if (changed) lines.push('registers: ' + changed);
     if (told) lines.push('told: ' + told);
   } else lines.push(D.end);

@@ -1,13 +1,24 @@
 //! A line a move.
 use crate::steps::acts::push_act;
 use crate::steps::changes::{push_changed, push_ending};
-use crate::steps::few::{Few, few_changed};
+use crate::steps::kept::Kept;
 use crate::steps::servers::{ServerState, push_news, state_of};
 use crate::steps::sides::other_side;
 use fk_first::Seen;
-use fk_model::{Move, Stage, Thread, Who};
-use fk_store::Store;
-use lens_text::{Sheet, next_stage, push_between};
+use fk_model::{Mode, Move, Stage, Who};
+use lens_text::{Scene, Sheet, next_stage, push_between, push_place};
+
+/// The label and the line at which a user thread is; nothing of anybody else.
+fn place_of(sheet: &Sheet, scene: Scene<'_>, who: Who) -> String {
+    let place = Sheet::new(sheet.alloc);
+    if let Some(thread) = scene.store.thread(who) {
+        match thread.mode {
+            Mode::Native => {}
+            _ => push_place(&place, scene, b"", who.space, thread.pc, b""),
+        }
+    }
+    sheet.taken(place)
+}
 
 /// Writes a line for each move of a run from one on. All else that it has is what was known before the move.
 #[derive(Drop)]
@@ -20,10 +31,10 @@ pub struct Steps {
     sends: bool,
     /// To whom these go.
     other: Option<Who>,
-    /// Whom the move may change; none where these may be many.
-    pub few: Option<Few>,
-    /// The threads that it may change, with what they were at: the mover first, where it is one.
-    threads: Vec<(Who, Thread)>,
+    /// The label and the line at which the mover was.
+    place: String,
+    /// The threads that the move may change.
+    pub kept: Kept,
     /// What native servers were at.
     servers: Vec<ServerState>,
 }
@@ -37,51 +48,14 @@ impl Steps {
             head: String::new(sheet.alloc),
             sends: false,
             other: None,
-            few: None,
-            threads: Vec::new(sheet.alloc),
+            place: String::new(sheet.alloc),
+            kept: Kept::new(sheet),
             servers: Vec::new(sheet.alloc),
         }
     }
 
-    /// Keeps what somebody is at, if that is a thread.
-    fn keep(&mut self, sheet: &Sheet, store: &Store, who: Who) {
-        if let Some(thread) = store.thread(who) {
-            if self.threads.push((who, *thread)).is_err() {
-                sheet.lacks();
-            }
-        }
-    }
-
-    /// Keeps what all threads but the mover are at.
-    fn keep_others(&mut self, sheet: &Sheet, store: &Store, mover: Who) {
-        let mut next = store.after(None);
-        for _ in 0..u64::MAX {
-            let Some(who) = next else {
-                break;
-            };
-            if who != mover {
-                self.keep(sheet, store, who);
-            }
-            next = store.after(next);
-        }
-    }
-
-    /// Keeps what the threads are at that a move of this one may change.
-    fn keep_threads(&mut self, sheet: &Sheet, store: &Store, mover: Who) {
-        self.threads.clear();
-        self.keep(sheet, store, mover);
-        let Some(few) = self.few else {
-            return self.keep_others(sheet, store, mover);
-        };
-        for who in &few {
-            if *who != mover {
-                self.keep(sheet, store, *who);
-            }
-        }
-    }
-
     /// It sees what stands before a move.
-    pub fn before(&mut self, sheet: &Sheet, seen: Seen<'_>, one: &Move) {
+    pub fn before(&mut self, sheet: &Sheet, seen: Seen<'_>, scene: Scene<'_>, one: &Move) {
         if seen.events < self.first {
             return;
         }
@@ -103,8 +77,8 @@ impl Steps {
             push_act(&head, &seen, one);
         }
         self.head = sheet.taken(head);
-        self.few = few_changed(store, one);
-        self.keep_threads(sheet, store, who);
+        self.kept.keep(sheet, store, one);
+        self.place = place_of(sheet, scene, who);
         self.servers.clear();
         for (_, native) in seen.services {
             if self.servers.push(state_of(native)).is_err() {
@@ -114,7 +88,7 @@ impl Steps {
     }
 
     /// It sees what stands after that move, and writes its line where that is asked for: what was known before it, of a sender how many of
-    /// its words went, how it ended, the registers that changed, the mover's first, and what native servers were told.
+    /// its words went, how it ended, the registers that changed, the mover's first, what native servers were told, and at which label and line the mover was.
     pub fn after(&self, sheet: &Sheet, seen: Seen<'_>, one: &Move) {
         if seen.events <= self.first {
             return;
@@ -122,7 +96,7 @@ impl Steps {
         let store = seen.store;
         sheet.add(self.head.as_str());
         // Of a native server there is nothing more to say than its act.
-        match self.threads.first() {
+        match self.kept.threads.first() {
             Some((who, before)) if *who == one.who => {
                 push_ending(sheet, store, *who, before, self.sends, self.other);
             }
@@ -130,7 +104,7 @@ impl Steps {
         }
         sheet.put(b"\t");
         let start = sheet.len();
-        for kept in &self.threads {
+        for kept in &self.kept.threads {
             push_changed(sheet, start, store, one.who, kept);
         }
         sheet.put(b"\t");
@@ -140,6 +114,6 @@ impl Steps {
                 push_news(sheet, start, store, *port, native, was);
             }
         }
-        sheet.put(b"\n");
+        sheet.put_around(b"\t", self.place.as_str(), b"\n");
     }
 }

@@ -1,12 +1,12 @@
 //! Who could end a wait for somebody else.
 use crate::why::places::push_whereabouts;
 use fk_model::{Body, Peer, Stage, Thread, Who};
-use fk_store::Store;
-use lens_text::{Sheet, handled, next_stage, push_between, push_path};
+use lens_text::{Scene, Sheet, handled, next_stage, push_between, push_path};
 
 /// Adds who could take what stands at a port of a set: the first thread of the set's space that stands at its wait on it, or the first
 /// thread there at all.
-fn push_server(sheet: &Sheet, store: &Store, set: Who) {
+fn push_server(sheet: &Sheet, scene: Scene<'_>, set: Who) {
+    let store = scene.store;
     let mut first = None;
     for slot in 0..=255u8 {
         let who = Who {
@@ -21,7 +21,7 @@ fn push_server(sheet: &Sheet, store: &Store, set: Who) {
                 _ => false,
             };
             if waits_here {
-                push_whereabouts(sheet, store, b"; ", who);
+                push_whereabouts(sheet, scene, b"; ", who);
                 return push_between(sheet, store, b" waits at its set ", set, b"");
             }
             first = first.or(Some(who));
@@ -29,7 +29,7 @@ fn push_server(sheet: &Sheet, store: &Store, set: Who) {
     }
     push_between(sheet, store, b"; nobody waits at its set ", set, b"");
     match first {
-        Some(who) => push_whereabouts(sheet, store, b", and in its space is ", who),
+        Some(who) => push_whereabouts(sheet, scene, b", and in its space is ", who),
         None => sheet.put(b", and no thread is in its space"),
     }
 }
@@ -37,11 +37,12 @@ fn push_server(sheet: &Sheet, store: &Store, set: Who) {
 /// Adds a port between two pieces, and who could take what stands there.
 pub fn push_port<const N: usize, const M: usize>(
     sheet: &Sheet,
-    store: &Store,
+    scene: Scene<'_>,
     before: &[u8; N],
     port: Who,
     behind: &[u8; M],
 ) {
+    let store = scene.store;
     push_between(sheet, store, before, port, behind);
     match store.at(port) {
         Some(Body::Port { set, served }) => {
@@ -49,7 +50,7 @@ pub fn push_port<const N: usize, const M: usize>(
                 match store.client_at(port) {
                     Some(client) => push_whereabouts(
                         sheet,
-                        store,
+                        scene,
                         b"; its native server serves ",
                         client,
                     ),
@@ -59,7 +60,7 @@ pub fn push_port<const N: usize, const M: usize>(
                 match set {
                     Some(slot) => push_server(
                         sheet,
-                        store,
+                        scene,
                         Who {
                             space: port.space,
                             slot: *slot,
@@ -74,8 +75,8 @@ pub fn push_port<const N: usize, const M: usize>(
 }
 
 /// Adds whom a client waits for: its server, a native one, or who takes up its talk.
-pub fn push_talk(sheet: &Sheet, store: &Store, client: Who) {
-    match store.thread(client) {
+pub fn push_talk(sheet: &Sheet, scene: Scene<'_>, client: Who) {
+    match scene.store.thread(client) {
         Some(
             Thread {
                 talk: Some(talk),
@@ -83,15 +84,15 @@ pub fn push_talk(sheet: &Sheet, store: &Store, client: Who) {
             },
         ) => match talk.peer {
             Peer::Thread(server) => {
-                push_whereabouts(sheet, store, b"waits for its server ", server);
+                push_whereabouts(sheet, scene, b"waits for its server ", server);
             }
             Peer::Service => {
                 sheet.put(b"waits for the native server of ");
-                push_path(sheet, store, talk.port);
+                push_path(sheet, scene.store, talk.port);
             }
             Peer::Parked => push_port(
                 sheet,
-                store,
+                scene,
                 b"waits until its talk at ",
                 talk.port,
                 b" is taken up",

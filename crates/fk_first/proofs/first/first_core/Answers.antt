@@ -1,28 +1,20 @@
-use Rattle.std.proofs.Common.{◌≡◌, ◌∙◌, map, refl, ap, sym, subst}
+use Rattle.std.proofs.Common.{◌≡◌, ◌∙◌, map, ap}
 use Rattle.fk_core.specs.Cores.Cores.{run_core}
-use Rattle.fk_jobs.specs.Jobs.{Queue, job_of}
-use Rattle.fk_model.specs.Who.{named}
+use Rattle.fk_jobs.specs.Jobs.{Queue}
 use Rattle.fk_core.specs.Cores.Kernels.{world_of as world}
 use Rattle.fk_first.proofs.Grounds.{has-come, shown-sound}
 use Rattle.fk_first.proofs.Servers.{all-fit, placed-first}
-use Rattle.laws_first.proofs.Users.{scenario_jobs_name_users_slots}
 use Rattle.laws_house.specs.Houses.{jobs_of}
-use Rattle.laws_house.specs.Laws.{NameUsersSlots}
 use Rattle.fk_first.proofs.first.first_core.Goals as goal
-
-pub new-requires : goal.new-requires
-new-requires c =
-    let planned : map job_of c.in_ok-plans.plans.items ≡ jobs_of c.args.scenario.now.jobs c.args.images.now = rw c.as_slice.ensures at c.in_ok-plans.ensures in
-    record { slots = subst NameUsersSlots (sym planned) (scenario_jobs_name_users_slots c.args.scenario.now c.requires c.args.images.now) }
 
 pub returns-clause-first : goal.returns-clause-first
 returns-clause-first c =
-    let made = c.new-2.ensures in
+    let made = c.new.ensures in
     let first = c.in_ok-first.first in
     let w = world first.kernel in
     record {
       world = ap world made.kernel ∙ c.in_ok-first.ensures.world;
-      sound = rw made.kernel (shown-sound c.args.scenario.now w first.services.items c.new-2.result.services.list first.budget made.services
+      sound = rw made.kernel (shown-sound c.args.scenario.now w first.services.items c.new.result.services.list first.budget made.services
           c.in_ok-first.ensures.budget c.in_ok-first.ensures.sound);
       servers = rw (made.kernel, made.services) (placed-first w first.services.items ∙ c.in_ok-first.ensures.services);
       ends = ap (λ (q : Queue). q.ends) made.jobs ∙ c.in_ok-jobs.ensures.ends;
@@ -32,13 +24,11 @@ returns-clause-first c =
 
 pub returns-clause-come : goal.returns-clause-come
 returns-clause-come c =
-    let core = c.new-2.result in
-    let planned : map job_of c.in_ok-plans.plans.items ≡ jobs_of c.args.scenario.now.jobs c.args.images.now = rw c.as_slice.ensures at c.in_ok-plans.ensures in
-    let jobs : core.jobs.jobs ≡ jobs_of c.args.scenario.now.jobs c.args.images.now =
-    ap (λ (q : Queue). q.jobs) c.new-2.ensures.jobs ∙ (c.in_ok-jobs.ensures.jobs ∙ planned) in
+    let core = c.new.result in
+    let jobs : core.jobs.jobs ≡ jobs_of c.args.scenario.now.jobs c.args.images.now = ap (λ (q : Queue). q.jobs) c.new.ensures.jobs ∙ c.in_ok-jobs.ensures.jobs in
     has-come c.args.scenario.now c.args.images.now (run_core core) core.jobs.jobs core.budget (returns-clause-first c) jobs
-    (c.new-2.ensures.budget ∙ c.in_ok-first.ensures.budget)
+    (c.new.ensures.budget ∙ c.in_ok-first.ensures.budget)
 
 pub returns-clause-fits : goal.returns-clause-fits
-returns-clause-fits c = λ table has. rw c.new-2.ensures.services (all-fit table (world c.in_ok-first.first.kernel) c.in_ok-first.first.services.items c.args.scenario.now.servers
+returns-clause-fits c = λ table has. rw c.new.ensures.services (all-fit table (world c.in_ok-first.first.kernel) c.in_ok-first.first.services.items c.args.scenario.now.servers
     c.in_ok-first.ensures.services has)

@@ -1,0 +1,10 @@
+pub use Rattle.fk_record_text.proofs.Records
+pub mod Small
+pub mod Paths
+pub mod SamePorts
+pub mod Lines
+pub mod Carried
+pub mod Apart
+pub mod WithTaps
+pub mod Refusals
+pub mod Again

@@ -1,0 +1,12 @@
+pub use Rattle.fk_recorded.specs.Following
+pub use Rattle.fk_recorded.specs.Notes
+pub use Rattle.fk_recorded.specs.Pair
+pub use Rattle.fk_record_text.specs.Record
+pub use Rattle.fk_trace.specs.Posts
+pub use Rattle.fk_trace_text.specs.Trace
+pub mod Ports
+pub mod Written
+pub mod Told
+pub mod Recording
+pub mod Replaying
+pub mod Again
