@@ -7,8 +7,8 @@ from measuring.crowds import HOLDS_AND_RELEASES, HOLDS_CROWD, HOLDS_OTHER, clien
 from measuring.scenes import ELSEWHERE, SEVEN, SHORT, looping
 from measuring.ways import (
     asked_by_restore, asked_by_save, beside_crowd, beyond_check, by_references, by_workers, counted, dear_event, each, event, exec_instruction,
-    million_at_random, million_played, played, played_beyond_check, played_call, resident, resident_beyond, restored, run_timed, saved,
-    shown, soaked, timed,
+    million_at_random, million_played, million_recorded, million_replayed, noted, played, played_beyond_check, played_call, resident, resident_beyond,
+    restored, run_timed, saved, shown, soaked, timed,
 )
 
 # What rows are told in: machine instructions, milliseconds and megabytes.
@@ -106,6 +106,12 @@ def playing():
     yield "play-million-drawn", timed_row(million_at_random(4_000, 20))
 
 
+def recording():
+    yield "record-note", Row(noted())
+    yield "record-million", timed_row(million_recorded)
+    yield "replay-million", timed_row(million_replayed)
+
+
 def of_jobs():
     yield "save-mutexes", Row(saved(jobs.mutexes_and_pages))
     yield "save-references", Row(saved(jobs.references_and_pages))
@@ -145,5 +151,5 @@ def of_texts():
 
 def rows():
     """All rows by name, in the order of docs/PERFORMANCE.md."""
-    parts = (instructions, calls, to_servers, waiting, workers, playing, of_jobs, of_images, of_texts)
+    parts = (instructions, calls, to_servers, waiting, workers, playing, recording, of_jobs, of_images, of_texts)
     return {name: row for part in parts for name, row in part()}

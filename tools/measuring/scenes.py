@@ -116,6 +116,13 @@ def to_server(budget, rule, words):
     return scene.server("/9", rule, **({"alias": "a"} if rule == "console" else {}))
 
 
+def noting(budget):
+    """A user that connects to a native server, is replied to and disconnects, over and over: 40 notes of a record in 110 events."""
+    client = "set r1, 1\nset r2, 128\nset r3, 0\nset r4, 192\nset r5, 1\nnext: set r0, 33\ncall\nset r0, 39\ncall\njmp next"
+    scene = Scene(budget).space("/1", client, pages=[1, 2, 3]).object("/1/0", "thread").object("/1/1", "reference", to="/9")
+    return scene.server("/9", "sum", config=[7])
+
+
 def contending(budget, threads=2):
     """Threads that contend for a mutex."""
     program = "next: " + call(21, r1=239) + call(23, r1=239) + "jmp next"

@@ -70,6 +70,27 @@ def played_call(make, moves, calls):
     return measure
 
 
+def noted(few=22_000, many=66_000):
+    """What a note of a record costs beside the run that it is taken of, from two budgets."""
+
+    def measure(meter):
+        costs = [meter.count(["record", "t", "all"], scenes.noting(budget)) - run(meter, scenes.noting(budget)) for budget in (few, many)]
+        return apart(*costs, (many - few) * 40 // 110)
+
+    return measure
+
+
+def million_recorded(meter):
+    """The processor's time of a record of a million moves and 360,000 notes."""
+    return meter.best(["record", "t", "all"], scenes.noting(1_000_000))
+
+
+def million_replayed(meter):
+    """The same of the replay of that record."""
+    meter.call(["record", "t", "all"], scenes.noting(1_000_000))
+    return meter.best(["replay", "t"], scenes.noting(1_000_000))
+
+
 def million_at_random(threads, spaces):
     """The processor's time of `play` of a million moves that are drawn at random from so many threads."""
 

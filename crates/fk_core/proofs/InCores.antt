@@ -11,3 +11,4 @@ pub mod Leaving
 pub mod Rooms
 pub mod Timely
 pub mod Bursting
+pub mod Lacking

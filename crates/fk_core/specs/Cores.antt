@@ -1,6 +1,7 @@
 pub use Rattle.fk_core.specs.Rounds.Served
 pub use Rattle.fk_core.specs.Rounds.Events
 pub use Rattle.fk_core.specs.Rounds.Kernels
+pub mod Memory
 pub mod Cores
 pub mod Goings
 pub mod Ends

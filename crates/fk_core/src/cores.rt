@@ -9,12 +9,13 @@
 //! (`specs/Cores/Cores.antt`); that `burst` is as many turns as moves of a running thread were made at once; that each plain subtree stays so, and its cut
 //! does the move as which it sees this one, or nothing (`specs/Cores/Cuts.antt`); that a job's move leaves all but its nester's scratch and, of a checkpoint,
 //! who holds the subtree, of a restore the new space (`specs/Cores/Leaves.antt`); that for want of memory all is as
-//! before; that `choose` finds a ready move, of a thread, a server or a due job, wherever there is one and the
-//! budget isn't used, and at an even number of moves a due job's; and that `ended` tells how a run has ended (`moment`).
+//! before, and that memory lacks only where a ready move may want it (`specs/Cores/Memory.antt`); that `choose` finds a ready move, of a thread, a
+//! server or a due job, wherever there is one and the budget isn't used, and at an even number of moves a due job's; and that `ended` tells how a run has ended (`moment`).
 
 mod advancing;
 mod bursts;
 mod given;
+mod lacking;
 mod looks;
 mod room;
 mod settling;

@@ -116,12 +116,12 @@ leaves_strangers q w services events budget m d come below ready turned e is nes
         (strangers_act_unseen w nester slot e whole plain none server.0 server.1 turn.ready)
 
 -- a ready move that is tried is made
-pub of-ready : (b : Bool) (ready : Type 0) (jobs : List Job) (c : RunCore) (m : Move) (d : RunCore) → ready →
-    IsTried {E = Unit {0}} ready jobs c m d (Ok b) → IsTurned jobs c m d
-of-ready true ready jobs c m d is tried = tried.1
-of-ready false ready jobs c m d is tried = absurd (tried.0 is)
+pub of-ready : (b : Bool) (ready lacks : Type 0) (jobs : List Job) (c : RunCore) (m : Move) (d : RunCore) → ready →
+    IsTried {E = Unit {0}} ready lacks jobs c m d (Ok b) → IsTurned jobs c m d
+of-ready true ready lacks jobs c m d is tried = tried.1
+of-ready false ready lacks jobs c m d is tried = absurd (tried.0 is)
 
-pub of-unready : (b : Bool) (ready : Type 0) (jobs : List Job) (c : RunCore) (m : Move) (d : RunCore) → b ≡ false →
-    IsTried {E = Unit {0}} ready jobs c m d (Ok b) → ready → ⊥
-of-unready true ready jobs c m d is tried = absurd (cc)
-of-unready false ready jobs c m d is tried = tried.0
+pub of-unready : (b : Bool) (ready lacks : Type 0) (jobs : List Job) (c : RunCore) (m : Move) (d : RunCore) → b ≡ false →
+    IsTried {E = Unit {0}} ready lacks jobs c m d (Ok b) → ready → ⊥
+of-unready true ready lacks jobs c m d is tried = absurd (cc)
+of-unready false ready lacks jobs c m d is tried = tried.0

@@ -101,17 +101,17 @@ pub goes_same : (jobs more : List Job) (budget other : ℕ) (c d : RunCore) (m :
 goes_same jobs more budget other c d m same_jobs same_budget come ready turned =
     come_same jobs more budget other d d same_jobs same_budget refl (goes_on jobs budget c d m come ready turned)
 
-come_tried : {E : Type 0} (r : Result Bool E) (jobs : List Job) (budget : ℕ) (c : RunCore) (m : Move) (d : RunCore) → HasCome jobs budget c →
-    IsTried (IsReadyMove jobs c m) jobs c m d r → HasCome jobs budget d
-come_tried (Ok true) jobs budget c m d come tried = goes_on jobs budget c d m come tried.0 tried.1
-come_tried (Ok false) jobs budget c m d come tried = subst (HasCome jobs budget) (sym tried.1) come
-come_tried (Err e) jobs budget c m d come tried = subst (HasCome jobs budget) (sym tried) come
+come_tried : {E : Type 0} (r : Result Bool E) (L : Type 0) (jobs : List Job) (budget : ℕ) (c : RunCore) (m : Move) (d : RunCore) → HasCome jobs budget c →
+    IsTried (IsReadyMove jobs c m) L jobs c m d r → HasCome jobs budget d
+come_tried (Ok true) L jobs budget c m d come tried = goes_on jobs budget c d m come tried.0 tried.1
+come_tried (Ok false) L jobs budget c m d come tried = subst (HasCome jobs budget) (sym tried.1) come
+come_tried (Err e) L jobs budget c m d come tried = subst (HasCome jobs budget) (sym tried.2) come
 
-pub tried_goes : {E : Type 0} (r : Result Bool E) (jobs more : List Job) (budget other : ℕ) (c : RunCore) (m : Move) (d : RunCore) → more ≡ jobs
+pub tried_goes : {E : Type 0} (r : Result Bool E) (L : Type 0) (jobs more : List Job) (budget other : ℕ) (c : RunCore) (m : Move) (d : RunCore) → more ≡ jobs
     → other ≡ budget →
-    HasCome jobs budget c → IsTried (IsReadyMove jobs c m) jobs c m d r → HasCome more other d
-tried_goes r jobs more budget other c m d same_jobs same_budget come tried =
-    come_same jobs more budget other d d same_jobs same_budget refl (come_tried r jobs budget c m d come tried)
+    HasCome jobs budget c → IsTried (IsReadyMove jobs c m) L jobs c m d r → HasCome more other d
+tried_goes r L jobs more budget other c m d same_jobs same_budget come tried =
+    come_same jobs more budget other d d same_jobs same_budget refl (come_tried r L jobs budget c m d come tried)
 
 come_made : (made : Option Move) (jobs : List Job) (budget : ℕ) (c d : RunCore) → HasCome jobs budget c → IsAdvanced jobs budget c made d
     → HasCome jobs budget d

@@ -6,15 +6,16 @@ use Rattle.laws_house.specs.Houses.{Job}
 use Rattle.fk_jobs.specs.Jobs.{Queue}
 use Rattle.fk_jobs.specs.Turns.{core_of}
 use Rattle.fk_core.specs.Rounds.Served.{Services}
-use Rattle.fk_core.specs.Cores.Cores.{RunCore, has_come, is_porter, IsReadyMove, IsFirstDue, IsOver, IsTried, IsAdvanced, IsAdvancedOrOver}
+use Rattle.fk_core.specs.Cores.Cores.{RunCore, has_come, is_porter, IsReadyMove, IsFirstDue, IsOver, IsTried, IsAdvanced, IsAdvancedOrOver, IsChoice, IsLacking}
 use Rattle.fk_core.proofs.InRounds.Due.{chosen_first}
 
 -- a move that is tried is ready as this exactly where it is as that
-pub tried_as : {E : Type 0} (r : Result Bool E) (A B : Type 0) (jobs : List Job) (c : RunCore) (m : Move) (d : RunCore) → (A → B) → (B → A) →
-    IsTried A jobs c m d r → IsTried B jobs c m d r
-tried_as (Ok true) A B jobs c m d f g h = (f h.0, h.1, h.2)
-tried_as (Ok false) A B jobs c m d f g h = (λ b. h.0 (g b), h.1)
-tried_as (Err e) A B jobs c m d f g h = h
+-- and may lack memory as this where it may as that
+pub tried_as : {E L M : Type 0} (r : Result Bool E) (A B : Type 0) (jobs : List Job) (c : RunCore) (m : Move) (d : RunCore) → (A → B) → (B → A) → (L → M) →
+    IsTried A L jobs c m d r → IsTried B M jobs c m d r
+tried_as (Ok true) A B jobs c m d f g l h = (f h.0, h.1, h.2)
+tried_as (Ok false) A B jobs c m d f g l h = (λ b. h.0 (g b), h.1)
+tried_as (Err e) A B jobs c m d f g l h = (f h.0, l h.1, h.2)
 
 -- what holds of jobs and a core holds of those that they are
 pub there : (P : Queue → RunCore → Type 0) (q r : Queue) (c d : RunCore) → r ≡ q → d ≡ c → P r d → P q c
@@ -48,7 +49,12 @@ over_of (Err e) jobs budget c d h = tt
 pub lacking_of : {E : Type 0} (r : Result (Option Move) E) (jobs : List Job) (budget : ℕ) (c d : RunCore) → IsAdvancedOrOver jobs budget c d r →
     OnErr r (d ≡ c)
 lacking_of (Ok made) jobs budget c d h = tt
-lacking_of (Err e) jobs budget c d h = h
+lacking_of (Err e) jobs budget c d h = h.1
+
+pub lacks_of : {E : Type 0} (r : Result (Option Move) E) (jobs : List Job) (budget : ℕ) (c d : RunCore) → IsAdvancedOrOver jobs budget c d r →
+    OnErr r (IsLacking jobs budget c)
+lacks_of (Ok made) jobs budget c d h = tt
+lacks_of (Err e) jobs budget c d h = h.0
 
 -- from where nothing was made it is the same advance
 pub from_same : {E : Type 0} (r : Result (Option Move) E) (jobs more : List Job) (budget other : ℕ) (c d last : RunCore) → more ≡ jobs → other ≡ budget
@@ -73,3 +79,16 @@ first_further (Ok made) q w services events budget jobs other c d same_jobs same
     let two = subst (λ b. IsAdvanced q.jobs b c made d) same_budget one in
     let three = subst (λ c. IsAdvanced q.jobs budget c made d) same two in
     chosen_first q w services events budget made none (advanced_ready made q.jobs budget (core_of w services q events) d three)
+
+-- ---- legal choices
+
+pub choice_of : (o : Option Move) (q : Queue) (budget : ℕ) (c : RunCore) → IfSome o (λ m. (c.events < budget) × IsReadyMove q.jobs c m) →
+    IfNone o (IsOver q.jobs budget c) → IsFirstDue q budget c o → IsChoice q budget c o
+choice_of None q budget c ready none first = none
+choice_of (Some m) q budget c ready none first = (ready.0, ready.1, first)
+
+pub choice_made : {E : Type 0} (r : Result (Option Move) E) (q : Queue) (budget : ℕ) (c d : RunCore) → IsAdvancedOrOver q.jobs budget c d r →
+    IfOk r (λ made. IsFirstDue q budget c made) → IfOk r (λ made. IsChoice q budget c made)
+choice_made (Ok (Some m)) q budget c d h first = (h.0, h.1, first)
+choice_made (Ok None) q budget c d h first = h.0
+choice_made (Err e) q budget c d h first = tt

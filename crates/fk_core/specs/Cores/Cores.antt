@@ -3,11 +3,13 @@ use Rattle.std.specs.Prelude.{◌≡◌, ℕ, ◌+◌, ◌<◌, Bool, true, fals
 use Rattle.fk_model.specs.declared.moves.Move.{Move}
 use Rattle.fk_model.specs.declared.moves.Said as says_of
 use Rattle.fk_model.specs.declared.moves.Said.TheVariants as says
+use Rattle.fk_jobs.specs.Jobs.{Queue}
 use Rattle.laws_house.specs.Houses.{Job}
 use Rattle.laws_jobs.specs.Machines.{Reply}
 use Rattle.laws_runs.specs.Cores.{moved, Settles}
 use Rattle.fk_core.specs.declared.cores.turns.Core as cores
 pub use Rattle.fk_core.specs.Rounds.Moments.{house, RunCore, core_at, porter_of, is_porter, is_timely, has_come}
+pub use Rattle.fk_core.specs.Cores.Memory.{may_lack, may_lack_asked, may_lack_called, IsLacking}
 pub use Rattle.fk_core.specs.Rounds.Moments.{IsReadyMove, IsAnyMove, IsAskedMove, IsCalledMove, IsOthersMove, IsDue, IsFirstDue, IsOver}
 
 -- what a core in code has come to
@@ -34,20 +36,26 @@ abbrev pub IsAdvanced : List Job → ℕ → RunCore → Option Move → RunCore
 IsAdvanced jobs budget c None d = d ≡ c
 IsAdvanced jobs budget c (Some m) d = (c.events < budget) × IsReadyMove jobs c m × IsTurned jobs c m d × (d.events ≡ c.events + 1)
 
--- what comes of a move that is tried, which is ready in this sense: it is made where it is ready, and else, and for want of memory, all is as
--- before
-abbrev pub IsTried : {E : Type 0} → Type 0 → List Job → RunCore → Move → RunCore → Result Bool E → Type 0
-IsTried ready jobs c m d (Ok true) = ready × IsTurned jobs c m d × (d.events ≡ c.events + 1)
-IsTried ready jobs c m d (Ok false) = (ready → ⊥) × (d ≡ c)
-IsTried ready jobs c m d (Err lacking) = d ≡ c
+-- a legal choice of the move that is made next: one that is ready, while the budget has one more, and at an even number of moves a due job's where one is
+-- ready; none only where no move is left
+abbrev pub IsChoice : Queue → ℕ → RunCore → Option Move → Type 0
+IsChoice q budget c None = IsOver q.jobs budget c
+IsChoice q budget c (Some m) = (c.events < budget) × IsReadyMove q.jobs c m × IsFirstDue q budget c (Some m)
 
--- the same of one that may lack memory, for want of which all is as before
+-- what comes of a move that is tried, which is ready in this sense, and may lack memory in that: it is made where it is ready, or lacks memory; and
+-- where it isn't made all is as before
+abbrev pub IsTried : {E : Type 0} → Type 0 → Type 0 → List Job → RunCore → Move → RunCore → Result Bool E → Type 0
+IsTried ready lacks jobs c m d (Ok true) = ready × IsTurned jobs c m d × (d.events ≡ c.events + 1)
+IsTried ready lacks jobs c m d (Ok false) = (ready → ⊥) × (d ≡ c)
+IsTried ready lacks jobs c m d (Err lacking) = ready × lacks × (d ≡ c)
+
+-- the same of one that may lack memory: only where a ready move may, and then all is as before
 abbrev pub IsAdvancedBy : {E : Type 0} → List Job → ℕ → RunCore → RunCore → Result (Option Move) E → Type 0
 IsAdvancedBy jobs budget c d (Ok made) = IsAdvanced jobs budget c made d
-IsAdvancedBy jobs budget c d (Err lacking) = d ≡ c
+IsAdvancedBy jobs budget c d (Err lacking) = IsLacking jobs budget c × (d ≡ c)
 
 -- the same of one that makes nothing only where no move is left
 abbrev pub IsAdvancedOrOver : {E : Type 0} → List Job → ℕ → RunCore → RunCore → Result (Option Move) E → Type 0
 IsAdvancedOrOver jobs budget c d (Ok (Some m)) = IsAdvanced jobs budget c (Some m) d
 IsAdvancedOrOver jobs budget c d (Ok None) = IsOver jobs budget c × (d ≡ c)
-IsAdvancedOrOver jobs budget c d (Err lacking) = d ≡ c
+IsAdvancedOrOver jobs budget c d (Err lacking) = IsLacking jobs budget c × (d ≡ c)

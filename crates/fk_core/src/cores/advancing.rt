@@ -1,7 +1,7 @@
 //! Moves that a core makes by itself, one after the other.
 ghost use Rattle.std.specs.Prelude.{◌≡◌, ◌<◌, true, None, IfOk, OnErr, IfSome, IfNone, map};
 ghost use Rattle.fk_core.specs.Rounds.Served.{AllFit};
-ghost use Rattle.fk_core.specs.Cores.Cores.{run_core, is_porter, has_come, IsReadyMove, IsOver, IsAdvanced, IsAdvancedBy, IsAdvancedOrOver, IsFirstDue, is_timely};
+ghost use Rattle.fk_core.specs.Cores.Cores.{run_core, is_porter, has_come, IsReadyMove, IsOver, IsAdvanced, IsAdvancedBy, IsAdvancedOrOver, IsChoice, IsFirstDue, IsLacking, is_timely};
 ghost use Rattle.fk_core.specs.Cores.Goings.{IsGoing};
 ghost use Rattle.fk_jobs.specs.Jobs.{current};
 
@@ -268,15 +268,18 @@ impl<S: Service + Drop, W: Worker + Drop> Core<S, W> {
         }
     }
 
-    /// Makes a move that is ready, and gives it: the one that `choose` would give, at an even number of moves a due job's where one is ready.
-    /// There is none exactly where none is ready or the budget is used, and then, and for want of memory, all is as before.
+    /// Makes a move that is ready, and gives it: a legal choice, as `choose` gives one, at an even number of moves a due job's where one is ready.
+    /// There is none exactly where none is ready or the budget is used, and then, and for want of memory, all is as before. Memory lacks only where
+    /// a ready move may want it.
     pub fn advance(&mut self, table: &Table) -> Result<Option<Move>, NoMemory>
         requires fits { AllFit (map (λ r. r.rule) table.now.list.items) self.old.services.list }
         requires come { IsGoing self.old }
         ensures advanced { IfOk result (λ made. IsAdvanced self.old.jobs.jobs self.old.budget (run_core self.old) made (run_core self.new)) }
+        ensures choice { IfOk result (λ made. IsChoice self.old.jobs self.old.budget (run_core self.old) made) }
         ensures none { IfOk result (λ made. IfNone made (IsOver self.old.jobs.jobs self.old.budget (run_core self.old))) }
         ensures first { IfOk result (λ made. IsFirstDue self.old.jobs self.old.budget (run_core self.old) made) }
         ensures lacking { OnErr result (run_core self.new ≡ run_core self.old) }
+        ensures lacks { OnErr result (IsLacking self.old.jobs.jobs self.old.budget (run_core self.old)) }
         ensures fits { AllFit (map (λ r. r.rule) table.now.list.items) self.new.services.list }
         ensures budget { self.new.budget ≡ self.old.budget }
         ensures jobs { self.new.jobs.jobs ≡ self.old.jobs.jobs }

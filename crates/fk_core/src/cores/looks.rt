@@ -6,7 +6,7 @@ ghost use Rattle.laws_moves.specs.Whole.Runnable.{has_all_words};
 ghost use Rattle.fk_jobs.specs.Jobs.{current, unmoved_of};
 ghost use Rattle.fk_core.specs.Rounds.Moments.{seen, AreUsersIdle};
 ghost use Rattle.fk_core.specs.Rounds.Served.{asked};
-ghost use Rattle.fk_core.specs.Cores.Cores.{house, run_core, porter_of, is_porter, has_come, IsReadyMove, IsAnyMove, IsDue, IsFirstDue, IsOver};
+ghost use Rattle.fk_core.specs.Cores.Cores.{house, run_core, porter_of, is_porter, has_come, IsReadyMove, IsAnyMove, IsChoice, IsDue, IsOver};
 ghost use Rattle.fk_core.specs.Cores.Ends.{IsEnded};
 ghost use Rattle.fk_core.specs.Rounds.Kernels.{world_of as world};
 
@@ -129,16 +129,14 @@ impl<S: Service + Drop, W: Worker + Drop> Core<S, W> {
         self.services.len() == 0 && self.kernel.waits().next().is_none()
     }
 
-    /// A move that is ready. There is none exactly where none is ready or the budget is used.
+    /// A legal choice of the next move, for who takes turns by hand: a move that is ready. There is none exactly where none is ready or the budget is used.
     ///
     /// At an even number of moves the job whose turn it is goes first, where it is due and ready. Else the thread that
     /// moved last goes on where it is ready, or else the server that heard of its move answers, but at one move of 64. Then, and where
     /// neither is ready, the look goes round: in every second round of 64 moves one server is looked at first, each in its turn, and then
     /// the thread moves that is first of the ready. It is meant so that nobody who is ready waits for ever behind others; nothing is proved of that.
     pub fn choose(&mut self) -> Option<Move>
-        ensures ready { IfSome result (λ m. (self.old.events < self.old.budget) × IsReadyMove self.old.jobs.jobs (run_core self.old) m) }
-        ensures none { IfNone result (IsOver self.old.jobs.jobs self.old.budget (run_core self.old)) }
-        ensures first { IsFirstDue self.old.jobs self.old.budget (run_core self.old) result }
+        ensures choice { IsChoice self.old.jobs self.old.budget (run_core self.old) result }
         ensures same { (run_core self.new) ≡ (run_core self.old) }
         ensures budget { self.new.budget ≡ self.old.budget }
         ensures jobs { self.new.jobs.jobs ≡ self.old.jobs.jobs }

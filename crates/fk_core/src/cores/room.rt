@@ -9,7 +9,7 @@ ghost use Rattle.fk_plans.specs.Plans.Hearers.{says_to, says_to_who, IsPadded};
 ghost use Rattle.fk_core.specs.Rounds.Rooms.{IsRoom};
 ghost use Rattle.fk_core.specs.Rounds.Tried.{tried_of};
 ghost use Rattle.fk_core.specs.Rounds.Kernels.{path_of, world_of};
-ghost use Rattle.fk_core.specs.Rounds.Events.{is_fit_event, is_who, IsReadyEvent, step_of};
+ghost use Rattle.fk_core.specs.Rounds.Events.{is_fit_event, is_who, may_lack, IsReadyEvent, step_of};
 ghost use Rattle.fk_core.specs.Cores.Rooms.{is_made};
 
 use crate::cores::given::Given;
@@ -124,6 +124,7 @@ impl Room {
     }
 
     /// Makes a porter's call by a kernel where it is ready, as `Kernel::call` does, and answers whether it was; what it tells is in the room then.
+    #[tactic(auto, using(crate::proofs::InCores::Lacking::lacks_tried))]
     pub(crate) fn call(
         &mut self,
         kernel: &mut Kernel,
@@ -145,6 +146,7 @@ impl Room {
             (IsReadyEvent (world_of kernel.old) (event_of (world_of kernel.old) (asks.Call stage.now given.now) m.now) → ⊥)
             × (kernel.new ≡ kernel.old))) }
         ensures lacking { OnErr (tried_of result self.new) (kernel.new ≡ kernel.old) }
+        ensures lacks { OnErr (tried_of result self.new) (may_lack (world_of kernel.old) (event_of (world_of kernel.old) (asks.Call stage.now given.now) m.now) ≡ true) }
     {
         clear(&mut self.told);
         let called = kernel.call(m, stage, given.words(), &mut self.told);

@@ -6,6 +6,7 @@ ghost use Rattle.std.specs.Prelude.{◌≡◌, ◌↔◌, List, [], ◌+◌, ◌
 ghost use Rattle.std.specs.Bool.{OnTrue, OnFalse};
 ghost use Rattle.fk_core.specs.Rounds.Served.{AllFit, shown};
 ghost use Rattle.fk_core.specs.Cores.Cores.{run_core, is_porter, reply_to, IsReadyMove, IsAskedMove, IsCalledMove, IsTurned, IsTried, IsAdvanced, is_timely};
+ghost use Rattle.fk_core.specs.Cores.Memory.{may_lack, may_lack_asked, may_lack_called};
 ghost use Rattle.fk_core.specs.Cores.Cuts.{KeepsCuts, LeavesStrangers};
 ghost use Rattle.fk_core.specs.Cores.Goings.{start_at, IsGoing};
 ghost use Rattle.fk_core.specs.Cores.Leaves.{LeavesTheRest};
@@ -13,6 +14,7 @@ ghost use Rattle.fk_core.specs.Rounds.Kernels.{world_of as world};
 ghost use Rattle.fk_jobs.specs.Jobs.{hears};
 
 use crate::cores::given::Given;
+use crate::cores::lacking::unmade;
 use crate::cores::room::Room;
 use crate::rounds::Rounds;
 use fk_jobs::{Jobs, Worker};
@@ -159,8 +161,8 @@ impl<S: Service + Drop, W: Worker + Drop> Core<S, W> {
         self.events
     }
 
-    /// Makes a move that is ready, and tells the servers, or the jobs. For want of memory all is as before. That a run has come here
-    /// makes it known that what a job asks for is fit.
+    /// Makes a move that is ready, and tells the servers, or the jobs. For want of memory all is as before, and memory lacks only for a move that
+    /// may want it. That a run has come here makes it known that what a job asks for is fit.
     pub fn turn(&mut self, table: &Table, m: &Move) -> Result<(), NoMemory>
         requires ready { IsReadyMove self.old.jobs.jobs (run_core self.old) m.now }
         requires few { self.old.events < self.old.budget }
@@ -168,6 +170,7 @@ impl<S: Service + Drop, W: Worker + Drop> Core<S, W> {
         requires fits { AllFit (map (λ r. r.rule) table.now.list.items) self.old.services.list }
         ensures turned { OnOk result (IsTurned self.old.jobs.jobs (run_core self.old) m.now (run_core self.new)) }
         ensures lacking { OnErr result (run_core self.new ≡ run_core self.old) }
+        ensures lacks { OnErr result (may_lack self.old.jobs.jobs (run_core self.old) m.now ≡ true) }
         ensures lacking_kernel { OnErr result (self.new.kernel ≡ self.old.kernel) }
         ensures fits { AllFit (map (λ r. r.rule) table.now.list.items) self.new.services.list }
         ensures budget { self.new.budget ≡ self.old.budget }
@@ -183,13 +186,13 @@ impl<S: Service + Drop, W: Worker + Drop> Core<S, W> {
     }
 
     /// Makes a move where it is ready, tells the servers, and answers whether it was. Where it wasn't, and for
-    /// want of memory, all is as before.
+    /// want of memory, all is as before. Memory lacks only for a ready move that may want it.
     pub fn go(&mut self, table: &Table, m: &Move) -> Result<bool, NoMemory>
         requires few { self.old.events < self.old.budget }
         requires come { IsGoing self.old }
         requires fits { AllFit (map (λ r. r.rule) table.now.list.items) self.old.services.list }
-        ensures tried { IsTried (IsReadyMove self.old.jobs.jobs (run_core self.old) m.now) self.old.jobs.jobs
-            (run_core self.old) m.now (run_core self.new) result }
+        ensures tried { IsTried (IsReadyMove self.old.jobs.jobs (run_core self.old) m.now)
+            (may_lack self.old.jobs.jobs (run_core self.old) m.now ≡ true) self.old.jobs.jobs (run_core self.old) m.now (run_core self.new) result }
         ensures lacking_kernel { OnErr result (self.new.kernel ≡ self.old.kernel) }
         ensures fits { AllFit (map (λ r. r.rule) table.now.list.items) self.new.services.list }
         ensures budget { self.new.budget ≡ self.old.budget }
@@ -232,8 +235,8 @@ impl<S: Service + Drop, W: Worker + Drop> Core<S, W> {
         requires few { self.old.events < self.old.budget }
         requires come { IsGoing self.old }
         requires fits { AllFit (map (λ r. r.rule) table.now.list.items) self.old.services.list }
-        ensures tried { IsTried (IsReadyMove self.old.jobs.jobs (run_core self.old) m.now) self.old.jobs.jobs
-            (run_core self.old) m.now (run_core self.new) result }
+        ensures tried { IsTried (IsReadyMove self.old.jobs.jobs (run_core self.old) m.now)
+            (may_lack self.old.jobs.jobs (run_core self.old) m.now ≡ true) self.old.jobs.jobs (run_core self.old) m.now (run_core self.new) result }
         ensures lacking_kernel { OnErr result (self.new.kernel ≡ self.old.kernel) }
         ensures fits { AllFit (map (λ r. r.rule) table.now.list.items) self.new.services.list }
         ensures budget { self.new.budget ≡ self.old.budget }
@@ -251,8 +254,8 @@ impl<S: Service + Drop, W: Worker + Drop> Core<S, W> {
         requires other { is_porter self.old.jobs m.now.who ≡ false }
         requires few { self.old.events < self.old.budget }
         requires fits { AllFit (map (λ r. r.rule) table.now.list.items) self.old.services.list }
-        ensures tried { IsTried (IsAskedMove self.old.jobs.jobs (run_core self.old) m.now) self.old.jobs.jobs
-            (run_core self.old) m.now (run_core self.new) result }
+        ensures tried { IsTried (IsAskedMove self.old.jobs.jobs (run_core self.old) m.now)
+            (may_lack_asked (run_core self.old) m.now ≡ true) self.old.jobs.jobs (run_core self.old) m.now (run_core self.new) result }
         ensures lacking_kernel { OnErr result (self.new.kernel ≡ self.old.kernel) }
         ensures fits { AllFit (map (λ r. r.rule) table.now.list.items) self.new.services.list }
         ensures budget { self.new.budget ≡ self.old.budget }
@@ -307,26 +310,30 @@ impl<S: Service + Drop, W: Worker + Drop> Core<S, W> {
         requires other { is_porter self.old.jobs m.now.who ≡ false }
         requires few { self.old.events < self.old.budget }
         requires fits { AllFit (map (λ r. r.rule) table.now.list.items) self.old.services.list }
-        ensures tried { IsTried (IsAskedMove self.old.jobs.jobs (run_core self.old) m.now) self.old.jobs.jobs
-            (run_core self.old) m.now (run_core self.new) result }
+        ensures tried { IsTried (IsAskedMove self.old.jobs.jobs (run_core self.old) m.now)
+            (may_lack_asked (run_core self.old) m.now ≡ true) self.old.jobs.jobs (run_core self.old) m.now (run_core self.new) result }
         ensures lacking_kernel { OnErr result (self.new.kernel ≡ self.old.kernel) }
         ensures fits { AllFit (map (λ r. r.rule) table.now.list.items) self.new.services.list }
         ensures budget { self.new.budget ≡ self.old.budget }
         ensures jobs { self.new.jobs.jobs ≡ self.old.jobs.jobs }
     {
-        self.services.reserve()?;
         let asked = self.ask(m.who);
         let Some(ask) = &asked else {
             return Ok(false);
         };
+        if self.lacks_room(m, ask) {
+            return unmade(self.kernel.ready(m, ask));
+        }
         // What is told takes much room, so it stands there once.
         let made = self.kernel.attempt(m, ask);
         let Ok(tried) = &made else {
-            return Err(NoMemory);
+            return unmade(self.kernel.ready(m, ask));
         };
         let Some(told) = tried else {
             return Ok(false);
         };
+        // Where the move has led is known by this.
+        self.kernel.names();
         self.services.hear(table, told);
         self.events += 1;
         self.last = last_thread(ask, m.who, self.last);
@@ -341,8 +348,8 @@ impl<S: Service + Drop, W: Worker + Drop> Core<S, W> {
         requires few { self.old.events < self.old.budget }
         requires come { IsGoing self.old }
         requires fits { AllFit (map (λ r. r.rule) table.now.list.items) self.old.services.list }
-        ensures tried { IsTried (IsReadyMove self.old.jobs.jobs (run_core self.old) m.now) self.old.jobs.jobs
-            (run_core self.old) m.now (run_core self.new) result }
+        ensures tried { IsTried (IsReadyMove self.old.jobs.jobs (run_core self.old) m.now)
+            (may_lack self.old.jobs.jobs (run_core self.old) m.now ≡ true) self.old.jobs.jobs (run_core self.old) m.now (run_core self.new) result }
         ensures lacking_kernel { OnErr result (self.new.kernel ≡ self.old.kernel) }
         ensures fits { AllFit (map (λ r. r.rule) table.now.list.items) self.new.services.list }
         ensures budget { self.new.budget ≡ self.old.budget }
@@ -363,8 +370,8 @@ impl<S: Service + Drop, W: Worker + Drop> Core<S, W> {
         requires timely { is_timely self.old.jobs self.old.events ≡ true }
         requires come { IsGoing self.old }
         requires fits { AllFit (map (λ r. r.rule) table.now.list.items) self.old.services.list }
-        ensures tried { IsTried (IsReadyMove self.old.jobs.jobs (run_core self.old) m.now) self.old.jobs.jobs
-            (run_core self.old) m.now (run_core self.new) result }
+        ensures tried { IsTried (IsReadyMove self.old.jobs.jobs (run_core self.old) m.now)
+            (may_lack self.old.jobs.jobs (run_core self.old) m.now ≡ true) self.old.jobs.jobs (run_core self.old) m.now (run_core self.new) result }
         ensures lacking_kernel { OnErr result (self.new.kernel ≡ self.old.kernel) }
         ensures fits { AllFit (map (λ r. r.rule) table.now.list.items) self.new.services.list }
         ensures budget { self.new.budget ≡ self.old.budget }
@@ -380,23 +387,28 @@ impl<S: Service + Drop, W: Worker + Drop> Core<S, W> {
         requires few { self.old.events < self.old.budget }
         requires come { IsGoing self.old }
         requires fits { AllFit (map (λ r. r.rule) table.now.list.items) self.old.services.list }
-        ensures tried { IsTried (IsCalledMove self.old.jobs (run_core self.old) m.now) self.old.jobs.jobs
-            (run_core self.old) m.now (run_core self.new) result }
+        ensures tried { IsTried (IsCalledMove self.old.jobs (run_core self.old) m.now)
+            (may_lack_called self.old.jobs (run_core self.old) m.now ≡ true) self.old.jobs.jobs (run_core self.old) m.now (run_core self.new) result }
         ensures lacking_kernel { OnErr result (self.new.kernel ≡ self.old.kernel) }
         ensures fits { AllFit (map (λ r. r.rule) table.now.list.items) self.new.services.list }
         ensures budget { self.new.budget ≡ self.old.budget }
         ensures jobs { self.new.jobs.jobs ≡ self.old.jobs.jobs }
     {
-        self.services.reserve()?;
-        self.jobs.reserve()?;
         let next = self.given.next(&self.jobs);
         let Some(stage) = next else {
             return Ok(false);
         };
-        let made = self.room.call(&mut self.kernel, m, &stage, &self.given)?;
+        if self.lacks_for_call(m, &stage) {
+            return unmade(self.is_call_ready(m, &stage));
+        }
+        let Ok(made) = self.room.call(&mut self.kernel, m, &stage, &self.given) else {
+            return unmade(self.is_call_ready(m, &stage));
+        };
         if !made {
             return Ok(false);
         }
+        // Where the move has led is known by this.
+        self.kernel.names();
         let told = self.room.told();
         self.services.hear(table, told);
         tell_jobs(&mut self.jobs, self.events, &told.said);

@@ -3,8 +3,8 @@ use Rattle.std.proofs.Common.{◌≡◌, ◌<◌, ◌%◌, Bool, true, false, Op
 use Rattle.std.proofs.Common.{IfSome, Result, Ok, Err, IfOk, OnErr, sym, ap, subst, ◌∙◌}
 use Rattle.std.specs.Bool.{OnTrue, OnFalse}
 use Rattle.fk_model.specs.declared.moves.Move.{Move}
-use Rattle.fk_core.specs.Cores.Cores.{IsReadyMove, IsAdvanced, IsOver, IsTried}
-use Rattle.fk_workers.specs.Books.Shown.{Shown, MayMove, HasEnded, Moves, Comes, IsFirstDue, is_porter}
+use Rattle.fk_core.specs.Cores.Cores.{may_lack, IsReadyMove, IsAdvanced, IsLacking, IsOver, IsTried}
+use Rattle.fk_workers.specs.Books.Shown.{Shown, MayMove, MayLack, SomeMayLack, HasEnded, Moves, Comes, IsFirstDue, is_porter}
 
 pub shown_same : (s t : Shown) → t.jobs ≡ s.jobs → t.budget ≡ s.budget → t.core ≡ s.core → t ≡ s
 shown_same s t jobs budget core = ap (λ j. record { jobs = j; budget = t.budget; core = t.core }) jobs
@@ -43,24 +43,33 @@ module _ {E : Type 0} where
   was_first s (Err e) first = tt
 
   pub was_made : (s t : Shown) (m : Move) (r : Result Bool E) → s.core.events < s.budget → t.jobs ≡ s.jobs → t.budget ≡ s.budget
-      → IsTried (IsReadyMove s.jobs s.core m) s.jobs s.core m t.core r → IfOk r (λ made. OnTrue made (Moves s m t))
+      → IsTried (IsReadyMove s.jobs s.core m) (may_lack s.jobs s.core m ≡ true) s.jobs s.core m t.core r → IfOk r (λ made. OnTrue made (Moves s m t))
   was_made s t m (Ok true) few jobs budget tried = record { may = (few, tried.0); turned = tried.1; events = tried.2; jobs = jobs; budget = budget }
   was_made s t m (Ok false) few jobs budget tried = tt
   was_made s t m (Err e) few jobs budget tried = tt
 
-  pub was_unready : (s t : Shown) (m : Move) (r : Result Bool E) → IsTried (IsReadyMove s.jobs s.core m) s.jobs s.core m t.core r
+  pub was_unready : (s t : Shown) (m : Move) (r : Result Bool E) → IsTried (IsReadyMove s.jobs s.core m) (may_lack s.jobs s.core m ≡ true) s.jobs s.core m t.core r
       → IfOk r (λ made. OnFalse made (MayMove s m → ⊥))
   was_unready s t m (Ok true) tried = tt
   was_unready s t m (Ok false) tried = λ may. tried.0 may.1
   was_unready s t m (Err e) tried = tt
 
   pub was_same : (s t : Shown) (m : Move) (r : Result Bool E) → t.jobs ≡ s.jobs → t.budget ≡ s.budget
-      → IsTried (IsReadyMove s.jobs s.core m) s.jobs s.core m t.core r → IfOk r (λ made. OnFalse made (t ≡ s))
+      → IsTried (IsReadyMove s.jobs s.core m) (may_lack s.jobs s.core m ≡ true) s.jobs s.core m t.core r → IfOk r (λ made. OnFalse made (t ≡ s))
   was_same s t m (Ok true) jobs budget tried = tt
   was_same s t m (Ok false) jobs budget tried = shown_same s t jobs budget tried.1
   was_same s t m (Err e) jobs budget tried = tt
 
   pub was_lacking : (s t : Shown) (m : Move) (r : Result Bool E) → t.jobs ≡ s.jobs → t.budget ≡ s.budget
-      → IsTried (IsReadyMove s.jobs s.core m) s.jobs s.core m t.core r → OnErr r (t ≡ s)
+      → IsTried (IsReadyMove s.jobs s.core m) (may_lack s.jobs s.core m ≡ true) s.jobs s.core m t.core r → OnErr r (t ≡ s)
   was_lacking s t m (Ok made) jobs budget tried = tt
-  was_lacking s t m (Err e) jobs budget tried = shown_same s t jobs budget tried
+  was_lacking s t m (Err e) jobs budget tried = shown_same s t jobs budget tried.2
+
+  pub lacked : (s t : Shown) (m : Move) (r : Result Bool E) → s.core.events < s.budget
+      → IsTried (IsReadyMove s.jobs s.core m) (may_lack s.jobs s.core m ≡ true) s.jobs s.core m t.core r → OnErr r (MayLack s m)
+  lacked s t m (Ok made) few tried = tt
+  lacked s t m (Err e) few tried = ((few, tried.0), tried.1)
+
+  pub some_lacked : (s : Shown) (r : Result (Option Move) E) → OnErr r (IsLacking s.jobs s.budget s.core) → OnErr r (SomeMayLack s)
+  some_lacked s (Ok made) lacks = tt
+  some_lacked s (Err e) lacks = (lacks.0, ((lacks.1, lacks.2), lacks.3))

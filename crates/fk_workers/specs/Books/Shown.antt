@@ -8,7 +8,7 @@ use Rattle.fk_burst.specs.Burst.Lease.{Lease}
 use Rattle.laws_house.specs.Houses.{Job}
 use Rattle.laws_runs.specs.Cores.{IsRun}
 use Rattle.fk_core.specs.Cores.Events.{is_who}
-use Rattle.fk_core.specs.Cores.Cores.{RunCore, house, porter_of, IsReadyMove, IsTurned, IsOver}
+use Rattle.fk_core.specs.Cores.Cores.{RunCore, house, may_lack, porter_of, IsReadyMove, IsTurned, IsOver}
 use Rattle.fk_core.specs.Cores.Goings.{IsFirstCore, HasCome}
 
 -- the scenario's jobs, the most moves of a run, and what they have come to
@@ -22,6 +22,14 @@ pub record Shown : Type 0 where
 -- a move is ready, and the budget has one more
 abbrev pub MayMove : Shown → Move → Type 0
 MayMove s m = (s.core.events < s.budget) × IsReadyMove s.jobs s.core m
+
+-- it may be made, and may lack memory: it makes an object or a page, or a server grows by what it tells, or a job by the answer
+abbrev pub MayLack : Shown → Move → Type 0
+MayLack s m = MayMove s m × (may_lack s.jobs s.core m ≡ true)
+
+-- some move may
+abbrev pub SomeMayLack : Shown → Type 0
+SomeMayLack s = (m : Move) × MayLack s m
 
 -- no move is left: none is ready, or the budget is used
 abbrev pub HasEnded : Shown → Type 0

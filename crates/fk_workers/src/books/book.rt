@@ -2,7 +2,7 @@
 ghost use Rattle.std.specs.Prelude.{◌≡◌, ◌+◌, ◌≤◌, ◌<◌, [], length, map, if◌then◌else◌, IfOk, OnOk, OnErr};
 ghost use Rattle.std.specs.Bool.{OnTrue, OnFalse};
 ghost use Rattle.fk_core.specs.Cores.Served.{AllFit};
-ghost use Rattle.fk_workers.specs.Books.Shown.{IsSound, MayMove, MayBurst, moves_of, HasEnded};
+ghost use Rattle.fk_workers.specs.Books.Shown.{IsSound, MayMove, MayLack, SomeMayLack, MayBurst, moves_of, HasEnded};
 ghost use Rattle.fk_workers.specs.Books.Told.{Told, IsKept, IsSame, IsOneMore, HasMore, HasOneMore, TakesDue, BeginsDue, MakesLease, GoesOn};
 
 use crate::books::playable::{Lent, Playable, WORKERS};
@@ -126,7 +126,7 @@ impl<C: Playable + Drop> Book<C> {
     ///
     /// # Errors
     ///
-    /// There is no memory for what the move makes.
+    /// There is no memory for what the move makes, or for what is told of it. So it is only where a move may be made that may want some.
     #[tactic(auto, using(crate::proofs::InBooks::Runs::come, crate::proofs::InBooks::Runs::fits_now, crate::proofs::InBooks::Runs::has_room, crate::proofs::InBooks::Runs::more_run, crate::proofs::InBooks::Runs::same_run, crate::proofs::InBooks::Runs::goes_not, crate::proofs::InBooks::Runs::goes_once))]
     pub fn one(&mut self, table: &Table) -> Result<bool, NoMemory>
         requires fits { AllFit (map (λ r. r.rule) table.now.list.items) (C.shown self.old.boot).core.servers }
@@ -137,6 +137,7 @@ impl<C: Playable + Drop> Book<C> {
         ensures ended { IfOk result (λ more. OnFalse more (HasEnded (C.shown self.new.core))) }
         ensures same { IfOk result (λ more. OnFalse more (IsSame C.shown self.old self.new)) }
         ensures lacking { OnErr result (IsSame C.shown self.old self.new) }
+        ensures lacks { OnErr result (SomeMayLack (C.shown self.old.core)) }
     {
         match self.core.make_any(table)? {
             Some(m) => {
@@ -152,7 +153,7 @@ impl<C: Playable + Drop> Book<C> {
     ///
     /// # Errors
     ///
-    /// There is no memory for what the move makes.
+    /// There is no memory for what the move makes, or for what is told of it. So it is only where a move may be made that may want some.
     #[tactic(auto, using(crate::proofs::InBooks::Runs::come, crate::proofs::InBooks::Runs::fits_now, crate::proofs::InBooks::Runs::has_room, crate::proofs::InBooks::Runs::more_run, crate::proofs::InBooks::Runs::same_run, crate::proofs::InBooks::Runs::goes_not, crate::proofs::InBooks::Runs::goes_once))]
     pub fn play(&mut self, table: &Table, m: &Move) -> Result<bool, NoMemory>
         requires fits { AllFit (map (λ r. r.rule) table.now.list.items) (C.shown self.old.boot).core.servers }
@@ -161,6 +162,7 @@ impl<C: Playable + Drop> Book<C> {
         ensures unready { IfOk result (λ made. OnFalse made (MayMove (C.shown self.old.core) m.now → ⊥)) }
         ensures same { IfOk result (λ made. OnFalse made (IsSame C.shown self.old self.new)) }
         ensures lacking { OnErr result (IsSame C.shown self.old self.new) }
+        ensures lacks { OnErr result (MayLack (C.shown self.old.core) m.now) }
     {
         if self.core.make(table, m)? {
             self.history.push(*m);
@@ -243,7 +245,7 @@ impl<C: Playable + Drop> Book<C> {
     ///
     /// # Errors
     ///
-    /// There is no memory for what the move makes.
+    /// There is no memory for what the move makes, or for what is told of it. So it is only where a move may be made that may want some.
     #[tactic(auto, using(crate::proofs::InBooks::Runs::goes_further, crate::proofs::InBooks::Runs::one_longer, crate::proofs::InBooks::Runs::as_long, crate::proofs::InBooks::Runs::lease_longer))]
     pub fn go_burst(&mut self, table: &Table, lease: &Leased) -> Result<Gone, NoMemory>
         requires fits { AllFit (map (λ r. r.rule) table.now.list.items) (C.shown self.old.boot).core.servers }

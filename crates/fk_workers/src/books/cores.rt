@@ -20,12 +20,12 @@ impl<S: Service + Drop, W: Worker + Drop> Playable for Core<S, W> {
         self.budget()
     }
 
-    #[tactic(auto, using(crate::proofs::InBooks::Coming::has_come_to, crate::proofs::InBooks::Coming::has_ended, crate::proofs::InBooks::Coming::stays, crate::proofs::InBooks::Coming::was_first))]
+    #[tactic(auto, using(crate::proofs::InBooks::Coming::has_come_to, crate::proofs::InBooks::Coming::has_ended, crate::proofs::InBooks::Coming::stays, crate::proofs::InBooks::Coming::was_first, crate::proofs::InBooks::Coming::some_lacked))]
     fn make_any(&mut self, table: &Table) -> Result<Option<Move>, NoMemory> {
         self.advance(table)
     }
 
-    #[tactic(auto, using(crate::proofs::InBooks::Coming::was_made, crate::proofs::InBooks::Coming::was_unready, crate::proofs::InBooks::Coming::was_same, crate::proofs::InBooks::Coming::was_lacking))]
+    #[tactic(auto, using(crate::proofs::InBooks::Coming::was_made, crate::proofs::InBooks::Coming::was_unready, crate::proofs::InBooks::Coming::was_same, crate::proofs::InBooks::Coming::was_lacking, crate::proofs::InBooks::Coming::lacked))]
     fn make(&mut self, table: &Table, m: &Move) -> Result<bool, NoMemory> {
         if self.is_below_budget() {
             self.go(table, m)

@@ -2,7 +2,7 @@
 ghost use Rattle.std.specs.Prelude.{◌≡◌, ◌≤◌, map, IfOk, OnErr, IfNone};
 ghost use Rattle.std.specs.Bool.{OnTrue, OnFalse};
 ghost use Rattle.fk_core.specs.Cores.Served.{AllFit};
-ghost use Rattle.fk_workers.specs.Books.Shown.{Shown, MayMove, MayBurst, HasEnded, Moves, MovesSo, moves_of, Comes, IsFirstDue, HasComeTo};
+ghost use Rattle.fk_workers.specs.Books.Shown.{Shown, MayMove, MayLack, SomeMayLack, MayBurst, HasEnded, Moves, MovesSo, moves_of, Comes, IsFirstDue, HasComeTo};
 
 use fk_burst::Leased;
 use fk_model::{Move, NoMemory, Who};
@@ -31,24 +31,26 @@ pub trait Playable {
         ensures { result ≡ (shown self.now).budget };
 
     /// Makes a move that is ready, and gives it: at an even number of moves a due job's where one is ready. There is none exactly where none
-    /// is ready or the budget is used. Then, and for want of memory, all is as before.
+    /// is ready or the budget is used. Then, and for want of memory, all is as before. Memory lacks only where a move may be made that may want it.
     fn make_any(&mut self, table: &Table) -> Result<Option<Move>, NoMemory>
         requires come { HasComeTo (shown self.old) }
         requires fits { AllFit (map (λ r. r.rule) table.now.list.items) (shown self.old).core.servers }
         ensures comes { IfOk result (λ made. Comes (shown self.old) made (shown self.new)) }
         ensures none { IfOk result (λ made. IfNone made (HasEnded (shown self.new))) }
         ensures first { IfOk result (λ made. IsFirstDue (shown self.old) made) }
-        ensures lacking { OnErr result (shown self.new ≡ shown self.old) };
+        ensures lacking { OnErr result (shown self.new ≡ shown self.old) }
+        ensures lacks { OnErr result (SomeMayLack (shown self.old)) };
 
     /// Makes this move where it is ready and the budget has one more, and answers whether it was made. Where it wasn't, and for want of
-    /// memory, all is as before.
+    /// memory, all is as before. Memory lacks only where the move may be made and may want it.
     fn make(&mut self, table: &Table, m: &Move) -> Result<bool, NoMemory>
         requires come { HasComeTo (shown self.old) }
         requires fits { AllFit (map (λ r. r.rule) table.now.list.items) (shown self.old).core.servers }
         ensures made { IfOk result (λ made. OnTrue made (Moves (shown self.old) m.now (shown self.new))) }
         ensures unready { IfOk result (λ made. OnFalse made (MayMove (shown self.old) m.now → ⊥)) }
         ensures same { IfOk result (λ made. OnFalse made (shown self.new ≡ shown self.old)) }
-        ensures lacking { OnErr result (shown self.new ≡ shown self.old) };
+        ensures lacking { OnErr result (shown self.new ≡ shown self.old) }
+        ensures lacks { OnErr result (MayLack (shown self.old) m.now) };
 
     /// Renews a lease, with a thread that is ready in running mode and not among these, and says whether it did: with the one that moved
     /// last, or with another; not while a job is left. Which one it is, and whether there is one, is a hint: a lease of any thread may

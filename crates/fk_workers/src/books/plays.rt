@@ -1,11 +1,11 @@
 //! Books of traces: each move is made as its line is read.
-ghost use Rattle.std.specs.Prelude.{◌≡◌, List, map, IfOk, IfErr, IfSome, IfNone};
+ghost use Rattle.std.specs.Prelude.{◌≡◌, List, map, IfOk, IfErr, IfSome, IfNone, OnErr};
 ghost use Rattle.fk_model.specs.declared.moves.Move as moves_of;
 ghost use Rattle.fk_core.specs.Cores.Served.{AllFit};
 ghost use Rattle.fk_trace_text.specs.Trace.{BeginsWith, BeginsWithNone, Spells};
 ghost use Rattle.fk_workers.specs.Books.Shown.{IsSound, MayMove};
 ghost use Rattle.fk_workers.specs.Books.Told.{IsKept, IsOneMore};
-ghost use Rattle.fk_workers.specs.Books.Plays.{MayPlay, IsCause, GivesMoves};
+ghost use Rattle.fk_workers.specs.Books.Plays.{MayPlay, NextMayLack, IsCause, GivesMoves};
 ghost use Rattle.fk_workers.specs.declared.books.plays.PlayFail.TheVariants as fails;
 
 use crate::books::book::Book;
@@ -46,6 +46,7 @@ fn play_next<'a, C: Playable + Drop>(
     ensures kept { IsKept C.shown book.old × IsKept C.shown book.new }
     ensures made { IfOk result (λ made. IfSome made (λ rest. (m : moves_of.Move) × BeginsWith text.now m rest.now × IsOneMore C.shown book.old m book.new)) }
     ensures none { IfOk result (λ made. IfNone made (BeginsWithNone (MayMove (C.shown book.old.core)) text.now)) }
+    ensures lacks { OnErr result (NextMayLack (C.shown book.old.core) text.now) }
 {
     book.keeps();
     let Some((m, rest)) = first_move(text) else {

@@ -22,5 +22,5 @@ returns-clause-come g c =
     let come = come_plain self.kernel then.kernel self.services.list then.services.list self.jobs then.jobs self.events then.events self.budget then.budget
     (OnFalse_at nay c.go_plain.ensures.kernel) c.go_plain.ensures.services (OnFalse_at nay c.go_plain.ensures.queue) (OnFalse_at nay c.go_plain.ensures.events)
     c.go_plain.ensures.budget c.requires.come in
-    tried_goes c.go_told.result then.jobs.jobs _ then.budget _ (run_core then) c.args.m.now (run_core c.go_told.new.self) c.go_told.ensures.jobs
+    tried_goes c.go_told.result _ then.jobs.jobs _ then.budget _ (run_core then) c.args.m.now (run_core c.go_told.new.self) c.go_told.ensures.jobs
     c.go_told.ensures.budget come c.go_told.ensures.tried

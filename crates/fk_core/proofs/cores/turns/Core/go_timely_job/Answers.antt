@@ -1,5 +1,6 @@
 use Rattle.fk_core.specs.Rounds.Kernels.{world_of as world}
 use Rattle.fk_core.proofs.InRounds.Asking.{called_ready, ready_called}
+use Rattle.fk_core.proofs.InCores.Lacking.{lacks_called}
 use Rattle.fk_core.proofs.InCores.Timely.{timely_due}
 use Rattle.fk_core.proofs.InCores.Trying.{tried_as}
 use Rattle.fk_core.proofs.cores.turns.Core.go_timely_job.Goals as goal
@@ -10,4 +11,5 @@ returns-clause-tried g c =
     tried_as c.go_call.result _ _ _ _ _ _
     (called_ready self.jobs (world self.kernel) self.services.list self.events c.args.m.now c.requires.job
     (timely_due self.jobs (world self.kernel) self.services.list self.events c.requires.timely))
-    (ready_called self.jobs (world self.kernel) self.services.list self.events c.args.m.now c.requires.job) c.go_call.ensures.tried
+    (ready_called self.jobs (world self.kernel) self.services.list self.events c.args.m.now c.requires.job)
+    (lacks_called self.jobs (world self.kernel) self.services.list self.events c.args.m.now c.requires.job) c.go_call.ensures.tried
