@@ -58,7 +58,7 @@ impl Deeds {
 
     /// Counts a move of a mover, and answers how many it has made before.
     fn turn(&mut self, mover: usize) -> Result<u64, NoMemory> {
-        while self.turns.len() <= mover {
+        for _ in self.turns.len()..mover.saturating_add(1) {
             self.turns.push(0)?;
         }
         let Some(turns) = self.turns.get_mut(mover) else {
