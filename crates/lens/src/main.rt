@@ -38,6 +38,13 @@ fn ended<R: Eprint>(rt: &R, problem: Problem, line: &str) -> u8 {
     problem.status()
 }
 
+/// Says on standard error what is said besides of what was shown.
+fn say_beside<R: Eprint>(rt: &R, lines: &str) {
+    for line in lines.lines() {
+        let _ = eprintln!(rt; "lens: {line}");
+    }
+}
+
 /// Writes what the words of the command line ask to be shown, or why it isn't, and answers the exit status.
 fn show(rt: &HostRuntime, words: &[String]) -> u8 {
     let mut source = StdSource::new(rt.stdin());
@@ -47,7 +54,10 @@ fn show(rt: &HostRuntime, words: &[String]) -> u8 {
         return ended(rt, problem, shown.line());
     }
     match write_all(&mut StdSink::new(rt.stdout()), shown.text.as_bytes()) {
-        Ok(()) => 0,
+        Ok(()) => {
+            say_beside(rt, shown.beside.as_str());
+            0
+        }
         Err(Failed) => ended(rt, Problem::Outside, "standard output can't be written"),
     }
 }

@@ -1,4 +1,5 @@
 //! What the words of the command line ask for.
+use crate::hunted::hunt_asked;
 use crate::sheet::{Sheet, line_at, text_at};
 use fk_model::{is_name, plain_number_up_to};
 
@@ -27,6 +28,10 @@ pub enum Verb {
     Sums,
     /// A scenario without the names that it uses.
     Plain,
+    /// The ends of runs by schedules that are drawn at random.
+    Hunt,
+    /// The first move in which two traces differ in what they do.
+    Apart,
 }
 
 /// What the words of the command line ask for: the verb, its names and its moves.
@@ -37,20 +42,21 @@ pub struct Asked<'a> {
     pub name: &'a str,
     /// The other image.
     pub other: &'a str,
-    /// The first move that is shown.
+    /// The first move that is shown; of a hunt the number of its first schedule.
     pub first: u64,
-    /// Before which move a run is to stop; the last number where it is to go on to the end.
+    /// Before which move a run is to stop; the last number where it is to go on to the end. Of a hunt how many schedules it has.
     pub end: u64,
 }
 
 /// What there is, where a word is wrong.
-const VERBS: &str = "one of tree, steps, why, sums, image, words, page, plain, --help, --version";
+const VERBS: &str =
+    "one of tree, steps, why, sums, image, words, page, plain, hunt, diff, --help, --version";
 
 /// The most moves that a scenario's budget allows.
 const MOST: u64 = 1_000_000;
 
 /// The words of the verbs.
-const WORDS: [&str; 10] = [
+const WORDS: [&str; 12] = [
     "tree",
     "steps",
     "why",
@@ -61,6 +67,8 @@ const WORDS: [&str; 10] = [
     "--version",
     "sums",
     "plain",
+    "hunt",
+    "diff",
 ];
 
 /// What is expected behind each.
@@ -73,7 +81,9 @@ a name
 no word
 no word
 a name
-no word";
+no word
+a number of schedules, perhaps the seed of the first, and perhaps --until quiet, --until fault or --until TEXT
+two names";
 
 /// What is expected of a word behind a verb: a number of moves, or a name.
 const EXPECTED: &str = "a number of moves, 0 to 1000000
@@ -101,7 +111,7 @@ fn end_of(words: &[String]) -> u64 {
 /// there the line says so.
 fn asked_of<'a>(line: &Sheet, verb: Verb, words: &'a [String]) -> Option<Asked<'a>> {
     let names = match verb {
-        Verb::Differences => 2,
+        Verb::Differences | Verb::Apart => 2,
         _ => 1,
     };
     for (place, word) in words.iter().enumerate() {
@@ -161,6 +171,8 @@ pub fn asked_in<'a>(line: &Sheet, words: &'a [String]) -> Option<Asked<'a>> {
         (7, 0) => Verb::Version,
         (8, 1) => Verb::Sums,
         (9, 0) => Verb::Plain,
+        (10, 1..=4) => return hunt_asked(line, rest),
+        (11, 2) => Verb::Apart,
         _ => {
             line.put_around(b"after ", word.as_str(), b": expected ");
             line.add(line_at(BEHIND, place as u64));

@@ -14,6 +14,7 @@ mod asked;
 mod calls;
 mod faults;
 mod files;
+mod hunted;
 mod images;
 mod instructions;
 mod plain;

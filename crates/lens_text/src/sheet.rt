@@ -40,6 +40,8 @@ pub struct Sheet {
     text: Cell<String>,
     /// Why what was asked for can't be shown, where it can't; the text is the line that says so then.
     problem: Cell<Option<Problem>>,
+    /// What is said besides of what is shown, on standard error.
+    beside: Cell<String>,
 }
 
 impl Sheet {
@@ -49,6 +51,7 @@ impl Sheet {
             alloc,
             text: Cell::new(String::new(alloc)),
             problem: Cell::new(None),
+            beside: Cell::new(String::new(alloc)),
         }
     }
 
@@ -64,6 +67,11 @@ impl Sheet {
     pub fn clear(&self) {
         self.text.set(String::new(self.alloc));
         self.problem.set(None);
+    }
+
+    /// Keeps what is said besides of what is shown.
+    pub fn say_beside(&self, lines: String) {
+        self.beside.set(lines);
     }
 
     /// Notes that there was no memory for something.
@@ -196,6 +204,7 @@ impl Sheet {
         Shown {
             problem: self.problem.get(),
             text: self.text.into_inner(),
+            beside: self.beside.into_inner(),
         }
     }
 }

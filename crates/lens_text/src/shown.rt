@@ -8,6 +8,8 @@ pub struct Shown {
     pub problem: Option<Problem>,
     /// What was asked for, or the line.
     pub text: String,
+    /// What is said besides of what is shown, on standard error.
+    pub beside: String,
 }
 
 impl Shown {

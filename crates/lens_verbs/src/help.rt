@@ -17,6 +17,10 @@ pub const HELP: &[u8] = b"lens: shows what a program, a scenario, a trace and an
     lens words < PROGRAM              the program's text, each word as a line that assembles to it
     lens page NAME < SCENARIO         the run of NAME.trc as one HTML page
     lens plain < SCENARIO             the scenario without the names that its programs use, as fluke takes it
+    lens hunt N < SCENARIO            runs N schedules drawn at random: the trace to the rarest end; all ends on standard error
+    lens hunt N SEED < SCENARIO       the same from the schedule SEED on, 1 where none is given; N 1 makes that one again
+    lens hunt N --until W < SCENARIO  the trace of the first schedule that ends quiet, by a fault, or with the text W in its line
+    lens diff NAME OTHER < SCENARIO   the first move in which two traces differ, but for their order, and what came before it
     lens --help                       this text
     lens --version                    the program's version
 

@@ -29,26 +29,31 @@ pub struct Show<'a> {
 }
 
 /// What stands there, beside the programs.
-fn scene_of<'a>(programs: &'a Programs, seen: Seen<'a>) -> Scene<'a> {
+pub fn scene_of<'a>(programs: &'a Programs, seen: Seen<'a>) -> Scene<'a> {
     Scene {
         store: seen.store,
         programs,
     }
 }
 
-impl Show<'_> {
-    /// Notes with which programs the spaces of these entries begin. The root's birth number is 0, those of the others follow from 1 on.
-    pub fn note_spaces(&mut self, entries: &[SpaceEntry]) {
-        let mut birth = 0u32;
-        for entry in entries {
-            if entry.path.len() > 0 {
-                birth = birth.saturating_add(1);
-            }
-            let space = if entry.path.len() > 0 { birth } else { 0 };
-            if let Some(program) = entry.program {
-                self.programs.stands_in(self.sheet, space, program as usize);
-            }
+/// Notes with which programs the spaces of these entries begin. The root's birth number is 0, those of the others follow from 1 on.
+pub fn note_spaces(sheet: &Sheet, programs: &mut Programs, entries: &[SpaceEntry]) {
+    let mut birth = 0u32;
+    for entry in entries {
+        if entry.path.len() > 0 {
+            birth = birth.saturating_add(1);
         }
+        let space = if entry.path.len() > 0 { birth } else { 0 };
+        if let Some(program) = entry.program {
+            programs.stands_in(sheet, space, program as usize);
+        }
+    }
+}
+
+impl Show<'_> {
+    /// Notes with which programs the spaces of these entries begin.
+    pub fn note_spaces(&mut self, entries: &[SpaceEntry]) {
+        note_spaces(self.sheet, &mut self.programs, entries);
     }
 }
 

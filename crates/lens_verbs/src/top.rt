@@ -1,5 +1,7 @@
 //! The top call: the words of the command line, over the source and the shelf.
+use crate::apart::show_apart;
 use crate::help::{HELP, VERSION};
+use crate::hunt::show_hunt;
 use crate::images::{show_differences, show_image};
 use crate::plain::show_plain;
 use crate::runs::show_run;
@@ -22,6 +24,8 @@ fn show<R: Source, H: Shelf>(sheet: &Sheet, words: &[String], source: &mut R, sh
                 match asked.verb {
                     Verb::Words => push_words(sheet, &text),
                     Verb::Plain => show_plain(sheet, &text),
+                    Verb::Hunt => show_hunt(sheet, &asked, &text, shelf),
+                    Verb::Apart => show_apart(sheet, &asked, &text, shelf),
                     _ => show_run(sheet, &asked, &text, shelf),
                 }
             }

@@ -1,0 +1,88 @@
+//! What the words of a hunt ask for.
+use crate::asked::{Asked, Verb};
+use crate::sheet::{Sheet, text_at};
+use fk_model::plain_number_up_to;
+
+/// The most schedules of a hunt.
+const MOST: u64 = 1_000_000;
+
+/// The last number of a schedule that may be the first.
+const LAST: u64 = 4_294_967_295;
+
+/// The number of the first schedule, where none is given.
+const FIRST: u64 = 1;
+
+/// The word before what is sought.
+const UNTIL: &str = "--until";
+
+/// Whether a word may be sought in a line.
+fn is_line(word: &str) -> bool {
+    !word.is_empty()
+        && word
+            .as_bytes()
+            .iter()
+            .all(|byte| *byte >= 32 && *byte != 127)
+}
+
+/// The number in a word, from a least to a most; where it is none, the line says so.
+fn number_in(line: &Sheet, word: &String, least: u64, most: u64, expected: &str) -> Option<u64> {
+    match plain_number_up_to(most, word.as_bytes()) {
+        Some(number) if number >= least => Some(number),
+        _ => {
+            line.put_wrong(word, expected);
+            None
+        }
+    }
+}
+
+/// The numbers before the word that is sought: how many schedules, and the number of the first.
+fn numbers_of(line: &Sheet, words: &[String]) -> Option<(u64, u64)> {
+    let count = number_in(
+        line,
+        words.first()?,
+        1,
+        MOST,
+        "a number of schedules, 1 to 1000000",
+    )?;
+    let first = match words.get(1) {
+        Some(word) => {
+            let expected = "the seed of the first schedule, 0 to 4294967295, or --until";
+            number_in(line, word, 0, LAST, expected)?
+        }
+        None => FIRST,
+    };
+    Some((count, first))
+}
+
+/// The word that is sought: behind `--until`, at this place of the words; none where there are no more words.
+fn sought_in<'a>(line: &Sheet, words: &'a [String], place: usize) -> Option<&'a str> {
+    let Some(word) = words.get(place) else {
+        return Some("");
+    };
+    if word.as_str() != UNTIL {
+        line.put_wrong(word, "--until");
+        return None;
+    }
+    let sought = text_at(words, place.saturating_add(1));
+    if !is_line(sought) {
+        line.put_wrong(word, "quiet, fault or a text of one line behind it");
+        return None;
+    }
+    Some(sought)
+}
+
+/// What the words behind `hunt` ask for: the name is what is sought, an empty one where nothing is. Of the first that isn't what is wanted there
+/// the line says so.
+pub fn hunt_asked<'a>(line: &Sheet, words: &'a [String]) -> Option<Asked<'a>> {
+    let has_first = words.len() == 2 || words.len() == 4;
+    let place = if has_first { 2 } else { 1 };
+    let (count, first) = numbers_of(line, words.get(..place)?)?;
+    let name = sought_in(line, words, place)?;
+    Some(Asked {
+        verb: Verb::Hunt,
+        name,
+        other: "",
+        first,
+        end: count,
+    })
+}

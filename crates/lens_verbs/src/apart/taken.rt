@@ -1,0 +1,162 @@
+//! What each move of a trace does.
+use crate::shows::scene_of;
+use crate::steps::Steps;
+use fk_first::{Ready, Seen, Stop, Watcher};
+use fk_model::{Mode, Move, NoMemory};
+use lens_text::{Programs, Sheet};
+use std::collections::BTreeMap;
+
+/// The movers of two traces by their paths, each with a number.
+pub type Movers = BTreeMap<String, usize>;
+
+/// A move that a trace makes.
+#[derive(Clone, Copy)]
+pub struct Deed {
+    /// The number of its mover.
+    pub mover: usize,
+    /// How many moves the mover has made before.
+    pub turn: u64,
+    /// Where what it does stands in the text, and where that ends.
+    start: usize,
+    end: usize,
+    /// It may do something to others: it is a store, or no instruction.
+    pub reaches: bool,
+}
+
+/// What the moves of a trace do, in their order.
+#[derive(Drop)]
+pub struct Deeds {
+    pub list: Vec<Deed>,
+    /// Behind the path of each mover what it does.
+    text: String,
+    /// How many moves each mover has made.
+    turns: Vec<u64>,
+}
+
+impl Deeds {
+    /// None yet.
+    fn new(sheet: &Sheet) -> Deeds {
+        Deeds {
+            list: Vec::new(sheet.alloc),
+            text: String::new(sheet.alloc),
+            turns: Vec::new(sheet.alloc),
+        }
+    }
+
+    /// What one does.
+    pub fn text_of(&self, deed: Deed) -> &str {
+        self.text.as_str().get(deed.start..deed.end).unwrap_or("")
+    }
+
+    /// How many moves a mover has made.
+    pub fn turns_of(&self, mover: usize) -> u64 {
+        match self.turns.get(mover) {
+            Some(turns) => *turns,
+            None => 0,
+        }
+    }
+
+    /// Counts a move of a mover, and answers how many it has made before.
+    fn turn(&mut self, mover: usize) -> Result<u64, NoMemory> {
+        for _ in self.turns.len()..mover.saturating_add(1) {
+            self.turns.push(0)?;
+        }
+        let Some(turns) = self.turns.get_mut(mover) else {
+            return Ok(0);
+        };
+        let turn = *turns;
+        *turns = turn.saturating_add(1);
+        Ok(turn)
+    }
+
+    /// Adds what a mover does.
+    fn add(&mut self, mover: usize, does: &str, reaches: bool) -> Result<(), NoMemory> {
+        let turn = self.turn(mover)?;
+        let start = self.text.len();
+        self.text.push_str(does)?;
+        self.list.push(Deed {
+            mover,
+            turn,
+            start,
+            end: self.text.len(),
+            reaches,
+        })?;
+        Ok(())
+    }
+}
+
+/// Keeps what the moves of a run do.
+#[derive(Drop)]
+pub struct Taker<'a> {
+    sheet: &'a Sheet,
+    movers: &'a mut Movers,
+    programs: Programs,
+    steps: Steps,
+    is_call: bool,
+    pub deeds: Deeds,
+}
+
+impl<'a> Taker<'a> {
+    /// It has seen no move yet of a scenario with these programs.
+    pub fn new(sheet: &'a Sheet, movers: &'a mut Movers, programs: Programs) -> Taker<'a> {
+        Taker {
+            sheet,
+            movers,
+            programs,
+            steps: Steps::new(&Sheet::new(sheet.alloc), 0),
+            is_call: false,
+            deeds: Deeds::new(sheet),
+        }
+    }
+
+    /// The number of the mover with this path.
+    fn mover(&mut self, path: &str) -> Result<usize, NoMemory> {
+        let path = String::from_str(self.sheet.alloc, path)?;
+        if let Some(number) = self.movers.get(&path) {
+            return Ok(*number);
+        }
+        let number = self.movers.len();
+        self.movers.insert(path, number)?;
+        Ok(number)
+    }
+}
+
+/// What stands behind so many tabs.
+fn behind_tabs(line: &str, count: u32) -> &str {
+    let mut later = line;
+    for _ in 0..count {
+        let Some((_, behind)) = later.split_once('\t') else {
+            break;
+        };
+        later = behind;
+    }
+    later
+}
+
+impl Watcher for Taker<'_> {
+    fn before(&mut self, seen: Seen<'_>, one: &Move) -> Result<(), NoMemory> {
+        self.is_call = match seen.store.thread(one.who) {
+            Some(thread) => !matches!(thread.mode, Mode::Running),
+            None => true,
+        };
+        let scene = scene_of(&self.programs, seen);
+        self.steps.before(self.sheet, seen, scene, one);
+        Ok(())
+    }
+
+    fn after(&mut self, seen: Seen<'_>, one: &Move) -> Result<(), NoMemory> {
+        let sheet = Sheet::new(self.sheet.alloc);
+        self.steps.after(&sheet, seen, one);
+        let line = self.sheet.taken(sheet);
+        let Some((path, does)) = behind_tabs(line.as_str(), 2).split_once('\t') else {
+            return Ok(());
+        };
+        let mover = self.mover(path)?;
+        let reaches = self.is_call || does.starts_with("store");
+        self.deeds.add(mover, does, reaches)
+    }
+
+    fn stops(&mut self, _seen: Seen<'_>, _ready: &Ready, _stop: Stop) -> Result<(), NoMemory> {
+        Ok(())
+    }
+}

@@ -1,0 +1,248 @@
+//! Who moves next, drawn at random.
+use crate::hunt::drawing::{Entrant, Run, move_of, timely_porter};
+use crate::hunt::random::{Random, mixed};
+use fk_model::{Mode, Move, NoMemory, Peer, Stage, Who};
+use lens_text::{handled, next_stage};
+use std::alloc::Global;
+
+/// So many threads are looked at, those that have waited longest for their turn.
+const WIDTH: usize = 8;
+
+/// After so many moves who may move is looked at anew, whatever has happened.
+const ROUND: u64 = 16;
+
+/// So many native servers are known at most that may have an act.
+const SERVERS: usize = 16;
+
+/// How one of those that may move is chosen.
+#[derive(Clone, Copy)]
+enum Way {
+    /// Each as likely as another.
+    Evenly,
+    /// The one of the highest priority. All priorities are drawn anew at one move of so many.
+    ByPriority { change: u64 },
+}
+
+/// Draws the moves of one schedule.
+#[derive(Drop)]
+pub struct Lottery {
+    random: Random,
+    way: Way,
+    /// What priorities are made of, until they change.
+    priorities: u64,
+    /// Who may move, as far as it was looked at.
+    entrants: Vec<Entrant>,
+    /// It has to be looked at anew.
+    is_old: bool,
+    /// The places of native servers that may have an act.
+    servers: Vec<usize>,
+    /// Who was drawn last.
+    drawn: Option<Entrant>,
+    /// Who was drawn makes an instruction.
+    is_instruction: bool,
+    /// Before so many moves the job whose turn it is isn't drawn, since it wasn't ready.
+    pause: u64,
+}
+
+/// The way of a schedule.
+fn way_of(random: &mut Random) -> Way {
+    match random.below(8) {
+        0..=3 => Way::Evenly,
+        4 => Way::ByPriority { change: 4 },
+        5 => Way::ByPriority { change: 12 },
+        6 => Way::ByPriority { change: 40 },
+        _ => Way::ByPriority { change: 1000 },
+    }
+}
+
+/// What stands for one in its priority.
+fn mark_of(entrant: Entrant) -> u64 {
+    match entrant {
+        Entrant::Thread(who) => u64::from(who.space) * 256 + u64::from(who.slot),
+        Entrant::Server(place) => (1 << 48) ^ place as u64,
+        Entrant::Job(_) => 1 << 49,
+    }
+}
+
+/// Whether a thread is at an instruction.
+fn runs(core: &Run, who: Who) -> bool {
+    match core.kernel().store().thread(who) {
+        Some(thread) => matches!(thread.mode, Mode::Running),
+        None => false,
+    }
+}
+
+/// The port of the native server that a mover is, or that a thread speaks to or comes to.
+fn port_of(core: &Run, who: Who) -> Option<Who> {
+    let store = core.kernel().store();
+    let Some(thread) = store.thread(who) else {
+        return Some(who);
+    };
+    let Mode::Calling = thread.mode else {
+        return None;
+    };
+    let Some(talk) = &thread.talk else {
+        return match next_stage(store, who)? {
+            Stage::Connect { h } => handled(store, who.space, h),
+            _ => None,
+        };
+    };
+    match talk.peer {
+        Peer::Service => Some(talk.port),
+        _ => None,
+    }
+}
+
+/// The place of the native server of a port.
+fn place_of(core: &Run, port: Who) -> Option<usize> {
+    for (place, (one, _)) in core.services().iter().enumerate() {
+        if *one == port {
+            return Some(place);
+        }
+    }
+    None
+}
+
+impl Lottery {
+    /// That of the schedule with a number.
+    pub fn new(alloc: Global, number: u64) -> Lottery {
+        let mut random = Random::new(number);
+        let way = way_of(&mut random);
+        let priorities = random.number();
+        Lottery {
+            random,
+            way,
+            priorities,
+            entrants: Vec::new(alloc),
+            is_old: true,
+            servers: Vec::new(alloc),
+            drawn: None,
+            is_instruction: false,
+            pause: 0,
+        }
+    }
+
+    /// Looks at the threads that may be ready.
+    fn look_at_threads(&mut self, core: &Run) -> Result<(), NoMemory> {
+        let mut at = core.next_thread(None);
+        for _ in 0..WIDTH {
+            let Some(who) = at else {
+                break;
+            };
+            self.entrants.push(Entrant::Thread(who))?;
+            at = core.next_thread(at);
+        }
+        // Who moved last stands last, and may go on all the same.
+        if let (Some(_), Some(last)) = (at, core.last_thread()) {
+            if core.kernel().waits().is_last(last) {
+                self.entrants.push(Entrant::Thread(last))?;
+            }
+        }
+        Ok(())
+    }
+
+    /// Looks at who may move: threads, native servers that were spoken to, and the job whose turn it is.
+    fn look(&mut self, core: &Run) -> Result<(), NoMemory> {
+        self.entrants.clear();
+        self.look_at_threads(core)?;
+        for place in &self.servers {
+            self.entrants.push(Entrant::Server(*place))?;
+        }
+        if core.events() >= self.pause {
+            if let Some(porter) = timely_porter(core) {
+                self.entrants.push(Entrant::Job(porter))?;
+            }
+        }
+        self.is_old = false;
+        Ok(())
+    }
+
+    /// The one of the highest priority.
+    fn highest(&self) -> Option<Entrant> {
+        let mut best = None;
+        let mut most = 0;
+        for entrant in &self.entrants {
+            let priority = mixed(self.priorities ^ mark_of(*entrant));
+            if best.is_none() || priority > most {
+                best = Some(*entrant);
+                most = priority;
+            }
+        }
+        best
+    }
+
+    /// One of those that may move.
+    fn chosen(&mut self) -> Option<Entrant> {
+        match self.way {
+            Way::Evenly => {
+                let place = self.random.below(self.entrants.len() as u64);
+                Some(*self.entrants.get(place as usize)?)
+            }
+            Way::ByPriority { change } => {
+                if self.random.below(change) == 0 {
+                    self.priorities = self.random.number();
+                }
+                self.highest()
+            }
+        }
+    }
+
+    /// A move that may be ready; none where nobody is known who could make one.
+    ///
+    /// # Errors
+    ///
+    /// There is no memory.
+    pub fn draw(&mut self, core: &Run) -> Result<Option<Move>, NoMemory> {
+        if self.is_old || core.events() % ROUND == 0 {
+            self.look(core)?;
+        }
+        self.drawn = self.chosen();
+        let Some(entrant) = self.drawn else {
+            return Ok(None);
+        };
+        let drawn = move_of(core, &mut self.random, entrant);
+        self.is_instruction = match &drawn {
+            Some(one) => runs(core, one.who),
+            None => false,
+        };
+        Ok(drawn)
+    }
+
+    /// It hears that who was drawn has no ready move.
+    pub fn miss(&mut self, core: &Run) {
+        self.is_old = true;
+        match self.drawn {
+            Some(Entrant::Server(place)) => self.servers.retain(|one| *one != place),
+            Some(Entrant::Job(_)) => self.pause = core.events().saturating_add(ROUND),
+            _ => {}
+        }
+    }
+
+    /// It knows the native server of a port as one that may have an act.
+    fn know(&mut self, core: &Run, port: Who) -> Result<(), NoMemory> {
+        let Some(place) = place_of(core, port) else {
+            return Ok(());
+        };
+        if self.servers.len() < SERVERS && !self.servers.contains(&place) {
+            self.servers.push(place)?;
+        }
+        Ok(())
+    }
+
+    /// It hears that a move was made.
+    ///
+    /// # Errors
+    ///
+    /// There is no memory.
+    pub fn made(&mut self, core: &Run, one: &Move) -> Result<(), NoMemory> {
+        // An instruction of a thread that runs on frees nobody.
+        if self.is_instruction && !self.is_old && runs(core, one.who) {
+            return Ok(());
+        }
+        self.is_old = true;
+        match port_of(core, one.who) {
+            Some(port) => self.know(core, port),
+            None => Ok(()),
+        }
+    }
+}
