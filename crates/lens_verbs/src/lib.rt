@@ -5,7 +5,8 @@
 //! wrong in the run, and `page` is the run as one HTML file; `jobs` says for these why jobs have failed. It writes nothing, and changes no file.
 //!
 //! It stands on `fk_first` for a scenario's run by a trace, watched, on `fk_commands` for scenarios and images; on `lens_text` for images,
-//! programs, what stands in a store and the words, on `fk_store`, `fk_natives`, `fk_jobs` and `fk_porters` for what is seen, on `fk_isa` for what an instruction does, and on `fk_causes` for the source and the
+//! programs, what stands in a store and the words, on `fk_store`, `fk_natives`, `fk_jobs` and `fk_porters` for what is seen, on `fk_isa` for what an
+//! instruction does, and on `fk_causes` for the source and the
 //! shelf. It knows no core. It promises no more than that each function ends, whatever bytes it is given.
 #![tactic(auto)]
 
