@@ -5,17 +5,10 @@
 //! wrong in the run, and `page` is the run as one HTML file; `jobs` says for these why jobs have failed. `hunt` runs a scenario by schedules that it
 //! draws, and `apart` compares two traces. It changes no file.
 //!
-<<<<<<< HEAD
 //! It stands on `fk_first` for a scenario's run by a trace, watched, on `fk_commands` for scenarios and images; on `lens_text` for images, programs,
 //! what stands in a store and the words, on `fk_store`, `fk_natives`, `fk_jobs` and `fk_porters` for what is seen, on `fk_isa` for what an instruction
 //! does, on `fk_core`, `fk_report` and `fk_trace_text` for runs by drawn schedules, their ends and their traces, and on `fk_causes` for the source and
 //! the shelf. It promises no more than that each function ends, whatever bytes it is given.
-=======
-//! It stands on `fk_first` for a scenario's run by a trace, watched, on `fk_commands` for scenarios and images; on `lens_text` for images,
-//! programs, what stands in a store and the words, on `fk_store`, `fk_natives`, `fk_jobs` and `fk_porters` for what is seen, on `fk_isa` for what an
-//! instruction does, and on `fk_causes` for the source and the
-//! shelf. It knows no core. It promises no more than that each function ends, whatever bytes it is given.
->>>>>>> 79908737a58887c8f9fcc27ad0640143e5729bb0
 #![tactic(auto)]
 
 mod apart;
