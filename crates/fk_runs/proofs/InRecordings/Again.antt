@@ -8,7 +8,7 @@ use Rattle.fk_commands.specs.declared.status.Status.{Status}
 use Rattle.fk_first.specs.Cores.{RunCore, house}
 use Rattle.fk_first.specs.First.{IsFirst}
 use Rattle.fk_model.specs.declared.names.Who.{Who}
-use Rattle.fk_natives.specs.Natives.{State}
+use Rattle.fk_natives.specs.Natives.{State, seen_of}
 use Rattle.fk_record_text.specs.Lines.{ArePorts}
 use Rattle.fk_record_text.specs.Record.{Entry}
 use Rattle.fk_record_text.specs.Whole as whole
@@ -95,7 +95,8 @@ record_plays_again s given watch status report text record_ keeps sees ranges to
     let written = is.ran.0 in
     let kept = is.ran.3 in
     let noted = seen_in watch s.jobs given first s.budget report written.0 in
-    let ports : whole.ports_of noted ≡ ports_of s.servers = same-ports first.world _ first.servers s.servers is.is_first.servers in
+    let ports : whole.ports_of noted ≡ ports_of s.servers = same-ports first.world (λ (e : Who × State). seen_of watch (notes_at written.0.run e)) first.servers
+    s.servers is.is_first.servers in
     let are : ArePorts (whole.ports_of noted) = subst ArePorts (sym ports) (are-ports s keeps) in
     let apart : AreApart (whole.ports_of noted) = subst AreApart (sym ports) (are-apart s keeps) in
     let back = records_read_back noted apart kept.small in
