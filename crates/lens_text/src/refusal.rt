@@ -56,12 +56,12 @@ slot (integer, needed, 0 to 239); image (string, needed: a name); bind (array of
 slot (integer, needed, 0 to 239); image (string, needed: a name)";
 
 /// The number of the line that begins an entry, where the text has it under a heading of its own, with a comment behind that at most.
-fn line_of(text: &[u8], heading: &str, index: u32) -> Option<u64> {
+fn line_of(text: &[u8], heading: &str, index: u64) -> Option<u64> {
     let Ok(text) = str::from_utf8(text) else {
         return None;
     };
     let mut number = 0u64;
-    let mut passed = 0u32;
+    let mut passed = 0u64;
     for line in text.lines() {
         number = number.saturating_add(1);
         if parted(line, '#').0.trim() == heading {
@@ -177,12 +177,12 @@ fn entry_of<'a>(document: &'a Table, heading: &str, index: u32) -> Option<&'a Ta
 }
 
 /// Adds which entry of a section with this heading is spoken of, and its line where it has one.
-pub fn push_heading(sheet: &Sheet, text: &[u8], heading: &str, index: u32) {
+pub fn push_heading(sheet: &Sheet, text: &[u8], heading: &str, index: u64) {
     if let Some(line) = line_of(text, heading, index) {
         sheet.fill(b"line @, ", line, 0, 0);
     }
     sheet.add(heading);
-    sheet.fill(b" @: ", index as u64, 0, 0);
+    sheet.fill(b" @: ", index, 0, 0);
 }
 
 /// Adds where a document is no scenario, and what was expected there.
@@ -197,7 +197,7 @@ fn push_refusal(sheet: &Sheet, text: &[u8], document: &Table, rule: u8, section:
             }
         }
         3..=6 => {
-            push_heading(sheet, text, heading, index);
+            push_heading(sheet, text, heading, index as u64);
             match entry_of(document, heading, index) {
                 Some(entry) => push_expected(sheet, entry, heading, rule),
                 None => sheet.put(b"expected a table"),

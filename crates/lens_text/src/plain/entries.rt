@@ -101,7 +101,7 @@ fn refuse(sheet: &Sheet, text: &[u8], index: usize) {
     if sheet.problem().is_none() {
         sheet.clear();
         sheet.put(b"standard input, ");
-        push_heading(sheet, text, "[[object]]", index as u32);
+        push_heading(sheet, text, "[[object]]", index as u64);
         sheet.add(LABEL);
         sheet.fails(Problem::Given);
     }
