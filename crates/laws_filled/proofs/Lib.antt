@@ -1,0 +1,16 @@
+pub mod Changes
+pub mod Reading
+pub mod Memory
+pub mod Rows
+pub mod Moves
+pub mod Kept
+pub mod Results
+pub mod Lists
+pub mod Refilled
+pub mod Own
+pub mod First
+pub mod Taken
+pub mod Spends
+pub mod Servers
+pub mod Opening
+pub mod Heard

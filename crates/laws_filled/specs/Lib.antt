@@ -1,0 +1,4 @@
+pub mod Filled
+pub mod Laws
+pub mod Pager
+pub mod Heard
