@@ -83,16 +83,25 @@ fn push_new(sheet: &Sheet, new: New<'_>) {
     }
 }
 
+/// What stands in a text from a byte on; nothing where no character begins there.
+fn text_from(text: &str, from: usize) -> &str {
+    match text.split_at_checked(from) {
+        Some((_, behind)) => behind,
+        None => "",
+    }
+}
+
 /// Adds a string of a document, which says this text, with the changes of that text, which are in their order.
 pub fn push_changed(sheet: &Sheet, raw: &str, said: &str, edits: &[Edit<'_>]) {
-    let (mark, mut body) = opened(raw);
+    let (mark, body) = opened(raw);
     sheet.add(mark);
     let is_escaping = mark.starts_with('"');
     let mut later = edits;
     let mut end = 0usize;
+    let mut from = 0usize;
     for (at, one) in said.char_indices() {
-        let (spelled, behind) = first_spelled(body, is_escaping, one.len_utf8());
-        body = behind;
+        let (spelled, _) = first_spelled(text_from(body, from), is_escaping, one.len_utf8());
+        from = from.saturating_add(spelled.len());
         if let [edit, rest @ ..] = later {
             if edit.from == at {
                 push_new(sheet, edit.new);
@@ -104,5 +113,5 @@ pub fn push_changed(sheet: &Sheet, raw: &str, said: &str, edits: &[Edit<'_>]) {
             sheet.add(spelled);
         }
     }
-    sheet.add(body);
+    sheet.add(text_from(body, from));
 }
