@@ -7,6 +7,8 @@ pub mod Listed
 pub mod Nears
 pub mod Fars
 pub mod Migrates
+pub mod Porters
+pub mod Unmade
 pub mod Readies
 pub mod Bounded
 pub mod Images

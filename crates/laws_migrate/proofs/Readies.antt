@@ -42,7 +42,9 @@ use Rattle.laws_handover.proofs.Meets.{goes_on_so}
 use Rattle.laws_migrate.specs.Migration.{Why, Job, top, kernels, Both, Step, IsCalled, IsNearReady, IsFarReady, IsReadyIn, make_from, is_near_own, is_far_own}
 use Rattle.laws_migrate.specs.Migration.{counted_from}
 use Rattle.laws_migrate.specs.Laws.{IsGoodCodec, Happens}
-use Rattle.laws_migrate.specs.Readies.{FirstIsReady, IsQuiet, MigrationIsReady}
+use Rattle.laws_migrate.specs.Readies.{FirstIsReady, MigrationIsReady}
+use Rattle.laws_migrate.specs.Porters.{HasPorter, IsCalmNow, MigrationGoesOn}
+use Rattle.laws_migrate.proofs.Unmade.{is_first, is_unmade, unmade_has_porter}
 use Rattle.laws_migrate.proofs.Clearing.{left_ready}
 use Rattle.laws_migrate.proofs.Nears.{NearAt, image_job}
 use Rattle.laws_migrate.proofs.Fars.{FarAt, MakesAt}
@@ -156,16 +158,15 @@ module _ {P : Type 0} (codec : Codec Image P) (slot : ℕ) (low : slot ≤ LAST_
   near_ready _ _ u _ (NearAt.Failed n w x _ end why began work is sound) held calm asks = cc
 
   makes_ready : (image : Image) (n : ℕ) (o : Option World) (u : World) (s : restores.State) → MakesAt P slot low image n o u s
-      → holds is_native (u.body (LAST_PORTER_SLOT ∷ top)) ≡ true → IsCalm (slot ∷ top) u → IsCalled u (restores.head slot s)
-  makes_ready image _ _ u _ (MakesAt.Begins _ valid empty) native calm = first_is_ready slot u low native calm
+      → (is_first s ≡ true → HasPorter u) → IsCalm (slot ∷ top) u → IsCalled u (restores.head slot s)
+  makes_ready image _ _ u _ (MakesAt.Begins _ valid empty) native calm = first_is_ready slot u low (native refl) calm
   makes_ready image n _ u _ (MakesAt.Goes_on _ w _ s valid began work going works copy) native calm =
       called_by u (restores.head slot s) works.0 works.1 works.2
       (is_ready slot began.birth (bound_by []) (picture image) (rooms_of image) w u top s works.0 works.1 low
       (roomed slot image [] (image_job slot low image valid))
       began.may work.work works.2 calm)
 
-  far_ready : (n : ℕ) (o : Option World) (u : World) (f : Far Job Image P Why) → FarAt P slot low n o u f
-      → holds is_native (u.body (LAST_PORTER_SLOT ∷ top)) ≡ true
+  far_ready : (n : ℕ) (o : Option World) (u : World) (f : Far Job Image P Why) → FarAt P slot low n o u f → (is_unmade f ≡ true → HasPorter u)
       → IsCalm (slot ∷ top) u → far_asks f ≡ true → IsFarReady slot u f
   far_ready _ _ u _ (FarAt.Making n o _ image s makes) native calm asks = makes_ready image n o u s makes native calm
   far_ready _ _ u _ (FarAt.Undoing n o _ image s makes) native calm asks = makes_ready image n o u s makes native calm
@@ -191,8 +192,9 @@ module _ {P : Type 0} (codec : Codec Image P) (slot : ℕ) (low : slot ≤ LAST_
     held_not : held_world ≡ None → ⊥
     held_not e = cc
 
-    pub is_ready_now : IsQuiet codec slot q → is_over q.near q.far ≡ false → IsReadyIn codec slot q handover.NearOwn ⊎ IsReadyIn codec slot q handover.FarOwn
-    is_ready_now quiet over =
+    pub is_ready_now : IsCalmNow codec slot q → (is_unmade q.far ≡ true → HasPorter q.far_world) → is_over q.near q.far ≡ false
+        → IsReadyIn codec slot q handover.NearOwn ⊎ IsReadyIn codec slot q handover.FarOwn
+    is_ready_now quiet porter over =
         by (goes_on_so (kernels codec slot) good.nothing w v es (exactly codec slot low good w v es h its) quiet.came over)
       where
         by : (near_asks q.near ≡ true) ⊎ (far_asks q.far ≡ true) → IsReadyIn codec slot q handover.NearOwn ⊎ IsReadyIn codec slot q handover.FarOwn
@@ -205,9 +207,15 @@ module _ {P : Type 0} (codec : Codec Image P) (slot : ℕ) (low : slot ≤ LAST_
         by (inr asks) =
             inr (
               far_ready (counted_from is_far_own 0 es) (make_from codec slot None (first (kernels codec slot) w v) es) q.far_world q.far
-                  (stands_here codec slot low good w v es h its).far quiet.porter quiet.far asks,
+                  (stands_here codec slot low good w v es h its).far porter quiet.far asks,
               quiet.far_room,
             )
 
 pub migration_is_ready : {P : Type 0} → MigrationIsReady P
-migration_is_ready codec slot w v es h its quiet over = is_ready_now codec slot its.may.low its.good w v es h its quiet over
+migration_is_ready codec slot w v es h its quiet over =
+    is_ready_now codec slot its.may.low its.good w v es h its
+    (record { came = quiet.came; near = quiet.near; far = quiet.far; near_room = quiet.near_room; far_room = quiet.far_room }) (λ unmade. quiet.porter) over
+
+pub migration_goes_on : {P : Type 0} → MigrationGoesOn P
+migration_goes_on codec slot w v es h its native calm over =
+    is_ready_now codec slot its.may.low its.good w v es h its calm (unmade_has_porter codec slot w v es its.ready native) over

@@ -5,6 +5,7 @@ pub mod Built
 pub mod Migration
 pub mod Laws
 pub mod Readies
+pub mod Porters
 pub mod Bounded
 pub mod Images
 pub mod Places

@@ -7,8 +7,6 @@
 //! both unheld, that it is what it was wherever it is let go, and why it is kept.
 //!
 //! It doesn't say that one of them is let go in the end: where the near one is gone and the last packet is lost, the copy stays held.
-//! Nor does it say that no move of a user takes the far root's porter away before the copy is made: `a_migration_is_ready` supposes that
-//! it stands.
 #![tactic(auto)]
 
 ghost use Rattle.laws_migrate.specs.Births.{SpentStays};
@@ -19,6 +17,7 @@ ghost use Rattle.laws_migrate.specs.Laws.{NeverBothFree, MovedIsSame, KeptIsSame
 ghost use Rattle.laws_migrate.specs.Laws.{FailedSaysWhy, RefusedSaysWhy, CancelledSaysWhy};
 ghost use Rattle.laws_migrate.specs.Places.{CallsHavePlaces};
 ghost use Rattle.laws_migrate.specs.Readies.{FirstIsReady, MigrationIsReady};
+ghost use Rattle.laws_migrate.specs.Porters.{RootKeepsPorter, MigrationGoesOn};
 ghost use Rattle.laws_migrate.specs.Bounded.{NearIsBounded, FarIsBounded, BothAreBounded};
 ghost use Rattle.laws_migrate.specs.Clearing.{SubtreeIsDestroyed, ClearingIsReady};
 
@@ -94,6 +93,16 @@ pub fn a_first_call_is_ready()
 /// two subtrees is held.
 pub fn a_migration_is_ready<P>()
     ensures { MigrationIsReady P }
+{}
+
+/// No move of a user or a native server takes the root's porter away.
+pub fn a_root_keeps_its_porter()
+    ensures { RootKeepsPorter }
+{}
+
+/// So a porter's call is ready then wherever the far root had its porter at the beginning, whatever was done before the copy is made.
+pub fn a_migration_goes_on<P>()
+    ensures { MigrationGoesOn P }
 {}
 
 /// Ended or not, the near porter makes at most 101 (n + 1) (d + 1) calls, where the subtree had n bodies and pages at the hold, none
