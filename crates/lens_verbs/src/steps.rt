@@ -1,7 +1,8 @@
 //! What each move of a run does, a line a move.
 //!
 //! `Steps` watches a run and writes its lines: the trace's own line of the move, and behind it, after tabs, the move's number, who
-//! moves, what that does, the registers that change, what native servers are told, and at which label and line the mover was. `push_act` says what a mover is about to do.
+//! moves, what that does, the registers that change, what native servers are told, and at which label and line the mover was. `push_act` says
+//! what a mover is about to do.
 
 mod acts;
 mod changes;

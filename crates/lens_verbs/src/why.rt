@@ -1,8 +1,8 @@
 //! Why threads stay where they are.
 //!
 //! `Why` watches a run up to where it stops, and then says of each thread that has no ready move what it waits for, and who could end
-//! that; of a porter only where it is its job's turn; of a trace's move that isn't ready, why it isn't; and why jobs have failed so far. A mutex doesn't keep who
-//! locked it: the run so far tells.
+//! that; of a porter only where it is its job's turn; of a trace's move that isn't ready, why it isn't; and why jobs have
+//! failed so far. A mutex doesn't keep who locked it: the run so far tells.
 
 mod barred;
 mod blocked;

@@ -80,6 +80,53 @@ fn push_unkept(sheet: &Sheet, store: &Store, at: Page) {
     }
 }
 
+/// Where a mapping leads by a place of its region, or adds why it leads nowhere. It allows writes or doesn't.
+fn lead(
+    sheet: &Sheet,
+    store: &Store,
+    region: Who,
+    place: u64,
+    writes: bool,
+    allows: bool,
+) -> Option<Page> {
+    let Some(
+        &Body::Region {
+            first,
+            count,
+            write,
+            ..
+        },
+    ) = store.at(region)
+    else {
+        sheet.put(b" leads to no region");
+        return None;
+    };
+    let has = count as u64;
+    if place >= has {
+        sheet.fill(
+            b" leads beyond its region, to place @ of the @ of ",
+            place,
+            has,
+            0,
+        );
+    } else if writes & !allows {
+        sheet.put(b" is read only: it leads to ");
+    } else if writes & !write {
+        sheet.put(b" leads to a region that is read only, ");
+    } else {
+        let next = Page {
+            space: region.space,
+            number: ((first as u64).saturating_add(place) % 256) as u8,
+        };
+        sheet.put(b" leads to ");
+        push_page(sheet, store, next);
+        push_between(sheet, store, b", by the region ", region, b": ");
+        return Some(next);
+    }
+    push_path(sheet, store, region);
+    None
+}
+
 /// Where a mapping leads from a page that it covers, or adds why it leads nowhere.
 fn follow(sheet: &Sheet, store: &Store, mapping: Who, page: u8, writes: bool) -> Option<Page> {
     let Some(
@@ -95,50 +142,20 @@ fn follow(sheet: &Sheet, store: &Store, mapping: Who, page: u8, writes: bool) ->
         return None;
     };
     push_between(sheet, store, b"the mapping ", mapping, b"");
-    let Ptr::At(region) = region else {
-        match region {
-            Ptr::Dead => sheet.put(b" leads to a region that was destroyed"),
-            _ => sheet.put(b" leads to no region"),
+    match region {
+        Ptr::At(region) => {
+            let place = (offset as u64).saturating_add((page as u64).saturating_sub(first as u64));
+            lead(sheet, store, region, place, writes, write)
         }
-        return None;
-    };
-    let place = (offset as u64).saturating_add((page as u64).saturating_sub(first as u64));
-    let Some(
-        &Body::Region {
-            first: begin,
-            count,
-            write: allows,
-            ..
-        },
-    ) = store.at(region)
-    else {
-        sheet.put(b" leads to no region");
-        return None;
-    };
-    if place >= count as u64 {
-        let has = count as u64;
-        sheet.fill(
-            b" leads beyond its region, to place @ of the @ of ",
-            place,
-            has,
-            0,
-        );
-    } else if writes & !write {
-        sheet.put(b" is read only: it leads to ");
-    } else if writes & !allows {
-        sheet.put(b" leads to a region that is read only, ");
-    } else {
-        let next = Page {
-            space: region.space,
-            number: ((begin as u64).saturating_add(place) % 256) as u8,
-        };
-        sheet.put(b" leads to ");
-        push_page(sheet, store, next);
-        push_between(sheet, store, b", by the region ", region, b": ");
-        return Some(next);
+        Ptr::Dead => {
+            sheet.put(b" leads to a region that was destroyed");
+            None
+        }
+        Ptr::Null => {
+            sheet.put(b" leads to no region");
+            None
+        }
     }
-    push_path(sheet, store, region);
-    None
 }
 
 /// Adds which rule refuses to read or write the word at an address of a space: each mapping on the way there, and then why it ends. Where no rule

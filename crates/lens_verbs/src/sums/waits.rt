@@ -2,7 +2,7 @@
 use crate::why::{Known, awaited};
 use fk_model::{Body, Fault, Mode, Peer, Stage, Who};
 use fk_store::Store;
-use lens_text::{Sheet, push_between, push_path};
+use lens_text::{Sheet, next_stage, push_between, push_path};
 
 /// Why a thread waits for another.
 #[derive(Clone, Copy)]
@@ -74,7 +74,7 @@ fn server_of(store: &Store, client: Who) -> Option<Who> {
 }
 
 /// A thread that is waited for by a cause, if there is one.
-fn wait(other: Option<Who>, cause: Cause) -> Option<Wait> {
+fn waits_for(other: Option<Who>, cause: Cause) -> Option<Wait> {
     Some(Wait {
         other: other?,
         cause,
@@ -87,22 +87,22 @@ fn wait_at(known: Known<'_>, who: Who, stage: &Stage) -> Option<Wait> {
     match stage {
         Stage::MutexLock { .. } => {
             let mutex = awaited(store, who.space, stage)?;
-            wait(known.lockers.get(&mutex).copied(), Cause::Mutex(mutex))
+            waits_for(known.lockers.get(&mutex).copied(), Cause::Mutex(mutex))
         }
         Stage::Connect { .. } => {
             let port = awaited(store, who.space, stage)?;
-            wait(only_server(store, port), Cause::Connect(port))
+            waits_for(only_server(store, port), Cause::Connect(port))
         }
         Stage::ClientReceive { .. }
         | Stage::ClientSend { .. }
         | Stage::ClientOver
         | Stage::ClientOverRef { .. }
-        | Stage::ClientReceiveRef { .. } => wait(server_of(store, who), Cause::Server),
+        | Stage::ClientReceiveRef { .. } => waits_for(server_of(store, who), Cause::Server),
         Stage::ServerReceive { .. }
         | Stage::ServerSend { .. }
         | Stage::ServerOver
         | Stage::ServerOverRef { .. }
-        | Stage::ServerReceiveRef { .. } => wait(store.client_of(who), Cause::Client),
+        | Stage::ServerReceiveRef { .. } => waits_for(store.client_of(who), Cause::Client),
         _ => None,
     }
 }
@@ -119,12 +119,12 @@ pub fn wait_of(known: Known<'_>, who: Who) -> Option<Wait> {
         return None;
     }
     if let Some(fault) = &thread.fault {
-        return wait(taker_of(store, fault), Cause::Fault);
+        return waits_for(taker_of(store, fault), Cause::Fault);
     }
     if store.is_frozen(who.space) {
-        return wait(store.decider(who), Cause::Hold);
+        return waits_for(store.decider(who), Cause::Hold);
     }
-    let stage = lens_text::next_stage(store, who)?;
+    let stage = next_stage(store, who)?;
     wait_at(known, who, &stage)
 }
 
