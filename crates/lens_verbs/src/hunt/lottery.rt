@@ -58,7 +58,7 @@ fn way_of(random: &mut Random) -> Way {
 /// What stands for one in its priority.
 fn mark_of(entrant: Entrant) -> u64 {
     match entrant {
-        Entrant::Thread(who) => u64::from(who.space) * 256 + u64::from(who.slot),
+        Entrant::Thread(who) => (u64::from(who.space) << 8) | u64::from(who.slot),
         Entrant::Server(place) => (1 << 48) ^ place as u64,
         Entrant::Job(_) => 1 << 49,
     }
