@@ -1,0 +1,2 @@
+pub mod Gentle
+pub mod Tracked
