@@ -5,7 +5,8 @@ use Rattle.std.specs.List.{All, slice_index_or}
 use Rattle.fk_record_text.specs.Record.{IsNote}
 use Rattle.fk_responders.specs.Notes.{note_of}
 use Rattle.fk_responders.specs.declared.note.Note.{Note}
-use Rattle.fk_responders.specs.declared.note.Note.TheVariants.{Over}
+use Rattle.fk_model.specs.declared.thread.Turn.TheVariants.{Client}
+use Rattle.fk_responders.specs.declared.note.Note.TheVariants.{Taken}
 use Rattle.fk_trace.specs.Taps.{noted}
 use Rattle.fk_runs.proofs.recordings.texts.read_notes.Goals as goal
 
@@ -13,9 +14,10 @@ pub loop-note-preserved : goal.loop-note-preserved
 loop-note-preserved c =
     let notes = c.args.notes.now in
     let at = c.loop-note.note-index in
-    subst (λ (ns : List Note). All IsNote (noted ns)) (sym (take_more notes at Over c.loop-note-test.true))
-    (subst (All IsNote) (sym (map-append note_of (take at notes) (slice_index_or notes at Over ∷ [])))
-    (All-push IsNote (noted (take at notes)) (note_of (slice_index_or notes at Over)) c.loop-note.invariant c.read_note.ensures))
+    let first : Note = Taken Client 0 in
+    subst (λ (ns : List Note). All IsNote (noted ns)) (sym (take_more notes at first c.loop-note-test.true))
+    (subst (All IsNote) (sym (map-append note_of (take at notes) (slice_index_or notes at first ∷ [])))
+    (All-push IsNote (noted (take at notes)) (note_of (slice_index_or notes at first)) c.loop-note.invariant c.read_note.ensures))
 
 pub returns : goal.returns
 returns c =
