@@ -1,0 +1,17 @@
+-- What code returns of a part, against what is read: want of memory says nothing.
+use Rattle.std.specs.Prelude.{◌≡◌, ℕ, List, length, Result, Ok, Err}
+use Rattle.fk_image.specs.declared.format.stop.Stop.{Stop}
+use Rattle.fk_packets.specs.declared.fields.Fail.{Fail}
+use Rattle.fk_packets.specs.declared.fields.Fail.TheVariants as fails
+
+abbrev pub Fails : {Y : Type 0} → Fail → Result Y Stop → Type 0
+Fails fails.NoMemory read = Unit {0}
+Fails (fails.At stop) read = read ≡ Err stop
+
+-- what a part gives, seen by view, is what reading it gives
+abbrev pub Decodes : {X Y : Type 0} → (X → Y) → Result X Fail → Result Y Stop → Type 0
+Decodes view (Ok x) read = read ≡ Ok (view x)
+Decodes view (Err e) read = Fails e read
+
+abbrev pub Refuses : Fail → List ℕ → ℕ → Type 0
+Refuses fail bytes reason = fail ≡ fails.At (record { left = length bytes; reason = reason })
