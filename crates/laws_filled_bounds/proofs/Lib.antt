@@ -1,2 +1,4 @@
 pub mod Gentle
 pub mod Tracked
+pub mod Raised
+pub mod Driven
