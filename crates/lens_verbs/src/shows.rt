@@ -2,7 +2,7 @@
 use crate::page::Page;
 use crate::steps::Steps;
 use crate::sums::Sums;
-use crate::why::{Known, Why};
+use crate::why::{Known, Lockers, Why};
 use fk_first::{Ready, Seen, Stop, Watcher};
 use fk_model::{Move, NoMemory};
 use fk_scenario::entries::SpaceEntry;
@@ -33,6 +33,15 @@ pub fn scene_of<'a>(programs: &'a Programs, seen: Seen<'a>) -> Scene<'a> {
     Scene {
         store: seen.store,
         programs,
+    }
+}
+
+/// What is known there, beside who has locked a mutex last.
+fn known_of<'a, 'l>(programs: &'a Programs, seen: Seen<'a>, lockers: &'l Lockers) -> Known<'a, 'l> {
+    Known {
+        seen,
+        scene: scene_of(programs, seen),
+        lockers,
     }
 }
 
@@ -83,29 +92,19 @@ impl Watcher for Show<'_> {
     }
 
     fn stops(&mut self, seen: Seen<'_>, ready: &Ready, stop: Stop) -> Result<(), NoMemory> {
-        let scene = scene_of(&self.programs, seen);
+        let programs = &self.programs;
         match &mut self.how {
-            How::Tree => push_tree(self.sheet, scene),
+            How::Tree => push_tree(self.sheet, scene_of(programs, seen)),
             How::Steps(_) => {}
             How::Why(why) => {
-                let lockers = &why.locking.lockers;
-                let known = Known {
-                    seen,
-                    scene,
-                    lockers,
-                };
+                let known = known_of(programs, seen, &why.locking.lockers);
                 why.stops(self.sheet, known, ready, stop);
             }
             How::Sums(sums) => {
-                let lockers = &sums.locking.lockers;
-                let known = Known {
-                    seen,
-                    scene,
-                    lockers,
-                };
+                let known = known_of(programs, seen, &sums.locking.lockers);
                 sums.stops(self.sheet, known, ready);
             }
-            How::Page(page) => page.stops(self.sheet, scene, stop),
+            How::Page(page) => page.stops(self.sheet, scene_of(programs, seen), stop),
         }
         Ok(())
     }

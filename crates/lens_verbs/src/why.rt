@@ -16,6 +16,6 @@ mod talks;
 
 pub use blocked::awaited;
 pub use holds::push_hold;
-pub use known::{Known, Locking};
+pub use known::{Known, Lockers, Locking};
 pub use lines::{Why, push_thread};
 pub use places::push_place;

@@ -107,7 +107,8 @@ fn push_apart(sheet: &Sheet, pair: &Pair<'_>) -> Result<(), NoMemory> {
 struct Runs<'a, H: Shelf> {
     asked: &'a Asked<'a>,
     text: &'a [u8],
-    bytes: (&'a [u8], &'a [u8]),
+    one: &'a [u8],
+    two: &'a [u8],
     files: Files<'a, H>,
 }
 
@@ -158,7 +159,7 @@ impl<H: Shelf> ScenarioReader for Runs<'_, H> {
 
     fn scenario(&mut self, table: &Table, scenario: &Scenario) {
         let (sheet, names) = (self.files.sheet, (self.asked.name, self.asked.other));
-        let (one, two) = self.bytes;
+        let (one, two) = (self.one, self.two);
         let mut movers = Movers::new(sheet.alloc);
         let Some(first) = self.deeds(table, scenario, &mut movers, names.0, one) else {
             return;
@@ -166,10 +167,11 @@ impl<H: Shelf> ScenarioReader for Runs<'_, H> {
         let Some(second) = self.deeds(table, scenario, &mut movers, names.1, two) else {
             return;
         };
+        let deeds = (&first, &second);
         let pair = Pair {
             names,
             movers: &movers,
-            deeds: (&first, &second),
+            deeds,
         };
         if push_apart(sheet, &pair).is_err() {
             sheet.lacks();
@@ -181,6 +183,25 @@ impl<H: Shelf> ScenarioReader for Runs<'_, H> {
     }
 }
 
+/// Shows where two traces with these bytes come apart, of a scenario with this text.
+fn show_both<'x, H: Shelf>(
+    asked: &'x Asked<'x>,
+    text: &'x [u8],
+    one: &'x [u8],
+    two: &'x [u8],
+    files: Files<'x, H>,
+) {
+    let alloc = files.sheet.alloc;
+    let mut runs = Runs {
+        asked,
+        text,
+        one,
+        two,
+        files,
+    };
+    lend_scenario(alloc, text, &mut runs);
+}
+
 /// Shows where two traces of a scenario's text come apart, or says why not.
 pub fn show_apart<H: Shelf>(sheet: &Sheet, asked: &Asked<'_>, text: &[u8], shelf: &mut H) {
     let Some(first) = file_of(sheet, shelf, asked.name, ".trc") else {
@@ -189,11 +210,5 @@ pub fn show_apart<H: Shelf>(sheet: &Sheet, asked: &Asked<'_>, text: &[u8], shelf
     let Some(second) = file_of(sheet, shelf, asked.other, ".trc") else {
         return;
     };
-    let mut runs = Runs {
-        asked,
-        text,
-        bytes: (&first, &second),
-        files: Files { sheet, shelf },
-    };
-    lend_scenario(sheet.alloc, text, &mut runs);
+    show_both(asked, text, &first, &second, Files { sheet, shelf });
 }

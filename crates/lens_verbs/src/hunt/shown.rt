@@ -25,10 +25,11 @@ struct Hunting<'a, H: Shelf> {
 
 /// Shows what was found, or says that it wasn't.
 fn show_found(sheet: &Sheet, hunt: Hunt<'_>, found: Found) {
-    match found.trace {
+    let Found { trace, lines } = found;
+    match trace {
         Some(trace) if trace.as_str() != NO_MOVES => {
             sheet.add(trace.as_str());
-            sheet.say_beside(found.lines);
+            sheet.say_beside(lines);
         }
         Some(_) => {
             sheet.put(b"standard input: expected a thread or a job that can move");
@@ -65,7 +66,12 @@ impl<H: Shelf> ScenarioReader for Hunting<'_, H> {
 }
 
 /// Shows the trace that a hunt in a scenario's text finds, and says which ends came; or says why not.
-pub fn show_hunt<H: Shelf>(sheet: &Sheet, asked: &Asked<'_>, text: &[u8], shelf: &mut H) {
+pub fn show_hunt<'x, H: Shelf>(
+    sheet: &'x Sheet,
+    asked: &'x Asked<'x>,
+    text: &'x [u8],
+    shelf: &'x mut H,
+) {
     let until = if asked.name.is_empty() {
         Until::Never
     } else {

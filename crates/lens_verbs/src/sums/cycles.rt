@@ -8,7 +8,7 @@ use std::collections::BTreeSet;
 
 /// The threads of the cycle in which a thread waits, that one first; none where it waits in none. Where there is no memory for them, the sheet
 /// notes that.
-fn cycle_of(sheet: &Sheet, known: Known<'_>, ready: &Ready, who: Who) -> Vec<Who> {
+fn cycle_of(sheet: &Sheet, known: Known<'_, '_>, ready: &Ready, who: Who) -> Vec<Who> {
     let mut members = Vec::new(sheet.alloc);
     let mut met = BTreeSet::new(sheet.alloc);
     let mut next = who;
@@ -30,7 +30,7 @@ fn cycle_of(sheet: &Sheet, known: Known<'_>, ready: &Ready, who: Who) -> Vec<Who
 }
 
 /// Adds the line of a cycle: who waits for whom, and why.
-fn push_cycle(sheet: &Sheet, known: Known<'_>, members: &[Who]) {
+fn push_cycle(sheet: &Sheet, known: Known<'_, '_>, members: &[Who]) {
     sheet.put(b"a cycle: ");
     let mut is_first = true;
     for member in members {
@@ -58,7 +58,7 @@ fn push_cycle(sheet: &Sheet, known: Known<'_>, members: &[Who]) {
 /// Adds the line of the cycle in which a thread waits, where it waits in one and that isn't told yet. Whether the thread waits in one.
 pub fn push_cycle_of(
     sheet: &Sheet,
-    known: Known<'_>,
+    known: Known<'_, '_>,
     ready: &Ready,
     told: &mut BTreeSet<Who>,
     who: Who,

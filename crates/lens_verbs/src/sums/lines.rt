@@ -84,7 +84,7 @@ impl Sums {
     }
 
     /// Adds the line of each thread that can't move and hasn't halted, in the order of their paths; one line for those of a cycle.
-    fn push_waits(&self, sheet: &Sheet, known: Known<'_>, ready: &Ready) {
+    fn push_waits(&self, sheet: &Sheet, known: Known<'_, '_>, ready: &Ready) {
         let store = known.scene.store;
         let mut told = BTreeSet::new(sheet.alloc);
         let mut next = store.after(None);
@@ -109,7 +109,7 @@ impl Sums {
 
     /// It sees what stands where the run stops, and says which calls were refused, why jobs have failed, and who can't move; or that nothing of all
     /// this has come.
-    pub fn stops(&self, sheet: &Sheet, known: Known<'_>, ready: &Ready) {
+    pub fn stops(&self, sheet: &Sheet, known: Known<'_, '_>, ready: &Ready) {
         self.refusals.push_lines(sheet);
         self.jobs.push_lines(sheet, &known.seen, true);
         self.push_waits(sheet, known, ready);

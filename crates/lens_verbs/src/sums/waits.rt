@@ -82,7 +82,7 @@ fn waits_for(other: Option<Who>, cause: Cause) -> Option<Wait> {
 }
 
 /// Whom a thread waits for at a stage.
-fn wait_at(known: Known<'_>, who: Who, stage: &Stage) -> Option<Wait> {
+fn wait_at(known: Known<'_, '_>, who: Who, stage: &Stage) -> Option<Wait> {
     let store = known.scene.store;
     match stage {
         Stage::MutexLock { .. } => {
@@ -108,7 +108,7 @@ fn wait_at(known: Known<'_>, who: Who, stage: &Stage) -> Option<Wait> {
 }
 
 /// Whom a thread waits for that has no ready move, where that is one thread.
-pub fn wait_of(known: Known<'_>, who: Who) -> Option<Wait> {
+pub fn wait_of(known: Known<'_, '_>, who: Who) -> Option<Wait> {
     let store = known.scene.store;
     let thread = store.thread(who)?;
     match thread.mode {

@@ -11,10 +11,10 @@ pub type Lockers = BTreeMap<Who, Who>;
 
 /// What is known where it is asked why somebody can't move.
 #[derive(Clone, Copy)]
-pub struct Known<'a> {
+pub struct Known<'a, 'l> {
     pub seen: Seen<'a>,
     pub scene: Scene<'a>,
-    pub lockers: &'a Lockers,
+    pub lockers: &'l Lockers,
 }
 
 /// Watches who locks mutexes.

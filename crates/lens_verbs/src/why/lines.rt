@@ -9,7 +9,7 @@ use fk_store::Store;
 use lens_text::{Sheet, next_in_tree, push_asked, push_at, push_between};
 
 /// Adds the line of a thread that isn't ready; of a porter, where its job is the one whose turn it is.
-pub fn push_thread(sheet: &Sheet, known: Known<'_>, who: &Who) {
+pub fn push_thread(sheet: &Sheet, known: Known<'_, '_>, who: &Who) {
     let store = known.scene.store;
     if let Some(thread) = store.thread(*who) {
         match thread.mode {
@@ -64,14 +64,14 @@ impl Why {
     }
 
     /// It sees what stands where the run stops, and says why threads aren't ready, and why jobs have failed.
-    pub fn stops(&self, sheet: &Sheet, known: Known<'_>, ready: &Ready, stop: Stop) {
+    pub fn stops(&self, sheet: &Sheet, known: Known<'_, '_>, ready: &Ready, stop: Stop) {
         push_why(sheet, known, ready, stop);
         self.jobs.push_lines(sheet, &known.seen, false);
     }
 }
 
 /// Says where a run stops why threads aren't ready, in the order of their paths.
-fn push_why(sheet: &Sheet, known: Known<'_>, ready: &Ready, stop: Stop) {
+fn push_why(sheet: &Sheet, known: Known<'_, '_>, ready: &Ready, stop: Stop) {
     if let Stop::Unready { one, .. } = stop {
         push_move(sheet, known, ready, &one);
     }
