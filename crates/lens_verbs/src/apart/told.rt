@@ -185,21 +185,21 @@ impl<H: Shelf> ScenarioReader for Runs<'_, H> {
 
 /// Shows where two traces with these bytes come apart, of a scenario with this text.
 fn show_both<'x, H: Shelf>(
+    sheet: &'x Sheet,
     asked: &'x Asked<'x>,
     text: &'x [u8],
     one: &'x [u8],
     two: &'x [u8],
-    files: Files<'x, H>,
+    shelf: &'x mut H,
 ) {
-    let alloc = files.sheet.alloc;
     let mut runs = Runs {
         asked,
         text,
         one,
         two,
-        files,
+        files: Files { sheet, shelf },
     };
-    lend_scenario(alloc, text, &mut runs);
+    lend_scenario(sheet.alloc, text, &mut runs);
 }
 
 /// Shows where two traces of a scenario's text come apart, or says why not.
@@ -210,5 +210,5 @@ pub fn show_apart<H: Shelf>(sheet: &Sheet, asked: &Asked<'_>, text: &[u8], shelf
     let Some(second) = file_of(sheet, shelf, asked.other, ".trc") else {
         return;
     };
-    show_both(asked, text, &first, &second, Files { sheet, shelf });
+    show_both(sheet, asked, text, &first, &second, shelf);
 }

@@ -5,10 +5,10 @@ use Rattle.fk_runs.proofs.InRecordings.WithTaps.{recorded-first}
 use Rattle.fk_runs.proofs.recordings.recording.record_first.Goals as goal
 
 pub finished-requires-clause-fits : goal.finished-requires-clause-fits
-finished-requires-clause-fits c = c.in_ok-core.ensures.fits (map (λ r. r.rule) c.args.table.now.list.items) c.requires.rules
+finished-requires-clause-fits g c = c.in_ok-core.ensures.fits (map (λ r. r.rule) c.args.table.now.list.items) c.requires.rules
 
 pub returns-clause-comes : goal.returns-clause-comes
-returns-clause-comes c =
+returns-clause-comes g c =
     let book = c.in_ok-book.ensures in
     let core = c.in_ok-core.ensures in
     let first = rw c.place_of.ensures.place at core.first in

@@ -10,7 +10,7 @@ use Rattle.fk_runs.proofs.recordings.recording.recorded_of.Goals as goal
 pub prepared-requires-clause-jobs : goal.prepared-requires-clause-jobs
 prepared-requires-clause-jobs c =
     let parts = c.into_parts-core.ensures in
-    rw c.as_slice.ensures (ap (λ core. core.jobs.jobs) parts.core ∙ (parts.kept.jobs ∙ c.requires))
+    rw c.as_slice.ensures (ap (λ core. core.jobs.jobs) parts.core ∙ (parts.kept.jobs ∙ c.requires.jobs))
 
 pub prepared-requires-clause-within : goal.prepared-requires-clause-within
 prepared-requires-clause-within c =

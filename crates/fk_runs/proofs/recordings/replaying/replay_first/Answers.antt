@@ -5,13 +5,13 @@ use Rattle.fk_runs.proofs.InRecordings.Refusals.{bad-record, bad-refusal, replay
 use Rattle.fk_runs.proofs.recordings.replaying.replay_first.Goals as goal
 
 pub returns-in_err-lists-clause-comes : goal.returns-in_err-lists-clause-comes
-returns-in_err-lists-clause-comes c = bad-record c.args.scenario.now c.args.images.now c.args.trace.now c.args.told.now _ (rw c.in_err-lists.is at c.replies_in.ensures.fail)
+returns-in_err-lists-clause-comes g c = bad-record c.args.scenario.now c.args.images.now c.args.trace.now c.args.told.now _ (rw c.in_err-lists.is at c.replies_in.ensures.fail)
 
 pub play_core-requires-clause-fits : goal.play_core-requires-clause-fits
-play_core-requires-clause-fits c = c.in_ok-core.ensures.fits (map (λ r. r.rule) c.args.table.now.list.items) c.requires.rules
+play_core-requires-clause-fits g c = c.in_ok-core.ensures.fits (map (λ r. r.rule) c.args.table.now.list.items) c.requires.rules
 
 pub returns-clause-comes : goal.returns-clause-comes
-returns-clause-comes c =
+returns-clause-comes g c =
     let core = c.in_ok-core.core in
     let found = c.in_ok-lists.ensures.found in
     replayed-by c.args.scenario.now c.args.images.now c.args.trace.now c.args.told.now found.0 (words_of_all c.in_ok-lists.lists.items) (run_core core) core.budget
