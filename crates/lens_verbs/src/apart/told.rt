@@ -105,7 +105,7 @@ fn push_apart(sheet: &Sheet, pair: &Pair<'_>) -> Result<(), NoMemory> {
 /// The runs of a scenario with this text by two traces with these bytes.
 #[derive(Drop)]
 struct Runs<'a, H: Shelf> {
-    asked: &'a Asked<'a>,
+    asked: Asked<'a>,
     text: &'a [u8],
     one: &'a [u8],
     two: &'a [u8],
@@ -125,7 +125,7 @@ impl<H: Shelf> Runs<'_, H> {
         requires keeps { KeepsScenario scenario.now }
         requires rules { HasRules (map (λ r. r.rule) table.now.list.items) scenario.now }
     {
-        let (sheet, asked) = (self.files.sheet, *self.asked);
+        let (sheet, asked) = (self.files.sheet, self.asked);
         let mut programs = programs_of(sheet, self.text);
         note_spaces(sheet, &mut programs, scenario.spaces.as_slice());
         let mut taker = Taker::new(sheet, movers, programs);
@@ -186,7 +186,7 @@ impl<H: Shelf> ScenarioReader for Runs<'_, H> {
 /// Shows where two traces with these bytes come apart, of a scenario with this text.
 fn show_both<'x, H: Shelf>(
     sheet: &'x Sheet,
-    asked: &'x Asked<'x>,
+    asked: Asked<'x>,
     text: &'x [u8],
     one: &'x [u8],
     two: &'x [u8],
@@ -210,5 +210,5 @@ pub fn show_apart<H: Shelf>(sheet: &Sheet, asked: &Asked<'_>, text: &[u8], shelf
     let Some(second) = file_of(sheet, shelf, asked.other, ".trc") else {
         return;
     };
-    show_both(sheet, asked, text, &first, &second, shelf);
+    show_both(sheet, *asked, text, &first, &second, shelf);
 }
