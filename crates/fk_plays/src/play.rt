@@ -1,5 +1,5 @@
 //! The command `play`: a scenario is run by the moves of a trace.
-ghost use Rattle.std.specs.Prelude.{◌≡◌, Some, IfOk, IfErr, map};
+ghost use Rattle.std.specs.Prelude.{◌≡◌, ◌≤◌, Some, IfOk, IfErr, map};
 ghost use Rattle.fk_causes.specs.Causes.{Rose, StandsUnless};
 ghost use Rattle.fk_causes.specs.Shelf.{HasAt};
 ghost use Rattle.fk_commands.specs.Files.{trace_name};
@@ -29,6 +29,7 @@ pub fn trace_of<H: Shelf>(alloc: Global, shelf: &mut H, name: &str) -> Result<Ve
     ensures found { IfOk result (λ trace. HasAt (H.files shelf.old) (trace_name name.now) (Some trace.items)) }
     ensures fail { IfErr result (IsFileFail (trace_name name.now) name.now (H.files shelf.old) (H.failed_gets shelf.old) (H.failed_gets shelf.new)) }
     ensures kept_gets { StandsUnless is_shelf_fault (H.failed_gets shelf.old) (H.failed_gets shelf.new) result }
+    ensures later { H.failed_gets shelf.old ≤ H.failed_gets shelf.new }
     ensures same_files { H.files shelf.new ≡ H.files shelf.old }
     ensures same_puts { H.failed_puts shelf.new ≡ H.failed_puts shelf.old }
 {
