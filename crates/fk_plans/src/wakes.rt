@@ -5,4 +5,4 @@
 
 mod touching;
 
-pub use touching::{Touched, acts_touch, changed, touched_by_move, touched_by_plan};
+pub use touching::{Touched, acts_touch, changed, touched_by_move};

@@ -136,13 +136,6 @@ fn judged(verdict: &Verdict) -> Touched
     }
 }
 
-/// Which objects a plan changes.
-pub fn touched_by_plan(plan: &Plan) -> Touched
-    ensures { (p : ℕ → Path) (given : List ℕ) (w : World) (x : Path) → name_body w (changes_by p given plan.now w) x ≡ true → is_touched p result x ≡ true }
-{
-    planned(plan)
-}
-
 /// Which objects the move of a caller changes besides the caller, where it is judged so.
 #[inline(always)]
 pub fn touched_by_move(verdict: &Verdict) -> Touched

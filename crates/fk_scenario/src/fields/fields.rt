@@ -29,13 +29,6 @@ fn value_in<'a>(table: &'a Table, key: &str) -> Option<&'a Value>
     table.get(key)
 }
 
-/// Whether a table has a key.
-pub fn has_key(table: &Table, key: &str) -> bool
-    ensures { result ≡ is_some (get_member key.now (table_view table.now)) }
-{
-    value_in(table, key).is_some()
-}
-
 fn is_among(keys: &[&str], key: &str) -> bool
     ensures { result ≡ fields.is_among (map (λ k. k.now) keys.now) key.now }
 {

@@ -1,27 +1,21 @@
 -- PlayLaws: who plays a part is told of it, or leads there.
-use Rattle.std.proofs.Common.{◌≡◌, ◌≢◌, inl, inr, ℕ, ◌+◌, ◌<◌, ◌/◌, ltb, Bool, true, false, List, [], ◌∷◌, Option, Some, None, IsSome, IfSome}
+use Rattle.std.proofs.Common.{◌≡◌, ℕ, ◌+◌, ◌<◌, ltb, Bool, true, false, Option, Some, None, IsSome, IfSome}
 use Rattle.std.proofs.Common.{is_some, refl, sym, ap, subst, ◌∙◌, arith}
 use Rattle.std.proofs.lemmas.Bool.Decides.{nat_tests}
 use Rattle.std.specs.FinMap.{get}
 use Rattle.fk_model.specs.declared.names.Who.{Who}
 use Rattle.fk_model.specs.declared.body.Body.{Body}
-use Rattle.fk_model.proofs.walks.Members.{IsIn}
-use Rattle.fk_store_graph.specs.Linked.Shapes.{Lead}
-use Rattle.fk_store_graph.specs.Linked.Leads.{led, lead_by}
-use Rattle.fk_store_graph.specs.Linked.Nodes.{is_head, node_of}
-use Rattle.fk_store_graph.specs.Linked.Walks.{AreLeaders}
+use Rattle.fk_store_graph.specs.Linked.Leads.{lead_by}
 use Rattle.fk_store_graph.specs.Linked.Shapes.{Entry}
 use Rattle.fk_store_graph.specs.Linked.Shapes.{Told}
-use Rattle.fk_store_graph.specs.Linked.Shapes.{Nobody, One, Many}
-use Rattle.fk_store_graph.specs.Linked.Filed.{Filed, IsFiled, entry_under, key_of, name_under}
-use Rattle.fk_store_graph.specs.Linked.Bodied.{body_under, bodies, owner, Tells, told_by, AreThere, AreTold}
+use Rattle.fk_store_graph.specs.Linked.Shapes.{Nobody, One}
+use Rattle.fk_store_graph.specs.Linked.Filed.{Filed, IsFiled, entry_under, key_of}
+use Rattle.fk_store_graph.specs.Linked.Bodied.{body_under, bodies, Tells, told_by, AreThere, AreTold}
 use Rattle.fk_store_graph.specs.Linked.Parts.{plays, whose, sort_of}
 use Rattle.fk_store_graph.specs.Bodies.Playing.{IsPlayer, NobodyPlays}
 use Rattle.fk_store_graph.specs.Linked.Shapes.{Part}
-use Rattle.fk_store_graph.specs.Linked.Shapes.{Parked}
 use Rattle.fk_store_graph.proofs.InLinked.BodyLaws.{name-of, body-of, no-body, get_at, get_under, entry_there}
 use Rattle.fk_store_graph.proofs.InLinked.PointerLaws.{plays-led}
-use Rattle.fk_store_graph.proofs.InLinked.SweepLaws.{leads_by}
 
 -- ---- by keys
 
@@ -69,30 +63,9 @@ module _ (o : Filed) (part : Part) (told : Told) (all : (j : ℕ) (b : Body) →
           let none = off b (ap (body_under o) same ∙ there) in
           absurd (let both = sym e ∙ none in cc)
 
--- ---- those who lead there
+-- ---- those with keys
 
 module _ (o : Filed) (part : Part) where
-  -- whoever plays it is yet to come
-  abbrev pub AreLeft : List ℕ → Type 0
-  AreLeft walk = (j : ℕ) (b : Body) → body_under o j ≡ Some b → plays part b ≡ true → (n : ℕ) × IsIn n walk × (n / 5 ≡ j)
-
-  pub left_more : (node : ℕ) (walk rest : List ℕ) → walk ≡ node ∷ rest → ((b : Body) → body_under o (node / 5) ≡ Some b → plays part b ≡ false) →
-      AreLeft walk → AreLeft rest
-  left_more node walk rest is off left j b there on = by (left j b there on)
-    where
-      by : (n : ℕ) × IsIn n walk × (n / 5 ≡ j) → (n : ℕ) × IsIn n rest × (n / 5 ≡ j)
-      by found = elim (subst (IsIn found.0) is found.1) [
-        | inl same ↦ absurd (let none = off b (ap (λ n. body_under o (n / 5)) same ∙ ap (body_under o) found.2 ∙ there) in let both = sym on ∙ none in cc)
-        | inr comes ↦ (found.0, comes, found.2)
-      ]
-
-  pub nobody_left : (walk : List ℕ) → walk ≡ [] → AreLeft walk → NobodyPlays o part
-  nobody_left walk none left j b there = by (plays part b) refl
-    where
-      by : (t : Bool) → plays part b ≡ t → t ≡ false
-      by false e = refl
-      by true e = let found = left j b there e in absurd (subst (IsIn found.0) none found.1)
-
   -- those with keys so far
   pub none_so_far : (key : ℕ) → ((j : ℕ) (b : Body) → j < key → body_under o j ≡ Some b → plays part b ≡ false) →
       ((b : Body) → body_under o key ≡ Some b → plays part b ≡ false) → (j : ℕ) (b : Body) → j < key + 1 → body_under o j ≡ Some b → plays part b ≡ false
@@ -140,12 +113,3 @@ module _ (o : Filed) (filed : IsFiled o) (part : Part) where
       let entry = entry_there o (whose part) key filed (sym here) in
       subst (λ t. Tells t j) (sym (is entry.0 entry.1))
       (told_all j b found.0 (lead_by (sort_of part) (whose part)) there found.1 key entry.0 (sym here) entry.1)
-
--- those who wait at a port lead there
-pub players_lead : (o : Filed) → IsFiled o → (port : Who) (key : ℕ) → Some key ≡ key_of o port → (walk : List ℕ) →
-    AreLeaders (owner o) (node_of key 2) walk → (j : ℕ) (b : Body) → body_under o j ≡ Some b → plays (Parked port) b ≡ true → (n : ℕ) × IsIn n walk
-    × (n / 5 ≡ j)
-players_lead o filed port key here walk are j b there on =
-    let led = plays-led (Parked port) b on in
-    let found = leads_by o filed port key (sym here) j b led.0 there led.1 in
-    (node_of j led.0, are.all (node_of j led.0) found.0 found.1, found.2)

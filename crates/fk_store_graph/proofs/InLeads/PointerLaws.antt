@@ -21,12 +21,12 @@ use Rattle.fk_store_graph.specs.Hints.Leads.{lead_by, first, pointer, peer, serv
 use Rattle.fk_store_graph.specs.Leads.Held.{is_held}
 use Rattle.fk_store_graph.specs.Leads.Leading.{leading, is_single, is_reference, may_tell, pointed, pointed_by, target}
 use Rattle.fk_store_graph.specs.Leads.Names.{same_who}
-use Rattle.fk_store_graph.specs.Leads.Parts.{plays, is_thread, is_service, is_parked, whose, sort_of}
+use Rattle.fk_store_graph.specs.Leads.Parts.{plays, is_thread, is_service, whose, sort_of}
 use Rattle.fk_store_graph.specs.Leads.Pointers.{hit, hits_in, pointer_hits, peer_hits, talk_hits, fault_hits, body_hits}
 use Rattle.fk_store_graph.specs.Leads.Sweeps.{after, or_dead, body_after}
 use Rattle.fk_store_graph.specs.declared.leads.sweeps.Sweep.{Sweep}
 use Rattle.fk_store_graph.specs.declared.leads.parts.Part.{Part}
-use Rattle.fk_store_graph.specs.declared.leads.parts.Part.TheVariants.{Client, Faulter, Guest, Parked}
+use Rattle.fk_store_graph.specs.declared.leads.parts.Part.TheVariants.{Client, Faulter, Guest}
 use Rattle.fk_store_graph.proofs.InLeads.NameLaws.{same_who_eq, same_who_refl}
 
 -- ---- pointers by field
@@ -387,12 +387,6 @@ plays-led (Guest port) (Thread thread) h = (2, go thread.talk h)
         and_then (λ (talk : talks_of.Talk). server talk.port talk.peer) o ≡ Some (lead_by Served port)
     go None h = absurd (cc)
     go (Some talk) h = let both = both_true (same_who talk.port port) (is_service talk.peer) h in peers_of talk.port talk.peer both.0 both.1
-plays-led (Parked port) (Thread thread) h = (0, go thread.talk h)
-  where
-    go : (o : Option talks_of.Talk) → holds (λ (talk : talks_of.Talk). same_who talk.port port && is_parked talk.peer) o ≡ true →
-        and_then (λ (talk : talks_of.Talk). Some (lead_by Pointer talk.port)) o ≡ Some (lead_by Pointer port)
-    go None h = absurd (cc)
-    go (Some talk) h = same_some Pointer talk.port port (both_true (same_who talk.port port) (is_parked talk.peer) h).0
 
 -- ---- those whose pointers lead there
 

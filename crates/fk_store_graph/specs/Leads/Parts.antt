@@ -10,10 +10,10 @@ use Rattle.fk_model.specs.declared.body.Body.{Body}
 use Rattle.fk_model.specs.declared.body.Body.TheVariants.{Mutex, Cond, Mapping, Region, Port, Portset, Space, Thread, Reference}
 use Rattle.fk_model.specs.Objects.{holds}
 use Rattle.fk_store_graph.specs.declared.leads.parts.Part.{Part}
-use Rattle.fk_store_graph.specs.declared.leads.parts.Part.TheVariants.{Client, Faulter, Guest, Parked}
+use Rattle.fk_store_graph.specs.declared.leads.parts.Part.TheVariants.{Client, Faulter, Guest}
 use Rattle.fk_store_graph.specs.Leads.Names.{same_who}
 use Rattle.fk_store_graph.specs.declared.hints.lead.Sort.{Sort}
-use Rattle.fk_store_graph.specs.declared.hints.lead.Sort.TheVariants.{Pointer, Served, Taken}
+use Rattle.fk_store_graph.specs.declared.hints.lead.Sort.TheVariants.{Served, Taken}
 
 abbrev pub is_thread : Who → Peer → Bool
 is_thread who (peers.Thread other) = same_who other who
@@ -25,17 +25,11 @@ is_service (peers.Thread other) = false
 is_service peers.Service = true
 is_service peers.Parked = false
 
-abbrev pub is_parked : Peer → Bool
-is_parked (peers.Thread other) = false
-is_parked peers.Service = false
-is_parked peers.Parked = true
-
 -- a thread plays a part
 abbrev pub thread_plays : Part → threads_of.Thread → Bool
 thread_plays (Client server) t = holds (λ (talk : talks_of.Talk). is_thread server talk.peer) t.talk
 thread_plays (Faulter taker) t = holds (λ (fault : faults_of.Fault). holds (is_thread taker) fault.taker) t.fault
 thread_plays (Guest port) t = holds (λ (talk : talks_of.Talk). same_who talk.port port && is_service talk.peer) t.talk
-thread_plays (Parked port) t = holds (λ (talk : talks_of.Talk). same_who talk.port port && is_parked talk.peer) t.talk
 
 abbrev pub plays : Part → Body → Bool
 plays part (Mutex locked) = false
@@ -53,10 +47,8 @@ abbrev pub whose : Part → Who
 whose (Client server) = server
 whose (Faulter taker) = taker
 whose (Guest port) = port
-whose (Parked port) = port
 
 abbrev pub sort_of : Part → Sort
 sort_of (Client server) = Served
 sort_of (Faulter taker) = Taken
 sort_of (Guest port) = Served
-sort_of (Parked port) = Pointer

@@ -6,7 +6,7 @@ pub use Rattle.fk_store_graph.specs.declared.links.links.Link.{Link}
 pub use Rattle.fk_store_graph.specs.declared.leads.nudges.Nudge.{Nudge}
 pub use Rattle.fk_store_graph.specs.declared.leads.nudges.Nudge.TheVariants.{Counts, Passes, Stops}
 pub use Rattle.fk_store_graph.specs.declared.leads.parts.Part.{Part}
-pub use Rattle.fk_store_graph.specs.declared.leads.parts.Part.TheVariants.{Client, Faulter, Guest, Parked}
+pub use Rattle.fk_store_graph.specs.declared.leads.parts.Part.TheVariants.{Client, Faulter, Guest}
 pub use Rattle.fk_store_graph.specs.declared.leads.sweeps.Sweep.{Sweep}
 pub use Rattle.fk_store_graph.specs.declared.hints.lead.Lead.{Lead}
 pub use Rattle.fk_store_graph.specs.declared.hints.lead.Sort.{Sort}

@@ -34,7 +34,7 @@ ghost use Rattle.fk_store_graph.specs.Linked.Sweeps.{body_after};
 ghost use Rattle.fk_store_graph.specs.Bodies.Threads.{proceeded};
 
 use crate::bodies::leaders::Leaders;
-use crate::bodies::scans::{first_leading, first_told, told_of_part};
+use crate::bodies::scans::{first_told, told_of_part};
 use crate::leads::{Nudge, Part, Sweep, birth_of, counted, ends, is_held};
 use crate::linked::{
     aim, free_all, home_of, leave, link_all, make_room, mark_again, mark_all, rename_all, replace,
@@ -237,16 +237,7 @@ impl Bodies {
     {
         self.objects.filed();
         let key = self.objects.key(part.whose())?;
-        match part {
-            Part::Parked(_port) => first_leading(
-                &self.objects,
-                part,
-                self.links.walk(head_of(key)),
-            ),
-            Part::Client(_) | Part::Faulter(_) | Part::Guest(_) => {
-                first_told(&self.objects, part, told_of_part(&self.objects, part, key))
-            }
-        }
+        first_told(&self.objects, part, told_of_part(&self.objects, part, key))
     }
 
     /// How many pointers of all bodies lead to an object.

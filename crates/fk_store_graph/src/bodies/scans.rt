@@ -1,7 +1,6 @@
 //! Who plays a part.
-ghost use Rattle.std.specs.Prelude.{◌≡◌, ◌<◌, ◌/◌, ℕ, IfSome, Some, None, true, false};
+ghost use Rattle.std.specs.Prelude.{◌≡◌, ◌<◌, ℕ, IfSome, Some, None, true, false};
 ghost use Rattle.fk_model.specs.declared.body.Body.{Body};
-ghost use Rattle.fk_model.proofs.walks.Members.{IsIn};
 ghost use Rattle.fk_store_graph.specs.Linked.Shapes.{Entry};
 ghost use Rattle.fk_store_graph.specs.Linked.Filed.{entry_under};
 ghost use Rattle.fk_store_graph.specs.Linked.Bodied.{body_under, Tells, told_by};
@@ -10,7 +9,6 @@ ghost use Rattle.fk_store_graph.specs.Bodies.Playing.{IsPlayer, NobodyPlays};
 
 use crate::leads::Part;
 use crate::linked::told_of;
-use crate::links::Walk;
 use fk_model::Who;
 use fk_store_cells::objects::{Objects, Told};
 
@@ -35,22 +33,6 @@ pub fn told_of_part(objects: &Objects, part: Part, key: u32) -> Told
         None => Told::Many,
         Some(entry) => told_of(entry.hints, part.sort()),
     }
-}
-
-/// One of those whose pointers lead to an object that plays this part; nothing where none does. Only
-/// they play it.
-pub fn first_leading(objects: &Objects, part: Part, mut walk: Walk<'_>) -> Option<Who>
-    requires { (j : ℕ) (b : Body) → body_under objects.now j ≡ Some b → plays part b ≡ true → (n : ℕ) × IsIn n walk × (n / 5 ≡ j) }
-    ensures some { IfSome result (IsPlayer objects.now part) }
-    ensures none { result ≡ None → NobodyPlays objects.now part }
-{
-    while let Some(node) = walk.next() {
-        let player = played_by(objects, part, node / 5);
-        if player.is_some() {
-            return player;
-        }
-    }
-    None
 }
 
 /// The object under a key, if it plays this part.

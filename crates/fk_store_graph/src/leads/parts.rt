@@ -15,8 +15,6 @@ pub enum Part {
     Faulter(Who),
     /// It is the client of this port's native server.
     Guest(Who),
-    /// Its talk waits at this port to be taken up.
-    Parked(Who),
 }
 
 impl Part {
@@ -25,7 +23,7 @@ impl Part {
         ensures { result ≡ parts.whose self }
     {
         match self {
-            Part::Client(who) | Part::Faulter(who) | Part::Guest(who) | Part::Parked(who) => who,
+            Part::Client(who) | Part::Faulter(who) | Part::Guest(who) => who,
         }
     }
 
@@ -36,7 +34,6 @@ impl Part {
         match self {
             Part::Client(_) | Part::Guest(_) => Sort::Served,
             Part::Faulter(_) => Sort::Taken,
-            Part::Parked(_) => Sort::Pointer,
         }
     }
 
@@ -72,10 +69,6 @@ impl Part {
             Part::Guest(port) => match thread.talk {
                 None => false,
                 Some(talk) => talk.port == port && matches!(talk.peer, Peer::Service),
-            },
-            Part::Parked(port) => match thread.talk {
-                None => false,
-                Some(talk) => talk.port == port && matches!(talk.peer, Peer::Parked),
             },
         }
     }

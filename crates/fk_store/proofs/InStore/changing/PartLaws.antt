@@ -8,26 +8,24 @@ use Rattle.fk_model.specs.declared.thread.Fault as faults_of
 use Rattle.fk_model.specs.declared.thread.Thread as threads_of
 use Rattle.fk_model.specs.declared.body.Body as bodies_of
 use Rattle.fk_model.specs.declared.body.Body.TheVariants as bodies
-use Rattle.fk_model.specs.LinkRows as links
 use Rattle.fk_model.specs.Places.{Path, leads_to}
 use Rattle.fk_model.specs.Places.Ptr.{At}
 use Rattle.fk_model.specs.Objects.{Talk, Fault, thread_of, holds}
 use Rattle.fk_model.specs.Searches as searches
 use Rattle.fk_model.specs.World.{serves}
 use Rattle.fk_store_graph.specs.declared.leads.parts.Part.{Part}
-use Rattle.fk_store_graph.specs.declared.leads.parts.Part.TheVariants.{Client, Faulter, Guest, Parked}
+use Rattle.fk_store_graph.specs.declared.leads.parts.Part.TheVariants.{Client, Faulter, Guest}
 use Rattle.fk_store.specs.Store.Names.{same_who}
 use Rattle.fk_store.specs.Store.Paths.{place, HasOwnPath}
 use Rattle.fk_store.specs.Store.Bodies.{peer_by, talk_by, fault_by, thread_by, body_by}
 use Rattle.fk_store.specs.Store.Named.{Each, OnPeer, OnTalk, OnFault, OnNamed}
-use Rattle.fk_store.specs.Freezing.Parts.{is_thread, is_service, is_parked, thread_plays, plays}
+use Rattle.fk_store.specs.Freezing.Parts.{is_thread, is_service, thread_plays, plays}
 use Rattle.fk_store.specs.Store.Parts.{played}
 
 pub nobody : (p : ℕ → Path) (part : Part) → played p part None ≡ false
 nobody p (Client server) = refl
 nobody p (Faulter taker) = refl
 nobody p (Guest port) = refl
-nobody p (Parked port) = refl
 
 module _ (p : ℕ → Path) where
   led : (who other : Who) → HasOwnPath p other → same_who other who ≡ leads_to (place p who) (At (place p other))
@@ -46,11 +44,6 @@ module _ (p : ℕ → Path) where
   service-by (peers.Thread other) = refl
   service-by peers.Service = refl
   service-by peers.Parked = refl
-
-  parked-by : (peer : Peer) → is_parked peer ≡ links.is_parked (Some (peer_by p peer))
-  parked-by (peers.Thread other) = refl
-  parked-by peers.Service = refl
-  parked-by peers.Parked = refl
 
   talk-by : (f : talks_of.Talk → Bool) (g : Talk → Bool) → ((talk : talks_of.Talk) → OnTalk (HasOwnPath p) talk → f talk ≡ g (talk_by p talk)) →
       (o : Option talks_of.Talk) → Each (OnTalk (HasOwnPath p)) o → holds f o ≡ holds g (option_map (talk_by p) o)
@@ -72,8 +65,6 @@ module _ (p : ℕ → Path) where
       fault-by _ (λ fault. holds (serves (place p taker)) fault.taker) (λ fault on. taker-by taker fault.taker on.1) t.fault h.1
   thread_plays-by (Guest port) t h = talk-by _ (λ talk. leads_to (place p port) talk.port && searches.is_service talk.peer)
       (λ talk on. both-by _ _ _ _ (led port talk.port on.0) (service-by talk.peer)) t.talk h.0
-  thread_plays-by (Parked port) t h = talk-by _ (λ talk. leads_to (place p port) talk.port && links.is_parked (Some talk.peer))
-      (λ talk on. both-by _ _ _ _ (led port talk.port on.0) (parked-by talk.peer)) t.talk h.0
 
   pub plays-by : (part : Part) (b : bodies_of.Body) → OnNamed (HasOwnPath p) b → plays part b ≡ played p part (thread_of (body_by p b))
   plays-by part (bodies.Mutex locked) h = sym (nobody p part)

@@ -1,6 +1,5 @@
 //! Whom threads and native servers serve.
 ghost use Rattle.std.specs.Prelude.{◌≡◌, true, false, find, ◌&&◌, None, Some, IfSome, option_map, is_some};
-ghost use Rattle.fk_model.specs.LinkRows.{is_parked};
 ghost use Rattle.fk_model.specs.Objects.{Talk, holds, or_else};
 ghost use Rattle.fk_model.specs.Places.{Path, leads_to};
 ghost use Rattle.fk_model.specs.Searches as searches;
@@ -55,19 +54,6 @@ impl Store {
         ensures live { Each (IsLive self.now) result }
     {
         self.first(Part::Guest(port))
-    }
-
-    /// A thread whose talk waits at a port to be taken up; nothing where there is none.
-    pub fn parked_at(&self, port: Who) -> Option<Who>
-        ensures some { IfSome result (λ client.
-            holds (λ (talk : Talk). leads_to (place_of self.now port) talk.port && is_parked (Some talk.peer))
-            (talk_at (world self.now) (place_of self.now client)) ≡ true) }
-        ensures none { result ≡ None → (x : Path)
-            → holds (λ (talk : Talk). leads_to (place_of self.now port) talk.port && is_parked (Some talk.peer))
-            (talk_at (world self.now) x) ≡ false }
-        ensures live { Each (IsLive self.now) result }
-    {
-        self.first(Part::Parked(port))
     }
 
     /// Somebody who plays a part.
