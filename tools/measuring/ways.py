@@ -91,6 +91,34 @@ def million_replayed(meter):
     return meter.best(["replay", "t"], scenes.noting(1_000_000))
 
 
+def record_written(meter):
+    """The processor's time of a record of 400,000 notes, beside the run of which it is, with its trace."""
+    scene = scenes.handing_over(1_000_000)
+    return meter.best(["record", "t", "all"], scene) - meter.best(["run", "--trace", "t"], scene)
+
+
+def record_read(meter):
+    """The processor's time of a replay of no move, which reads that record."""
+    scene = scenes.handing_over(1_000_000)
+    meter.call(["record", "t", "all"], scene)
+    meter.write("t.trc", TRACE)
+    return meter.best(["replay", "t"], scene)
+
+
+def resident_recorded(meter):
+    """The most memory of that `record`, beyond the run of which it is, with its trace."""
+    scene = scenes.handing_over(1_000_000)
+    return meter.resident(["record", "t", "all"], scene) - meter.resident(["run", "--trace", "t"], scene)
+
+
+def resident_replayed(meter):
+    """The most memory of the replay of no move by that record, beyond a play of none."""
+    scene = scenes.handing_over(1_000_000)
+    meter.call(["record", "t", "all"], scene)
+    meter.write("t.trc", TRACE)
+    return meter.resident(["replay", "t"], scene) - meter.resident(["play", "t"], scene)
+
+
 def million_at_random(threads, spaces):
     """The processor's time of `play` of a million moves that are drawn at random from so many threads."""
 

@@ -1,7 +1,7 @@
 """The files of cases that are made by this reading.
 
 Of most what is asked stands in the file and in files beside it, as a program chose it once, and what is answered is made. Those that cut
-and change an image are made whole of that image, with the pieces of it that they name.
+and change an image are made whole of that image, with the pieces of it that they name, and those that cut a record whole of that record.
 """
 from . import cases, commands, families, images
 
@@ -197,9 +197,24 @@ def sends_pages_changed():
     return writing.text()
 
 
+def records_cut():
+    """A record cut at each length, and replayed with its trace: that of record.cases of which all replays."""
+    case = next(case for case in cases.read(cases.FOLDER / "record.cases").cases if case.heading == "case all of it replays")
+    words, source, files = case.question()
+    lines = [f"words {' '.join(words)}", "source", *cases.spelled(source), "file t.trc", *cases.spelled(files["t.trc"])]
+    out = []
+    for length in range(len(files["t.rec"])):
+        octets = files["t.rec"][:length]
+        answer = commands.answer(words, source, {**files, "t.rec": octets})
+        out += ["", f"{'again' if length else 'case'} the record cut after {length} bytes", *lines, "file t.rec", *cases.spelled(octets), *answer.text()]
+        lines = []
+    return "\n".join([*out[1:], ""])
+
+
 WHOLE = {
     "fields-cut": fields_cut, "fields-changed": fields_changed, "restored-cut": restored_cut, "restored-changed": restored_changed,
     "sends-cut": sends_cut, "sends-changed": sends_changed, "sends-pages-changed": sends_pages_changed,
+    "records-cut": records_cut,
 }
 ANSWERED = (
     "plays", "plays-objects", "plays-memory", "plays-messages", "plays-references", "plays-states", "plays-servers", "check", "texts",

@@ -240,21 +240,25 @@ pub fn fluke_alone<R: Source, W: Sink, H: Shelf>(
 /// scenario with N processes that `fk_gen` makes, and writes one line of it. NAME is 1 to 32 characters of `a` to `z`, `0` to `9` and `_`,
 /// and N is 1 to 100. Each worker passes the gate before its turns.
 ///
-/// The status of the outcome says how the call ended. `Usage` comes exactly for words that are no command, and leaves the source, the sink
-/// and the shelf as they were. Unless a read, a write, a get, a put or the memory failed, the outcome and the output are those that the
-/// bytes of the source and the files of the shelf call for: where these are told, those that are told, and some that they may have held
-/// where not. `ReadFault`, `WriteFault` and `ShelfFault` come only where that object's count of faults rose in this call: `ShelfFault` of a
-/// get, of `play` only once the scenario is accepted and of `run` once one is that needs an image: there is no report, and no file has
-/// changed; that of a put, with the run's report, only once the run is made: what was to be put before that is put, and no other file has
-/// changed but that one; `WriteFault` only once all is done but the writing. `NoMemory` comes where there is no memory for the text, for
-/// what is made of it, or for the output.
+/// `record NAME WATCH` does what `run --trace NAME` does, by one thread alone, and last puts the record of what the observer of that watch sees
+/// at each native server that is no console, as `NAME.rec`. `replay NAME` does what `play NAME` does, with servers that give the replies of that
+/// record. Where the observer has seen the replies it comes to the same status, report and text.
+///
+/// The status of the outcome says how the call ended. `Usage` comes exactly for words that are no command, and leaves the source, the
+/// sink and the shelf as they were. Unless a read, a write, a get, a put or the memory failed, the outcome and the output are those
+/// that the bytes of the source and the files of the shelf call for: where these are told, those that are told, and some that they may
+/// have held where not. `ReadFault`, `WriteFault` and `ShelfFault` come only where that object's count of faults rose in this call:
+/// `ShelfFault` of a get, of `play` and `replay` only once the scenario is accepted and of `run` and `record` once one is that needs an
+/// image: there is no report, and no file has changed; that of a put, with the run's report, only once the run is made: what was to be
+/// put before that is put, and no other file has changed but that one; `WriteFault` only once all is done but the writing. `NoMemory`
+/// comes where there is no memory for the text, for what is made of it, or for the output.
 ///
 /// Right input is answered: where the words are a command, its text or its scenario is accepted, each image and the trace that it needs are
 /// there, spelled and legal, and no count of faults rises, the call ends with `Ok`, `JobRefused` or `Budget`, its whole output written and
 /// all puts made, or with `NoMemory`.
 ///
 /// The whole output is written after `Ok`, `JobRefused` and `Budget`, a prefix of it after `WriteFault`, and nothing otherwise. A run alone
-/// changes files of the shelf, and of these only such as have the name of an image, and the trace that it is to put. Which ones is said
+/// changes files of the shelf, and of these only such as have the name of an image, and the trace and the record that it is to put. Which ones is said
 /// above for each end but `NoMemory`, where any of these may have changed.
 pub fn fluke_top<T: Threads + Wait + Sync, R: Source, W: Sink, H: Shelf, G: Gate + Sync>(
     rt: &T,

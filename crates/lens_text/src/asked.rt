@@ -32,6 +32,8 @@ pub enum Verb {
     Hunt,
     /// The first move in which two traces differ in what they do.
     Apart,
+    /// A record beside the moves that made it.
+    Record,
 }
 
 /// What the words of the command line ask for: the verb, its names and its moves.
@@ -50,13 +52,13 @@ pub struct Asked<'a> {
 
 /// What there is, where a word is wrong.
 const VERBS: &str =
-    "one of tree, steps, why, sums, image, words, page, plain, hunt, diff, --help, --version";
+    "one of tree, steps, why, sums, record, image, words, page, plain, hunt, diff, --help, --version";
 
 /// The most moves that a scenario's budget allows.
 const MOST: u64 = 1_000_000;
 
 /// The words of the verbs.
-const WORDS: [&str; 12] = [
+const WORDS: [&str; 13] = [
     "tree",
     "steps",
     "why",
@@ -69,6 +71,7 @@ const WORDS: [&str; 12] = [
     "plain",
     "hunt",
     "diff",
+    "record",
 ];
 
 /// What is expected behind each.
@@ -83,7 +86,8 @@ no word
 a name
 no word
 a number of schedules, perhaps the seed of the first, and perhaps --until quiet, --until fault or --until TEXT
-two names";
+two names
+a name";
 
 /// What is expected of a word behind a verb: a number of moves, or a name.
 const EXPECTED: &str = "a number of moves, 0 to 1000000
@@ -173,6 +177,7 @@ pub fn asked_in<'a>(line: &Sheet, words: &'a [String]) -> Option<Asked<'a>> {
         (9, 0) => Verb::Plain,
         (10, 1..=4) => return hunt_asked(line, rest),
         (11, 2) => Verb::Apart,
+        (12, 1) => Verb::Record,
         _ => {
             line.put_around(b"after ", word.as_str(), b": expected ");
             line.add(line_at(BEHIND, place as u64));

@@ -3,10 +3,11 @@
 //! instructions, calls and statuses in words.
 //!
 //! An image is shown one thing a line (`images`), a program so that what is written assembles to the same words (`words`), and a store as the
-//! tree of its spaces (`store`). A scenario with names is written without them (`plain`).
+//! tree of its spaces (`store`). A scenario with names is written without them (`plain`), and a record beside the moves that made it (`records`).
 //!
 //! It stands on `fk_causes` for the shelf, on `fk_isa` for the instruction in a word, on `fk_stages` for porters' calls, on `fk_asm` for
-//! programs, on `toml` and `toml_parser` for a scenario's text, on `fk_image` for images, and on `fk_store` for what stands there. It promises no more
+//! programs, on `toml` and `toml_parser` for a scenario's text, on `fk_image` for images, on `fk_store` for what stands there, and on `fk_record_text` and
+//! `fk_responders` for records and their notes. It promises no more
 //! than that each function ends, whatever bytes it is given.
 #![tactic(auto)]
 
@@ -20,6 +21,7 @@ mod instructions;
 mod plain;
 mod problem;
 mod programs;
+mod records;
 mod refusal;
 mod sheet;
 mod shown;
@@ -36,8 +38,9 @@ pub use instructions::push_instruction;
 pub use plain::push_plain;
 pub use problem::Problem;
 pub use programs::{Programs, Scene, programs_of, push_place};
+pub use records::{Noted, push_record};
 pub use refusal::refused_scenario;
-pub use sheet::{Sheet, line_at};
+pub use sheet::{Sheet, line_at, parted};
 pub use shown::Shown;
 pub use statuses::{HALTS, STATUSES};
 pub use store::{

@@ -12,6 +12,7 @@ pub const HELP: &[u8] = b"lens: shows what a program, a scenario, a trace and an
     lens steps NAME A B < SCENARIO    the same of the moves A to B, the last one included
     lens why NAME K < SCENARIO        after K moves of NAME.trc: why threads aren't ready, and who could end that
     lens sums NAME < SCENARIO         what went wrong in the run of NAME.trc: faults, refused calls, jobs that failed, who can't move
+    lens record NAME < SCENARIO       the record NAME.rec beside the moves of NAME.trc that made it: columns by tabs
     lens image NAME                   the image NAME.img, one thing a line
     lens image NAME OTHER             the lines by which NAME.img and OTHER.img differ: - NAME alone, + OTHER alone
     lens words < PROGRAM              the program's text, each word as a line that assembles to it

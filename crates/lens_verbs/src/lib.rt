@@ -3,7 +3,7 @@
 //! `lens_top` finds what the words ask for, and shows it: an image, a program's text, or a scenario's run, watched (`runs`). `Show` watches a
 //! run and writes what is asked for of it: `steps` has a line a move, `why` says of each thread that isn't ready what it waits for, `sums` what went
 //! wrong in the run, and `page` is the run as one HTML file; `jobs` says for these why jobs have failed. `hunt` runs a scenario by schedules that it
-//! draws, and `apart` compares two traces. It changes no file.
+//! draws, `apart` compares two traces, and `records` shows a record beside the moves that made it. It changes no file.
 //!
 //! It stands on `fk_first` for a scenario's run by a trace, watched, on `fk_commands` for scenarios and images; on `lens_text` for images, programs,
 //! what stands in a store and the words, on `fk_store`, `fk_natives`, `fk_jobs` and `fk_porters` for what is seen, on `fk_isa` for what an instruction
@@ -18,6 +18,7 @@ mod images;
 mod jobs;
 mod page;
 mod plain;
+mod records;
 mod runs;
 mod shows;
 mod steps;

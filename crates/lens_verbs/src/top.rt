@@ -4,6 +4,7 @@ use crate::help::{HELP, VERSION};
 use crate::hunt::show_hunt;
 use crate::images::{show_differences, show_image};
 use crate::plain::show_plain;
+use crate::records::show_record;
 use crate::runs::show_run;
 use fk_causes::{Shelf, Source};
 use lens_text::{Problem, Sheet, Shown, Verb, asked_in, push_words, source_text};
@@ -26,6 +27,7 @@ fn show<R: Source, H: Shelf>(sheet: &Sheet, words: &[String], source: &mut R, sh
                     Verb::Plain => show_plain(sheet, &text),
                     Verb::Hunt => show_hunt(sheet, &asked, &text, shelf),
                     Verb::Apart => show_apart(sheet, &asked, &text, shelf),
+                    Verb::Record => show_record(sheet, &asked, &text, shelf),
                     _ => show_run(sheet, &asked, &text, shelf),
                 }
             }

@@ -28,15 +28,15 @@ pub struct Steps {
     /// The trace's own line, the move's number, who moves, and what that does where it isn't to send words, with tabs between them.
     head: String,
     /// The mover is to send words.
-    sends: bool,
+    pub sends: bool,
     /// To whom these go.
-    other: Option<Who>,
+    pub other: Option<Who>,
     /// The label and the line at which the mover was.
     place: String,
     /// The threads that the move may change.
     pub kept: Kept,
     /// What native servers were at.
-    servers: Vec<ServerState>,
+    pub servers: Vec<ServerState>,
 }
 
 impl Steps {

@@ -8,7 +8,7 @@ use lens_text::{Sheet, push_between};
 /// What a native server is at: whose turn it is, how many words it was sent, and how many it has still to give.
 #[derive(Clone, Copy)]
 pub struct ServerState {
-    side: Side,
+    pub side: Side,
     sent: usize,
     left: u8,
 }
