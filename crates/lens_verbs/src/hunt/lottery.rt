@@ -124,18 +124,21 @@ impl Lottery {
 
     /// Looks at the threads that may be ready.
     fn look_at_threads(&mut self, core: &Run) -> Result<(), NoMemory> {
+        let last = core.last_thread();
+        let mut is_met = false;
         let mut at = core.next_thread(None);
         for _ in 0..WIDTH {
             let Some(who) = at else {
-                break;
+                return Ok(());
             };
             self.entrants.push(Entrant::Thread(who))?;
+            is_met = is_met || last == Some(who);
             at = core.next_thread(at);
         }
-        // Who moved last stands last, and may go on all the same.
-        if let (Some(_), Some(last)) = (at, core.last_thread()) {
-            if core.kernel().waits().is_last(last) {
-                self.entrants.push(Entrant::Thread(last))?;
+        // Who moved last stands behind those, and may go on all the same.
+        if let Some(who) = last {
+            if at.is_some() && !is_met && runs(core, who) {
+                self.entrants.push(Entrant::Thread(who))?;
             }
         }
         Ok(())
