@@ -95,9 +95,11 @@ fn port_of(core: &Run, who: Who) -> Option<Who> {
 
 /// The place of the native server of a port.
 fn place_of(core: &Run, port: Who) -> Option<usize> {
-    for (place, (one, _)) in core.services().iter().enumerate() {
-        if *one == port {
-            return Some(place);
+    for place in 0..core.services().len() {
+        if let Some((one, _)) = core.services().get(place) {
+            if *one == port {
+                return Some(place);
+            }
         }
     }
     None

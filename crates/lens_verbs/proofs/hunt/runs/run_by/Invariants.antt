@@ -5,7 +5,7 @@ use Rattle.lens_verbs.proofs.hunt.runs.run_by.Given as goal
 
 -- the table fits the servers still, and the core was come to by a run
 abbrev pub invariant-loop : goal.invariant-loop
-invariant-loop l = record {
+invariant-loop g l = record {
   fits : AllFit (map (λ r. r.rule) l.table.list.items) l.core.services.list;
   come : IsGoing l.core;
 }
