@@ -1,7 +1,10 @@
 //! Many schedules of one scenario.
 ghost use Rattle.std.specs.Prelude.{map};
+ghost use Rattle.fk_core.specs.Cores.Goings.{IsGoing};
+ghost use Rattle.fk_core.specs.Cores.Served.{AllFit};
 ghost use Rattle.fk_scenario.specs.Scenario.Kept.{KeepsScenario, HasRules};
 
+use crate::hunt::drawing::Run;
 use crate::hunt::ends::push_ending;
 use crate::hunt::kinds::{Kinds, Until};
 use crate::hunt::lottery::Lottery;
@@ -30,7 +33,35 @@ pub struct Found {
     pub lines: String,
 }
 
-/// Runs a scenario by the schedule with a number, and gives how that ends, in a line; the moves are those that it made.
+/// How a run has ended, in a line.
+fn ending_of(alloc: Global, core: &Run) -> Result<String, NoMemory> {
+    let sheet = Sheet::new(alloc);
+    push_ending(&sheet, core)?;
+    if sheet.problem().is_some() {
+        return Err(NoMemory);
+    }
+    let whole = Sheet::new(alloc);
+    Ok(whole.taken(sheet))
+}
+
+/// Makes the moves of the schedule with a number from a core on, and gives how that ends, in a line; the moves are those that it made.
+fn end_from(
+    alloc: Global,
+    mut core: Run,
+    table: &Table,
+    number: u64,
+    moves: &mut Vec<Move>,
+) -> Result<String, NoMemory>
+    requires fits { AllFit (map (λ r. r.rule) table.now.list.items) core.services.list }
+    requires come { IsGoing core }
+{
+    moves.clear();
+    let mut lottery = Lottery::new(alloc, number);
+    run_by(&mut core, table, &mut lottery, moves)?;
+    ending_of(alloc, &core)
+}
+
+/// Makes the moves of the schedule with a number from a scenario's first core on, and gives how that ends, in a line.
 fn end_by(
     alloc: Global,
     table: &Table,
@@ -42,17 +73,8 @@ fn end_by(
     requires keeps { KeepsScenario scenario.now }
     requires rules { HasRules (map (λ r. r.rule) table.now.list.items) scenario.now }
 {
-    moves.clear();
-    let mut core = first_core(alloc, scenario, images)?;
-    let mut lottery = Lottery::new(alloc, number);
-    run_by(&mut core, table, &mut lottery, moves)?;
-    let sheet = Sheet::new(alloc);
-    push_ending(&sheet, &core)?;
-    if sheet.problem().is_some() {
-        return Err(NoMemory);
-    }
-    let whole = Sheet::new(alloc);
-    Ok(whole.taken(sheet))
+    let core = first_core(alloc, scenario, images)?;
+    end_from(alloc, core, table, number, moves)
 }
 
 /// Runs the schedules of a hunt, counts their ends, and gives the number of the one that was sought, if it came.
