@@ -44,24 +44,37 @@ fn ending_of(alloc: Global, core: &Run) -> Result<String, NoMemory> {
     Ok(whole.taken(sheet))
 }
 
-/// Makes the moves of the schedule with a number from a core on, and gives how that ends, in a line; the moves are those that it made.
+/// Makes the moves of the schedule with a number from a core on.
+fn draw_all(
+    alloc: Global,
+    core: &mut Run,
+    table: &Table,
+    number: u64,
+    moves: &mut Vec<Move>,
+) -> Result<(), NoMemory>
+    requires fits { AllFit (map (λ r. r.rule) table.now.list.items) core.old.services.list }
+    requires come { IsGoing core.old }
+{
+    let mut lottery = Lottery::new(alloc, number);
+    run_by(core, table, &mut lottery, moves)
+}
+
+/// Makes these moves, and gives how that ends, in a line.
 fn end_from(
     alloc: Global,
-    mut core: Run,
+    core: &mut Run,
     table: &Table,
     number: u64,
     moves: &mut Vec<Move>,
 ) -> Result<String, NoMemory>
-    requires fits { AllFit (map (λ r. r.rule) table.now.list.items) core.services.list }
-    requires come { IsGoing core }
+    requires fits { AllFit (map (λ r. r.rule) table.now.list.items) core.old.services.list }
+    requires come { IsGoing core.old }
 {
-    moves.clear();
-    let mut lottery = Lottery::new(alloc, number);
-    run_by(&mut core, table, &mut lottery, moves)?;
-    ending_of(alloc, &core)
+    draw_all(alloc, core, table, number, moves)?;
+    ending_of(alloc, core)
 }
 
-/// Makes the moves of the schedule with a number from a scenario's first core on, and gives how that ends, in a line.
+/// Runs a scenario by the schedule with a number, and gives how that ends, in a line; the moves are those that it made.
 fn end_by(
     alloc: Global,
     table: &Table,
@@ -73,8 +86,9 @@ fn end_by(
     requires keeps { KeepsScenario scenario.now }
     requires rules { HasRules (map (λ r. r.rule) table.now.list.items) scenario.now }
 {
-    let core = first_core(alloc, scenario, images)?;
-    end_from(alloc, core, table, number, moves)
+    moves.clear();
+    let mut core = first_core(alloc, scenario, images)?;
+    end_from(alloc, &mut core, table, number, moves)
 }
 
 /// Runs the schedules of a hunt, counts their ends, and gives the number of the one that was sought, if it came.
