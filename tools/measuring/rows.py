@@ -7,8 +7,8 @@ from measuring.crowds import HOLDS_AND_RELEASES, HOLDS_CROWD, HOLDS_OTHER, clien
 from measuring.scenes import ELSEWHERE, SEVEN, SHORT, looping
 from measuring.ways import (
     asked_by_restore, asked_by_save, beside_crowd, beyond_check, by_references, by_workers, counted, dear_event, each, event, exec_instruction,
-    million_at_random, million_played, million_recorded, million_replayed, noted, played, played_beyond_check, played_call, resident, resident_beyond,
-    restored, run_timed, saved, shown, soaked, timed,
+    million_at_random, million_played, million_recorded, million_replayed, noted, played, played_beyond_check, played_call, record_read, record_written,
+    resident, resident_beyond, resident_recorded, resident_replayed, restored, run_timed, saved, shown, soaked, tapped, timed,
 )
 
 # What rows are told in: machine instructions, milliseconds and megabytes.
@@ -110,6 +110,12 @@ def recording():
     yield "record-note", Row(noted())
     yield "record-million", timed_row(million_recorded)
     yield "replay-million", timed_row(million_replayed)
+    yield "record-write", timed_row(record_written)
+    yield "record-read", timed_row(record_read)
+    yield "tap-note", Row(tapped(scenes.noting, "said", 22_000, 66_000, 40 / 110))
+    yield "tap-words", Row(tapped(scenes.saying, "replies", 12_000, 36_000, 1 / 6))
+    yield "memory-record", Row(resident_recorded, MEMORY, "time")
+    yield "memory-replay", Row(resident_replayed, MEMORY, "time")
 
 
 def of_jobs():

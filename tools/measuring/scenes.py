@@ -123,6 +123,13 @@ def noting(budget):
     return scene.server("/9", "sum", config=[7])
 
 
+def saying(budget):
+    """A user that sends a native server 64 words, over and over, and never hands over: a note in 6 events."""
+    client = call(32, r1=1) + "next: " + call(37, r2=128, r3=64) + "jmp next"
+    scene = Scene(budget).space("/1", client, pages=[1, 2, 3]).object("/1/0", "thread").object("/1/1", "reference", to="/9")
+    return scene.server("/9", "sum", config=[])
+
+
 def handing_over(budget):
     """A user that hands over to a native server which replies nothing, over and over: 40 notes of a record in 100 events."""
     client = call(32, r1=1) + "set r4, 192\nset r5, 0\nnext: set r0, 35\ncall\njmp next"

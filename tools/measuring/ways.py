@@ -80,6 +80,19 @@ def noted(few=22_000, many=66_000):
     return measure
 
 
+def tapped(make, watch, few, many, notes):
+    """What a tap costs a note that its observer is asked about and doesn't see, beside the run with its trace, from two budgets; with so many notes an event."""
+
+    def measure(meter):
+        costs = []
+        for budget in (few, many):
+            without = meter.count(["run", "--trace", "t"], make(budget))
+            costs.append(meter.count(["record", "t", watch], make(budget)) - without)
+        return apart(*costs, (many - few) * notes)
+
+    return measure
+
+
 def million_recorded(meter):
     """The processor's time of a record of a million moves and 360,000 notes."""
     return meter.best(["record", "t", "all"], scenes.noting(1_000_000))
