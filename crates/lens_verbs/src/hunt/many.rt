@@ -44,7 +44,7 @@ fn ending_of(alloc: Global, core: &Run) -> Result<String, NoMemory> {
     Ok(whole.taken(sheet))
 }
 
-/// Makes the moves of the schedule with a number from a core on.
+/// Makes the moves of the schedule with a number from a core on, and adds them to the list.
 fn draw_all(
     alloc: Global,
     core: &mut Run,
@@ -74,7 +74,7 @@ fn end_from(
     ending_of(alloc, core)
 }
 
-/// Runs a scenario by the schedule with a number, and gives how that ends, in a line; the moves are those that it made.
+/// Runs a scenario by the schedule with a number, and gives how that ends, in a line; the moves that it made are added to the list.
 fn end_by(
     alloc: Global,
     table: &Table,
@@ -86,7 +86,6 @@ fn end_by(
     requires keeps { KeepsScenario scenario.now }
     requires rules { HasRules (map (λ r. r.rule) table.now.list.items) scenario.now }
 {
-    moves.clear();
     let mut core = first_core(alloc, scenario, images)?;
     end_from(alloc, &mut core, table, number, moves)
 }
@@ -106,6 +105,7 @@ fn sought(
     let mut moves = Vec::new(alloc);
     for place in 0..hunt.count {
         let number = hunt.first.wrapping_add(place);
+        moves.clear();
         let line = end_by(alloc, table, scenario, images, number, &mut moves)?;
         let is_met = hunt.until.is_met(line.as_str());
         kinds.count(line, number)?;
