@@ -1,5 +1,5 @@
 -- Names: entries by rising rank, and the number of a name.
-use Rattle.std.specs.Prelude.{◌≢◌, ◌+◌, ◌*◌, ◌/◌, ◌%◌, ◌^◌, ◌<◌, ◌≤◌, ℕ, ◌==◌, Bool, ◌&&◌, List, [], ◌∷◌, length, Option, Some, None}
+use Rattle.std.specs.Prelude.{◌≡◌, ◌≢◌, ◌+◌, ◌*◌, ◌/◌, ◌%◌, ◌^◌, ◌<◌, ◌≤◌, ℕ, ◌==◌, Bool, ◌&&◌, List, [], ◌∷◌, length, Option, Some, None}
 use Rattle.std.specs.Prelude.{if◌then◌else◌, slice_index_or}
 use Rattle.fk_model.specs.declared.names.Who.{Who}
 use Rattle.fk_waits.specs.declared.causes.names.Name.{Name}
@@ -25,6 +25,11 @@ AreAbove r (n ∷ l) = (r < rank n.who) × AreAbove r l
 abbrev pub IsRising : List Name → Type 0
 IsRising [] = Unit {0}
 IsRising (n ∷ l) = (n.who.slot < 256) × AreAbove (rank n.who) l × IsRising l
+
+-- each name is there once
+abbrev pub AreOnce : List Name → Type 0
+AreOnce [] = Unit {0}
+AreOnce (n ∷ l) = (key_at l n.who ≡ None) × AreOnce l
 
 -- there is room for so many more
 abbrev pub HasRoom : List Name × ℕ → ℕ → Type 0

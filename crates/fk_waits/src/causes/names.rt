@@ -3,7 +3,7 @@ ghost use Rattle.std.specs.Prelude.{◌≡◌, ◌≢◌, ◌+◌, ◌≤◌, �
 ghost use Rattle.std.specs.Prelude.{if◌then◌else◌, slice_index_or};
 ghost use Rattle.std.specs.Bool.{OnTrue};
 ghost use Rattle.fk_model.specs.declared.names.Who as names_of;
-ghost use Rattle.fk_waits.specs.Causes.Names.{hint_at, hint_place, is_same, key_at, nowhere, rank, AreHinted, HasRoom, IsRising};
+ghost use Rattle.fk_waits.specs.Causes.Names.{hint_at, hint_place, is_same, key_at, nowhere, rank, AreHinted, AreOnce, HasRoom, IsRising};
 ghost use Rattle.fk_waits.specs.declared.causes.names.Name as name_of;
 
 use fk_model::{NoMemory, Who};
@@ -196,6 +196,22 @@ impl Names {
         ensures { result ≡ length self.now.0 }
     {
         self.items.len()
+    }
+
+    /// Each name is there once. What the type keeps is seen where it is made alone; by this call it is had above.
+    pub fn once(&self)
+        ensures { AreOnce self.now.0 }
+    {
+        let _many = self.items.len();
+    }
+
+    /// The name at a place, with its number.
+    pub fn entry(&self, place: usize) -> Name
+        requires { place < length self.now.0 }
+        ensures name { (d : Name) → slice_index_or self.now.0 place d ≡ result }
+        ensures number { key_at self.now.0 result.who ≡ Some result.key }
+    {
+        self.items[place]
     }
 
     /// Makes room for so many more names. For want of memory there may be no more room than before.
