@@ -39,7 +39,7 @@ apart-more a b less = by (is_same a b) refl
     by false e = e
 
 -- and so is another rank
-same-rank : (a b : Who) → a.slot < 256 → b.slot < 256 → rank a ≡ rank b → is_same a b ≡ true
+pub same-rank : (a b : Who) → a.slot < 256 → b.slot < 256 → rank a ≡ rank b → is_same a b ≡ true
 same-rank a b low few is =
     let spaces : a.space ≡ b.space = omega (arith, low, few, is) in
     let slots : a.slot ≡ b.slot = omega (arith, spaces, is) in
