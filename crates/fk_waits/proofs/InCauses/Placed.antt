@@ -180,7 +180,8 @@ module _ (c : Causes) (q : Queues) (names : List Name × ℕ) (h : ℕ) (name : 
 
 -- ---- a queue goes
 
-module _ (c : Causes) (q : Queues) (names : List Name × ℕ) (h : ℕ) (name : Who) (there : key_at c.names.0 name ≡ Some h) (gone : shown_at q.lines h ≡ None) (others : (m : ℕ) → m ≢ h → shown_at q.lines m ≡ shown_at c.queues.lines m)
+module _ (c : Causes) (q : Queues) (names : List Name × ℕ) (h : ℕ) (name : Who) (there : key_at c.names.0 name ≡ Some h) (gone : shown_at q.lines h ≡ None)
+    (others : (m : ℕ) → m ≢ h → shown_at q.lines m ≡ shown_at c.queues.lines m)
     (taken : (other : Who) → key_at names.0 other ≡ (if is_same name other then None else key_at c.names.0 other))
     (fewer : length names.0 + 1 ≡ length c.names.0)
     (order : slab_len q.order ≡ slab_len c.queues.order) (lines : slab_len q.lines + 1 ≡ slab_len c.queues.lines) where

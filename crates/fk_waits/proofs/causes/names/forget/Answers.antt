@@ -8,8 +8,10 @@ returns-then-place-len-clause-others c l all = gone_near c.args.near.now.items c
 
 pub returns-then-place-len-clause-right : goal.returns-then-place-len-clause-right
 returns-then-place-len-clause-right c m l right left =
-    gone_right c.args.near.now.items c.place_near-place.result c.args.who (c.place_near-place.ensures ∙ ap (λ (n : ℕ). near_place n c.args.who) (omega (arith, c.len.ensures))) (omega (arith, c.if-place-len.true)) m l right left
+    gone_right c.args.near.now.items c.place_near-place.result c.args.who
+    (c.place_near-place.ensures ∙ ap (λ (n : ℕ). near_place n c.args.who) (omega (arith, c.len.ensures))) (omega (arith, c.if-place-len.true)) m l right left
 
 pub returns-else-place-len-clause-right : goal.returns-else-place-len-clause-right
 returns-else-place-len-clause-right c m l right left =
-    unset_right c.args.near.now.items c.place_near-place.result c.args.who (c.place_near-place.ensures ∙ ap (λ (n : ℕ). near_place n c.args.who) (omega (arith, c.len.ensures))) (omega (arith, c.if-place-len.false)) m l right left
+    unset_right c.args.near.now.items c.place_near-place.result c.args.who
+    (c.place_near-place.ensures ∙ ap (λ (n : ℕ). near_place n c.args.who) (omega (arith, c.len.ensures))) (omega (arith, c.if-place-len.false)) m l right left

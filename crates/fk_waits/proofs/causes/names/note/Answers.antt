@@ -20,4 +20,5 @@ returns-then-place-len-clause-right c l right is =
 
 pub returns-else-place-len-clause-mine : goal.returns-else-place-len-clause-mine
 returns-else-place-len-clause-mine c =
-    unset_mine c.args.near.now.items c.place_near-place.result c.args.who (c.place_near-place.ensures ∙ ap (λ (n : ℕ). near_place n c.args.who) (omega (arith, c.len.ensures))) (omega (arith, c.if-place-len.false))
+    unset_mine c.args.near.now.items c.place_near-place.result c.args.who
+    (c.place_near-place.ensures ∙ ap (λ (n : ℕ). near_place n c.args.who) (omega (arith, c.len.ensures))) (omega (arith, c.if-place-len.false))
