@@ -5,4 +5,4 @@ pub mod Moved
 pub mod Named
 pub mod Shown
 pub mod Steps
-pub mod Hints
+pub mod Near

@@ -6,30 +6,15 @@ use Rattle.fk_waits.specs.Queues.Nodes.{shown_at}
 use Rattle.fk_waits.specs.Causes.Names.{key_at}
 use Rattle.fk_waits.specs.Queues.Places.{AreFiled, IsHead, Place, SameHeads}
 use Rattle.fk_waits.specs.declared.queues.queues.Queues.{Queues}
-use Rattle.fk_waits.proofs.InQueues.Places.{filed_middle, keys_split}
-use Rattle.fk_waits.specs.Causes.Causes.{among, heads, kinds, ArePlaced}
+use Rattle.fk_waits.specs.Causes.Causes.{ArePlaced}
 use Rattle.fk_waits.specs.declared.causes.causes.Causes.{Causes}
-use Rattle.fk_waits.proofs.InCauses.Numbers.{among_last, among_middle, among_more, among_moved, among_rest, kinds_besides, kinds_last, kinds_middle, kinds_moved}
 use Rattle.fk_waits.proofs.InCauses.Placed.{with_queues}
-
-abbrev pub head_of : Place → ℕ
-head_of p = p.head
 
 abbrev pub at_head : Place → ℕ → Place
 at_head p h = record { key = p.key; node = p.node; who = p.who; head = h }
 
 abbrev pub with_name : Place → Who → Place
 with_name p who = record { key = p.key; node = p.node; who = who; head = p.head }
-
-heads_split : (a : List Place) (p : Place) (b : List Place) → heads (a ++ p ∷ b) ≡ heads a ++ p.head ∷ heads b
-heads_split a p b = keys_split head_of a (p ∷ b)
-
-heads_moved : (a b : List Place) (p : Place) → heads ((a ++ b) ++ p ∷ []) ≡ (heads a ++ heads b) ++ p.head ∷ []
-heads_moved a b p = keys_split head_of (a ++ b) (p ∷ []) ∙ ap (λ (l : List ℕ). l ++ p.head ∷ []) (keys_split head_of a b)
-
-pub same_heads : (a : List Place) (p : Place) (b : List Place) (who : Who) → heads (a ++ with_name p who ∷ b) ≡ heads (a ++ p ∷ b)
-same_heads [] p b who = refl
-same_heads (x ∷ a) p b who = ap (λ (l : List ℕ). x.head ∷ l) (same_heads a p b who)
 
 long_moved : (a b : List Place) (p x : Place) → length ((a ++ b) ++ x ∷ []) ≡ length (a ++ p ∷ b)
 long_moved a b p x =
@@ -64,44 +49,32 @@ module _ (c : Causes) (q : Queues) (same : SameHeads c.queues.lines q.lines) whe
   -- one goes to another queue
   pub moved : (head : ℕ) (a : List Place) (p : Place) (b : List Place) → ArePlaced c head (a ++ p ∷ b) → AreFiled q ((a ++ b) ++ at_head p head ∷ []) →
       slab_len q.order ≡ slab_len c.queues.order → slab_len q.lines ≡ slab_len c.queues.lines →
-      ArePlaced (with_queues c q) p.head ((a ++ b) ++ at_head p head ∷ [])
+      ArePlaced (with_queues c q) c.ready ((a ++ b) ++ at_head p head ∷ [])
   moved head a p b placed filed order lines = record {
     filed = filed;
     ready = stays.head_stays c.ready placed.ready;
-    free_head = stays.head_stays p.head (filed_middle c.queues.order c.queues.lines a p b placed.filed.filed).head;
-    idle = stays.head_stays c.idle placed.idle;
+    one = stays.head_stays c.ready placed.ready;
     known = stays.known_stays placed.known;
     found = stays.found_stays placed.found;
-    full = λ g is off.
-        ap (λ (l : List ℕ). among g (p.head ∷ c.idle ∷ l)) (heads_moved a b (at_head p head)) ∙ sym (among_moved g head p.head (c.idle ∷ heads a) (heads b))
-        ∙ ap (λ (l : List ℕ). among g (head ∷ c.idle ∷ l)) (sym (heads_split a p b)) ∙ placed.full g (same.none g is) off;
-    count = placed.count ∙ ap (λ (l : List ℕ). kinds c.ready (head ∷ c.idle ∷ l)) (heads_split a p b)
-        ∙ kinds_moved c.ready head p.head (c.idle ∷ heads a) (heads b)
-        ∙ ap (λ (l : List ℕ). kinds c.ready (p.head ∷ c.idle ∷ l)) (sym (heads_moved a b (at_head p head)));
     order = let long = long_moved a b p (at_head p head) in omega (arith, order, placed.order, long);
     lines = let long = long_moved a b p (at_head p head) in omega (arith, lines, placed.lines, long);
     few = let long = long_moved a b p (at_head p head) in omega (arith, placed.few, long);
+    many = placed.many;
   }
 
   -- one goes
   pub gone : (a : List Place) (p : Place) (b : List Place) → ArePlaced c c.ready (a ++ p ∷ b) → AreFiled q (a ++ b) →
-      slab_len q.order + 1 ≡ slab_len c.queues.order → slab_len q.lines + 1 ≡ slab_len c.queues.lines → ArePlaced (with_queues c q) p.head (a ++ b)
+      slab_len q.order + 1 ≡ slab_len c.queues.order → slab_len q.lines + 1 ≡ slab_len c.queues.lines → ArePlaced (with_queues c q) c.ready (a ++ b)
   gone a p b placed filed order lines = record {
     filed = filed;
     ready = stays.head_stays c.ready placed.ready;
-    free_head = stays.head_stays p.head (filed_middle c.queues.order c.queues.lines a p b placed.filed.filed).head;
-    idle = stays.head_stays c.idle placed.idle;
+    one = stays.head_stays c.ready placed.ready;
     known = stays.known_stays placed.known;
     found = stays.found_stays placed.found;
-    full = λ g is off.
-        ap (λ (l : List ℕ). among g (p.head ∷ c.idle ∷ l)) (keys_split head_of a b) ∙ sym (among_middle g (c.idle ∷ heads a) p.head (heads b))
-        ∙ ap (λ (k : List ℕ). among g (c.idle ∷ k)) (sym (heads_split a p b))
-        ∙ sym (among_rest g c.ready (c.idle ∷ heads (a ++ p ∷ b)) off) ∙ placed.full g (same.none g is) off;
-    count = placed.count ∙ kinds_besides c.ready (c.idle ∷ heads (a ++ p ∷ b)) ∙ ap (λ (k : List ℕ). kinds c.ready (c.idle ∷ k)) (heads_split a p b)
-        ∙ kinds_middle c.ready (c.idle ∷ heads a) p.head (heads b) ∙ ap (λ (l : List ℕ). kinds c.ready (p.head ∷ c.idle ∷ l)) (sym (keys_split head_of a b));
     order = let long = long_left a b p in omega (arith, order, placed.order, long);
     lines = let long = long_left a b p in omega (arith, lines, placed.lines, long);
     few = let long = long_left a b p in omega (arith, placed.few, long);
+    many = placed.many;
   }
 
   -- one comes
@@ -111,20 +84,13 @@ module _ (c : Causes) (q : Queues) (same : SameHeads c.queues.lines q.lines) whe
   come l p placed filed order lines seat = record {
     filed = filed;
     ready = stays.head_stays c.ready placed.ready;
-    free_head = stays.head_stays c.ready placed.ready;
-    idle = stays.head_stays c.idle placed.idle;
+    one = stays.head_stays c.ready placed.ready;
     known = stays.known_stays placed.known;
     found = stays.found_stays placed.found;
-    full = λ g is off.
-        among_more g c.ready (c.idle ∷ heads (l ++ p ∷ []))
-        (ap (λ (k : List ℕ). among g (c.idle ∷ k)) (keys_split head_of l (p ∷ []))
-        ∙ among_last g (c.idle ∷ heads l) p.head ∙ placed.full g (same.none g is) off);
-    count = placed.count ∙ sym (kinds_last c.ready (c.idle ∷ heads l) p.head)
-        ∙ ap (λ (k : List ℕ). kinds c.ready (c.idle ∷ k)) (sym (keys_split head_of l (p ∷ [])))
-        ∙ sym (kinds_besides c.ready (c.idle ∷ heads (l ++ p ∷ [])));
     order = let long = long_last l p in omega (arith, order, placed.order, long);
     lines = let long = long_last l p in omega (arith, lines, placed.lines, long);
     few = let long = long_last l p in omega (arith, seat, long);
+    many = placed.many;
   }
 
   -- one has another name
@@ -134,13 +100,11 @@ module _ (c : Causes) (q : Queues) (same : SameHeads c.queues.lines q.lines) whe
   named a p b who placed filed order lines = record {
     filed = filed;
     ready = stays.head_stays c.ready placed.ready;
-    free_head = stays.head_stays c.ready placed.ready;
-    idle = stays.head_stays c.idle placed.idle;
+    one = stays.head_stays c.ready placed.ready;
     known = stays.known_stays placed.known;
     found = stays.found_stays placed.found;
-    full = λ g is off. ap (λ (l : List ℕ). among g (c.ready ∷ c.idle ∷ l)) (same_heads a p b who) ∙ placed.full g (same.none g is) off;
-    count = placed.count ∙ ap (λ (l : List ℕ). kinds c.ready (c.ready ∷ c.idle ∷ l)) (sym (same_heads a p b who));
     order = let long = long_named a b p (with_name p who) in omega (arith, order, placed.order, long);
     lines = let long = long_named a b p (with_name p who) in omega (arith, lines, placed.lines, long);
     few = let long = long_named a b p (with_name p who) in omega (arith, placed.few, long);
+    many = placed.many;
   }

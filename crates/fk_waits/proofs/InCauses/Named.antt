@@ -85,15 +85,13 @@ module _ (c : Causes) (q : Queues) (names : List Name × ℕ) (h : ℕ) (from to
   cause_named filed = record {
     filed = filed;
     ready = head_now c.ready p.ready;
-    free_head = head_now c.ready p.ready;
-    idle = head_now c.idle p.idle;
+    one = head_now c.ready p.ready;
     known = λ n g is. known-now n g (is_same to n) refl (is_same from n) refl (sym (put n) ∙ is);
     found = λ n g is off. found-now n g is off (g == h) refl;
-    full = λ g is off. p.full g (head_was g is) off;
-    count = many ∙ p.count;
     order = order ∙ p.order;
     lines = omega (arith, lines, p.lines, many);
     few = p.few;
+    many = omega (arith, many, p.many);
   }
 
   -- what those in a queue wait for now

@@ -3,7 +3,7 @@ use Rattle.std.proofs.Common.{◌≡◌, ◌≢◌, ◌+◌, ◌<◌, ◌≤◌,
 use Rattle.std.proofs.Common.{None, IfSome, if◌then◌else◌, refl, sym, ap, ◌∙◌, arith, eq-eqb}
 use Rattle.std.proofs.lemmas.Bool.{and_parts, eqb-true}
 use Rattle.fk_model.specs.declared.names.Who.{Who}
-use Rattle.fk_waits.specs.Causes.Names.{is_same, key_at, rank, AreAbove, IsRising}
+use Rattle.fk_waits.specs.Causes.Names.{is_same, key_at, rank, AreAbove, AreOnce, IsRising}
 use Rattle.fk_waits.specs.declared.causes.names.Name.{Name}
 
 ne_by_eqb : (a b : ℕ) → (a == b) ≡ false → a ≢ b
@@ -19,6 +19,9 @@ same-ranks a b h = let both = same_is a b h in rw (both.0, both.1) refl
 
 pub same_who : (a b : Who) → is_same a b ≡ true → a ≡ b
 same_who a b h = let both = same_is a b h in λ i. record { space = both.0 i; slot = both.1 i }
+
+pub same_self : (a : Who) → is_same a a ≡ true
+same_self a = rw (eq-eqb a.space a.space refl, eq-eqb a.slot a.slot refl) refl
 
 -- a lower rank is another name
 apart-less : (a b : Who) → rank a < rank b → is_same a b ≡ false
@@ -36,7 +39,7 @@ apart-more a b less = by (is_same a b) refl
     by false e = e
 
 -- and so is another rank
-same-rank : (a b : Who) → a.slot < 256 → b.slot < 256 → rank a ≡ rank b → is_same a b ≡ true
+pub same-rank : (a b : Who) → a.slot < 256 → b.slot < 256 → rank a ≡ rank b → is_same a b ≡ true
 same-rank a b low few is =
     let spaces : a.space ≡ b.space = omega (arith, low, few, is) in
     let slots : a.slot ≡ b.slot = omega (arith, spaces, is) in
@@ -90,6 +93,10 @@ none-above : (l : List Name) (who : Who) → AreAbove (rank who) l → key_at l 
 none-above [] who above = refl
 none-above (n ∷ l) who above = rw (apart-more n.who who above.0) (none-above l who above.1)
 
+pub once : (l : List Name) → IsRising l → AreOnce l
+once [] rising = tt
+once (n ∷ l) rising = (none-above l n.who rising.1, once l rising.2)
+
 pub found : (l : List Name) (at : ℕ) (d : Name) (who : Who) → IsPlace (rank who) l at → at < length l → is_same (get_or l at d).who who ≡ true →
     key_at l who ≡ Some (get_or l at d).key
 found [] at d who place low same = absurd (omega (arith, low))
@@ -114,6 +121,29 @@ not_found (n ∷ l) zero d who place rising differs =
     rw (differs (omega arith)) (none-above l who (above-lower (rank who) (rank n.who) l place.0 rising.1))
 not_found (n ∷ l) (suc at) d who place rising differs =
     rw (apart-less n.who who place.0) (not_found l at d who place.1 rising.2 (λ low. differs (omega (arith, low))))
+
+-- and where it is
+pub record IsPlaced (l : List Name) (who : Who) (key : ℕ) : Type 0 where
+  pub place : ℕ
+  pub within : place < length l
+  pub is : (d : Name) → (get_or l place d).key ≡ key
+
+pub is_placed : (l : List Name) (who : Who) (key : ℕ) → key_at l who ≡ Some key → IsPlaced l who key
+is_placed [] who key is = absurd (cc)
+is_placed (n ∷ l) who key is = by (is_same n.who who) refl is (λ rest. is_placed l who key rest)
+  where
+    number : Option ℕ → ℕ
+    number None = key
+    number (Some k) = k
+
+    by : (t : Bool) → is_same n.who who ≡ t → (if is_same n.who who then Some n.key else key_at l who) ≡ Some key →
+        (key_at l who ≡ Some key → IsPlaced l who key) → IsPlaced (n ∷ l) who key
+    by true e is more =
+        let here : Some n.key ≡ Some key = rw e at is in record { place = 0; within = omega arith; is = λ d. ap number here }
+    by false e is more =
+        let rest = more (rw e at is) in
+        let low = rest.within in
+        record { place = suc rest.place; within = omega (arith, low); is = rest.is }
 
 -- ---- one more
 
@@ -220,7 +250,7 @@ halved_at_first l r = record {
   behind = λ k d from low. absurd (omega (arith, from, low));
 }
 
-any_default : (l : List Name) (k : ℕ) (d e : Name) → k < length l → get_or l k d ≡ get_or l k e
+pub any_default : (l : List Name) (k : ℕ) (d e : Name) → k < length l → get_or l k d ≡ get_or l k e
 any_default [] k d e low = absurd (omega (arith, low))
 any_default (n ∷ l) zero d e low = refl
 any_default (n ∷ l) (suc k) d e low = any_default l k d e (omega (arith, low))

@@ -1,10 +1,12 @@
 -- Steps: threads as they stand after each step of the queues of causes.
-use Rattle.std.proofs.Common.{◌≡◌, ◌≢◌, ◌≤◌, ◌+◌, ◌*◌, ◌==◌, ℕ, Bool, true, false, not, List, [], ◌∷◌, ◌++◌, length, map, Option, Some, None, is_some, IsSome}
-use Rattle.std.proofs.Common.{if◌then◌else◌, refl, sym, ap, subst, ◌∙◌, arith, eq-eqb}
+use Rattle.std.proofs.Common.{◌≡◌, ◌≢◌, ◌≤◌, ◌<◌, ◌+◌, ◌*◌, ◌==◌, ℕ, nat_lt, get_or, Bool, true, false, not, List, [], ◌∷◌, ◌++◌, length, map, Option, Some}
+use Rattle.std.proofs.Common.{None, is_some, IsSome, if◌then◌else◌, refl, sym, ap, subst, ◌∙◌, arith, eq-eqb}
+use Rattle.std.proofs.lemmas.Bool.{eqb-true, ltb-false}
+use Rattle.std.proofs.lemmas.Bool.Decides.{Decides-ltb}
 use Rattle.slab.specs.Slab.{slab_len, HasRoomFor}
 use Rattle.fk_model.specs.declared.names.Who.{Who}
 use Rattle.fk_waits.specs.Queues.Nodes.{shown_at}
-use Rattle.fk_waits.specs.Causes.Names.{is_same, key_at, HasRoom}
+use Rattle.fk_waits.specs.Causes.Names.{is_same, key_at, AreOnce, HasRoom}
 use Rattle.fk_waits.specs.declared.causes.names.Name.{Name}
 use Rattle.fk_waits.specs.Queues.Places.{first_at, front_of as front_at, in_queue, place_at, who_shown, AreFiled, IsHead, Place, SameHeads, SameRoom}
 use Rattle.fk_waits.specs.declared.queues.queues.Queues.{Queues}
@@ -12,13 +14,12 @@ use Rattle.fk_waits.proofs.InQueues.Places.{filed_middle}
 use Rattle.fk_waits.proofs.InQueues.Turned.{all_without}
 use Rattle.fk_waits.proofs.InQueues.Heads.{all_before, all_behind}
 use Rattle.fk_waits.proofs.InQueues.Walk.{head_is}
-use Rattle.fk_waits.specs.Causes.Causes.{among, cause_of, first_of, front_of, heads, recaused, standing_of, ArePlaced, AreStanding}
-use Rattle.fk_waits.specs.Causes.Causes.{HasSeat, IsRoomy, Stand, Standing}
+use Rattle.fk_waits.specs.Causes.Causes.{cause_of, first_of, front_of, recaused, standing_of, ArePlaced, AreStanding, AreTaken}
+use Rattle.fk_waits.specs.Causes.Causes.{HasSeat, IsEmpty, IsRoomy, Stand, Standing}
 use Rattle.fk_waits.specs.declared.causes.causes.Causes.{Causes}
-use Rattle.fk_waits.proofs.InCauses.Numbers.{among_first, among_more, among_swap, kinds_besides, kinds_swap, unlike}
-use Rattle.fk_waits.proofs.InCauses.Placed.{alike, alike_but, closed, freed, names_few, names_fewer, none_first, opened, settled, some_first, vacant_heads}
-use Rattle.fk_waits.proofs.InCauses.Placed.{turn_round, with_both, with_queues}
-use Rattle.std.proofs.lemmas.Bool.{or_from}
+use Rattle.fk_waits.proofs.InCauses.Numbers.{clash, unlike}
+use Rattle.fk_waits.proofs.InCauses.Order.{is_placed, IsPlaced}
+use Rattle.fk_waits.proofs.InCauses.Placed.{alike, alike_but, all_taken, at_queue, closed, none_first, opened, vacant_heads, with_both, with_queues}
 use Rattle.fk_waits.proofs.InCauses.Moved.{at_head, come, gone, moved, named, with_name}
 use Rattle.fk_waits.proofs.InCauses.Named.{cause_named, causes_named, causes_same}
 use Rattle.fk_waits.proofs.InCauses.Shown.{first_is, none_waits, parts, shown_long, shown_split, Parts}
@@ -35,6 +36,7 @@ roomy_still c q names room more roomy = record {
   order = omega (arith, room.order, roomy.order);
   lines = omega (arith, room.lines, roomy.lines);
   names = omega (arith, more, roomy.names);
+  most = roomy.most;
 }
 
 pub long_places : (c : Causes) (free : ℕ) (l : List Standing) (s : AreStanding c free l) → length s.places ≡ length l
@@ -48,18 +50,13 @@ seat_order c free h =
 pub seat_lines : (c : Causes) (free : ℕ) → HasSeat c free → HasRoomFor c.queues.lines 1
 seat_lines c free h =
     let long = long_places c free h.list h.standing in
-    let few = names_few c h.standing.places free h.standing.placed in
-    omega (arith, long, h.seat, few, h.standing.placed.lines, h.standing.roomy.lines)
+    omega (arith, long, h.seat, h.standing.placed.many, h.standing.placed.lines, h.standing.roomy.lines)
 
-pub open_room : (c : Causes) → Stand c c.ready → HasRoomFor c.queues.lines 1
-open_room c h =
-    let few = names_fewer c h.standing.places h.standing.placed in
-    omega (arith, few, h.standing.placed.few, h.standing.placed.lines, h.standing.roomy.lines)
+pub open_room : (c : Causes) → Stand c c.ready → length c.names.0 < c.most → HasRoomFor c.queues.lines 1
+open_room c h place = omega (arith, place, h.standing.placed.few, h.standing.placed.lines, h.standing.roomy.lines)
 
-pub put_room : (c : Causes) → Stand c c.ready → HasRoom c.names 1
-put_room c h =
-    let few = names_fewer c h.standing.places h.standing.placed in
-    omega (arith, few, h.standing.placed.few, h.standing.roomy.names)
+pub put_room : (c : Causes) → Stand c c.ready → length c.names.0 < c.most → HasRoom c.names 1
+put_room c h place = omega (arith, place, h.standing.roomy.names)
 
 -- ---- the middle of a list
 
@@ -116,45 +113,41 @@ module _ (c : Causes) (q : Queues) (same : SameHeads c.queues.lines q.lines) (ro
   roomy r = roomy_still c q c.names room (omega arith) r
 
   -- a thread goes to another queue
-  pub turned_so : (key head left : ℕ) → left ≡ (place_at c.queues key).head →
+  pub turned_so : (key head : ℕ) →
       ((a b : List Place) (p : Place) → AreFiled c.queues (a ++ p ∷ b) → p.key ≡ key → AreFiled q ((a ++ b) ++ at_head p head ∷ [])) →
       slab_len q.order ≡ slab_len c.queues.order → slab_len q.lines ≡ slab_len c.queues.lines →
       (a b : List Standing) (s : Standing) → AreStanding c head (a ++ s ∷ b) → s.key ≡ key →
-      AreStanding (with_queues c q) left ((a ++ b) ++ record { key = s.key; who = s.who; cause = cause_of c head } ∷ [])
-  turned_so key head left at filed order lines a b s standing is =
+      AreStanding (with_queues c q) c.ready ((a ++ b) ++ record { key = s.key; who = s.who; cause = cause_of c head } ∷ [])
+  turned_so key head filed order lines a b s standing is =
       let m = middle c head key a s b standing is in
       let p = m.split in
-      let here = left_is c head key left a s b m at in
       let kept = others p.before p.behind p.one m.placed.filed in
       let last : standing_of (with_queues c q) (at_head p.one head) ≡ record { key = s.key; who = s.who; cause = cause_of c head } =
       λ i. record {
         key = (p.mine i).key;
         who = (p.mine i).who;
-        cause = (if head == c.ready then None else who_shown (same.kept head standing.placed.free_head i));
+        cause = (if head == c.ready then None else who_shown (same.kept head standing.placed.one i));
       } in
       record {
         places = (p.before ++ p.behind) ++ at_head p.one head ∷ [];
         shown = shown_split (with_queues c q) (p.before ++ p.behind) (at_head p.one head ∷ [])
             ∙ (λ i. kept i ++ last i ∷ []) ∙ (λ i. (p.first i ++ p.last i) ++ record { key = s.key; who = s.who; cause = cause_of c head } ∷ []);
-        placed = subst (λ (n : ℕ). ArePlaced (with_queues c q) n ((p.before ++ p.behind) ++ at_head p.one head ∷ [])) (sym here)
-            (moved c q same head p.before p.one p.behind m.placed (filed p.before p.behind p.one m.placed.filed m.key_is) order lines);
+        placed = moved c q same head p.before p.one p.behind m.placed (filed p.before p.behind p.one m.placed.filed m.key_is) order lines;
         roomy = roomy standing.roomy;
       }
 
   -- a thread goes
-  pub gone_so : (key left : ℕ) → left ≡ (place_at c.queues key).head →
+  pub gone_so : (key : ℕ) →
       ((a b : List Place) (p : Place) → AreFiled c.queues (a ++ p ∷ b) → p.key ≡ key → AreFiled q (a ++ b)) →
       slab_len q.order + 1 ≡ slab_len c.queues.order → slab_len q.lines + 1 ≡ slab_len c.queues.lines →
-      (a b : List Standing) (s : Standing) → AreStanding c c.ready (a ++ s ∷ b) → s.key ≡ key → AreStanding (with_queues c q) left (a ++ b)
-  gone_so key left at filed order lines a b s standing is =
+      (a b : List Standing) (s : Standing) → AreStanding c c.ready (a ++ s ∷ b) → s.key ≡ key → AreStanding (with_queues c q) c.ready (a ++ b)
+  gone_so key filed order lines a b s standing is =
       let m = middle c c.ready key a s b standing is in
       let p = m.split in
-      let here = left_is c c.ready key left a s b m at in
       record {
         places = p.before ++ p.behind;
         shown = others p.before p.behind p.one m.placed.filed ∙ (λ i. p.first i ++ p.last i);
-        placed = subst (λ (n : ℕ). ArePlaced (with_queues c q) n (p.before ++ p.behind)) (sym here)
-            (gone c q same p.before p.one p.behind m.placed (filed p.before p.behind p.one m.placed.filed m.key_is) order lines);
+        placed = gone c q same p.before p.one p.behind m.placed (filed p.before p.behind p.one m.placed.filed m.key_is) order lines;
         roomy = roomy standing.roomy;
       }
 
@@ -169,7 +162,7 @@ module _ (c : Causes) (q : Queues) (same : SameHeads c.queues.lines q.lines) (ro
       let long = long_places c head l standing in
       let kept = alike c q c.names c.queues.order standing.places standing.placed.filed.filed same ∙ standing.shown in
       let last : standing_of (with_queues c q) p ≡ record { key = key; who = who; cause = cause_of c head } =
-      λ i. record { key = key; who = who; cause = (if head == c.ready then None else who_shown (same.kept head standing.placed.free_head i)) } in
+      λ i. record { key = key; who = who; cause = (if head == c.ready then None else who_shown (same.kept head standing.placed.one i)) } in
       record {
         places = standing.places ++ p ∷ [];
         shown = shown_split (with_queues c q) standing.places (p ∷ []) ∙ (λ i. kept i ++ last i ∷ []);
@@ -206,15 +199,17 @@ module _ (c : Causes) (q : Queues) (same : SameHeads c.queues.lines q.lines) (ro
 
 -- ---- a queue is found, or comes
 
+-- whichever queue a thread comes to, or leaves
+pub queue_so : (c : Causes) (g h : ℕ) (l : List Standing) → AreStanding c g l → IsHead c.queues.lines h → AreStanding c h l
+queue_so c g h l standing head = record {
+  places = standing.places;
+  shown = standing.shown;
+  placed = at_queue c g h standing.places standing.placed head;
+  roomy = standing.roomy;
+}
+
 pub found_so : (c : Causes) (h : ℕ) (name : Who) → Some h ≡ key_at c.names.0 name → (l : List Standing) → AreStanding c c.ready l → AreStanding c h l
-found_so c h name is l standing =
-    let known = standing.placed.known name h (sym is) in
-    record {
-      places = standing.places;
-      shown = standing.shown;
-      placed = freed c standing.places h standing.placed (name, known.0) known.1;
-      roomy = standing.roomy;
-    }
+found_so c h name is l standing = queue_so c c.ready h l standing (name, (standing.placed.known name h (sym is)).0)
 
 pub found_cause : (c : Causes) (h : ℕ) (name : Who) → Some h ≡ key_at c.names.0 name → Stand c c.ready → cause_of c h ≡ Some name
 found_cause c h name is stand =
@@ -222,11 +217,11 @@ found_cause c h name is stand =
     let not_so = unlike h c.ready known.1 in
     rw not_so (ap who_shown known.0)
 
-module _ (c : Causes) (q : Queues) (names : List Name × ℕ) (h : ℕ) (name : Who) (unknown : None ≡ key_at c.names.0 name)
+module _ (c : Causes) (q : Queues) (names : List Name × ℕ) (h : ℕ) (name : Who) (unknown : key_at c.names.0 name ≡ None)
     (new : shown_at c.queues.lines h ≡ None) (shown : shown_at q.lines h ≡ Some (name, h))
     (others_same : (m : ℕ) → m ≢ h → shown_at q.lines m ≡ shown_at c.queues.lines m)
     (put : (other : Who) → key_at names.0 other ≡ (if is_same name other then Some h else key_at c.names.0 other))
-    (more : length names.0 ≡ length c.names.0 + 1) (wide : c.names.1 ≤ names.1)
+    (more : length names.0 ≡ length c.names.0 + 1) (place : length c.names.0 < c.most) (wide : c.names.1 ≤ names.1)
     (order : slab_len q.order ≡ slab_len c.queues.order) (lines : slab_len q.lines ≡ slab_len c.queues.lines + 1)
     (room : SameRoom c.queues q) (filed : (l : List Place) → AreFiled c.queues l → AreFiled q l) where
   pub opened_so : (l : List Standing) → AreStanding c c.ready l → AreStanding (with_both c q names) h l
@@ -235,8 +230,8 @@ module _ (c : Causes) (q : Queues) (names : List Name × ℕ) (h : ℕ) (name : 
       record {
         places = standing.places;
         shown = alike_but c q names h standing.places none others_same ∙ standing.shown;
-        placed = opened c q names h name (sym unknown) new shown others_same put more order lines standing.places standing.placed
-            (filed standing.places standing.placed.filed);
+        placed = opened c q names h name unknown new shown others_same put more order lines standing.places standing.placed
+            (filed standing.places standing.placed.filed) place;
         roomy = roomy_still c q names room wide standing.roomy;
       }
 
@@ -249,87 +244,89 @@ module _ (c : Causes) (q : Queues) (names : List Name × ℕ) (h : ℕ) (name : 
       none_some : {x : Who × ℕ} → None ≡ Some x → ⊥
       none_some is = absurd (cc)
 
--- ---- a queue goes, or stays
+-- ---- a queue goes
 
-pub ready_so : (c : Causes) (h : ℕ) → h ≡ c.ready → (l : List Standing) → AreStanding c h l → AreStanding c c.ready l
-ready_so c h is l standing = subst (λ (n : ℕ). AreStanding c n l) is standing
+-- the place from which one is looked for
+abbrev pub with_hand : Causes → ℕ → Causes
+with_hand c hand = record { queues = c.queues; names = c.names; ready = c.ready; seats = c.seats; most = c.most; hand = hand }
 
-pub stays_so : (c : Causes) (h : ℕ) (who : Who) → ((k : List Place) → AreFiled c.queues k → Some who ≡ first_at h k) →
-    (l : List Standing) → AreStanding c h l → AreStanding c c.ready l
-stays_so c h who first l standing =
-    record {
-      places = standing.places;
-      shown = standing.shown;
-      placed = settled c standing.places h standing.placed (among_more h c.idle (heads standing.places)
-          (some_first h standing.places who (first standing.places standing.placed.filed)));
-      roomy = standing.roomy;
-    }
-
--- the queue that is kept may be empty
-pub idle_so : (c : Causes) (h : ℕ) → c.idle ≡ h → (l : List Standing) → AreStanding c h l → AreStanding c c.ready l
-idle_so c h is l standing =
-    record {
-      places = standing.places;
-      shown = standing.shown;
-      placed = settled c standing.places h standing.placed
-          (subst (λ (n : ℕ). among n (c.idle ∷ heads standing.places) ≡ true) is (among_first c.idle (heads standing.places)));
-      roomy = standing.roomy;
-    }
-
-abbrev pub with_idle : Causes → ℕ → Causes
-with_idle c h = record { queues = c.queues; names = c.names; ready = c.ready; idle = h; seats = c.seats }
-
--- one is kept in place of another, which may be empty then
-pub swapped_so : (c : Causes) (h : ℕ) (l : List Standing) → AreStanding c h l → AreStanding (with_idle c h) c.idle l
-swapped_so c h l standing =
+pub hand_so : (c : Causes) (hand : ℕ) (l : List Standing) → AreStanding c c.ready l → AreStanding (with_hand c hand) c.ready l
+hand_so c hand l standing =
     let p = standing.placed in
+    let r = standing.roomy in
     record {
       places = standing.places;
       shown = standing.shown;
       placed = record {
         filed = p.filed;
         ready = p.ready;
-        free_head = p.idle;
-        idle = p.free_head;
+        one = p.one;
         known = p.known;
         found = p.found;
-        full = λ g head off. among_swap g c.idle h (heads standing.places) ∙ p.full g head off;
-        count = p.count ∙ kinds_swap c.ready h c.idle (heads standing.places);
         order = p.order;
         lines = p.lines;
         few = p.few;
+        many = p.many;
       };
-      roomy = record { order = standing.roomy.order; lines = standing.roomy.lines; names = standing.roomy.names };
+      roomy = record { order = r.order; lines = r.lines; names = r.names; most = r.most };
     }
 
-module _ (c : Causes) (q : Queues) (names : List Name × ℕ) (h : ℕ) (name : Who) (at : Some name ≡ who_shown (shown_at c.queues.lines h)) (apart : h ≢ c.ready)
+module _ (c : Causes) (q : Queues) (names : List Name × ℕ) (h : ℕ) (name : Who) (there : key_at c.names.0 name ≡ Some h)
     (gone_now : shown_at q.lines h ≡ None) (others_same : (m : ℕ) → m ≢ h → shown_at q.lines m ≡ shown_at c.queues.lines m)
     (taken : (other : Who) → key_at names.0 other ≡ (if is_same name other then None else key_at c.names.0 other))
-    (fewer : key_at c.names.0 name ≡ Some h → length names.0 + 1 ≡ length c.names.0) (wide : c.names.1 ≡ names.1)
+    (fewer : length names.0 + 1 ≡ length c.names.0) (wide : c.names.1 ≡ names.1)
     (order : slab_len q.order ≡ slab_len c.queues.order) (lines : slab_len q.lines + 1 ≡ slab_len c.queues.lines)
-    (room : SameRoom c.queues q) (filed : (l : List Place) → AreFiled c.queues l → in_queue h l ≡ [] → AreFiled q l)
-    (empty : (l : List Place) → AreFiled c.queues l → None ≡ first_at h l) (idle_apart : h ≢ c.idle) where
-  pub closed_so : (l : List Standing) → AreStanding c h l → AreStanding (with_both c q names) c.ready l
+    (room : SameRoom c.queues q) (filed : (l : List Place) → AreFiled c.queues l → in_queue h l ≡ [] → AreFiled q l) (empty : IsEmpty c h) where
+  pub closed_so : (l : List Standing) → AreStanding c c.ready l → AreStanding (with_both c q names) c.ready l
   closed_so l standing =
       let none = none_first h standing.places (empty standing.places standing.placed.filed) in
-      let shown = shows standing.placed.free_head in
       record {
         places = standing.places;
         shown = alike_but c q names h standing.places none.0 others_same ∙ standing.shown;
-        placed = closed c q names h name shown apart gone_now others_same taken (fewer (standing.placed.found name h shown apart)) order lines idle_apart
-            standing.places standing.placed (nobody none.0) (filed standing.places standing.placed.filed none.1);
+        placed = closed c q names h name there gone_now others_same taken fewer order lines standing.places standing.placed
+            (filed standing.places standing.placed.filed none.1);
         roomy = roomy_still c q names room (omega (arith, wide)) standing.roomy;
       }
-    where
-      nobody : among h (heads standing.places) ≡ false → among h (c.idle ∷ heads standing.places) ≡ false
-      nobody none = or_from (c.idle == h) (among h (heads standing.places)) (unlike c.idle h (turn_round h c.idle idle_apart)) none
 
-      who_or : Option Who → Who
-      who_or None = name
-      who_or (Some x) = x
+-- a queue with a name is a head
+pub named_head : (c : Causes) (h : ℕ) (name : Who) → key_at c.names.0 name ≡ Some h → Stand c c.ready → IsHead c.queues.lines h
+named_head c h name is stand = (name, (stand.standing.placed.known name h is).0)
 
-      shows : IsHead c.queues.lines h → shown_at c.queues.lines h ≡ Some (name, h)
-      shows is = is.1 ∙ (λ i. Some (ap who_or (sym (at ∙ ap who_shown is.1)) i, h))
+-- somebody stands in one more of those that have a name
+pub taken_more : (c : Causes) (from at : ℕ) (n : Name) → ((d : Name) → get_or c.names.0 at d ≡ n) →
+    ((l : List Place) → AreFiled c.queues l → first_at n.key l ≢ None) → AreTaken c from at → AreTaken c from (at + 1)
+taken_more c from at n is some before k d low high l filed = by (k == at) refl
+  where
+    by : (t : Bool) → (k == at) ≡ t → first_at (get_or c.names.0 k d).key l ≢ None
+    by true e = subst (λ (m : ℕ). first_at (get_or c.names.0 m d).key l ≢ None) (sym (eqb-true k at e))
+        (subst (λ (m : Name). first_at m.key l ≢ None) (sym (is d)) (some l filed))
+    by false e = before k d low (less (λ (same : k ≡ at). clash (k == at) (eq-eqb k at same) e)) l filed
+      where
+        less : k ≢ at → k < at
+        less off = omega (arith, high, off)
+
+-- where somebody stands in each that has a name, there are no more of these than threads
+pub never_taken : {X : Type 0} (c : Causes) → Stand c c.ready → AreOnce c.names.0 → c.seats < length c.names.0 → (hand : ℕ) →
+    AreTaken c hand (length c.names.0) → AreTaken c 0 hand → X
+never_taken c stand once more hand behind before =
+    let standing = stand.standing in
+    let p = standing.placed in
+    let few = all_taken c standing.places p once (λ name h is. each name h is standing.places p.filed) in
+    let seats = p.few in
+    absurd (omega (arith, few, seats, more))
+  where
+    each : (name : Who) (h : ℕ) → key_at c.names.0 name ≡ Some h → (l : List Place) → AreFiled c.queues l → first_at h l ≢ None
+    each name h is l filed = subst (λ (n : ℕ). first_at n l ≢ None) (at.is any) (by (nat_lt at.place hand) refl)
+      where
+        at : IsPlaced c.names.0 name h
+        at = is_placed c.names.0 name h is
+
+        any : Name
+        any = record { who = name; key = h }
+
+        by : (t : Bool) → nat_lt at.place hand ≡ t → first_at (get_or c.names.0 at.place any).key l ≢ None
+        by true e = before at.place any (omega arith) ((Decides-ltb at.place hand).0 e) l filed
+        by false e = behind at.place any (ltb-false at.place hand e) at.within l filed
 
 -- ---- a cause has another name
 
@@ -377,13 +374,21 @@ nobody_so c name none l standing =
     let p = standing.placed in
     none_waits c standing.places p name none c.queues.order standing.places p.filed.filed ∙ ap (first_of (Some name)) standing.shown
 
+-- a queue with a name in which somebody stands: he waits for what has this name
+pub somebody_waits : {X : Type 0} (c : Causes) (h : ℕ) (name : Who) → Some h ≡ key_at c.names.0 name → (l : List Standing) → AreStanding c c.ready l →
+    first_of (Some name) l ≡ None → ((k : List Place) → AreFiled c.queues k → first_at h k ≢ None) → X
+somebody_waits c h name is l standing none some =
+    let p = standing.placed in
+    let stand : Stand c c.ready = record { list = l; standing = standing } in
+    let first = first_is c standing.places p h (named_head c h name (sym is) stand) c.queues.order standing.places p.filed.filed in
+    let cause = found_cause c h name is stand in
+    absurd (some standing.places p.filed
+    (first ∙ ap (λ (o : Option Who). first_of o (map (standing_of c) standing.places)) cause ∙ ap (first_of (Some name)) standing.shown ∙ none))
+
 pub ready_cause : (c : Causes) → cause_of c c.ready ≡ None
 ready_cause c = let is_so = eq-eqb c.ready c.ready refl in rw is_so refl
 
 -- ---- what was taken out
-
-pub never_nameless : {X : Type 0} (c : Causes) (h : ℕ) → None ≡ who_shown (shown_at c.queues.lines h) → IsHead c.queues.lines h → X
-never_nameless c h none is = let not_so : None ≡ Some is.0 = none ∙ ap who_shown is.1 in absurd (cc)
 
 pub take_len : {x y : Option ℕ} {h : ℕ} → x ≡ y → y ≡ Some h → IsSome x
 take_len {x} {y} {h} same is = ap (λ (o : Option ℕ). is_some o) (same ∙ is)
@@ -404,10 +409,21 @@ taken_new c names from to unused taken = taken to ∙ by (is_same from to) refl
     by true e = rw e refl
     by false e = rw e unused
 
+-- what stays without a number, and what has none then
+pub none_taken : (names after : List Name × ℕ) (name other : Who) →
+    ((x : Who) → key_at after.0 x ≡ (if is_same name x then None else key_at names.0 x)) → is_same name other ≡ true → key_at after.0 other ≡ None
+none_taken names after name other taken is = taken other ∙ rw is refl
+
+pub still_none : (names after : List Name × ℕ) (name other : Who) →
+    ((x : Who) → key_at after.0 x ≡ (if is_same name x then None else key_at names.0 x)) → key_at names.0 other ≡ None → key_at after.0 other ≡ None
+still_none names after name other taken none = taken other ∙ by (is_same name other) refl
+  where
+    by : (t : Bool) → is_same name other ≡ t → (if is_same name other then None else key_at names.0 other) ≡ None
+    by true e = rw e refl
+    by false e = rw e none
+
 pub taken_room : (c : Causes) (names : List Name × ℕ) → length names.0 + 1 ≡ length c.names.0 → c.names.1 ≡ names.1 → Stand c c.ready → HasRoom names 1
-taken_room c names fewer wide stand =
-    let few = names_fewer c stand.standing.places stand.standing.placed in
-    omega (arith, fewer, wide, few, stand.standing.placed.few, stand.standing.roomy.names)
+taken_room c names fewer wide stand = omega (arith, fewer, wide, stand.standing.placed.many, stand.standing.roomy.names)
 
 pub taken_put : (c : Causes) (names after : List Name × ℕ) (h : ℕ) (from to : Who) →
     ((other : Who) → key_at names.0 other ≡ (if is_same from other then None else key_at c.names.0 other)) →
@@ -421,27 +437,29 @@ taken_long c names after fewer more = omega (arith, fewer, more)
 
 -- ---- more room, and none yet
 
-pub wider_so : (c : Causes) (q : Queues) (names : List Name × ℕ) (seats : ℕ) → ((l : List Place) → AreFiled c.queues l → AreFiled q l) →
+abbrev pub with_room : Causes → Queues → List Name × ℕ → ℕ → ℕ → Causes
+with_room c q names seats most = record { queues = q; names = names; ready = c.ready; seats = seats; most = most; hand = c.hand }
+
+pub wider_so : (c : Causes) (q : Queues) (names : List Name × ℕ) (seats most : ℕ) → ((l : List Place) → AreFiled c.queues l → AreFiled q l) →
     ((h : ℕ) → shown_at q.lines h ≡ shown_at c.queues.lines h) → slab_len q.order ≡ slab_len c.queues.order → slab_len q.lines ≡ slab_len c.queues.lines →
-    names.0 ≡ c.names.0 → c.seats ≤ seats → (IsRoomy c → IsRoomy (record { queues = q; names = names; ready = c.ready; idle = c.idle; seats = seats })) →
-    (l : List Standing) → AreStanding c c.ready l → AreStanding (record { queues = q; names = names; ready = c.ready; idle = c.idle; seats = seats }) c.ready l
-wider_so c q names seats filed shown order lines same more room l standing =
+    names.0 ≡ c.names.0 → c.seats ≤ seats → (IsRoomy c → length c.names.0 ≤ c.most → length c.names.0 ≤ most) →
+    (IsRoomy c → IsRoomy (with_room c q names seats most)) → (l : List Standing) → AreStanding c c.ready l → AreStanding (with_room c q names seats most) c.ready l
+wider_so c q names seats most filed shown order lines same more many room l standing =
     let p = standing.placed in
+    let long = ap (λ (n : List Name). length n) same in
     record {
       places = standing.places;
       shown = alike c q names c.queues.order standing.places p.filed.filed (record { kept = λ h is. shown h; none = was }) ∙ standing.shown;
       placed = record {
         filed = filed standing.places p.filed;
         ready = (p.ready.0, shown c.ready ∙ p.ready.1);
-        free_head = (p.free_head.0, shown c.ready ∙ p.free_head.1);
-        idle = (p.idle.0, shown c.idle ∙ p.idle.1);
+        one = (p.one.0, shown c.ready ∙ p.one.1);
         known = λ name h is. let k = p.known name h (sym (ap (λ (n : List Name). key_at n name) same) ∙ is) in (shown h ∙ k.0, k.1);
         found = λ name h is off. ap (λ (n : List Name). key_at n name) same ∙ p.found name h (sym (shown h) ∙ is) off;
-        full = λ h is off. p.full h (was h is) off;
-        count = ap (λ (n : List Name). length n) same ∙ p.count;
         order = order ∙ p.order;
-        lines = let long = ap (λ (n : List Name). length n) same in omega (arith, lines, p.lines, long);
+        lines = omega (arith, lines, p.lines, long);
         few = omega (arith, p.few, more);
+        many = let still = many standing.roomy p.many in omega (arith, still, long);
       };
       roomy = room standing.roomy;
     }
@@ -452,47 +470,48 @@ wider_so c q names seats filed shown order lines same more room l standing =
 pub wider_names : (c : Causes) (names : List Name × ℕ) → names.0 ≡ c.names.0 → c.names.1 ≤ names.1 → (l : List Standing) → AreStanding c c.ready l →
     AreStanding (with_both c c.queues names) c.ready l
 wider_names c names same wide l standing =
-    wider_so c c.queues names c.seats (λ k filed. filed) (λ h. refl) refl refl same (omega arith)
-    (λ r. record { order = r.order; lines = r.lines; names = omega (arith, r.names, wide) }) l standing
+    wider_so c c.queues names c.seats c.most (λ k filed. filed) (λ h. refl) refl refl same (omega arith) (λ r many. many)
+    (λ r. record { order = r.order; lines = r.lines; names = omega (arith, r.names, wide); most = r.most }) l standing
 
 pub wider_both : (c : Causes) (q : Queues) (names : List Name × ℕ) → ((l : List Place) → AreFiled c.queues l → AreFiled q l) →
     ((h : ℕ) → shown_at q.lines h ≡ shown_at c.queues.lines h) → slab_len q.order ≡ slab_len c.queues.order → slab_len q.lines ≡ slab_len c.queues.lines →
     c.queues.order.capacity ≤ q.order.capacity → c.queues.lines.capacity ≤ q.lines.capacity → names.0 ≡ c.names.0 → c.names.1 ≤ names.1 →
     (l : List Standing) → AreStanding c c.ready l → AreStanding (with_both c q names) c.ready l
 wider_both c q names filed shown order lines first second same wide l standing =
-    wider_so c q names c.seats filed shown order lines same (omega arith)
-    (λ r. record { order = omega (arith, r.order, first); lines = omega (arith, r.lines, second); names = omega (arith, r.names, wide) }) l standing
+    wider_so c q names c.seats c.most filed shown order lines same (omega arith) (λ r many. many)
+    (λ r. record { order = omega (arith, r.order, first); lines = omega (arith, r.lines, second); names = omega (arith, r.names, wide); most = r.most })
+    l standing
 
 pub reserved_so : (c : Causes) (q : Queues) (names : List Name × ℕ) (seats : ℕ) → ((l : List Place) → AreFiled c.queues l → AreFiled q l) →
     ((h : ℕ) → shown_at q.lines h ≡ shown_at c.queues.lines h) → slab_len q.order ≡ slab_len c.queues.order → slab_len q.lines ≡ slab_len c.queues.lines →
-    names.0 ≡ c.names.0 → c.seats ≤ seats → HasRoomFor q.order (2 * seats + 3) → HasRoomFor q.lines (2 * seats + 3) → HasRoom names (seats + 2) →
-    (l : List Standing) → AreStanding c c.ready l → AreStanding (record { queues = q; names = names; ready = c.ready; idle = c.idle; seats = seats }) c.ready l
+    names.0 ≡ c.names.0 → c.seats ≤ seats → HasRoomFor q.order (seats + 1) → HasRoomFor q.lines (seats + (2 * seats + 14) + 1) → HasRoom names (2 * seats + 14) →
+    (l : List Standing) → AreStanding c c.ready l → AreStanding (with_room c q names seats (2 * seats + 14)) c.ready l
 reserved_so c q names seats filed shown order lines same more first second third l standing =
-    wider_so c q names seats filed shown order lines same more
-    (λ r. record { order = omega (arith, first); lines = omega (arith, second); names = omega (arith, third) }) l standing
+    wider_so c q names seats (2 * seats + 14) filed shown order lines same more (λ r many. let most = r.most in omega (arith, most, many, more))
+    (λ r. record { order = omega (arith, first); lines = omega (arith, second); names = omega (arith, third); most = omega arith }) l standing
 
 pub none_so : (q r : Queues) (names : List Name × ℕ) (ready : ℕ) (name : Who) → AreFiled r [] → ((h : ℕ) → shown_at q.lines h ≡ None) →
     shown_at r.lines ready ≡ Some (name, ready) → ((m : ℕ) → m ≢ ready → shown_at r.lines m ≡ shown_at q.lines m) → names.0 ≡ [] →
-    slab_len r.order ≡ 1 → slab_len r.lines ≡ 1 → 1 ≤ r.order.capacity → 3 ≤ r.lines.capacity → 2 ≤ names.1 →
-    AreStanding (record { queues = r; names = names; ready = ready; idle = ready; seats = 0 }) ready []
-none_so q r names ready name filed none shown others empty order lines first second third = record {
-  places = [];
-  shown = refl;
-  placed = record {
-    filed = filed;
-    ready = (name, shown);
-    free_head = (name, shown);
-    idle = (name, shown);
-    known = λ n h is. no_key (sym (ap (λ (k : List Name). key_at k n) empty) ∙ is);
-    found = λ n h is off. no_shown (sym (none h) ∙ sym (others h off) ∙ is);
-    full = λ h is off. no_shown (sym (none h) ∙ sym (others h off) ∙ is.1);
-    count = ap (λ (k : List Name). length k) empty ∙ sym (kinds_besides ready (ready ∷ []) ∙ kinds_besides ready []);
-    order = order;
-    lines = let long = ap (λ (k : List Name). length k) empty in omega (arith, lines, long);
-    few = omega arith;
-  };
-  roomy = record { order = omega (arith, first); lines = omega (arith, second); names = omega (arith, third) };
-}
+    slab_len r.order ≡ 1 → slab_len r.lines ≡ 1 → 1 ≤ r.order.capacity → 15 ≤ r.lines.capacity → 14 ≤ names.1 →
+    AreStanding (record { queues = r; names = names; ready = ready; seats = 0; most = 14; hand = 0 }) ready []
+none_so q r names ready name filed none shown others empty order lines first second third =
+    let long = ap (λ (k : List Name). length k) empty in
+    record {
+      places = [];
+      shown = refl;
+      placed = record {
+        filed = filed;
+        ready = (name, shown);
+        one = (name, shown);
+        known = λ n h is. no_key (sym (ap (λ (k : List Name). key_at k n) empty) ∙ is);
+        found = λ n h is off. no_shown (sym (none h) ∙ sym (others h off) ∙ is);
+        order = order;
+        lines = omega (arith, lines, long);
+        few = omega arith;
+        many = omega (arith, long);
+      };
+      roomy = record { order = omega (arith, first); lines = omega (arith, second); names = omega (arith, third); most = refl };
+    }
   where
     no_key : {X : Type 0} {h : ℕ} → None ≡ Some h → X
     no_key is = absurd (cc)

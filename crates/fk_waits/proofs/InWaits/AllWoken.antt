@@ -5,7 +5,8 @@ use Rattle.std.proofs.lemmas.Bool.{or_left}
 use Rattle.fk_model.specs.declared.names.Who.{Who}
 use Rattle.fk_waits.specs.Causes.Names.{is_same}
 use Rattle.fk_waits.specs.Causes.Causes.{front_of, Standing}
-use Rattle.fk_waits.proofs.InCauses.Placed.{same_by, same_self}
+use Rattle.fk_waits.proofs.InCauses.Order.{same_self}
+use Rattle.fk_waits.proofs.InCauses.Placed.{same_by}
 use Rattle.fk_waits.specs.Waits.Lists.{stands}
 use Rattle.fk_waits.specs.Waits.Threads.{all_ready, are_queued, besides, front_for, is_there, lists_of, pair_of, pairs_of, AreThere, Pairs, StandApart}
 use Rattle.fk_waits.specs.declared.waits.threads.Threads.{Threads}

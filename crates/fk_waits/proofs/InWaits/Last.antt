@@ -9,7 +9,7 @@ use Rattle.fk_waits.specs.Causes.Names.{is_same}
 use Rattle.fk_waits.proofs.InCauses.Order.{same_who}
 use Rattle.fk_waits.specs.Causes.Causes.{is_same_cause}
 use Rattle.fk_waits.proofs.InCauses.Numbers.{clash}
-use Rattle.fk_waits.proofs.InCauses.Placed.{same_self}
+use Rattle.fk_waits.proofs.InCauses.Order.{same_self}
 use Rattle.fk_waits.specs.Waits.Lists.{is_in, is_known, is_queued, last_without, left, parked, room_with, settled, stands, without, without_queued, woken, AreOnce}
 use Rattle.fk_waits.specs.Waits.Lists.{IsLast, IsLastAt, IsLastFor, Lists, StandOnce}
 use Rattle.fk_waits.specs.Waits.Threads.{are_queued, are_ready, Pairs}

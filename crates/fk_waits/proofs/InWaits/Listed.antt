@@ -17,7 +17,7 @@ use Rattle.fk_waits.proofs.InWaits.Settled.{few_there, long_list}
 use Rattle.fk_waits.proofs.InWaits.There.{besides_none}
 use Rattle.fk_waits.proofs.InWaits.Renamed.{there_caused}
 use Rattle.fk_waits.proofs.InCauses.Numbers.{clash}
-use Rattle.fk_waits.proofs.InCauses.Placed.{same_self}
+use Rattle.fk_waits.proofs.InCauses.Order.{same_self}
 use Rattle.fk_waits.proofs.InCauses.Order.{same_who}
 
 -- ---- as the nodes show it

@@ -9,7 +9,7 @@ use Rattle.fk_waits.specs.Waits.Lists.{new_name}
 use Rattle.fk_waits.specs.Causes.Causes.{new_cause, recaused, Standing}
 use Rattle.fk_waits.specs.Waits.Threads.{is_there, key_of, pair_of, with_cause, with_name, Pairs, StandApart}
 use Rattle.fk_waits.proofs.InWaits.There.{there_same, same_other, same_turned}
-use Rattle.fk_waits.proofs.InCauses.Placed.{same_self}
+use Rattle.fk_waits.proofs.InCauses.Order.{same_self}
 
 abbrev pub with_who : Who → Who → Standing → Standing
 with_who from to s = record { key = s.key; who = new_name from to s.who; cause = s.cause }

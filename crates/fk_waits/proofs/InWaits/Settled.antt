@@ -1,21 +1,18 @@
 -- Settled: threads by their names, once one has come, has turned, has gone, or has another name.
-use Rattle.std.proofs.Common.{◌≡◌, ◌≢◌, ◌≤◌, ◌<◌, ◌^◌, ◌+◌, ◌==◌, ◌||◌, ℕ, suc, Bool, true, false, List, [], ◌∷◌, ◌++◌, length, length-append, map}
+use Rattle.std.proofs.Common.{◌≡◌, ◌≤◌, ◌<◌, ◌^◌, ◌+◌, ℕ, suc, Bool, true, false, List, [], ◌∷◌, ◌++◌, length, length-append, map}
 use Rattle.std.proofs.Common.{Option, Some, None}
 use Rattle.std.proofs.Common.{is_some, if◌then◌else◌, refl, sym, ap, subst, ◌∙◌, arith}
-use Rattle.std.proofs.lemmas.Bool.{eqb-true, or_left, or_right}
+use Rattle.std.proofs.lemmas.Bool.{or_parts}
 use Rattle.fk_model.specs.declared.names.Who.{Who}
 use Rattle.fk_waits.specs.Causes.Names.{is_same, key_at, HasRoom}
 use Rattle.fk_waits.specs.declared.causes.names.Name.{Name}
 use Rattle.fk_waits.proofs.InCauses.Order.{same_who}
-use Rattle.fk_waits.specs.Queues.Places.{who_shown, Place}
-use Rattle.fk_waits.specs.Causes.Causes.{among, cause_of, first_of, heads, is_same_cause, recaused, standing_of, AreStanding, HasSeat, HasStanding, Standing}
+use Rattle.fk_waits.specs.Causes.Causes.{first_of, is_same_cause, recaused, AreStanding, HasSeat, HasStanding, Standing}
 use Rattle.fk_waits.specs.Waits.Threads.{besides, first_for, is_there, is_waited_for, is_waiting, key_of, pair_of, with_cause, with_name, AreThere, Fits}
 use Rattle.fk_waits.specs.Waits.Threads.{IsNobody, IsUnused, Pairs}
 use Rattle.fk_waits.specs.Waits.Threads.{StandApart}
 use Rattle.fk_waits.specs.declared.causes.causes.Causes.{Causes}
 use Rattle.fk_waits.specs.declared.waits.threads.Threads.{Threads}
-use Rattle.fk_waits.proofs.InCauses.Numbers.{among_rest, clash, unlike}
-use Rattle.fk_waits.proofs.InCauses.Placed.{same_by}
 use Rattle.fk_waits.proofs.InCauses.Shown.{shown_long}
 use Rattle.fk_waits.proofs.InWaits.There.{apart_settled, besides_middle, besides_none, is_at, key_by_off, key_come, key_gone, key_moved, off_by_key, pairs_split}
 use Rattle.fk_waits.proofs.InWaits.There.{waiting_middle}
@@ -304,42 +301,15 @@ caused_there t c from to rename seats l there =
     long_map [] = refl
     long_map (x ∷ k) = ap (λ (n : ℕ). suc n) (long_map k)
 
--- a cause for which nobody waits has no queue, where none is kept
-queue_waits : (c : Causes) (h : ℕ) (cause : Who) → cause_of c h ≡ Some cause → (l : List Place) → among h (heads l) ≡ true →
-    is_waited_for cause (map pair_of (map (standing_of c) l)) ≡ true
-queue_waits c h cause is [] there = absurd (cc)
-queue_waits c h cause is (p ∷ l) there = by (p.head == h) refl there (λ rest. queue_waits c h cause is l rest)
-  where
-    by : (t : Bool) → (p.head == h) ≡ t → ((p.head == h) || among h (heads l)) ≡ true →
-        (among h (heads l) ≡ true → is_waited_for cause (map pair_of (map (standing_of c) l)) ≡ true) →
-        (is_same_cause (cause_of c p.head) (Some cause) || is_waited_for cause (map pair_of (map (standing_of c) l))) ≡ true
-    by true e is_so more =
-        let mine : cause_of c p.head ≡ Some cause = ap (cause_of c) (eqb-true p.head h e) ∙ is in
-        let same : is_same_cause (cause_of c p.head) (Some cause) ≡ true =
-        ap (λ (o : Option Who). is_same_cause o (Some cause)) mine ∙ same_by cause cause refl in
-        or_left (is_same_cause (cause_of c p.head) (Some cause)) (is_waited_for cause (map pair_of (map (standing_of c) l))) same
-    by false e is_so more =
-        or_right (is_same_cause (cause_of c p.head) (Some cause)) (is_waited_for cause (map pair_of (map (standing_of c) l))) (more (rw e at is_so))
+-- nobody waits for a cause
+pub nobody_first : (cause : Who) (l : List Standing) → is_waited_for cause (map pair_of l) ≡ false → first_of (Some cause) l ≡ None
+nobody_first cause [] none = refl
+nobody_first cause (s ∷ l) none =
+    let both = or_parts (is_same_cause s.cause (Some cause)) (is_waited_for cause (map pair_of l)) none in
+    rw both.0 (nobody_first cause l both.1)
 
-pub unused_queue : (t : Threads) (cause : Who) → IsUnused t cause → t.causes.idle ≡ t.causes.ready → key_at t.causes.names.0 cause ≡ None
-unused_queue t cause unused none_idle = by (key_at t.causes.names.0 cause) refl
-  where
-    standing : AreStanding t.causes t.causes.ready unused.there.list
-    standing = unused.there.standing
-
-    by : (o : Option ℕ) → key_at t.causes.names.0 cause ≡ o → key_at t.causes.names.0 cause ≡ None
-    by None e = e
-    by (Some h) e =
-        let p = standing.placed in
-        let known = p.known cause h e in
-        let off : h ≢ t.causes.idle = λ (same : h ≡ t.causes.idle). known.1 (same ∙ none_idle) in
-        let there = sym (among_rest h t.causes.idle (heads standing.places) off)
-        ∙ sym (among_rest h t.causes.ready (t.causes.idle ∷ heads standing.places) known.1) ∙ p.full h (cause, known.0) known.1 in
-        let not_so = unlike h t.causes.ready known.1 in
-        let is : cause_of t.causes h ≡ Some cause = rw not_so (ap who_shown known.0) in
-        let waited = queue_waits t.causes h cause is standing.places there in
-        let all : map pair_of (map (standing_of t.causes) standing.places) ≡ unused.list = ap (map pair_of) standing.shown ∙ unused.there.pairs in
-        clash (is_waited_for cause unused.list) (subst (λ (k : Pairs). is_waited_for cause k ≡ true) all waited) unused.none
+pub nobody_waits : (t : Threads) (cause : Who) (u : IsUnused t cause) → first_of (Some cause) u.there.list ≡ None
+nobody_waits t cause u = nobody_first cause u.there.list (subst (λ (k : Pairs). is_waited_for cause k ≡ false) (sym u.there.pairs) u.none)
 
 -- ---- who is first
 

@@ -1,10 +1,12 @@
 -- Causes: threads in the queues of what they wait for, and of those that are ready.
-use Rattle.std.specs.Prelude.{◌≡◌, ◌≢◌, ◌+◌, ◌≤◌, ℕ, ◌==◌, Bool, true, false, ◌||◌, List, [], ◌∷◌, ◌++◌, length, map, Option, Some, None, if◌then◌else◌}
+use Rattle.std.specs.Prelude.{◌≡◌, ◌≢◌, ◌+◌, ◌≤◌, ◌<◌, ℕ, ◌==◌, Bool, true, false, List, [], ◌∷◌, ◌++◌, length, map, Option, Some, None, if◌then◌else◌}
+use Rattle.std.specs.Prelude.{slice_index_or}
 use Rattle.slab.specs.Slab.{slab_len}
 use Rattle.fk_model.specs.declared.names.Who.{Who}
 use Rattle.fk_waits.specs.Queues.Nodes.{shown_at}
 use Rattle.fk_waits.specs.Causes.Names.{is_same, key_at}
-use Rattle.fk_waits.specs.Queues.Places.{places_from, who_shown, AreFiled, IsHead, Place}
+use Rattle.fk_waits.specs.declared.causes.names.Name.{Name}
+use Rattle.fk_waits.specs.Queues.Places.{first_at, places_from, who_shown, AreFiled, IsHead, Place}
 use Rattle.fk_waits.specs.declared.causes.causes.Causes.{Causes}
 
 -- a thread, its node in the order, and what it waits for: nothing where it is ready
@@ -24,62 +26,58 @@ standing_of c p = record { key = p.key; who = p.who; cause = cause_of c p.head }
 abbrev pub standings : Causes → ℕ → List Standing
 standings c n = map (standing_of c) (places_from c.queues n c.queues.first)
 
-abbrev pub heads : List Place → List ℕ
-heads l = map (λ (p : Place). p.head) l
-
-abbrev pub among : ℕ → List ℕ → Bool
-among h [] = false
-among h (x ∷ l) = (x == h) || among h l
-
--- how many different queues these are, but for one
-abbrev pub kinds : ℕ → List ℕ → ℕ
-kinds besides [] = 0
-kinds besides (h ∷ l) = if (h == besides) || among h l then kinds besides l else kinds besides l + 1
-
--- there is a queue for each cause that has a name, and somebody stands in it, but maybe in the idle one, and in one that is free
-pub record ArePlaced (c : Causes) (free : ℕ) (l : List Place) : Type 0 where
+-- there is a queue for each cause that has a name, and one that a thread comes to or leaves. In any of them nobody may stand
+pub record ArePlaced (c : Causes) (queue : ℕ) (l : List Place) : Type 0 where
   pub filed : AreFiled c.queues l
   pub ready : IsHead c.queues.lines c.ready
-  pub free_head : IsHead c.queues.lines free
-  pub idle : IsHead c.queues.lines c.idle
+  pub one : IsHead c.queues.lines queue
   pub known : (name : Who) (h : ℕ) → key_at c.names.0 name ≡ Some h → (shown_at c.queues.lines h ≡ Some (name, h)) × (h ≢ c.ready)
   pub found : (name : Who) (h : ℕ) → shown_at c.queues.lines h ≡ Some (name, h) → h ≢ c.ready → key_at c.names.0 name ≡ Some h
-  pub full : (h : ℕ) → IsHead c.queues.lines h → h ≢ c.ready → among h (free ∷ c.idle ∷ heads l) ≡ true
-  pub count : length c.names.0 ≡ kinds c.ready (free ∷ c.idle ∷ heads l)
   pub order : slab_len c.queues.order ≡ length l + 1
   pub lines : slab_len c.queues.lines ≡ length l + length c.names.0 + 1
   pub few : length l ≤ c.seats
+  pub many : length c.names.0 ≤ c.most
 
--- there is room for so many threads in all, each with a cause of its own, and for two queues more
+-- there is room for so many threads in all, and for as many queues as there may be, which are more than these
 pub record IsRoomy (c : Causes) : Type 0 where
   pub order : c.seats + 1 ≤ c.queues.order.capacity
-  pub lines : c.seats + c.seats + 3 ≤ c.queues.lines.capacity
-  pub names : c.seats + 2 ≤ c.names.1
+  pub lines : c.seats + c.most + 1 ≤ c.queues.lines.capacity
+  pub names : c.most ≤ c.names.1
+  pub most : c.most ≡ c.seats + c.seats + 14
 
 -- threads stand so
-pub record AreStanding (c : Causes) (free : ℕ) (l : List Standing) : Type 0 where
+pub record AreStanding (c : Causes) (queue : ℕ) (l : List Standing) : Type 0 where
   pub places : List Place
   pub shown : map (standing_of c) places ≡ l
-  pub placed : ArePlaced c free places
+  pub placed : ArePlaced c queue places
   pub roomy : IsRoomy c
 
-pub record Stand (c : Causes) (free : ℕ) : Type 0 where
+pub record Stand (c : Causes) (queue : ℕ) : Type 0 where
   pub list : List Standing
-  pub standing : AreStanding c free list
+  pub standing : AreStanding c queue list
 
 -- the thread with a node in the order stands there
-pub record HasStanding (c : Causes) (free key : ℕ) : Type 0 where
+pub record HasStanding (c : Causes) (queue key : ℕ) : Type 0 where
   pub before : List Standing
   pub one : Standing
   pub behind : List Standing
   pub is : one.key ≡ key
-  pub standing : AreStanding c free (before ++ one ∷ behind)
+  pub standing : AreStanding c queue (before ++ one ∷ behind)
 
 -- there is room for one more
-pub record HasSeat (c : Causes) (free : ℕ) : Type 0 where
+pub record HasSeat (c : Causes) (queue : ℕ) : Type 0 where
   pub list : List Standing
-  pub standing : AreStanding c free list
+  pub standing : AreStanding c queue list
   pub seat : length list + 1 ≤ c.seats
+
+-- nobody stands in a queue
+abbrev pub IsEmpty : Causes → ℕ → Type 0
+IsEmpty c h = (l : List Place) → AreFiled c.queues l → first_at h l ≡ None
+
+-- somebody stands in each of the queues whose names stand at these places
+abbrev pub AreTaken : Causes → ℕ → ℕ → Type 0
+AreTaken c from to =
+    (k : ℕ) (d : Name) → from ≤ k → k < to → (l : List Place) → AreFiled c.queues l → first_at (slice_index_or c.names.0 k d).key l ≢ None
 
 abbrev pub is_same_cause : Option Who → Option Who → Bool
 is_same_cause None None = true

@@ -1,8 +1,9 @@
 -- Names: entries by rising rank, and the number of a name.
-use Rattle.std.specs.Prelude.{◌≢◌, ◌+◌, ◌*◌, ◌/◌, ◌%◌, ◌^◌, ◌<◌, ◌≤◌, ℕ, ◌==◌, Bool, ◌&&◌, List, [], ◌∷◌, length, Option, Some, None}
+use Rattle.std.specs.Prelude.{◌≡◌, ◌≢◌, ◌+◌, ◌*◌, ◌/◌, ◌%◌, ◌^◌, ◌<◌, ◌≤◌, ℕ, ◌==◌, Bool, ◌&&◌, List, [], ◌∷◌, length, Option, Some, None}
 use Rattle.std.specs.Prelude.{if◌then◌else◌, slice_index_or}
 use Rattle.fk_model.specs.declared.names.Who.{Who}
 use Rattle.fk_waits.specs.declared.causes.names.Name.{Name}
+use Rattle.fk_waits.specs.declared.causes.names.Near.{Near}
 
 abbrev pub is_same : Who → Who → Bool
 is_same a b = (a.space == b.space) && (a.slot == b.slot)
@@ -26,23 +27,35 @@ abbrev pub IsRising : List Name → Type 0
 IsRising [] = Unit {0}
 IsRising (n ∷ l) = (n.who.slot < 256) × AreAbove (rank n.who) l × IsRising l
 
+-- each name is there once
+abbrev pub AreOnce : List Name → Type 0
+AreOnce [] = Unit {0}
+AreOnce (n ∷ l) = (key_at l n.who ≡ None) × AreOnce l
+
 -- there is room for so many more
 abbrev pub HasRoom : List Name × ℕ → ℕ → Type 0
 HasRoom names more = length names.0 + more ≤ names.1
 
--- the hint where no name was put
-abbrev pub nowhere : ℕ
-nowhere = 4611686018427387904
+-- the rank that stands where no name was put, and where it isn't known which
+abbrev pub nobody : ℕ
+nobody = 4611686018427387904
 
--- which of so many hints is a name's
-abbrev pub hint_place : ℕ → Who → ℕ
-hint_place hints who = (rank who * 10368889 % 16777216 * hints) % 2 ^ 64 / 16777216
+abbrev pub unknown : ℕ
+unknown = 4611686018427387905
 
--- the hint of a name. Where there are no hints, it says nothing
-abbrev pub hint_at : List ℕ → Who → ℕ
-hint_at hints who = slice_index_or hints (hint_place (length hints) who) 0
+-- which of so many places is a name's
+abbrev pub near_place : ℕ → Who → ℕ
+near_place many who = (rank who * 10368889 % 16777216 * many) % 2 ^ 64 / 16777216
 
--- each of these names was put where its hint says so
-abbrev pub AreHinted : List ℕ → List Name → Type 0
-AreHinted hints [] = Unit {0}
-AreHinted hints (n ∷ l) = (hint_at hints n.who ≢ nowhere) × AreHinted hints l
+-- what stands at the place of a name
+abbrev pub near_at : List Near → Who → Near
+near_at near who = slice_index_or near (near_place (length near) who) (record { rank = unknown; key = 0 })
+
+-- none of these names is told to be nobody
+abbrev pub AreNear : List Near → List Name → Type 0
+AreNear near [] = Unit {0}
+AreNear near (n ∷ l) = ((near_at near n.who).rank ≢ nobody) × AreNear near l
+
+-- whose rank stands at its place has the number that stands there
+abbrev pub AreRight : List Near → List Name → Type 0
+AreRight near l = (who : Who) → rank who < 2 ^ 40 → who.slot < 256 → (near_at near who).rank ≡ rank who → key_at l who ≡ Some (near_at near who).key

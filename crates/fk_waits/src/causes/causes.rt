@@ -1,13 +1,19 @@
 //! Queues by what their threads wait for.
-ghost use Rattle.std.specs.Prelude.{◌≡◌, ◌≢◌, ◌+◌, ◌≤◌, ◌<◌, ◌^◌, ◌==◌, List, [], ◌∷◌, ◌++◌, length, map, not, is_some, None, Some, IfOk, OnErr, OnOk};
+ghost use Rattle.std.specs.Prelude.{◌≡◌, ◌≢◌, ◌+◌, ◌≤◌, ◌<◌, ◌^◌, ◌==◌, List, [], ◌∷◌, ◌++◌, length, map, not, is_some, None, Some, IfOk, IfSome};
+ghost use Rattle.std.specs.Prelude.{OnErr, OnOk, slice_index_or};
+ghost use Rattle.fk_model.specs.declared.names.Who as names_of;
 ghost use Rattle.fk_waits.specs.Causes.Names.{key_at};
-ghost use Rattle.fk_waits.specs.Queues.Places.{first_at, AreFiled, Place};
-ghost use Rattle.fk_waits.specs.Causes.Causes.{cause_of, first_of, front_of, recaused, AreStanding, HasSeat, HasStanding, Stand, Standing};
+ghost use Rattle.fk_waits.specs.declared.causes.names.Name as name_of;
+ghost use Rattle.fk_waits.specs.Causes.Causes.{cause_of, first_of, front_of, recaused, AreStanding, AreTaken, HasSeat, HasStanding, IsEmpty};
+ghost use Rattle.fk_waits.specs.Causes.Causes.{Stand, Standing};
 
 use crate::causes::names::Names;
 use crate::queues::Queues;
 use fk_model::{NoMemory, Who};
 use std::alloc::Global;
+
+/// So many queues with a name may be kept beyond two for each thread.
+const MORE: usize = 14;
 
 /// The queues of causes, which are found by their names, and the queue of those that are ready; and for how many threads there
 /// is room.
@@ -16,9 +22,19 @@ pub struct Causes {
     queues: Queues,
     names: Names,
     ready: usize,
-    /// The queue that was left empty last, or that of the ready. It is kept, for its cause is likely to be waited for again.
-    idle: usize,
     seats: usize,
+    /// How many queues with a name there may be. One in which nobody stands any more is kept, since its cause is likely to be waited for again. Where there
+    /// are so many, one of those goes when another comes.
+    most: usize,
+    /// The place of the name of the queue that went last. From there on the next one is looked for.
+    hand: usize,
+}
+
+/// A place that there is, or the end of so many.
+fn at_most(place: usize, many: usize) -> usize
+    ensures { result ≤ many }
+{
+    if place < many { place } else { many }
 }
 
 impl Causes {
@@ -28,16 +44,17 @@ impl Causes {
         ensures seats { IfOk result (λ c. c.seats ≡ 0) }
     {
         let mut queues = Queues::new(alloc)?;
-        queues.reserve(3)?;
+        queues.reserve(1, MORE + 1)?;
         let mut names = Names::new(alloc);
-        names.reserve(2)?;
+        names.reserve(MORE)?;
         let ready = queues.open(Who { space: 0, slot: 0 });
         Ok(Causes {
             queues,
             names,
             ready,
-            idle: ready,
             seats: 0,
+            most: MORE,
+            hand: 0,
         })
     }
 
@@ -56,9 +73,11 @@ impl Causes {
         ensures seats { OnOk result (self.new.seats ≡ seats) }
         ensures same { OnErr result (self.new.seats ≡ self.old.seats) }
     {
-        self.names.reserve(seats + 2)?;
-        self.queues.reserve(2 * seats + 3)?;
+        let most = 2 * seats + MORE;
+        self.names.reserve(most)?;
+        self.queues.reserve(seats + 1, seats + most + 1)?;
         self.seats = seats;
+        self.most = most;
         Ok(())
     }
 
@@ -83,9 +102,7 @@ impl Causes {
     {
         let head = self.queue_for(cause);
         let left = self.turn_to(key, head);
-        let waited = left != self.ready;
-        self.drop_empty(left);
-        waited
+        left != self.ready
     }
 
     /// The thread with a node in the order goes. Tells whether it waited.
@@ -97,9 +114,7 @@ impl Causes {
         ensures seats { self.new.seats ≡ self.old.seats }
     {
         let left = self.take_out(key);
-        let waited = left != self.ready;
-        self.drop_empty(left);
-        waited
+        left != self.ready
     }
 
     /// The thread with a node in the order has another name.
@@ -184,15 +199,93 @@ impl Causes {
     {
         match self.names.find_near(name) {
             Some(head) => head,
-            None => {
-                let head = self.queues.open(name);
-                self.names.put(name, head);
-                head
-            }
+            None => self.queue_new(name),
         }
     }
 
-    /// A thread comes to a queue, which may have been empty.
+    /// A queue of a cause that has none, in which nobody stands.
+    #[inline(never)]
+    fn queue_new(&mut self, name: Who) -> usize
+        requires stand { Stand self.old self.old.ready }
+        requires new { key_at self.old.names.0 name ≡ None }
+        ensures standing { (l : List Standing) → AreStanding self.old self.old.ready l → AreStanding self.new result l }
+        ensures cause { cause_of self.new result ≡ Some name }
+        ensures ready { self.new.ready ≡ self.old.ready }
+        ensures seats { self.new.seats ≡ self.old.seats }
+    {
+        self.make_place();
+        self.open(name)
+    }
+
+    /// The same where there may be one queue more.
+    fn open(&mut self, name: Who) -> usize
+        requires stand { Stand self.old self.old.ready }
+        requires new { key_at self.old.names.0 name ≡ None }
+        requires place { length self.old.names.0 < self.old.most }
+        ensures standing { (l : List Standing) → AreStanding self.old self.old.ready l → AreStanding self.new result l }
+        ensures cause { cause_of self.new result ≡ Some name }
+        ensures ready { self.new.ready ≡ self.old.ready }
+        ensures seats { self.new.seats ≡ self.old.seats }
+    {
+        let head = self.queues.open(name);
+        self.names.put(name, head);
+        head
+    }
+
+    /// There may be one queue more. Where there are as many as may be, one goes in which nobody stands.
+    fn make_place(&mut self)
+        requires { Stand self.old self.old.ready }
+        ensures standing { (l : List Standing) → AreStanding self.old self.old.ready l → AreStanding self.new self.new.ready l }
+        ensures place { length self.new.names.0 < self.new.most }
+        ensures new { (name : names_of.Who) → key_at self.old.names.0 name ≡ None → key_at self.new.names.0 name ≡ None }
+        ensures ready { self.new.ready ≡ self.old.ready }
+        ensures seats { self.new.seats ≡ self.old.seats }
+    {
+        if self.names.len() < self.most {
+            return;
+        }
+        let at = self.find_empty();
+        let name = self.names.entry(at);
+        self.drop_queue(name.who, name.key);
+        self.hand = at;
+    }
+
+    /// The place of the name of a queue in which nobody stands. There is one where there are more names than threads.
+    fn find_empty(&self) -> usize
+        requires stand { Stand self.now self.now.ready }
+        requires many { self.now.seats < length self.now.names.0 }
+        ensures within { result < length self.now.names.0 }
+        ensures empty { (d : name_of.Name) → IsEmpty self.now (slice_index_or self.now.names.0 result d).key }
+    {
+        self.names.once();
+        let many = self.names.len();
+        let hand = at_most(self.hand, many);
+        if let Some(at) = self.empty_within(hand, many) {
+            return at;
+        }
+        match self.empty_within(0, hand) {
+            Some(at) => at,
+            None => unreachable!(),
+        }
+    }
+
+    /// The same of the names from one place to another, where there is one.
+    fn empty_within(&self, from: usize, to: usize) -> Option<usize>
+        requires stand { Stand self.now self.now.ready }
+        requires to { to ≤ length self.now.names.0 }
+        ensures within { IfSome result (λ at. at < length self.now.names.0) }
+        ensures empty { IfSome result (λ at. (d : name_of.Name) → IsEmpty self.now (slice_index_or self.now.names.0 at d).key) }
+        ensures taken { result ≡ None → AreTaken self.now from to }
+    {
+        for at in from..to {
+            if self.queues.is_empty(self.names.entry(at).key) {
+                return Some(at);
+            }
+        }
+        None
+    }
+
+    /// A thread comes to a queue.
     fn enter_at(&mut self, who: Who, head: usize) -> usize
         requires { HasSeat self.old head }
         ensures standing { (l : List Standing) → AreStanding self.old head l → length l + 1 ≤ self.old.seats
@@ -202,11 +295,11 @@ impl Causes {
         self.queues.enter(who, head)
     }
 
-    /// A thread goes to a queue, which may have been empty. The one that it leaves may be empty then.
+    /// A thread goes to a queue. Tells which one it leaves.
     fn turn_to(&mut self, key: usize, head: usize) -> usize
         requires { HasStanding self.old head key }
         ensures standing { (a b : List Standing) (s : Standing) → AreStanding self.old head (a ++ s ∷ b) → s.key ≡ key
-            → AreStanding self.new result ((a ++ b) ++ record s { cause = cause_of self.old head } ∷ []) }
+            → AreStanding self.new self.new.ready ((a ++ b) ++ record s { cause = cause_of self.old head } ∷ []) }
         ensures waited { (a b : List Standing) (s : Standing) → AreStanding self.old head (a ++ s ∷ b) → s.key ≡ key
             → is_some s.cause ≡ not (result == self.old.ready) }
         ensures ready { self.new.ready ≡ self.old.ready }
@@ -215,11 +308,11 @@ impl Causes {
         self.queues.turn(key, head)
     }
 
-    /// A thread goes. The queue that it leaves may be empty then.
+    /// A thread goes. Tells which queue it leaves.
     fn take_out(&mut self, key: usize) -> usize
         requires { HasStanding self.old self.old.ready key }
         ensures standing { (a b : List Standing) (s : Standing) → AreStanding self.old self.old.ready (a ++ s ∷ b) → s.key ≡ key
-            → AreStanding self.new result (a ++ b) }
+            → AreStanding self.new self.new.ready (a ++ b) }
         ensures waited { (a b : List Standing) (s : Standing) → AreStanding self.old self.old.ready (a ++ s ∷ b) → s.key ≡ key
             → is_some s.cause ≡ not (result == self.old.ready) }
         ensures ready { self.new.ready ≡ self.old.ready }
@@ -228,79 +321,34 @@ impl Causes {
         self.queues.leave(key)
     }
 
-    /// No queue is kept in which nobody stands.
-    pub fn forget_idle(&mut self)
+    /// The queue of a cause goes where nobody waits for it.
+    pub fn forget(&mut self, name: Who)
         requires { Stand self.old self.old.ready }
         ensures standing { (l : List Standing) → AreStanding self.old self.old.ready l → AreStanding self.new self.new.ready l }
-        ensures idle { self.new.idle ≡ self.new.ready }
+        ensures gone { (l : List Standing) → AreStanding self.old self.old.ready l → first_of (Some name) l ≡ None → key_at self.new.names.0 name ≡ None }
         ensures seats { self.new.seats ≡ self.old.seats }
     {
-        let old = self.idle;
-        self.idle = self.ready;
-        self.drop_idle(old);
-    }
-
-    /// Where nobody stands in a queue it is the one that is kept now, unless it is the one of the ready.
-    fn drop_empty(&mut self, head: usize)
-        requires { Stand self.old head }
-        ensures standing { (l : List Standing) → AreStanding self.old head l → AreStanding self.new self.new.ready l }
-        ensures seats { self.new.seats ≡ self.old.seats }
-    {
-        if head == self.ready {
-            return;
-        }
-        match self.queues.first(head) {
-            Some(_) => {}
-            None => self.keep_idle(head),
-        }
-    }
-
-    /// A queue is kept, in which nobody stands, and the one that was kept before goes.
-    fn keep_idle(&mut self, head: usize)
-        requires { Stand self.old head }
-        ensures standing { (l : List Standing) → AreStanding self.old head l → AreStanding self.new self.new.ready l }
-        ensures seats { self.new.seats ≡ self.old.seats }
-    {
-        let old = self.idle;
-        if old == head {
-            return;
-        }
-        self.idle = head;
-        self.drop_idle(old);
-    }
-
-    /// A queue that is kept no more goes where nobody stands in it, unless it is the one of the ready.
-    fn drop_idle(&mut self, head: usize)
-        requires stand { Stand self.old head }
-        requires other { head ≢ self.old.ready → head ≢ self.old.idle }
-        ensures standing { (l : List Standing) → AreStanding self.old head l → AreStanding self.new self.new.ready l }
-        ensures ready { self.new.ready ≡ self.old.ready }
-        ensures idle { self.new.idle ≡ self.old.idle }
-        ensures seats { self.new.seats ≡ self.old.seats }
-    {
-        if head == self.ready {
-            return;
-        }
-        match self.queues.first(head) {
-            Some(_) => {}
-            None => self.drop_queue(head),
-        }
-    }
-
-    /// A queue goes, in which nobody stands.
-    fn drop_queue(&mut self, head: usize)
-        requires stand { Stand self.old head }
-        requires empty { (l : List Place) → AreFiled self.old.queues l → first_at head l ≡ None }
-        requires other { head ≢ self.old.ready }
-        requires idle { head ≢ self.old.idle }
-        ensures standing { (l : List Standing) → AreStanding self.old head l → AreStanding self.new self.new.ready l }
-        ensures ready { self.new.ready ≡ self.old.ready }
-        ensures idle { self.new.idle ≡ self.old.idle }
-        ensures seats { self.new.seats ≡ self.old.seats }
-    {
-        let Some(name) = self.queues.name_of(head) else {
+        let Some(head) = self.names.find(name) else {
             return;
         };
+        if self.queues.is_empty(head) {
+            self.drop_queue(name, head);
+        }
+    }
+
+    /// The queue of a cause goes, in which nobody stands.
+    fn drop_queue(&mut self, name: Who, head: usize)
+        requires stand { Stand self.old self.old.ready }
+        requires named { key_at self.old.names.0 name ≡ Some head }
+        requires empty { IsEmpty self.old head }
+        ensures standing { (l : List Standing) → AreStanding self.old self.old.ready l → AreStanding self.new self.new.ready l }
+        ensures gone { key_at self.new.names.0 name ≡ None }
+        ensures new { (other : names_of.Who) → key_at self.old.names.0 other ≡ None → key_at self.new.names.0 other ≡ None }
+        ensures fewer { length self.new.names.0 + 1 ≡ length self.old.names.0 }
+        ensures most { self.new.most ≡ self.old.most }
+        ensures ready { self.new.ready ≡ self.old.ready }
+        ensures seats { self.new.seats ≡ self.old.seats }
+    {
         self.names.take(name);
         self.queues.close(head);
     }

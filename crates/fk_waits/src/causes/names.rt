@@ -1,20 +1,23 @@
 //! Names in order.
-ghost use Rattle.std.specs.Prelude.{◌≡◌, ◌≢◌, ◌+◌, ◌≤◌, ◌<◌, ℕ, List, [], length, true, false, Some, None, IfOk, IfSome, IsSome, OnOk};
+ghost use Rattle.std.specs.Prelude.{◌≡◌, ◌≢◌, ◌+◌, ◌≤◌, ◌<◌, ◌^◌, ℕ, List, [], length, true, false, Some, None, IfOk, IfSome, IsSome, OnOk};
 ghost use Rattle.std.specs.Prelude.{if◌then◌else◌, slice_index_or};
 ghost use Rattle.std.specs.Bool.{OnTrue};
 ghost use Rattle.fk_model.specs.declared.names.Who as names_of;
-ghost use Rattle.fk_waits.specs.Causes.Names.{hint_at, hint_place, is_same, key_at, nowhere, rank, AreHinted, HasRoom, IsRising};
+ghost use Rattle.fk_waits.specs.Causes.Names.{is_same, key_at, near_at, near_place, nobody, rank, AreNear, AreOnce, AreRight, HasRoom, IsRising};
 ghost use Rattle.fk_waits.specs.declared.causes.names.Name as name_of;
 
 use fk_model::{NoMemory, Who};
 use std::alloc::Global;
 use std::marker::Model;
 
-/// So many hints more than names are made, so that few names share one where there are few.
+/// So many more places of this kind are made than names, so that few names share one where there are few.
 const FEW: usize = 14;
 
-/// The hint where no name was put.
-const NOWHERE: usize = 1 << 62;
+/// The rank that stands where no name was put.
+const NOBODY: u64 = 1 << 62;
+
+/// The rank that stands where it isn't known who was put.
+const UNKNOWN: u64 = NOBODY + 1;
 
 /// What a rank is mixed by: the golden section of the number below, so that ranks in a row lie far apart.
 const MIX: u64 = 10_368_889;
@@ -29,31 +32,38 @@ pub struct Name {
     pub key: usize,
 }
 
+/// A name that was put or found, by its rank, and its number.
+#[derive(Clone, Copy)]
+pub struct Near {
+    pub rank: u64,
+    pub key: usize,
+}
+
 /// Names, each once, by rising rank, with their numbers.
 #[derive(Drop)]
 pub struct Names {
     alloc: Global,
     items: Vec<Name>,
-    /// Where names were found or put last, each by its mixed rank. A name that stands where its hint says is found by one look, and one whose hint says
-    /// that none was put is none.
-    hints: Vec<usize>,
+    /// The names that were put or found last, each at its mixed rank. Who stands there is found by one look, and where nobody was put there is no name.
+    near: Vec<Near>,
 }
 
 impl Model for Names {
     ghost use Rattle.std.specs.Prelude.{ℕ, List, vec_capacity};
-    ghost use Rattle.fk_waits.specs.Causes.Names.{AreHinted, IsRising};
+    ghost use Rattle.fk_waits.specs.Causes.Names.{AreNear, AreRight, IsRising};
     ghost use Rattle.fk_waits.specs.declared.causes.names.Name.{Name};
 
     ghost Value = { List Name × ℕ };
 
     ghost view = { λ s. (s.items.items, vec_capacity s.items) };
 
-    ghost invariant = { λ s. IsRising s.items.items × AreHinted s.hints.items s.items.items };
+    ghost invariant = { λ s. IsRising s.items.items × AreNear s.near.items s.items.items × AreRight s.near.items s.items.items };
 }
 
 /// The place of a name in the order of spaces and slots.
 fn rank(who: Who) -> u64
     ensures place { result ≡ rank who }
+    ensures few { rank who < 2 ^ 40 }
     ensures slot { who.slot < 256 }
 {
     u64::from(who.space) * 256 + u64::from(who.slot)
@@ -128,55 +138,79 @@ fn key_in(items: &[Name], at: usize, who: Who) -> Option<usize>
     }
 }
 
-/// Which of so many hints is a name's.
+/// Which of so many places is a name's.
 #[inline]
-fn hint_of(hints: usize, who: Who) -> usize
-    ensures { result ≡ hint_place hints who }
+fn place_near(many: usize, who: Who) -> usize
+    ensures { result ≡ near_place many who }
 {
     let mixed = rank(who) * MIX % MIXED;
-    (mixed.wrapping_mul(hints as u64) / MIXED) as usize
+    (mixed.wrapping_mul(many as u64) / MIXED) as usize
 }
 
-/// The hint of a name.
+/// What stands at the place of a name.
 #[inline]
-fn hint_in(hints: &[usize], who: Who) -> usize
-    ensures { result ≡ hint_at hints.now who }
+fn near_in(near: &[Near], who: Who) -> Near
+    ensures { result ≡ near_at near.now who }
 {
-    let place = hint_of(hints.len(), who);
-    if place < hints.len() { hints[place] } else { 0 }
-}
-
-/// A place that a hint may say.
-fn known(at: usize) -> usize
-    ensures { result ≢ nowhere }
-{
-    if at == NOWHERE { 0 } else { at }
-}
-
-/// A name is here, maybe.
-fn set_hint(hints: &mut Vec<usize>, who: Who, at: usize)
-    ensures mine { hint_at hints.new.items who ≢ nowhere }
-    ensures others { (l : List name_of.Name) → AreHinted hints.old.items l → AreHinted hints.new.items l }
-{
-    let place = hint_of(hints.len(), who);
-    let hint = known(at);
-    if place < hints.len() {
-        hints[place] = hint;
+    let place = place_near(near.len(), who);
+    if place < near.len() {
+        near[place]
+    } else {
+        Near {
+            rank: UNKNOWN,
+            key: 0,
+        }
     }
 }
 
-/// So many hints, for these names.
-fn hints_for(alloc: Global, many: usize, items: &[Name]) -> Result<Vec<usize>, NoMemory>
-    ensures { IfOk result (λ hints. AreHinted hints.items items.now) }
+/// A name with this number was put or found.
+fn note(near: &mut Vec<Near>, who: Who, key: usize)
+    ensures mine { (near_at near.new.items who).rank ≢ nobody }
+    ensures others { (l : List name_of.Name) → AreNear near.old.items l → AreNear near.new.items l }
+    ensures right { (l : List name_of.Name) → AreRight near.old.items l → key_at l who ≡ Some key → AreRight near.new.items l }
 {
-    let mut hints = Vec::new(alloc);
-    hints.resize(many, NOWHERE)?;
+    let place = place_near(near.len(), who);
+    let own = rank(who);
+    if place < near.len() {
+        near[place] = Near { rank: own, key };
+    }
+}
+
+/// A name goes.
+fn forget(near: &mut Vec<Near>, who: Who)
+    ensures others { (l : List name_of.Name) → AreNear near.old.items l → AreNear near.new.items l }
+    ensures right { (k l : List name_of.Name) → AreRight near.old.items k
+        → ((other : names_of.Who) → key_at l other ≡ (if is_same who other then None else key_at k other)) → AreRight near.new.items l }
+{
+    let place = place_near(near.len(), who);
+    if place < near.len() {
+        near[place] = Near {
+            rank: UNKNOWN,
+            key: 0,
+        };
+    }
+}
+
+/// So many places, for these names.
+fn places_for(alloc: Global, many: usize, items: &[Name]) -> Result<Vec<Near>, NoMemory>
+    requires { IsRising items.now }
+    ensures near { IfOk result (λ near. AreNear near.items items.now) }
+    ensures right { IfOk result (λ near. AreRight near.items items.now) }
+{
+    let mut near = Vec::new(alloc);
+    near.resize(
+        many,
+        Near {
+            rank: NOBODY,
+            key: 0,
+        },
+    )?;
     let mut at = items.len();
     while at > 0 {
         at -= 1;
-        set_hint(&mut hints, items[at].who, at);
+        note(&mut near, items[at].who, items[at].key);
     }
-    Ok(hints)
+    Ok(near)
 }
 
 impl Names {
@@ -187,7 +221,7 @@ impl Names {
         Names {
             alloc,
             items: Vec::new(alloc),
-            hints: Vec::new(alloc),
+            near: Vec::new(alloc),
         }
     }
 
@@ -198,6 +232,22 @@ impl Names {
         self.items.len()
     }
 
+    /// Each name is there once. What the type keeps is seen where it is made alone; by this call it is had above.
+    pub fn once(&self)
+        ensures { AreOnce self.now.0 }
+    {
+        let _many = self.items.len();
+    }
+
+    /// The name at a place, with its number.
+    pub fn entry(&self, place: usize) -> Name
+        requires { place < length self.now.0 }
+        ensures name { (d : Name) → slice_index_or self.now.0 place d ≡ result }
+        ensures number { key_at self.now.0 result.who ≡ Some result.key }
+    {
+        self.items[place]
+    }
+
     /// Makes room for so many more names. For want of memory there may be no more room than before.
     pub fn reserve(&mut self, more: usize) -> Result<(), NoMemory>
         ensures entries { self.new.0 ≡ self.old.0 }
@@ -205,29 +255,21 @@ impl Names {
         ensures kept { self.old.1 ≤ self.new.1 }
     {
         match self.items.reserve(more) {
-            Ok(()) => self.reserve_hints(more),
+            Ok(()) => self.reserve_near(more),
             Err(_) => Err(NoMemory),
         }
     }
 
-    /// Makes room for the hints of so many names.
-    fn reserve_hints(&mut self, more: usize) -> Result<(), NoMemory>
+    /// Makes places for so many names.
+    fn reserve_near(&mut self, more: usize) -> Result<(), NoMemory>
         ensures { self.new ≡ self.old }
     {
-        if more.saturating_add(FEW) <= self.hints.len() {
+        if more.saturating_add(FEW) <= self.near.len() {
             return Ok(());
         }
         let many = more.saturating_add(more / 2).saturating_add(FEW);
-        self.hints = hints_for(self.alloc, many, &self.items)?;
+        self.near = places_for(self.alloc, many, &self.items)?;
         Ok(())
-    }
-
-    /// Where a name was found last, maybe.
-    #[inline]
-    fn hint(&self, who: Who) -> usize
-        ensures none { result ≡ nowhere → key_at self.now.0 who ≡ None }
-    {
-        hint_in(&self.hints, who)
     }
 
     /// The number of a name.
@@ -235,14 +277,15 @@ impl Names {
     pub fn find(&self, who: Who) -> Option<usize>
         ensures { result ≡ key_at self.now.0 who }
     {
-        let hint = self.hint(who);
-        if hint == NOWHERE {
+        let near = near_in(&self.near, who);
+        let own = rank(who);
+        if near.rank == own {
+            return Some(near.key);
+        }
+        if near.rank == NOBODY {
             return None;
         }
-        match key_in(&self.items, hint, who) {
-            Some(key) => Some(key),
-            None => self.seek(who),
-        }
+        self.seek(who)
     }
 
     /// The same by halving.
@@ -253,20 +296,21 @@ impl Names {
         key_in(&self.items, place_of(&self.items, who), who)
     }
 
-    /// The same, and where it is found by halving its hint says so.
+    /// The same, and where it is found by halving it is found by one look from then on.
     #[inline]
     pub fn find_near(&mut self, who: Who) -> Option<usize>
         ensures found { result ≡ key_at self.old.0 who }
         ensures same { self.new ≡ self.old }
     {
-        let hint = self.hint(who);
-        if hint == NOWHERE {
+        let near = near_in(&self.near, who);
+        let own = rank(who);
+        if near.rank == own {
+            return Some(near.key);
+        }
+        if near.rank == NOBODY {
             return None;
         }
-        match key_in(&self.items, hint, who) {
-            Some(key) => Some(key),
-            None => self.find_far(who),
-        }
+        self.find_far(who)
     }
 
     /// The same by halving.
@@ -275,10 +319,9 @@ impl Names {
         ensures found { result ≡ key_at self.old.0 who }
         ensures same { self.new ≡ self.old }
     {
-        let at = place_of(&self.items, who);
-        let key = key_in(&self.items, at, who);
-        set_hint(&mut self.hints, who, at);
-        key
+        let key = self.seek(who)?;
+        note(&mut self.near, who, key);
+        Some(key)
     }
 
     /// Puts in a name that isn't there, with a number.
@@ -294,7 +337,7 @@ impl Names {
             Ok(()) => {}
             Err(_) => unreachable!(),
         }
-        set_hint(&mut self.hints, who, at);
+        note(&mut self.near, who, key);
     }
 
     /// Takes a name out, and gives its number.
@@ -305,13 +348,15 @@ impl Names {
         ensures same { result ≡ None → self.new ≡ self.old }
         ensures kept { self.old.1 ≡ self.new.1 }
     {
-        if self.hint(who) == NOWHERE {
+        let near = near_in(&self.near, who);
+        if near.rank == NOBODY {
             return None;
         }
         let at = place_of(&self.items, who);
         match key_in(&self.items, at, who) {
             Some(key) => {
                 self.items.remove(at);
+                forget(&mut self.near, who);
                 Some(key)
             }
             None => None,

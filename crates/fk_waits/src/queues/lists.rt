@@ -57,10 +57,8 @@ pub fn show(nodes: &mut Slab<Node>, node: usize, who: Who, at: usize)
     ensures len { slab_len nodes.new ≡ slab_len nodes.old }
     ensures capacity { nodes.new.capacity ≡ nodes.old.capacity }
 {
-    if let Some(node) = nodes.get_mut(node) {
-        node.who = who;
-        node.at = at;
-    }
+    nodes[node].who = who;
+    nodes[node].at = at;
 }
 
 /// The first node behind a head.
@@ -88,6 +86,7 @@ pub fn join(nodes: &mut Slab<Node>, head: usize, node: usize)
 
 /// A node leaves the list in which it stands. Tells the number that it shows.
 pub fn leave(nodes: &mut Slab<Node>, node: usize) -> usize
+    requires node { ContainsKey nodes.old node }
     requires next { ContainsKey nodes.old (next_of nodes.old node) }
     requires prev { ContainsKey nodes.old (prev_of nodes.old node) }
     ensures shown { ShowsAs nodes.old nodes.new }
@@ -96,10 +95,12 @@ pub fn leave(nodes: &mut Slab<Node>, node: usize) -> usize
         → AreDisjoint (g ∷ (k ++ node ∷ m)) (h ∷ l) → IsListed nodes.new h l }
     ensures number { result ≡ node_in (shown_at nodes.old node) }
 {
-    let (prev, next, at) = match nodes.get(node) {
-        Some(node) => (node.prev, node.next, node.at),
-        None => return 0,
-    };
+    let Node {
+        who: _,
+        at,
+        next,
+        prev,
+    } = nodes[node];
     link(nodes, prev, next);
     at
 }
@@ -124,11 +125,8 @@ fn link_head(nodes: &mut Slab<Node>, head: usize, node: usize) -> usize
     ensures next { (m : ℕ) → next_of nodes.new m ≡ next_of nodes.old m }
     ensures prev { (m : ℕ) → prev_of nodes.new m ≡ put_at (prev_of nodes.old) head node m }
 {
-    let Some(head) = nodes.get_mut(head) else {
-        return 0;
-    };
-    let last = head.prev;
-    head.prev = node;
+    let last = nodes[head].prev;
+    nodes[head].prev = node;
     last
 }
 
@@ -139,10 +137,8 @@ fn link_both(nodes: &mut Slab<Node>, node: usize, before: usize, behind: usize)
     ensures next { (m : ℕ) → next_of nodes.new m ≡ put_at (next_of nodes.old) node behind m }
     ensures prev { (m : ℕ) → prev_of nodes.new m ≡ put_at (prev_of nodes.old) node before m }
 {
-    if let Some(node) = nodes.get_mut(node) {
-        node.next = behind;
-        node.prev = before;
-    }
+    nodes[node].next = behind;
+    nodes[node].prev = before;
 }
 
 /// Tells a node what is behind it.
@@ -152,9 +148,7 @@ fn link_next(nodes: &mut Slab<Node>, node: usize, behind: usize)
     ensures next { (m : ℕ) → next_of nodes.new m ≡ put_at (next_of nodes.old) node behind m }
     ensures prev { (m : ℕ) → prev_of nodes.new m ≡ prev_of nodes.old m }
 {
-    if let Some(node) = nodes.get_mut(node) {
-        node.next = behind;
-    }
+    nodes[node].next = behind;
 }
 
 /// Tells a node what is before it.
@@ -164,9 +158,7 @@ fn link_prev(nodes: &mut Slab<Node>, node: usize, before: usize)
     ensures next { (m : ℕ) → next_of nodes.new m ≡ next_of nodes.old m }
     ensures prev { (m : ℕ) → prev_of nodes.new m ≡ put_at (prev_of nodes.old) node before m }
 {
-    if let Some(node) = nodes.get_mut(node) {
-        node.prev = before;
-    }
+    nodes[node].prev = before;
 }
 
 /// A node that stands in no list goes, and its room is free again.

@@ -1,6 +1,7 @@
 //! Queues.
 ghost use Rattle.std.specs.Prelude.{◌≡◌, ◌+◌, ◌≤◌, ℕ, List, [], ◌∷◌, ◌++◌};
 ghost use Rattle.std.specs.Prelude.{◌≢◌, Some, None, IfOk, OnOk};
+ghost use Rattle.std.specs.Bool.{OnTrue, OnFalse};
 ghost use Rattle.slab.specs.Slab.{slab_len, HasRoomFor};
 ghost use Rattle.fk_waits.specs.Queues.Chains.{IsNoneOf};
 ghost use Rattle.fk_waits.specs.Queues.Nodes.{shown_at, IsListed, ShowsAs};
@@ -115,23 +116,23 @@ impl Queues {
         })
     }
 
-    /// Makes room for so many more threads and queues together. For want of memory all stands as it did.
+    /// Makes room for so many more threads, and so many more threads and queues together. For want of memory all stands as it did.
     ///
     /// # Errors
     ///
     /// There is no memory for them.
-    pub fn reserve(&mut self, more: usize) -> Result<(), NoMemory>
-        ensures order { OnOk result (HasRoomFor self.new.order more) }
-        ensures lines { OnOk result (HasRoomFor self.new.lines more) }
+    pub fn reserve(&mut self, threads: usize, all: usize) -> Result<(), NoMemory>
+        ensures order { OnOk result (HasRoomFor self.new.order threads) }
+        ensures lines { OnOk result (HasRoomFor self.new.lines all) }
         ensures kept { (l : List Place) → AreFiled self.old l → AreFiled self.new l }
         ensures shown { (h : ℕ) → shown_at self.new.lines h ≡ shown_at self.old.lines h }
         ensures len { (slab_len self.new.order ≡ slab_len self.old.order) × (slab_len self.new.lines ≡ slab_len self.old.lines) }
         ensures room { (self.old.order.capacity ≤ self.new.order.capacity) × (self.old.lines.capacity ≤ self.new.lines.capacity) }
     {
-        if self.order.reserve(more).is_err() {
+        if self.order.reserve(threads).is_err() {
             return Err(NoMemory);
         }
-        match self.lines.reserve(more) {
+        match self.lines.reserve(all) {
             Ok(()) => Ok(()),
             Err(_) => Err(NoMemory),
         }
@@ -183,7 +184,7 @@ impl Queues {
         ensures room { SameRoom self.old self.new }
     {
         let Some(place) = self.order.get(key) else {
-            return 0;
+            unreachable!()
         };
         let node = place.at;
         let who = place.who;
@@ -203,7 +204,7 @@ impl Queues {
         ensures room { SameRoom self.old self.new }
     {
         let Some(place) = self.order.get(key) else {
-            return 0;
+            unreachable!()
         };
         let node = place.at;
         take_out(&mut self.order, self.first, key);
@@ -218,6 +219,18 @@ impl Queues {
         match first(&self.lines, head) {
             Some(node) => who_at(&self.lines, node),
             None => None,
+        }
+    }
+
+    /// Nobody stands in a queue.
+    pub fn is_empty(&self, head: usize) -> bool
+        requires { IsHead self.now.lines head }
+        ensures none { OnTrue result ((l : List Place) → AreFiled self.now l → first_at head l ≡ None) }
+        ensures some { OnFalse result ((l : List Place) → AreFiled self.now l → first_at head l ≢ None) }
+    {
+        match self.first(head) {
+            Some(_) => false,
+            None => true,
         }
     }
 
@@ -254,7 +267,7 @@ impl Queues {
         ensures room { SameRoom self.old self.new }
     {
         let Some(place) = self.order.get(key) else {
-            return;
+            unreachable!()
         };
         let node = place.at;
         let head = number_at(&self.lines, node);
@@ -284,12 +297,5 @@ impl Queues {
         ensures room { SameRoom self.old self.new }
     {
         remove(&mut self.lines, head);
-    }
-
-    /// The name of a queue.
-    pub fn name_of(&self, head: usize) -> Option<Who>
-        ensures { result ≡ who_shown (shown_at self.now.lines head) }
-    {
-        who_at(&self.lines, head)
     }
 }

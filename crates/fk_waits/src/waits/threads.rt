@@ -143,7 +143,7 @@ impl Threads {
         ensures there { (l : Pairs) → AreThere self.old l → AreThere self.new (map (with_cause from to) l) }
         ensures seats { self.new.causes.seats ≡ self.old.causes.seats }
     {
-        self.causes.forget_idle();
+        self.causes.forget(to);
         self.causes.rename_cause(from, to);
     }
 

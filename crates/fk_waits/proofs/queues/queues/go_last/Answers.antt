@@ -6,6 +6,7 @@ use Rattle.fk_waits.proofs.queues.queues.go_last.Goals as goal
 
 pub leave-requires : goal.leave-requires
 leave-requires c = record {
+  node = of_middle (ContainsKey c.args.nodes.now) c.requires.before c.requires.behind c.args.node c.requires.there.1;
   next = (beside_there c.args.nodes.now c.args.head c.args.node c.requires).0;
   prev = (beside_there c.args.nodes.now c.args.head c.args.node c.requires).1;
 }

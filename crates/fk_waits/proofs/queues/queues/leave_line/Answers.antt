@@ -7,6 +7,7 @@ use Rattle.fk_waits.proofs.queues.queues.leave_line.Goals as goal
 
 pub leave-left-requires : goal.leave-left-requires
 leave-left-requires c = record {
+  node = of_middle (ContainsKey c.args.lines.now) c.requires.stands.before c.requires.stands.behind c.args.node c.requires.stands.there.1;
   next = (beside_there c.args.lines.now c.requires.head c.args.node c.requires.stands).0;
   prev = (beside_there c.args.lines.now c.requires.head c.args.node c.requires.stands).1;
 }

@@ -1,17 +1,22 @@
-use Rattle.std.proofs.Common.{sym}
-use Rattle.fk_waits.proofs.InCauses.Steps.{closed_so, never_nameless, take_len}
+use Rattle.fk_waits.proofs.InCauses.Order.{same_self}
+use Rattle.fk_waits.proofs.InCauses.Steps.{closed_so, named_head, none_taken, still_none, take_len}
 use Rattle.fk_waits.proofs.causes.causes.Causes.drop_queue.Goals as goal
 
-pub returns-in_default-clause-standing : goal.returns-in_default-clause-standing
-returns-in_default-clause-standing c l standing = never_nameless c.args.self.now c.args.head c.in_default.ensures standing.placed.free_head
-
 pub close-requires : goal.close-requires
-close-requires c = c.requires.stand.standing.placed.free_head
+close-requires c = named_head c.args.self.now c.args.head c.args.name c.requires.named c.requires.stand
 
 pub returns-clause-standing : goal.returns-clause-standing
 returns-clause-standing c l standing =
     let k = c.take.ensures in
     let e = c.close.ensures in
-    closed_so c.args.self.now c.close.new.self c.take.new.self c.args.head c.in-Some.name c.in-Some.ensures c.requires.other e.gone e.others k.left
-    (λ there. k.len (take_len k.taken there)) k.kept e.len.0 e.len.1 e.room e.kept (λ places filed. sym (c.requires.empty places filed))
-    c.requires.idle l standing
+    closed_so c.args.self.now c.close.new.self c.take.new.self c.args.head c.args.name c.requires.named e.gone e.others k.left
+    (k.len (take_len k.taken c.requires.named)) k.kept e.len.0 e.len.1 e.room e.kept c.requires.empty l standing
+
+pub returns-clause-gone : goal.returns-clause-gone
+returns-clause-gone c = none_taken c.args.self.now.names c.take.new.self c.args.name c.args.name c.take.ensures.left (same_self c.args.name)
+
+pub returns-clause-new : goal.returns-clause-new
+returns-clause-new c other none = still_none c.args.self.now.names c.take.new.self c.args.name other c.take.ensures.left none
+
+pub returns-clause-fewer : goal.returns-clause-fewer
+returns-clause-fewer c = c.take.ensures.len (take_len c.take.ensures.taken c.requires.named)

@@ -9,7 +9,7 @@ enter-requires c =
     record {
       order = seat_order c.args.self.now c.args.head h;
       lines = seat_lines c.args.self.now c.args.head h;
-      head = h.standing.placed.free_head;
+      head = h.standing.placed.one;
       kept = record { places = h.standing.places; filed = h.standing.placed.filed };
     }
 

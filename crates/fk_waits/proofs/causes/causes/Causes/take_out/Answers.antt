@@ -9,8 +9,7 @@ leave-requires c =
 pub returns-clause-standing : goal.returns-clause-standing
 returns-clause-standing c a b s standing is =
     let e = c.leave.ensures in
-    gone_so c.args.self.now c.leave.new.self e.heads e.room c.args.key c.leave.result c.leave.ensures.left e.filed e.len.0 e.len.1
-    a b s standing is
+    gone_so c.args.self.now c.leave.new.self e.heads e.room c.args.key e.filed e.len.0 e.len.1 a b s standing is
 
 pub returns-clause-waited : goal.returns-clause-waited
 returns-clause-waited c a b s standing is =

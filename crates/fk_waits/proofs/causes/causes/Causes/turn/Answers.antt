@@ -15,18 +15,10 @@ turn_to-left-requires c =
       standing = c.queue_for-head.ensures.standing (h.before ++ h.one ∷ h.behind) h.standing;
     }
 
-pub drop_empty-requires : goal.drop_empty-requires
-drop_empty-requires c =
-    let h = c.requires in
-    record {
-      list = _;
-      standing = c.turn_to-left.ensures.standing h.before h.behind h.one (c.queue_for-head.ensures.standing (h.before ++ h.one ∷ h.behind) h.standing) h.is;
-    }
-
 pub returns-clause-standing : goal.returns-clause-standing
 returns-clause-standing c a b s standing is =
-    let turned = c.turn_to-left.ensures.standing a b s (c.queue_for-head.ensures.standing (a ++ s ∷ b) standing) is in
-    rw (← c.queue_for-head.ensures.cause) (c.drop_empty.ensures.standing _ turned)
+    rw (← c.queue_for-head.ensures.cause)
+    (c.turn_to-left.ensures.standing a b s (c.queue_for-head.ensures.standing (a ++ s ∷ b) standing) is)
 
 pub returns-clause-waited : goal.returns-clause-waited
 returns-clause-waited c a b s standing is =

@@ -7,14 +7,13 @@ turn-requires c =
     let h = c.requires in
     record {
       place = placed_key c.args.self.now c.args.head c.args.key h.before h.one h.behind h.is h.standing;
-      head = h.standing.placed.free_head;
+      head = h.standing.placed.one;
     }
 
 pub returns-clause-standing : goal.returns-clause-standing
 returns-clause-standing c a b s standing is =
     let e = c.turn.ensures in
-    turned_so c.args.self.now c.turn.new.self e.heads e.room c.args.key c.args.head c.turn.result c.turn.ensures.left e.filed e.len.0 e.len.1
-    a b s standing is
+    turned_so c.args.self.now c.turn.new.self e.heads e.room c.args.key c.args.head e.filed e.len.0 e.len.1 a b s standing is
 
 pub returns-clause-waited : goal.returns-clause-waited
 returns-clause-waited c a b s standing is =

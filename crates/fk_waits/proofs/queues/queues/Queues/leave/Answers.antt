@@ -5,10 +5,9 @@ use Rattle.fk_waits.proofs.InQueues.Heads.{gone_away, heads_same, read_apart}
 use Rattle.fk_waits.proofs.InQueues.Turned.{line_read, never_gone, place_read, stands_in_order}
 use Rattle.fk_waits.proofs.queues.queues.Queues.leave.Goals as goal
 
-pub returns-in_default : goal.returns-in_default
-returns-in_default c =
-    let h = c.requires in
-    absurd (never_gone c.args.self.now h.before h.place h.behind c.args.key h.filed h.is c.in_default.ensures)
+pub unreachable-requires : goal.unreachable-requires
+unreachable-requires c =
+    let h = c.requires in never_gone c.args.self.now h.before h.place h.behind c.args.key h.filed h.is c.in_default.ensures
 
 pub take_out-requires : goal.take_out-requires
 take_out-requires c = stands_in_order c.args.self.now c.args.key c.requires

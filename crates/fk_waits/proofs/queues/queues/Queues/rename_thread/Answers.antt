@@ -8,10 +8,9 @@ use Rattle.fk_waits.proofs.InQueues.Turned.{never_gone, place_read}
 use Rattle.fk_waits.proofs.InQueues.Places.{filed_middle}
 use Rattle.fk_waits.proofs.queues.queues.Queues.rename_thread.Goals as goal
 
-pub returns-in_default : goal.returns-in_default
-returns-in_default c =
-    let h = c.requires in
-    absurd (never_gone c.args.self.now h.before h.place h.behind c.args.key h.filed h.is c.in_default.ensures)
+pub unreachable-requires : goal.unreachable-requires
+unreachable-requires c =
+    let h = c.requires in never_gone c.args.self.now h.before h.place h.behind c.args.key h.filed h.is c.in_default.ensures
 
 pub show-requires : goal.show-requires
 show-requires c = ap (λ (o : Option Node). is_some o) (sym c.in-Some.ensures)

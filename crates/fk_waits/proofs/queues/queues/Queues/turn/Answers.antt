@@ -4,10 +4,9 @@ use Rattle.fk_waits.proofs.InQueues.Heads.{heads_same, leads_away, read_apart}
 use Rattle.fk_waits.proofs.InQueues.Turned.{filed_turned, last_turned, line_read, never_gone, place_read, stands_in_order}
 use Rattle.fk_waits.proofs.queues.queues.Queues.turn.Goals as goal
 
-pub returns-in_default : goal.returns-in_default
-returns-in_default c =
-    let h = c.requires.place in
-    absurd (never_gone c.args.self.now h.before h.place h.behind c.args.key h.filed h.is c.in_default.ensures)
+pub unreachable-requires : goal.unreachable-requires
+unreachable-requires c =
+    let h = c.requires.place in never_gone c.args.self.now h.before h.place h.behind c.args.key h.filed h.is c.in_default.ensures
 
 pub go_last-requires : goal.go_last-requires
 go_last-requires c = stands_in_order c.args.self.now c.args.key c.requires.place
