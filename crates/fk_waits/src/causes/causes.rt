@@ -23,6 +23,10 @@ pub struct Causes {
 
 impl Causes {
     /// Nobody stands, and there is no room yet.
+    ///
+    /// # Errors
+    ///
+    /// There is no memory for the heads of the lists.
     pub fn new(alloc: Global) -> Result<Causes, NoMemory>
         ensures standing { IfOk result (λ c. AreStanding c c.ready []) }
         ensures seats { IfOk result (λ c. c.seats ≡ 0) }
@@ -49,6 +53,10 @@ impl Causes {
     }
 
     /// Makes room for so many threads in all, which are no fewer than before. For want of memory all stands as it did.
+    ///
+    /// # Errors
+    ///
+    /// There is no memory for so many; all stands as before then.
     pub fn reserve(&mut self, seats: usize) -> Result<(), NoMemory>
         requires more { self.old.seats ≤ seats }
         requires few { seats < 2 ^ 62 }
