@@ -6,6 +6,10 @@ ghost use Rattle.fk_asm.specs.Lines as definitions;
 use std::alloc::{AllocError, Global};
 
 /// The lines of a text.
+///
+/// # Errors
+///
+/// There is no memory for the list.
 pub fn lines_of(alloc: Global, text: &[u8]) -> Result<Vec<&[u8]>, AllocError>
     ensures { IfOk result (λ lines. map (λ line. line.now) lines.items ≡ definitions.lines_of text.now) }
 {
@@ -38,6 +42,10 @@ fn before_comment(line: &[u8]) -> &[u8]
 }
 
 /// The tokens of a line, without its comment.
+///
+/// # Errors
+///
+/// There is no memory for the list.
 pub fn tokens_of(alloc: Global, line: &[u8]) -> Result<Vec<&[u8]>, AllocError>
     ensures { IfOk result (λ tokens. map (λ token. token.now) tokens.items ≡ definitions.tokens_of line.now) }
 {

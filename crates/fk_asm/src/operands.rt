@@ -14,6 +14,10 @@ pub enum Value<'a> {
 }
 
 /// A register, `r0` to `r15`.
+///
+/// # Errors
+///
+/// `Register`: it is none.
 pub fn register_of(token: &[u8]) -> Result<u8, Reason>
     ensures value { GivesOrReason (λ x. x) result (definitions.register_of token.now) }
     ensures known { IfOk result (λ register. register < 16) }
@@ -55,6 +59,10 @@ pub fn is_label(token: &[u8]) -> bool
 }
 
 /// A number from -2147483648 to 4294967295, taken modulo 2^32, or a label.
+///
+/// # Errors
+///
+/// `Number`: it is neither.
 pub fn operand_of(token: &[u8]) -> Result<Value<'_>, Reason>
     ensures { GivesOrReason definitions.value_view result (definitions.operand_of token.now) }
 {

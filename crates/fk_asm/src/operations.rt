@@ -252,6 +252,10 @@ fn statement<'a>(name: &[u8], operands: &[&'a [u8]]) -> Result<Item<'a>, Reason>
 }
 
 /// What a statement places: an operation with its operands, or `word` with its one. No tokens place nothing.
+///
+/// # Errors
+///
+/// The first reason why the statement is refused.
 #[tactic(auto, unfolding(crate::specs::Operations::item_of))]
 pub fn item_of<'a>(tokens: &[&'a [u8]]) -> Result<Option<Item<'a>>, Reason>
     ensures { GivesOrReason (option_map definitions.item_view) result (definitions.item_of (map (λ token. token.now) tokens.now)) }

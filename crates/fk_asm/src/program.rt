@@ -120,6 +120,10 @@ impl<'a> Lines<'a> {
     }
 
     /// These and one more at the end, whose label is new.
+    ///
+    /// # Errors
+    ///
+    /// There is no memory for one line more.
     pub fn with(self, line: Line<'a>) -> Result<Lines<'a>, NoMemory>
         requires { IsNew self (option_map (λ name. name.now) line.label) }
         ensures { IfOk result (λ more. more ≡ self.entry ++ line_view line.entry ∷ []) }
@@ -161,6 +165,10 @@ fn check_label(lines: &Lines<'_>, label: Option<&[u8]>) -> Result<(), Reason>
 }
 
 /// The line with these tokens, if it is right after those before it.
+///
+/// # Errors
+///
+/// The first reason why the line is refused after those before it.
 #[tactic(auto, unfolding(crate::specs::Program::check_line))]
 pub fn right_line<'a>(
     lines: &Lines<'a>,

@@ -98,6 +98,10 @@ fn ports_of(alloc: Global, servers: &[ServerEntry]) -> Result<Entries<Path>, NoM
 /// then its objects, of which the ports of servers are served, then where these lead, and then the porters
 /// of nesters, each in the order of the file. Spaces have birth numbers from 1 on, and the root 0. Its world is valid, a run may begin in it,
 /// and it can be saved. For want of memory there is none.
+///
+/// # Errors
+///
+/// There is no memory for the store.
 pub fn first_store(alloc: Global, scenario: &Scenario) -> Result<Store, NoMemory>
     requires { KeepsScenario scenario.now }
     ensures world { IfOk result (λ store. world store ≡ booted scenario.now) }

@@ -33,6 +33,10 @@ pub struct First {
 /// of nesters, each in the order of the file. Spaces have birth numbers from 1 on, and the root 0. That world is valid, a
 /// run may begin in it, and it can be saved; with the servers, the nesters and the jobs it is a sound start. Each server stands at its port, has no client, and was neither sent nor
 /// replied anything. For want of memory there is none.
+///
+/// # Errors
+///
+/// There is no memory for the kernel or the servers.
 pub fn boot(alloc: Global, scenario: &Scenario) -> Result<First, NoMemory>
     requires { KeepsScenario scenario.now }
     ensures world { IfOk result (λ first. world first.kernel ≡ booted scenario.now) }

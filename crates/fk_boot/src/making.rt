@@ -22,6 +22,10 @@ use fk_scenario::fields::{Entries, Path as Slots};
 use fk_store::Store;
 
 /// Makes a space, unless it is the root, and gives its birth number.
+///
+/// # Errors
+///
+/// There is no memory for it.
 pub fn make_space(store: &mut Store, slots: &[u8]) -> Result<u32, NoMemory>
     requires place { CanStand (world store.old) slots.now }
     requires births { AreBorn (world store.old) }
@@ -114,6 +118,10 @@ fn first_body(spec: &Spec, served: bool) -> Body
 }
 
 /// Makes an object. The ports with these paths are served.
+///
+/// # Errors
+///
+/// There is no memory for it.
 pub fn make_object(
     store: &mut Store,
     ports: &Entries<Slots>,

@@ -34,6 +34,10 @@ fn page_of(words: &[u64]) -> [u64; 64]
 }
 
 /// Puts pages of zeros into a space.
+///
+/// # Errors
+///
+/// There is no memory for the pages.
 pub fn put_zeros(store: &mut Store, space: u32, pages: &[u8]) -> Result<(), NoMemory>
     requires { IsSpace store.old space }
     ensures world { OnOk result (world store.new ≡ apply_all (definitions.zero_pages (path store.old space) pages.now) (world store.old)) }
@@ -63,6 +67,10 @@ fn put_part(store: &mut Store, space: u32, words: &[u64], page: u8) -> Result<()
 }
 
 /// Puts a program into a space, from address 0 on.
+///
+/// # Errors
+///
+/// There is no memory for the pages.
 pub fn put_program(store: &mut Store, space: u32, words: &[u64]) -> Result<(), NoMemory>
     requires { IsSpace store.old space }
     ensures { OnOk result (world store.new ≡ apply_all (definitions.program_pages (path store.old space) words.now) (world store.old)) }

@@ -49,6 +49,10 @@ fn make_porter(store: &mut Store, entry: &SpaceEntry) -> Result<(), NoMemory>
 }
 
 /// Makes the porters of the nesters among the spaces of a scenario, in the order of its file.
+///
+/// # Errors
+///
+/// There is no memory for them.
 pub fn make_porters(store: &mut Store, entries: &[SpaceEntry]) -> Result<(), NoMemory>
     requires { AreNestable (world store.old) entries.now }
     ensures { OnOk result (world store.new ≡ apply_all (flat_map definitions.porter_changes entries.now) (world store.old)) }

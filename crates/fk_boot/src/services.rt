@@ -56,6 +56,10 @@ fn port_of(store: &Store, server: &ServerEntry) -> Who
 }
 
 /// The servers of a scenario, each by the name of its port, in the order of the file.
+///
+/// # Errors
+///
+/// There is no memory for them.
 pub fn services_of(
     alloc: Global,
     store: &Store,

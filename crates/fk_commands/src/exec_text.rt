@@ -31,6 +31,10 @@ fn registers_line(alloc: Global, registers: &[u64; 16]) -> Result<String, AllocE
 }
 
 /// What is written of a thread that has run: how it ended, and its registers.
+///
+/// # Errors
+///
+/// There is no memory for the text.
 pub fn exec_text(
     alloc: Global,
     halted: Option<u8>,

@@ -9,6 +9,10 @@ use itoa::Buffer;
 use std::alloc::AllocError;
 
 /// Appends a number.
+///
+/// # Errors
+///
+/// There is no memory for its digits.
 pub fn push_number(text: &mut String, number: u64) -> Result<(), AllocError>
     ensures { OnOk result (string_bytes text.new ≡ string_bytes text.old ++ decimal number) }
 {

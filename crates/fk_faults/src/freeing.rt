@@ -29,6 +29,10 @@ fn frees(store: &Store, caller: Caller, thread: Who) -> Verdict
 }
 
 /// The fault that the caller has taken ends, and its thread tries again.
+///
+/// # Errors
+///
+/// NOTLINKED: it has taken none.
 pub fn fault_done(store: &Store, caller: Caller) -> Result<Verdict, u8>
     requires valid { IsValid (world store.now) }
     ensures row { Judges store.now caller result (λ w c. rows.fault_done w c) }

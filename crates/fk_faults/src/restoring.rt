@@ -76,6 +76,11 @@ fn named_taker(store: &Store, caller: Caller, taker: u64) -> Result<Option<Peer>
 }
 
 /// A thread has a fault on a port to which a reference leads. A thread has taken it, or nobody.
+///
+/// # Errors
+///
+/// The status of the first refusal: its place (BADHANDLE, WRONGKIND, NULLREF, DEAD); the slot (BADHANDLE, WRONGKIND); the reference to the port, then that to
+/// the taker (BADHANDLE, WRONGKIND, NULLREF, DEAD); HELD.
 #[tactic(auto, unfolding(fk_model::specs::FaultRows::fault_set))]
 pub fn fault_set(
     store: &Store,
@@ -101,6 +106,10 @@ pub fn fault_set(
 }
 
 /// A thread has a fault on a port of the caller's space. It is raised there, or parked.
+///
+/// # Errors
+///
+/// The status of the first refusal: its place (BADHANDLE, WRONGKIND, NULLREF, DEAD); the slot (BADHANDLE, WRONGKIND); the port (BADHANDLE, WRONGKIND); HELD.
 #[tactic(auto, unfolding(fk_model::specs::FaultRows::fault_park))]
 pub fn fault_park(
     store: &Store,

@@ -20,6 +20,10 @@ use fk_scenario::Scenario;
 use std::alloc::Global;
 
 /// The jobs of a scenario, none of which has begun. An image is given for each, or none; one that an earlier job makes needs none.
+///
+/// # Errors
+///
+/// There is no memory for the jobs.
 pub fn first_jobs(
     alloc: Global,
     scenario: &Scenario,
@@ -37,6 +41,10 @@ pub fn first_jobs(
 
 /// The core with which a scenario begins. An image is given for each of its jobs, or none; one that an earlier job makes needs none. A table
 /// by which the scenario was read fits its servers.
+///
+/// # Errors
+///
+/// There is no memory for the kernel, the servers or the jobs.
 pub fn first_core(
     alloc: Global,
     scenario: &Scenario,

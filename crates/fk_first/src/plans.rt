@@ -91,6 +91,10 @@ fn given_at(images: &[Option<ValidImage>], place: usize) -> Result<Option<ValidI
 }
 
 /// What is planned of jobs, in their order. An image is given for each, or none: one that an earlier job makes needs none.
+///
+/// # Errors
+///
+/// There is no memory for the plans.
 pub fn plans_of(
     alloc: Global,
     jobs: &[JobSpec],

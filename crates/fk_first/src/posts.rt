@@ -20,6 +20,10 @@ use fk_trace::{Post, replaying_posts, tapped_posts};
 use std::alloc::Global;
 
 /// The core with which a scenario begins, with a tap of each server that is no console, by the observer at a place of the table.
+///
+/// # Errors
+///
+/// There is no memory for the kernel, the taps or the jobs.
 pub fn tapped_core(
     alloc: Global,
     scenario: &Scenario,
@@ -42,6 +46,10 @@ pub fn tapped_core(
 }
 
 /// The same with a replay in the place of each server that is no console, by these lists of replies in order.
+///
+/// # Errors
+///
+/// There is no memory for the kernel, the replays or the jobs.
 pub fn replaying_core(
     alloc: Global,
     scenario: &Scenario,

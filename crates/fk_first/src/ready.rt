@@ -26,6 +26,10 @@ fn ready_users(alloc: Global, kernel: &Kernel) -> Result<Ready, AllocError> {
 }
 
 /// The threads that have a ready move: users, and the porter whose job is due and can go on.
+///
+/// # Errors
+///
+/// There is no memory for the list.
 pub fn ready_threads(
     alloc: Global,
     core: &Core<Native, Porter>,

@@ -118,6 +118,10 @@ fn foot(alloc: Global) -> Result<String, AllocError>
 }
 
 /// The text of a scenario with so many processes, 1 to 100.
+///
+/// # Errors
+///
+/// There is no memory for the text.
 pub fn scenario_of(alloc: Global, count: u32) -> Result<Vec<u8>, NoMemory>
     requires one { 1 ≤ count }
     requires most { count ≤ 100 }

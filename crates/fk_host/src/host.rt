@@ -21,6 +21,10 @@ pub struct Host<S: Service + Drop> {
 
 impl<S: Service + Drop> Host<S> {
     /// A kernel with the server of each of its served ports. `NoMemory` where there is none for what the servers may hear.
+    ///
+    /// # Errors
+    ///
+    /// There is no memory for what the servers may hear.
     pub fn new(kernel: Kernel, services: Vec<(Who, S)>) -> Result<Host<S>, NoMemory>
         ensures kernel { IfOk result (λ host. host.kernel ≡ kernel) }
         ensures services { IfOk result (λ host. host.services.list ≡ shown S.meaning services.items) }
@@ -66,6 +70,10 @@ impl<S: Service + Drop> Host<S> {
 
     /// Makes a move, which is ready and fit, has each server hear what it tells, and answers what that is. `ask` is what a porter asks for; for
     /// everybody else it is `Run`. `NoMemory` where there is none for an object, a page or what servers hear; all is as before then.
+    ///
+    /// # Errors
+    ///
+    /// There is no memory for an object, a page or what servers hear; all is as before then.
     pub fn turn(&mut self, table: &Table, m: &Move, ask: &Ask) -> Result<Said, NoMemory>
         requires ready { IsReadyWith self.old.services.list (world self.old.kernel) m.now ask.now }
         requires fit { IsFitWith self.old.services.list (world self.old.kernel) m.now ask.now }

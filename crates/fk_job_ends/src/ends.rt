@@ -133,6 +133,10 @@ fn fill(told: &mut Items<Option<JobEnd>>, count: usize) -> Result<(), NoMemory>
 }
 
 /// How so many jobs have ended, where they have.
+///
+/// # Errors
+///
+/// There is no memory for what is told.
 pub fn told_in<W: Tells + Drop>(
     alloc: Global,
     count: usize,
@@ -156,6 +160,10 @@ fn image_of(job: &JobSpec) -> Result<Text, NoMemory>
 }
 
 /// The names of jobs' images, in the order of the jobs.
+///
+/// # Errors
+///
+/// There is no memory for the names.
 pub fn images_of(alloc: Global, jobs: &[JobSpec]) -> Result<Items<Text>, NoMemory>
     ensures { IfOk result (λ images. images ≡ map definitions.image_of jobs.now) }
 {

@@ -58,6 +58,10 @@ impl Model for Kernel {
 
 impl Kernel {
     /// The kernel of a store whose world is valid. An error says that memory is lacking.
+    ///
+    /// # Errors
+    ///
+    /// There is no memory for the lists of threads.
     pub fn of(alloc: Global, store: Store) -> Result<Kernel, NoMemory>
         requires valid { IsValid (world store) }
         ensures { IfOk result (λ kernel. store_of kernel ≡ store) }
@@ -126,6 +130,10 @@ impl Kernel {
 
     /// Makes a move, which is ready and fit, and gives what the move tells. Only a stage that makes an
     /// object or a page may lack memory, and then all stays as it is.
+    ///
+    /// # Errors
+    ///
+    /// There is no memory for an object or a page that the move makes; all is as before then.
     pub fn step(&mut self, m: &Move, ask: &Ask) -> Result<Said, NoMemory>
         requires ready { IsReadyEvent (world_of self.old) (event_of (world_of self.old) ask.now m.now) }
         requires fit { is_fit_event (world_of self.old) (event_of (world_of self.old) ask.now m.now) ≡ true }
@@ -146,6 +154,10 @@ impl Kernel {
     /// Makes a move where it is ready, and gives what the move tells, and the port whose native server lost
     /// its client by it, as it was named before; none where the move isn't ready, and then all stays as it is. The
     /// move is fit. Only a stage that makes an object or a page may lack memory, and then too all stays as it is.
+    ///
+    /// # Errors
+    ///
+    /// There is no memory for an object or a page that the move makes; all is as before then.
     pub fn attempt(&mut self, m: &Move, ask: &Ask) -> Result<Option<Told>, NoMemory>
         requires fit { is_fit_event (world_of self.old) (event_of (world_of self.old) ask.now m.now) ≡ true }
         ensures made { IfOk result (λ tried. IfSome tried (λ told.
@@ -179,6 +191,10 @@ impl Kernel {
 
     /// Makes a porter's call where it is ready, as `attempt` does, and answers whether it was; what it tells, and the port whose native server lost
     /// its client by it, are laid into the room, which has zeros.
+    ///
+    /// # Errors
+    ///
+    /// There is no memory for an object or a page that the move makes; all is as before then.
     pub fn call(
         &mut self,
         m: &Move,

@@ -23,6 +23,10 @@ fn is_linked(store: &Store, who: Who) -> bool
 }
 
 /// A client waits at a port for a server to take it. By itself the stage is only refused.
+///
+/// # Errors
+///
+/// The status of the first refusal: the port (BADHANDLE, WRONGKIND, NULLREF, DEAD); LINKED, where the caller has a talk as a client.
 #[tactic(auto, unfolding(fk_model::specs::LinkRows::connect))]
 pub fn connect(store: &Store, caller: Caller, h: u64) -> Result<Verdict, u8>
     ensures row { Judges store.now caller result (λ w c. rows.connect w c h) }

@@ -109,6 +109,10 @@ fn server_leaves(store: &Store, caller: Caller) -> Result<Verdict, u8>
 
 /// A user leaves the talk in which it acts on a side: the client disconnects, or the server ends it.
 /// The call of the other end ends too, if that is at a Send, an Over or a Receive of the talk.
+///
+/// # Errors
+///
+/// NOTLINKED: it has no such talk.
 pub fn disconnect(store: &Store, caller: Caller, side: Turn) -> Result<Verdict, u8>
     requires user { caller.is_porter ≡ false }
     requires valid { IsValid (world store.now) }

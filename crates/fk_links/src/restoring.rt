@@ -73,6 +73,11 @@ fn links(
 }
 
 /// A thread is the client of a talk at a port, with a server, to which references lead.
+///
+/// # Errors
+///
+/// The status of the first refusal: its place (BADHANDLE, WRONGKIND, NULLREF, DEAD); the slot (BADHANDLE, WRONGKIND); the reference to the port, then that to
+/// the server (BADHANDLE, WRONGKIND, NULLREF, DEAD); HELD.
 #[tactic(auto, unfolding(fk_model::specs::LinkRows::link_set))]
 pub fn link_set(
     store: &Store,
@@ -98,6 +103,10 @@ pub fn link_set(
 }
 
 /// A thread is the client of a talk that is parked at a port of the caller's space.
+///
+/// # Errors
+///
+/// The status of the first refusal: its place (BADHANDLE, WRONGKIND, NULLREF, DEAD); the slot (BADHANDLE, WRONGKIND); the port (BADHANDLE, WRONGKIND); HELD.
 #[tactic(auto, unfolding(fk_model::specs::LinkRows::link_park))]
 pub fn link_park(
     store: &Store,

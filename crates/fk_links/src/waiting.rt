@@ -131,6 +131,10 @@ fn takes_picked(store: &Store, caller: Caller, set: u64, who: Who) -> Verdict
 /// Takes the thread that is picked, at a port of a set of the caller's space: its fault, its connect,
 /// or its parked talk. It waits where nobody is picked, or no candidate. The caller, who is at this
 /// wait or in no call, may serve no talk and have no fault taken yet.
+///
+/// # Errors
+///
+/// The status of the first refusal: the set (BADHANDLE, WRONGKIND); LINKED, where the caller serves a talk or has taken a fault.
 #[tactic(auto, using(crate::proofs::Taken::first_apart), unfolding(fk_model::specs::LinkRows::wait))]
 pub fn wait(store: &Store, caller: Caller, set: u64, pick: Option<Who>) -> Result<Verdict, u8>
     requires live { IsLive store.now caller.who }

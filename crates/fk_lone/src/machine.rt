@@ -45,6 +45,10 @@ impl Model for Machine {
 
 impl Machine {
     /// A thread at the start of a program of at most `WORDS` words, with zeros in all other words.
+    ///
+    /// # Errors
+    ///
+    /// There is no memory for its pages.
     pub fn new(mut program: Vec<u64>) -> Result<Machine, NoMemory>
         requires { vec_len program ≤ WORDS }
         ensures { IfOk result (λ m. m ≡ machines.start program.items) }

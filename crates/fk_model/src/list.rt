@@ -53,6 +53,10 @@ impl<T> List<T> {
 
 impl<T: Drop> List<T> {
     /// Adds an item at the end. For want of memory the list stays as it was.
+    ///
+    /// # Errors
+    ///
+    /// There is no memory for one item more; the list is as before then.
     pub fn push(&mut self, item: T) -> Result<(), NoMemory>
         ensures ok { OnOk result (self.new ≡ self.old ++ item ∷ []) }
         ensures err { OnErr result (self.new ≡ self.old) }
@@ -66,6 +70,10 @@ impl<T: Drop> List<T> {
 
 impl<T: Copy> List<T> {
     /// An equal list.
+    ///
+    /// # Errors
+    ///
+    /// There is no memory for the copy.
     pub fn copy(&self) -> Result<List<T>, NoMemory>
         ensures { IfOk result (λ copy. copy ≡ self.now) }
     {

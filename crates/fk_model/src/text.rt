@@ -41,6 +41,10 @@ impl Eq for Text {
 
 impl Text {
     /// A text of its own that is equal to this one.
+    ///
+    /// # Errors
+    ///
+    /// There is no memory for the text.
     pub fn of(alloc: Global, text: &str) -> Result<Text, NoMemory>
         ensures { IfOk result (λ copy. copy ≡ text.now) }
     {
@@ -57,6 +61,10 @@ impl Text {
     }
 
     /// An equal text.
+    ///
+    /// # Errors
+    ///
+    /// There is no memory for the copy.
     pub fn copy(&self) -> Result<Text, NoMemory>
         ensures { IfOk result (λ copy. copy ≡ self.now) }
     {

@@ -43,6 +43,10 @@ fn pointers_to(store: &Store, base: u32, nester: u32, space: u32, to: Option<Who
 
 /// How many pointers lead to an object, or to a space, from outside a base space. The scratch of
 /// the caller's space is left out.
+///
+/// # Errors
+///
+/// The status of the first refusal: the base, then its place (BADHANDLE, WRONGKIND, NULLREF, DEAD); the slot (BADHANDLE).
 #[tactic(auto, unfolding(fk_model::specs::ObjectRows::count_in))]
 pub fn count_in(store: &Store, caller: Caller, base: u64, s: u64, x: u64) -> Result<Verdict, u8>
     requires space { IsSpace store.now caller.who.space }

@@ -12,6 +12,11 @@ use fk_store::Store;
 
 /// A new object of a kind's number in an empty slot: 1 to 9 are a mutex, a condition, a mapping, a
 /// region, a port, a set of ports, a space, a thread and a reference.
+///
+/// # Errors
+///
+/// The status of the first refusal: its place (BADHANDLE, WRONGKIND, NULLREF, DEAD); the slot (BADHANDLE); HELD; WRONGKIND, where no kind has that number;
+/// OCCUPIED.
 #[tactic(auto, unfolding(fk_model::specs::ObjectRows::create))]
 #[inline(always)]
 pub fn create(store: &Store, caller: Caller, s: u64, x: u64, kind: u64) -> Result<Verdict, u8>

@@ -77,6 +77,11 @@ fn is_named(store: &Store, who: Who, object: Who) -> bool
 
 /// One stage destroys one object: the first at or beneath the named one, by lowest slots down, in
 /// which nothing stands. The call is done with the named object itself.
+///
+/// # Errors
+///
+/// The status of the first refusal: its place (BADHANDLE, WRONGKIND, NULLREF, DEAD); the slot (BADHANDLE); HELD; DENIED, for the caller's space or one above
+/// it; HELD, for the object that this stage would destroy.
 #[tactic(auto, unfolding(fk_model::specs::ObjectRows::destroy))]
 #[inline(always)]
 pub fn destroy(store: &Store, caller: Caller, s: u64, x: u64) -> Result<Verdict, u8>

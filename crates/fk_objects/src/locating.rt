@@ -79,6 +79,11 @@ fn way_to(store: &Store, space: u32, object: Who) -> Option<(u64, u64)>
 }
 
 /// Where in or beneath a space the object lies to which a reference leads, and its kind.
+///
+/// # Errors
+///
+/// The status of the first refusal: the reference (BADHANDLE, WRONGKIND); its place (BADHANDLE, WRONGKIND, NULLREF, DEAD); NULLREF or DEAD, where the
+/// reference leads nowhere or to what was destroyed; NONE, where that lies elsewhere.
 #[tactic(auto, unfolding(fk_model::specs::ObjectRows::locate, fk_model::specs::World::apply_all))]
 pub fn locate(store: &Store, caller: Caller, reference: u64, s: u64) -> Result<Verdict, u8>
     requires space { IsSpace store.now caller.who.space }

@@ -11,6 +11,10 @@ use fk_plans::{Deed, Plan, Verdict, unfrozen};
 use fk_store::Store;
 
 /// A reference leads to the object in another slot, or where the reference there leads.
+///
+/// # Errors
+///
+/// The status of the first refusal: the place and the slot of the reference; those of the object (BADHANDLE, WRONGKIND, NULLREF, DEAD); HELD.
 #[tactic(auto, unfolding(fk_model::specs::ObjectRows::point))]
 pub fn point(
     store: &Store,
@@ -33,6 +37,10 @@ pub fn point(
 }
 
 /// A reference leads nowhere.
+///
+/// # Errors
+///
+/// The status of the first refusal: its place (BADHANDLE, WRONGKIND, NULLREF, DEAD); the slot (BADHANDLE, WRONGKIND); HELD.
 #[tactic(auto, unfolding(fk_model::specs::ObjectRows::clear))]
 pub fn clear(store: &Store, caller: Caller, s: u64, x: u64) -> Result<Verdict, u8>
     requires space { IsSpace store.now caller.who.space }

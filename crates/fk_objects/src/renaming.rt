@@ -26,6 +26,11 @@ fn is_served(body: &Body) -> bool
 
 /// An object gets another slot of its space, which is empty. Nothing may stand in it, and no native
 /// server serve it. A slot above 239 is none.
+///
+/// # Errors
+///
+/// The status of the first refusal: its place (BADHANDLE, WRONGKIND, NULLREF, DEAD); the slot (BADHANDLE); HELD; BADHANDLE, for a new slot above 239; DENIED,
+/// for a port that is served; OCCUPIED; NOTEMPTY.
 #[tactic(auto, unfolding(fk_model::specs::ObjectRows::rename))]
 pub fn rename(store: &Store, caller: Caller, s: u64, x: u64, y: u64) -> Result<Verdict, u8>
     requires space { IsSpace store.now caller.who.space }

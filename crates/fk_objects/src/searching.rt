@@ -54,6 +54,10 @@ fn first_taken(store: &Store, space: u32, last: u64, from: u64) -> Option<(u64, 
 
 /// The first taken slot at or above a number, and the number of the kind there. Users see no slot
 /// above 239.
+///
+/// # Errors
+///
+/// The status of the first refusal: its place (BADHANDLE, WRONGKIND, NULLREF, DEAD); NONE.
 #[tactic(auto, unfolding(fk_model::specs::ObjectRows::search, fk_model::specs::World::apply_all))]
 pub fn search(store: &Store, caller: Caller, s: u64, from: u64) -> Result<Verdict, u8>
     requires space { IsSpace store.now caller.who.space }

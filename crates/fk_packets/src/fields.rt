@@ -36,6 +36,10 @@ pub fn refused(bytes: &[u8], reason: u8) -> Fail
 }
 
 /// A byte. Where none is left, the bytes end within a field.
+///
+/// # Errors
+///
+/// `At`: no byte is left.
 pub fn read_byte(bytes: &[u8]) -> Result<(u8, &[u8]), Fail>
     ensures { Decodes (λ x. (x.0, x.1.now)) result (fields.read_byte bytes.now) }
 {
@@ -49,6 +53,10 @@ pub fn read_byte(bytes: &[u8]) -> Result<(u8, &[u8]), Fail>
 }
 
 /// A number of two bytes, the lowest first. Where fewer are left, the bytes end within a field; so in the next two.
+///
+/// # Errors
+///
+/// `At`: fewer bytes are left, so these end within a field.
 pub fn read_u16(bytes: &[u8]) -> Result<(u16, &[u8]), Fail>
     ensures { Decodes (λ x. (x.0, x.1.now)) result (fields.read_number w16 bytes.now) }
 {
@@ -59,6 +67,10 @@ pub fn read_u16(bytes: &[u8]) -> Result<(u16, &[u8]), Fail>
 }
 
 /// A number of eight bytes, the lowest first.
+///
+/// # Errors
+///
+/// `At`: fewer bytes are left, so these end within a field.
 pub fn read_u64(bytes: &[u8]) -> Result<(u64, &[u8]), Fail>
     ensures { Decodes (λ x. (x.0, x.1.now)) result (fields.read_number w64 bytes.now) }
 {
@@ -69,6 +81,10 @@ pub fn read_u64(bytes: &[u8]) -> Result<(u64, &[u8]), Fail>
 }
 
 /// The bytes of a piece.
+///
+/// # Errors
+///
+/// `At`: fewer bytes are left, so these end within a field.
 pub fn read_block(bytes: &[u8]) -> Result<([u8; 512], &[u8]), Fail>
     ensures { Decodes (λ x. (x.0, x.1.now)) result (words.read_block bytes.now) }
 {

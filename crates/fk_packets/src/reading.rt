@@ -86,6 +86,10 @@ fn read_front(alloc: Global, bytes: &[u8]) -> Result<(Packet, &[u8]), Fail>
 }
 
 /// The packet that the bytes spell.
+///
+/// # Errors
+///
+/// `At`: the bytes spell none; their first bad field, with its reason. `NoMemory`: there is none for the packet.
 #[tactic(auto, unfolding(crate::specs::Packets::read_packet))]
 pub fn read(alloc: Global, bytes: &[u8]) -> Result<Packet, Fail>
     ensures { Decodes (λ x. x) result (words.read_packet bytes.now) }

@@ -70,6 +70,10 @@ fn put_packet(out: &mut Vec<u8>, packet: &Packet) -> Result<(), NoMemory>
 }
 
 /// The one spelling of a packet.
+///
+/// # Errors
+///
+/// There is no memory for the bytes.
 pub fn write(alloc: Global, packet: &Packet) -> Result<Vec<u8>, NoMemory>
     ensures { IfOk result (λ bytes. bytes.items ≡ words.packet_bytes packet.now) }
 {

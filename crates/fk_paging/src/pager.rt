@@ -303,6 +303,10 @@ impl Pager {
     }
 
     /// A pager that hasn't begun, with room for all that it may keep.
+    ///
+    /// # Errors
+    ///
+    /// There is no memory for what it may keep.
     #[tactic(auto, using(crate::proofs::Whole::blank), unfolding(laws_filled::specs::Pager::first))]
     pub fn new(alloc: Global, slot: u8, set: u8, room: u16) -> Result<Pager, NoMemory>
         ensures first { IfOk result (λ p. state_of p ≡ first) }

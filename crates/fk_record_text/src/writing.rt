@@ -66,6 +66,10 @@ fn push_line(text: &mut String, port: &str, note: &Note) -> Result<(), AllocErro
 }
 
 /// Appends the lines of notes at the port with this path.
+///
+/// # Errors
+///
+/// There is no memory for the lines.
 pub fn push_lines(text: &mut String, port: &str, notes: &[Note]) -> Result<(), AllocError>
     ensures { OnOk result (string_bytes text.new ≡ string_bytes text.old
         ++ flat_map (λ note. spelling.ended_line (port.now ++ (codes " " ++ spelling.note_text (note_of note)))) notes.now) }

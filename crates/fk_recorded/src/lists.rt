@@ -57,6 +57,10 @@ fn add(lists: &mut Vec<Vec<Reply>>, entry: &Entry) -> Result<(), NoMemory>
 }
 
 /// The replies of each of the first so many places, in order.
+///
+/// # Errors
+///
+/// There is no memory for the lists.
 pub fn lists_of(alloc: Global, entries: &[Entry], count: usize) -> Result<Vec<Vec<Reply>>, NoMemory>
     ensures { IfOk result (λ lists. words_of_all lists.items ≡ pair.lists_of (entries_of entries.now) 0 count) }
 {

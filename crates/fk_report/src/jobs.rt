@@ -124,6 +124,10 @@ fn push_job(
 }
 
 /// Appends the lines of jobs, of which so many have ended so.
+///
+/// # Errors
+///
+/// There is no memory for the lines.
 #[tactic(auto, unfolding(crate::specs::Jobs::lines_from))]
 pub fn push_jobs(
     text: &mut String,
@@ -154,6 +158,10 @@ fn is_refused(end: &Option<JobEnd>) -> bool
 }
 
 /// The place of the first job that was refused.
+///
+/// # Errors
+///
+/// Its place is above what a number of 32 bits can count, which counts as want of memory.
 #[tactic(auto, unfolding(crate::specs::Jobs::refused_from))]
 pub fn first_refused(ends: &[Option<JobEnd>]) -> Result<Option<u32>, NoMemory>
     ensures { IfOk result (λ place. place ≡ definitions.refused_from 0 ends.now) }

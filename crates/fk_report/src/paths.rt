@@ -6,6 +6,10 @@ use fk_decimal::push_number;
 use std::alloc::AllocError;
 
 /// Appends a path whose first slot is one of the root's: a slash before each slot, from the root inwards.
+///
+/// # Errors
+///
+/// There is no memory for the text.
 pub fn push_down(text: &mut String, path: &[u8]) -> Result<(), AllocError>
     ensures { OnOk result (string_bytes text.new ≡ string_bytes text.old ++ definitions.down_text path.now) }
 {
@@ -17,6 +21,10 @@ pub fn push_down(text: &mut String, path: &[u8]) -> Result<(), AllocError>
 }
 
 /// Appends a path whose last slot is one of the root's: a slash before each slot, from the root inwards.
+///
+/// # Errors
+///
+/// There is no memory for the text.
 pub fn push_path(text: &mut String, path: &[u8]) -> Result<(), AllocError>
     ensures { OnOk result (string_bytes text.new ≡ string_bytes text.old ++ definitions.path_text path.now) }
 {

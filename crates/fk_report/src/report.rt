@@ -112,6 +112,10 @@ fn push_threads(text: &mut String, threads: &[ThreadState]) -> Result<(), AllocE
 
 /// The report of a run without servers and jobs: how many moves it made, how it ended, and its user threads in the order
 /// of the list.
+///
+/// # Errors
+///
+/// There is no memory for the text.
 pub fn report_text(
     alloc: Global,
     events: u64,
@@ -126,6 +130,10 @@ pub fn report_text(
 }
 
 /// The lines of consoles in the order of the file, and of user threads in the order of the list.
+///
+/// # Errors
+///
+/// There is no memory for the text.
 pub fn outs_text<S: Service>(
     alloc: Global,
     services: &[(Who, S)],
@@ -141,6 +149,10 @@ pub fn outs_text<S: Service>(
 
 /// The report of a run: how many moves it made, how it ended, its jobs in the order of the file with how the first
 /// of them have ended, and the lines of its consoles and user threads.
+///
+/// # Errors
+///
+/// There is no memory for the text.
 pub fn run_text(
     alloc: Global,
     events: u64,

@@ -21,6 +21,10 @@ pub struct Table {
 
 impl Table {
     /// The names and the rules of the responders, in order.
+    ///
+    /// # Errors
+    ///
+    /// There is no memory for the list.
     pub fn rules(&self, alloc: Global) -> Result<Vec<(String, Rule)>, NoMemory>
         ensures { IfOk result (λ rules. rules_view rules.items ≡ map (λ r. (string_bytes r.name, r.rule)) self.now.list.items) }
     {

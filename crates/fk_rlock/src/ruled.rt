@@ -246,6 +246,10 @@ impl<T: Counted> Ruled<T> {
 impl<T: Counted + Drop> Ruled<T> {
     /// A lock round `first`, and the pass with all its 1 to 9 parts, which knows what `first` was begun from
     /// and has seen its count. `NoMemory` where there is no memory for the table.
+    ///
+    /// # Errors
+    ///
+    /// There is no memory for the table.
     pub fn new(alloc: Global, first: T, seats: u32) -> Result<(Ruled<T>, Pass<T>), NoMemory>
         requires seats { (0 < seats) × (seats ≤ 9) }
         ensures lock { IfOk result (λ r. (r.0.seats ≡ seats) × (r.1.lock ≡ r.0.id)) }

@@ -201,6 +201,10 @@ impl<S: Service + Drop> Services<S> {
     }
 
     /// Makes room for what each may be told.
+    ///
+    /// # Errors
+    ///
+    /// There is no memory for that.
     pub fn reserve(&mut self) -> Result<(), NoMemory>
         ensures same { self.new.list ≡ self.old.list }
         ensures ready { OnOk result (self.new.ready ≡ true) }

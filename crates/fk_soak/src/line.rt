@@ -64,6 +64,10 @@ fn first_of<T>(list: &[T], count: usize) -> &[T]
 
 /// The line: how many processes there are, how the run has ended, and how many words their consoles were sent with what sum. These
 /// are the first servers.
+///
+/// # Errors
+///
+/// There is no memory for the text.
 pub fn soak_line<S: Service>(
     alloc: Global,
     count: u32,

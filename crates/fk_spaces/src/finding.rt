@@ -43,6 +43,10 @@ fn next_page(store: &Store, space: u32, from: u64) -> Option<u64>
 }
 
 /// It answers the first page of a space at or above a number.
+///
+/// # Errors
+///
+/// The status of the first refusal: its place (BADHANDLE, WRONGKIND, NULLREF, DEAD); NONE.
 #[tactic(auto, unfolding(fk_model::specs::SpaceRows::page_next))]
 pub fn page_next(store: &Store, caller: Caller, s: u64, from: u64) -> Result<Verdict, u8>
     requires space { IsSpace store.now caller.who.space }

@@ -106,6 +106,11 @@ fn holds(store: &Store, caller: Caller, inner: Inner) -> Verdict
 }
 
 /// The caller holds a space, which isn't its own and not above it.
+///
+/// # Errors
+///
+/// The status of the first refusal: its place (BADHANDLE, WRONGKIND, NULLREF, DEAD); the slot (BADHANDLE, WRONGKIND); HELD, where the place is frozen for the
+/// caller; DENIED, for the caller's space or one above it.
 #[tactic(auto, unfolding(fk_model::specs::SpaceRows::space_hold))]
 pub fn space_hold(store: &Store, caller: Caller, s: u64, x: u64) -> Result<Verdict, u8>
     requires space { IsSpace store.now caller.who.space }
@@ -125,6 +130,11 @@ pub fn space_hold(store: &Store, caller: Caller, s: u64, x: u64) -> Result<Verdi
 }
 
 /// The caller no longer holds a space.
+///
+/// # Errors
+///
+/// The status of the first refusal: its place (BADHANDLE, WRONGKIND, NULLREF, DEAD); the slot (BADHANDLE, WRONGKIND); HELD, where the place is frozen for the
+/// caller; DENIED, for another than its holder.
 #[tactic(auto, unfolding(fk_model::specs::SpaceRows::space_release))]
 pub fn space_release(store: &Store, caller: Caller, s: u64, x: u64) -> Result<Verdict, u8>
     requires space { IsSpace store.now caller.who.space }
@@ -143,6 +153,11 @@ pub fn space_release(store: &Store, caller: Caller, s: u64, x: u64) -> Result<Ve
 }
 
 /// A thread to which a reference leads holds a space.
+///
+/// # Errors
+///
+/// The status of the first refusal: its place (BADHANDLE, WRONGKIND, NULLREF, DEAD); the slot (BADHANDLE, WRONGKIND); the reference to the thread (BADHANDLE,
+/// WRONGKIND, NULLREF, DEAD); HELD.
 #[tactic(auto, unfolding(fk_model::specs::SpaceRows::hold_set))]
 pub fn hold_set(store: &Store, caller: Caller, s: u64, x: u64, thread: u64) -> Result<Verdict, u8>
     requires space { IsSpace store.now caller.who.space }
@@ -159,6 +174,10 @@ pub fn hold_set(store: &Store, caller: Caller, s: u64, x: u64, thread: u64) -> R
 }
 
 /// A new space in an empty slot of the caller's own, which the caller holds.
+///
+/// # Errors
+///
+/// The status of the first refusal: the slot (BADHANDLE); OCCUPIED.
 #[tactic(auto, unfolding(fk_model::specs::SpaceRows::space_make_held))]
 pub fn space_make_held(store: &Store, caller: Caller, x: u64) -> Result<Verdict, u8>
     requires space { IsSpace store.now caller.who.space }

@@ -77,6 +77,11 @@ fn gives_from(
 
 /// A space gets a page where it has none: for a user zeros, where the address is 2^64 - 1, or a
 /// copy of the page of its memory at the address; for a porter the words that it gives.
+///
+/// # Errors
+///
+/// The status of the first refusal: its place (BADHANDLE, WRONGKIND, NULLREF, DEAD); HELD; BADADDRESS, for a page above 255 and for a user's address that
+/// begins no page; BADADDRESS, where the user's own page is missing and has no keeper; OCCUPIED.
 #[tactic(auto, unfolding(fk_model::specs::SpaceRows::page_give))]
 pub fn page_give(
     store: &Store,
@@ -205,6 +210,11 @@ fn copies_within(
 
 /// A space loses a page. A user gets its words at an address of its memory that begins a page, a
 /// porter as its answer. The caller's page may be the very one that goes.
+///
+/// # Errors
+///
+/// The status of the first refusal: its place (BADHANDLE, WRONGKIND, NULLREF, DEAD); HELD; BADADDRESS, for a page above 255 and for a user's address that
+/// begins no page; BADADDRESS, where the user's own page is missing and has no keeper; NONE.
 #[tactic(auto, unfolding(fk_model::specs::SpaceRows::page_take))]
 pub fn page_take(
     store: &Store,
@@ -225,6 +235,11 @@ pub fn page_take(
 }
 
 /// The same without the loss.
+///
+/// # Errors
+///
+/// The status of the first refusal: its place (BADHANDLE, WRONGKIND, NULLREF, DEAD); BADADDRESS, for a page above 255 and for a user's address that begins no
+/// page; BADADDRESS, where the user's own page is missing and has no keeper; NONE.
 #[tactic(auto, unfolding(fk_model::specs::SpaceRows::page_read))]
 pub fn page_read(
     store: &Store,

@@ -10,6 +10,10 @@ use fk_plans::{Deed, Plan, Verdict};
 use fk_store::Store;
 
 /// A thread is stopped once more, at most 65,535 times.
+///
+/// # Errors
+///
+/// The status of the first refusal: the thread (BADHANDLE, WRONGKIND, NULLREF, DEAD); HELD; FULL.
 #[tactic(auto, unfolding(fk_model::specs::SpaceRows::thread_stop))]
 pub fn thread_stop(store: &Store, caller: Caller, h: u64) -> Result<Verdict, u8>
     ensures row { Judges store.now caller result (λ w c. rows.thread_stop w c h) }
@@ -28,6 +32,10 @@ pub fn thread_stop(store: &Store, caller: Caller, h: u64) -> Result<Verdict, u8>
 }
 
 /// A thread is stopped once less.
+///
+/// # Errors
+///
+/// The status of the first refusal: the thread (BADHANDLE, WRONGKIND, NULLREF, DEAD); HELD; NOTSTOPPED.
 #[tactic(auto, unfolding(fk_model::specs::SpaceRows::thread_go))]
 pub fn thread_go(store: &Store, caller: Caller, h: u64) -> Result<Verdict, u8>
     ensures row { Judges store.now caller result (λ w c. rows.thread_go w c h) }

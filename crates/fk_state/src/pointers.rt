@@ -46,6 +46,11 @@ fn pointer_in(store: &Store, field: Field) -> Ptr
 /// A reference gets the pointer of a field of an object, and the answer says what stands there: 0
 /// nothing, 1 a pointer to what was destroyed, 2 one that leads to an object, 3 a peer that is no
 /// thread. The fields of spaces and threads are for porters alone.
+///
+/// # Errors
+///
+/// The status of the first refusal: its place (BADHANDLE, WRONGKIND, NULLREF, DEAD); the slot (BADHANDLE); the reference (BADHANDLE, WRONGKIND); BADSTATE,
+/// where the kind lacks that field; DENIED, for a user at a space or a thread.
 #[tactic(auto, unfolding(fk_model::specs::StateRows::get_ptr))]
 pub fn get_ptr(
     store: &Store,
@@ -105,6 +110,11 @@ fn takes(store: &Store, body: &Body, to: Ptr) -> bool
 
 /// A mapping, a region or a reference gets the pointer of a reference, if that leads to what its own
 /// may lead to.
+///
+/// # Errors
+///
+/// The status of the first refusal: its place (BADHANDLE, WRONGKIND, NULLREF, DEAD); the slot (BADHANDLE); the reference (BADHANDLE, WRONGKIND); HELD;
+/// BADSTATE, where the kind lacks that field; DENIED, at a space or a thread; WRONGKIND, where the reference leads to what the field can't hold.
 #[tactic(auto, unfolding(fk_model::specs::StateRows::set_ptr))]
 pub fn set_ptr(
     store: &Store,

@@ -68,6 +68,11 @@ fn shows_to(store: &Store, caller: Caller, object: Who, address: u64) -> Result<
 
 /// The record of an object, as it is before, goes to the caller: for a user to an address of its
 /// memory that is a multiple of 32, for a porter as its answer. Anybody may read.
+///
+/// # Errors
+///
+/// The status of the first refusal: its place (BADHANDLE, WRONGKIND, NULLREF, DEAD); the slot (BADHANDLE); BADADDRESS, for a user's address that is no
+/// multiple of 32, and where its page is missing and has no keeper.
 #[tactic(auto, unfolding(fk_model::specs::StateRows::get_state))]
 pub fn get_state(store: &Store, caller: Caller, s: u64, x: u64, address: u64) -> Result<Verdict, u8>
     requires space { IsSpace store.now caller.who.space }
@@ -218,6 +223,11 @@ fn sets_from(
 /// An object becomes what a record says, but for its pointers: for a user the record at an address
 /// of its memory that is a multiple of 32, for a porter the words that it gives. A thread has to be
 /// stopped, or frozen by the caller.
+///
+/// # Errors
+///
+/// The status of the first refusal: its place (BADHANDLE, WRONGKIND, NULLREF, DEAD); the slot (BADHANDLE); HELD; DENIED, for a porter; BADADDRESS, for a
+/// user's address that is no multiple of 32, and where its page is missing and has no keeper; NOTSTOPPED; BADSTATE.
 #[tactic(auto, unfolding(fk_model::specs::StateRows::set_state))]
 pub fn set_state(
     store: &Store,

@@ -18,6 +18,10 @@ use fk_plans::{Deed, Plan, Verdict, sleeps};
 use fk_store::Store;
 
 /// It unlocks the mutex, and the caller goes on asleep.
+///
+/// # Errors
+///
+/// The status of the first refusal: the condition, then the mutex (BADHANDLE, WRONGKIND); NOTLOCKED.
 #[tactic(auto, unfolding(fk_model::specs::SyncRows::cond_wait))]
 pub fn cond_wait(store: &Store, caller: Caller, cond: u64, m: u64) -> Result<Verdict, u8>
     requires first { IsFirst (CondWait cond m) (todo_at (world store.now) (place (path store.now) caller.who)) }
@@ -32,6 +36,10 @@ pub fn cond_wait(store: &Store, caller: Caller, cond: u64, m: u64) -> Result<Ver
 }
 
 /// A sleeper is ready only to be refused; a signal ends its sleep.
+///
+/// # Errors
+///
+/// The status of the first refusal: the condition, then the mutex (BADHANDLE, WRONGKIND).
 #[tactic(auto, unfolding(fk_model::specs::SyncRows::cond_asleep))]
 pub fn cond_asleep(store: &Store, caller: Caller, cond: u64, m: u64) -> Result<Verdict, u8>
     ensures row { Judges store.now caller result (λ w c. rows.cond_asleep w c cond m) }
@@ -72,6 +80,10 @@ fn signals_nobody(store: &Store, caller: Caller, cond: u64) -> Verdict
 }
 
 /// One sleeper that is picked wakes up; where nobody sleeps, nobody is picked.
+///
+/// # Errors
+///
+/// The status of a refusal: the condition (BADHANDLE, WRONGKIND).
 #[tactic(auto, unfolding(fk_model::specs::SyncRows::cond_signal))]
 pub fn cond_signal(
     store: &Store,
@@ -90,6 +102,10 @@ pub fn cond_signal(
 }
 
 /// All who sleep on it wake up.
+///
+/// # Errors
+///
+/// The status of a refusal: the condition (BADHANDLE, WRONGKIND).
 #[tactic(auto, unfolding(fk_model::specs::SyncRows::cond_broadcast))]
 pub fn cond_broadcast(store: &Store, caller: Caller, cond: u64) -> Result<Verdict, u8>
     requires user { caller.is_porter ≡ false }

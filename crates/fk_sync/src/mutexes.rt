@@ -23,6 +23,10 @@ fn sets(caller: Caller, m: u64, locked: bool) -> Verdict
 }
 
 /// It waits while the mutex is locked.
+///
+/// # Errors
+///
+/// The status of a refusal: the mutex (BADHANDLE, WRONGKIND).
 #[tactic(auto, unfolding(fk_model::specs::SyncRows::mutex_lock))]
 pub fn mutex_lock(store: &Store, caller: Caller, m: u64) -> Result<Verdict, u8>
     ensures row { Judges store.now caller result (λ w c. rows.mutex_lock w c m) }
@@ -35,6 +39,10 @@ pub fn mutex_lock(store: &Store, caller: Caller, m: u64) -> Result<Verdict, u8>
 }
 
 /// It is refused where the mutex is locked.
+///
+/// # Errors
+///
+/// The status of the first refusal: the mutex (BADHANDLE, WRONGKIND); NONE, where it is locked.
 #[tactic(auto, unfolding(fk_model::specs::SyncRows::mutex_trylock))]
 pub fn mutex_trylock(store: &Store, caller: Caller, m: u64) -> Result<Verdict, u8>
     ensures row { Judges store.now caller result (λ w c. rows.mutex_trylock w c m) }
@@ -47,6 +55,10 @@ pub fn mutex_trylock(store: &Store, caller: Caller, m: u64) -> Result<Verdict, u
 }
 
 /// It is refused where the mutex isn't locked.
+///
+/// # Errors
+///
+/// The status of the first refusal: the mutex (BADHANDLE, WRONGKIND); NOTLOCKED.
 #[tactic(auto, unfolding(fk_model::specs::SyncRows::mutex_unlock))]
 pub fn mutex_unlock(store: &Store, caller: Caller, m: u64) -> Result<Verdict, u8>
     ensures row { Judges store.now caller result (λ w c. rows.mutex_unlock w c m) }

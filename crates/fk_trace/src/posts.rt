@@ -23,6 +23,10 @@ fn tapped(alloc: Global, server: Native, watch: u8) -> Post
 }
 
 /// The servers of a run that is recorded: a tap of each that is no console, by the observer at a place of the table.
+///
+/// # Errors
+///
+/// There is no memory for the posts.
 pub fn tapped_posts(
     alloc: Global,
     services: Vec<(Who, Native)>,
@@ -55,6 +59,10 @@ fn replaying(alloc: Global, server: Native, lists: &mut IntoIter<Vec<Reply>>) ->
 }
 
 /// The servers of a run that is replayed: a replay in the place of each that is no console, by the lists in order.
+///
+/// # Errors
+///
+/// There is no memory for the posts.
 pub fn replaying_posts(
     alloc: Global,
     services: Vec<(Who, Native)>,

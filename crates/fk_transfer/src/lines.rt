@@ -111,6 +111,10 @@ fn line_of(store: &Store, who: Who, side: Turn) -> Option<Line>
 
 /// The talk in which a thread acts on a side, where it is the turn of this side or of the other.
 /// Without a talk it is refused NOTLINKED, at the other turn WRONGTURN.
+///
+/// # Errors
+///
+/// NOTLINKED: it has no such talk. WRONGTURN: it is the other turn.
 #[inline(always)]
 pub fn in_turn(store: &Store, who: Who, side: Turn, turn: Turn) -> Result<Line, u8>
     requires valid { IsValid (world store.now) }

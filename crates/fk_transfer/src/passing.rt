@@ -174,6 +174,10 @@ fn hands_on(store: &Store, caller: Caller, side: Turn, carried: Option<Ptr>) -> 
 
 /// Hands the turn to the other side, at this side's turn. Without a talk it is refused NOTLINKED, at
 /// the other turn WRONGTURN.
+///
+/// # Errors
+///
+/// The status of the first refusal: NOTLINKED; WRONGTURN.
 pub fn over(store: &Store, caller: Caller, side: Turn) -> Result<Verdict, u8>
     requires user { caller.is_porter ≡ false }
     requires valid { IsValid (world store.now) }
@@ -184,6 +188,10 @@ pub fn over(store: &Store, caller: Caller, side: Turn) -> Result<Verdict, u8>
 }
 
 /// The same with the pointer of a reference of the caller, which is looked at first.
+///
+/// # Errors
+///
+/// The status of the first refusal: the reference (BADHANDLE, WRONGKIND); NOTLINKED; WRONGTURN.
 #[tactic(auto, unfolding(fk_model::specs::TransferRows::over_ref))]
 pub fn over_ref(store: &Store, caller: Caller, side: Turn, reference: u64) -> Result<Verdict, u8>
     requires user { caller.is_porter ≡ false }

@@ -13,6 +13,11 @@ use fk_store::Store;
 
 /// It waits for the other side's Send and Over, at that side's turn. By itself it is only refused:
 /// NOTLINKED, WRONGTURN, and with room BADADDRESS; or its page is missing, of which the keeper is told.
+///
+/// # Errors
+///
+/// The status of the first refusal: NOTLINKED; WRONGTURN; BADADDRESS, with room, where its own page is missing and has no keeper, or its address leads to
+/// none.
 #[tactic(auto, unfolding(fk_model::specs::TransferRows::receive))]
 pub fn receive(
     store: &Store,
@@ -37,6 +42,11 @@ pub fn receive(
 }
 
 /// The same with a reference of the caller that is to take a pointer, which is looked at first.
+///
+/// # Errors
+///
+/// The status of the first refusal: the reference (BADHANDLE, WRONGKIND); NOTLINKED; WRONGTURN; BADADDRESS, with room, where its own page is missing and has
+/// no keeper, or its address leads to none.
 #[tactic(auto, unfolding(fk_model::specs::TransferRows::receive_ref))]
 pub fn receive_ref(
     store: &Store,

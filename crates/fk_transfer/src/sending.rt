@@ -246,6 +246,11 @@ fn sends_to(store: &Store, caller: Caller, side: Turn, line: Line, message: Mess
 /// refused NOTLINKED, WRONGTURN, and with words BADADDRESS; or its page is missing, of which the
 /// keeper is told. It waits for the other end's Receive, and ends that one's call FULL where it has no
 /// room.
+///
+/// # Errors
+///
+/// The status of the first refusal: NOTLINKED; WRONGTURN; BADADDRESS, with words, where its own page is missing and has no keeper, or its address leads to
+/// none.
 #[tactic(auto, unfolding(fk_model::specs::TransferRows::send))]
 pub fn send(
     store: &Store,

@@ -601,6 +601,10 @@ fn call_pages(
 
 /// Makes a porter's move where it is ready, as `attempt` does, and answers whether it was; what it tells, and the port whose native server lost its
 /// client by it, are laid into the room, which has zeros.
+///
+/// # Errors
+///
+/// There is no memory for an object or a page that the move makes; all is as before then.
 pub fn call(
     store: &mut Store,
     m: &Move,

@@ -103,6 +103,10 @@ fn ready_given(store: &Store, m: &Move, ask: &Ask) -> bool
 /// Makes a move where it is ready, and gives what it tells, and the port whose native server lost its
 /// client by it; none where it isn't ready, and then all stays as it is. It is fit. For want of memory all stays as
 /// it was; a stage that makes an object or a page may want it.
+///
+/// # Errors
+///
+/// There is no memory for an object or a page that the move makes; all is as before then.
 pub fn attempt(
     store: &mut Store,
     m: &Move,
@@ -430,6 +434,10 @@ pub fn apart(store: &Store, caller: Caller, verdict: &Verdict)
 
 /// Makes a move, which is ready and fit, and gives what it tells. For want of memory all stays as it was;
 /// a stage that makes an object or a page may want it.
+///
+/// # Errors
+///
+/// There is no memory for an object or a page that the move makes; all is as before then.
 pub fn take(store: &mut Store, m: &Move, ask: &Ask, touched: &mut Touched) -> Result<Said, NoMemory>
     requires valid { IsValid (world store.old) }
     requires ready { IsReadyMove store.old m.now ask.now }

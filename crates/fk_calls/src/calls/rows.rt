@@ -203,6 +203,10 @@ fn is_denied(caller: Caller, stage: &Stage) -> bool
 
 /// What a stage comes to, where a porter gives these words, or why it is refused. One for the other kind of caller is
 /// denied.
+///
+/// # Errors
+///
+/// DENIED for the other kind of caller, and else the status with which its judge refuses it.
 #[inline(always)]
 pub fn judged(
     store: &Store,

@@ -138,6 +138,10 @@ pub fn point_at(
 }
 
 /// The same of one that shows words and changes nothing.
+///
+/// # Errors
+///
+/// There is no memory for an object or a page that the move makes; all is as before then.
 #[inline(never)]
 pub fn show(
     store: &mut Store,

@@ -14,6 +14,10 @@ use fk_model::{Body, Thread, Who};
 use fk_store::Store;
 
 /// The thread in a slot of a space.
+///
+/// # Errors
+///
+/// BADHANDLE: the caller can't name the slot, or nothing stands there. WRONGKIND: it is no thread.
 #[tactic(auto, unfolding(fk_model::specs::Readers::object_in))]
 pub fn thread_in(store: &Store, caller: Caller, space: u32, k: u64) -> Result<&Thread, u8>
     ensures thread { (words : List ℕ) → mapped (λ thread. thread_by (path store.now) thread.now) result
@@ -29,6 +33,10 @@ pub fn thread_in(store: &Store, caller: Caller, space: u32, k: u64) -> Result<&T
 }
 
 /// The set of the port in a slot of a space, and whether it is served.
+///
+/// # Errors
+///
+/// BADHANDLE: the caller can't name the slot, or nothing stands there. WRONGKIND: it is no port.
 #[tactic(auto, unfolding(fk_model::specs::Readers::object_in))]
 pub fn port_in(store: &Store, caller: Caller, space: u32, k: u64) -> Result<(Option<u8>, bool), u8>
     ensures port { (words : List ℕ) → result

@@ -45,6 +45,10 @@ fn is_kind(body: &Body, wanted: Kind) -> bool
 }
 
 /// The object of a kind to which a pointer leads.
+///
+/// # Errors
+///
+/// NULLREF: it leads nowhere. DEAD: it led to what was destroyed. WRONGKIND: what it leads to is of another kind.
 pub fn led_to(store: &Store, wanted: Kind, to: Ptr) -> Result<Who, u8>
     ensures to { mapped (λ who. At (place (path store.now) who)) result ≡ readers.led_to (world store.now) wanted (pointer_by (path store.now) to) }
     ensures live { IfOk result (IsLive store.now) }
@@ -60,6 +64,11 @@ pub fn led_to(store: &Store, wanted: Kind, to: Ptr) -> Result<Who, u8>
 }
 
 /// The object of a kind that a handle names.
+///
+/// # Errors
+///
+/// BADHANDLE: the caller can't name the slot, or nothing stands there. NULLREF, DEAD: a reference there leads nowhere, or to what was destroyed. WRONGKIND:
+/// another kind.
 #[tactic(auto, unfolding(fk_model::specs::Readers::handle))]
 pub fn handle(store: &Store, caller: Caller, wanted: Kind, h: u64) -> Result<Who, u8>
     ensures handle { (words : List ℕ) → mapped (λ who. At (place (path store.now) who)) result
@@ -78,6 +87,11 @@ pub fn handle(store: &Store, caller: Caller, wanted: Kind, h: u64) -> Result<Who
 }
 
 /// The thread that a handle names.
+///
+/// # Errors
+///
+/// BADHANDLE: the caller can't name the slot, or nothing stands there. NULLREF, DEAD: a reference there leads nowhere, or to what was destroyed. WRONGKIND:
+/// no thread.
 pub fn thread_by_handle(store: &Store, caller: Caller, h: u64) -> Result<(Who, &Thread), u8>
     ensures { (words : List ℕ) → mapped (λ e. (place (path store.now) e.0, thread_by (path store.now) e.1.now)) result
         ≡ thread_by_handle (world store.now) (caller_by (path store.now) caller words) h }
@@ -90,6 +104,11 @@ pub fn thread_by_handle(store: &Store, caller: Caller, h: u64) -> Result<(Who, &
 }
 
 /// The object of a kind to which the reference in a slot of the caller's own space leads.
+///
+/// # Errors
+///
+/// BADHANDLE: the caller can't name the slot, or nothing stands there. WRONGKIND: it is no reference, or leads to another kind. NULLREF, DEAD: it leads
+/// nowhere, or to what was destroyed.
 #[tactic(auto, unfolding(fk_model::specs::Readers::referred, fk_model::specs::Readers::object_in))]
 pub fn referred(store: &Store, caller: Caller, wanted: Kind, k: u64) -> Result<Who, u8>
     ensures to { (words : List ℕ) → mapped (λ who. At (place (path store.now) who)) result

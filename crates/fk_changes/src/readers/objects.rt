@@ -20,6 +20,10 @@ use fk_model::{Body, Ptr, Who, kind};
 use fk_store::Store;
 
 /// The object in a slot of a space.
+///
+/// # Errors
+///
+/// BADHANDLE: the caller can't name the slot, or nothing stands there.
 #[tactic(auto, unfolding(fk_model::specs::Readers::object_in))]
 #[inline(always)]
 pub fn object_in(store: &Store, caller: Caller, space: u32, k: u64) -> Result<&Body, u8>
@@ -39,6 +43,10 @@ pub fn object_in(store: &Store, caller: Caller, space: u32, k: u64) -> Result<&B
 }
 
 /// The pointer of the reference in a slot of a space.
+///
+/// # Errors
+///
+/// BADHANDLE: the caller can't name the slot, or nothing stands there. WRONGKIND: it is no reference.
 #[tactic(auto, unfolding(fk_model::specs::Readers::object_in))]
 pub fn reference_in(store: &Store, caller: Caller, space: u32, k: u64) -> Result<Ptr, u8>
     ensures to { (words : List ℕ) → mapped (pointer_by (path store.now)) result
@@ -86,6 +94,10 @@ pub fn is_referable(body: &Body) -> bool
 }
 
 /// A pointer to the object in a slot of a space. The pointer of a reference is copied.
+///
+/// # Errors
+///
+/// BADHANDLE: the caller can't name the slot, or nothing stands there. WRONGKIND: a reference may not lead to it.
 #[tactic(auto, unfolding(fk_model::specs::Readers::object_in))]
 pub fn pointer_in(store: &Store, caller: Caller, space: u32, k: u64) -> Result<Ptr, u8>
     ensures to { (words : List ℕ) → mapped (pointer_by (path store.now)) result

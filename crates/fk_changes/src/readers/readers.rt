@@ -29,6 +29,10 @@ pub fn last_slot(caller: Caller) -> u64
 }
 
 /// A slot that the caller can name.
+///
+/// # Errors
+///
+/// BADHANDLE: it is above 239, for a porter above 255.
 pub fn slot_for(caller: Caller, k: u64) -> Result<u8, u8>
     ensures { result ≡ if nat_le k (if caller.is_porter then LAST_PORTER_SLOT else LAST_USER_SLOT) then Ok k else Err BADHANDLE }
 {
@@ -39,6 +43,10 @@ pub fn slot_for(caller: Caller, k: u64) -> Result<u8, u8>
 }
 
 /// Whether the mutex in a slot of a space is locked.
+///
+/// # Errors
+///
+/// BADHANDLE: the caller can't name the slot, or nothing stands there. WRONGKIND: it is no mutex.
 #[tactic(auto, unfolding(fk_model::specs::Readers::object_in))]
 pub fn mutex_in(store: &Store, caller: Caller, space: u32, k: u64) -> Result<bool, u8>
     ensures locked { (words : List ℕ) → result ≡ object_in (world store.now) (caller_by (path store.now) caller words) mutex_of (path store.now space) k }
@@ -56,6 +64,10 @@ pub fn mutex_in(store: &Store, caller: Caller, space: u32, k: u64) -> Result<boo
 }
 
 /// A condition is in a slot of a space.
+///
+/// # Errors
+///
+/// BADHANDLE: the caller can't name the slot, or nothing stands there. WRONGKIND: it is no condition.
 #[tactic(auto, unfolding(fk_model::specs::Readers::object_in))]
 pub fn cond_in(store: &Store, caller: Caller, space: u32, k: u64) -> Result<(), u8>
     ensures { (words : List ℕ) → mapped found result ≡ object_in (world store.now) (caller_by (path store.now) caller words) cond_of (path store.now space) k }
@@ -72,6 +84,11 @@ pub fn cond_in(store: &Store, caller: Caller, space: u32, k: u64) -> Result<(), 
 }
 
 /// A place: the caller's own space, or the space of a handle.
+///
+/// # Errors
+///
+/// BADHANDLE: the caller can't name the slot, or nothing stands there. NULLREF, DEAD: a reference there leads nowhere, or to what was destroyed. WRONGKIND:
+/// no space.
 #[tactic(auto, using(crate::proofs::InReaders::Spaces::space_there), unfolding(fk_model::specs::Readers::space_argument, fk_model::specs::Readers::handle))]
 #[inline(always)]
 pub fn place(store: &Store, caller: Caller, s: u64) -> Result<u32, u8>

@@ -148,6 +148,10 @@ fn space(
 }
 
 /// The image of these spaces, whose pointers these are.
+///
+/// # Errors
+///
+/// There is no memory for the image.
 pub fn assembled(alloc: Global, contents: &[Content], leads: &[Lead]) -> Result<Image, NoMemory>
     ensures { IfOk result (λ image. image ≡ narrow.narrowed (parts.assembled (contents_of contents.now) (leads_of leads.now))) }
 {

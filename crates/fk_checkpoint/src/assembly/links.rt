@@ -84,6 +84,10 @@ fn wide(alloc: Global, place: &[u8]) -> Result<Vec<u64>, NoMemory>
 }
 
 /// The number of the space in which a space lies.
+///
+/// # Errors
+///
+/// There is no memory for its path.
 #[tactic(auto, using(crate::proofs::InAssembly::Paths::parent_up))]
 pub fn parent(alloc: Global, contents: &[Content], place: &[u8]) -> Result<u32, NoMemory>
     ensures { IfOk result (λ parent. parent ≡ narrow.number (parent_number (spaces_of contents.now) (up place.now))) }

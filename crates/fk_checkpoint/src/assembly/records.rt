@@ -92,6 +92,10 @@ fn region(contents: &[Content], item: &Item, leads: &[Lead]) -> Rec
 }
 
 /// An object by its record, whose pointers these begin with.
+///
+/// # Errors
+///
+/// There is no memory for the record.
 pub fn rec(
     alloc: Global,
     contents: &[Content],

@@ -378,6 +378,10 @@ impl Checkpoint {
     }
 
     /// Makes room for one answer, and changes nothing else.
+    ///
+    /// # Errors
+    ///
+    /// There is no memory for one answer.
     pub fn reserve(&mut self) -> Result<(), NoMemory>
         ensures slot { self.new.slot ≡ self.old.slot }
         ensures same { state_of self.new ≡ state_of self.old }

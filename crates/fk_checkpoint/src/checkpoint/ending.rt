@@ -64,6 +64,10 @@ fn made(alloc: Global, slot: u8, ending: &Ending) -> Result<Option<Way>, NoMemor
 }
 
 /// Makes what a checkpoint ends with, which needs memory, and changes nothing else. It stands apart, since it is rare and takes much room.
+///
+/// # Errors
+///
+/// There is no memory for the place or the image.
 #[inline(never)]
 pub fn make(alloc: Global, slot: u8, ending: &mut Ending) -> Result<(), NoMemory>
     ensures same { ending_of slot ending.new ≡ ending_of slot ending.old }

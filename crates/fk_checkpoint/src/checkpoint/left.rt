@@ -43,6 +43,10 @@ fn push_at(alloc: Global, left: &mut Vec<List<u8>>, mets: &[Met], at: usize) -> 
 }
 
 /// The spaces that were met, the first one last. It stands apart, since it is asked for once.
+///
+/// # Errors
+///
+/// There is no memory for the list.
 #[inline(never)]
 pub fn spaces_left(alloc: Global, mets: &[Met]) -> Result<Vec<List<u8>>, NoMemory>
     ensures { IfOk result (λ left. spaces_met (mets_of mets.now) ≡ [] ∷ paths_left left.items) }
@@ -57,6 +61,10 @@ pub fn spaces_left(alloc: Global, mets: &[Met]) -> Result<Vec<List<u8>>, NoMemor
 }
 
 /// The slots from that of the subtree's root down to an object's own.
+///
+/// # Errors
+///
+/// There is no memory for the path.
 #[tactic(auto, using(crate::proofs::InCheckpoint::Lefts::met_last))]
 pub fn from_root(alloc: Global, slot: u8, met: Option<&Met>) -> Result<List<u8>, NoMemory>
     ensures { IfOk result (λ path. up path ≡ (task_for (option_map (λ m. m.now) met.entry)).path ++ slot ∷ []) }

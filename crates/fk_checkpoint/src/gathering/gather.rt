@@ -130,6 +130,10 @@ impl Gather {
     }
 
     /// Makes room for one answer, and changes nothing else.
+    ///
+    /// # Errors
+    ///
+    /// There is no memory for one answer.
     pub fn reserve(&mut self) -> Result<(), NoMemory>
         ensures same { (slot : _) (contents : _) → gather_of slot contents self.new ≡ gather_of slot contents self.old }
         ensures room { OnOk result (HasRoom self.new) }

@@ -127,6 +127,10 @@ impl Read {
     }
 
     /// Makes room for one answer, and changes nothing else.
+    ///
+    /// # Errors
+    ///
+    /// There is no memory for one answer.
     pub fn reserve(&mut self) -> Result<(), NoMemory>
         ensures same { (slot : _) → read_of slot self.new ≡ read_of slot self.old }
         ensures room { OnOk result (HasRoom self.new) }

@@ -88,6 +88,10 @@ impl Walk {
     }
 
     /// Makes room for one answer, and changes nothing else.
+    ///
+    /// # Errors
+    ///
+    /// There is no memory for one answer.
     pub fn reserve(&mut self) -> Result<(), NoMemory>
         ensures same { (slot : _) → walk_of slot self.new ≡ walk_of slot self.old }
         ensures room { OnOk result (HasRoom self.new) }

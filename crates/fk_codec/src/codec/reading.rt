@@ -237,6 +237,10 @@ fn checked_image(alloc: Global, bytes: &[u8]) -> Result<Image, ReadFail>
 
 /// The image that the bytes spell, all of the bytes. It takes memory in proportion to them. `Image` has
 /// the offset of the first fault and its reason, where they spell no image.
+///
+/// # Errors
+///
+/// `Image`: the bytes spell none. `NoMemory`: there is none for the image.
 pub fn read(alloc: Global, bytes: &[u8]) -> Result<Image, ReadFail>
     // What is read is spelled so, and valid.
     ensures found { IfOk result (λ i. SpellsImage bytes.now i) }

@@ -21,6 +21,10 @@ pub fn refused(bytes: &[u8], reason: u8) -> Fail
 }
 
 /// A byte. Where none is left, the bytes end within a field.
+///
+/// # Errors
+///
+/// `At`: no byte is left.
 pub fn read_byte(bytes: &[u8]) -> Result<(u8, &[u8]), Fail>
     ensures read { Decodes (λ x. (x.0, x.1.now)) result (fields.read_byte bytes.now) }
     ensures fault { IfErr result (λ fail. IsFault fail) }
@@ -35,6 +39,10 @@ pub fn read_byte(bytes: &[u8]) -> Result<(u8, &[u8]), Fail>
 }
 
 /// A number of two bytes, the lowest first. Where fewer are left, the bytes end within a field; so in the next two.
+///
+/// # Errors
+///
+/// `At`: fewer bytes are left, so these end within a field.
 pub fn read_u16(bytes: &[u8]) -> Result<(u16, &[u8]), Fail>
     ensures read { Decodes (λ x. (x.0, x.1.now)) result (fields.read_number w16 bytes.now) }
     ensures fault { IfErr result (λ fail. IsFault fail) }
@@ -46,6 +54,10 @@ pub fn read_u16(bytes: &[u8]) -> Result<(u16, &[u8]), Fail>
 }
 
 /// A number of four bytes, the lowest first.
+///
+/// # Errors
+///
+/// `At`: fewer bytes are left, so these end within a field.
 pub fn read_u32(bytes: &[u8]) -> Result<(u32, &[u8]), Fail>
     ensures read { Decodes (λ x. (x.0, x.1.now)) result (fields.read_number w32 bytes.now) }
     ensures fault { IfErr result (λ fail. IsFault fail) }
@@ -57,6 +69,10 @@ pub fn read_u32(bytes: &[u8]) -> Result<(u32, &[u8]), Fail>
 }
 
 /// A number of eight bytes, the lowest first.
+///
+/// # Errors
+///
+/// `At`: fewer bytes are left, so these end within a field.
 pub fn read_u64(bytes: &[u8]) -> Result<(u64, &[u8]), Fail>
     ensures read { Decodes (λ x. (x.0, x.1.now)) result (fields.read_number w64 bytes.now) }
     ensures fault { IfErr result (λ fail. IsFault fail) }
@@ -68,6 +84,10 @@ pub fn read_u64(bytes: &[u8]) -> Result<(u64, &[u8]), Fail>
 }
 
 /// A byte below a limit; any other is out of its range.
+///
+/// # Errors
+///
+/// `At`: no byte is left, or it is another one.
 #[tactic(auto, unfolding(fk_image::specs::Format::Fields::read_below))]
 pub fn read_below(limit: u8, bytes: &[u8]) -> Result<(u8, &[u8]), Fail>
     ensures read { Decodes (λ x. (x.0, x.1.now)) result (fields.read_below limit bytes.now) }
@@ -82,6 +102,10 @@ pub fn read_below(limit: u8, bytes: &[u8]) -> Result<(u8, &[u8]), Fail>
 }
 
 /// So many words one after the other.
+///
+/// # Errors
+///
+/// `At`: fewer bytes are left, so these end within a field.
 #[tactic(auto, using(crate::proofs::InReading::Loops::words))]
 pub fn read_words<const N: usize>(bytes: &[u8]) -> Result<([u64; N], &[u8]), Fail>
     ensures read { Decodes (λ x. (x.0, x.1.now)) result (words.read_words N bytes.now) }
@@ -98,6 +122,10 @@ pub fn read_words<const N: usize>(bytes: &[u8]) -> Result<([u64; N], &[u8]), Fai
 }
 
 /// A pointer: its tag, and what that tag is followed by. An unknown tag is out of its range, and so is a slot above 239.
+///
+/// # Errors
+///
+/// `At`: the bytes end within it, or its tag or its slot is out of range.
 #[tactic(auto, unfolding(fk_image::specs::Format::Reading::read_link))]
 pub fn read_link(bytes: &[u8]) -> Result<(Link, &[u8]), Fail>
     ensures read { Decodes (λ x. (x.0, x.1.now)) result (words.read_link bytes.now) }

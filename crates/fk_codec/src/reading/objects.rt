@@ -182,6 +182,10 @@ fn objects_from(
 }
 
 /// A number of objects, and these.
+///
+/// # Errors
+///
+/// `At`: the first bad field, with its reason. `NoMemory`: there is none for the objects.
 #[tactic(auto, unfolding(fk_image::specs::Format::Reading::read_objects))]
 pub fn read_objects(alloc: Global, newer: bool, bytes: &[u8]) -> Result<(Objects, &[u8]), Fail>
     ensures { Decodes (λ x. (x.0, x.1.now)) result (words.read_objects newer bytes.now) }
@@ -221,6 +225,10 @@ fn pages_from(alloc: Global, count: u16, bytes: &[u8]) -> Result<(List<PageRec>,
 }
 
 /// A number of pages, and these.
+///
+/// # Errors
+///
+/// `At`: the first bad field, with its reason. `NoMemory`: there is none for the pages.
 #[tactic(auto, unfolding(fk_image::specs::Format::Reading::read_pages))]
 pub fn read_pages(alloc: Global, bytes: &[u8]) -> Result<(List<PageRec>, &[u8]), Fail>
     ensures { Decodes (λ x. (x.0, x.1.now)) result (words.read_pages bytes.now) }

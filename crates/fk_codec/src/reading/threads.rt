@@ -114,6 +114,9 @@ fn read_fault(bytes: &[u8]) -> Result<(Option<FaultRec>, &[u8]), Fail>
     }
 }
 
+/// # Errors
+///
+/// `At`: the first bad field, with its reason. `NoMemory`: there is none for the record.
 #[tactic(auto, unfolding(fk_image::specs::Format::Reading::read_thread))]
 pub fn read_thread(alloc: Global, newer: bool, bytes: &[u8]) -> Result<(Rec, &[u8]), Fail>
     ensures { Decodes (λ x. (x.0, x.1.now)) result (words.read_thread newer bytes.now) }

@@ -79,6 +79,10 @@ fn count_lines(
 
 /// The version of an image, its numbers of spaces, of other objects and of pages, and the slots of the
 /// nester whose ports it leads to, rising.
+///
+/// # Errors
+///
+/// There is no memory for the text.
 pub fn show_text(alloc: Global, image: &Image) -> Result<String, NoMemory>
     ensures { IfOk result (λ text. string_bytes text ≡ words.shown image.now) }
 {

@@ -6,6 +6,10 @@ use byteorder::{ByteOrder, LittleEndian};
 use fk_model::NoMemory;
 
 /// Appends a number of two bytes.
+///
+/// # Errors
+///
+/// There is no memory for the bytes.
 pub fn put_u16(out: &mut Vec<u8>, number: u16) -> Result<(), NoMemory>
     ensures { OnOk result (out.new.items ≡ out.old.items ++ to_le_bytes w16 number) }
 {
@@ -16,6 +20,10 @@ pub fn put_u16(out: &mut Vec<u8>, number: u16) -> Result<(), NoMemory>
 }
 
 /// Appends a number of four bytes.
+///
+/// # Errors
+///
+/// There is no memory for the bytes.
 pub fn put_u32(out: &mut Vec<u8>, number: u32) -> Result<(), NoMemory>
     ensures { OnOk result (out.new.items ≡ out.old.items ++ to_le_bytes w32 number) }
 {
@@ -26,6 +34,10 @@ pub fn put_u32(out: &mut Vec<u8>, number: u32) -> Result<(), NoMemory>
 }
 
 /// Appends a number of eight bytes.
+///
+/// # Errors
+///
+/// There is no memory for the bytes.
 pub fn put_u64(out: &mut Vec<u8>, number: u64) -> Result<(), NoMemory>
     ensures { OnOk result (out.new.items ≡ out.old.items ++ to_le_bytes w64 number) }
 {

@@ -190,6 +190,10 @@ fn put_space(out: &mut Vec<u8>, space: &SpaceRec) -> Result<(), NoMemory>
 }
 
 /// The one spelling of a valid image.
+///
+/// # Errors
+///
+/// There is no memory for the bytes.
 pub fn write(alloc: Global, image: &Image) -> Result<Vec<u8>, NoMemory>
     requires { IsTrue (is_valid image.now) }
     ensures { IfOk result (λ bytes. SpellsImage bytes.items image.now) }

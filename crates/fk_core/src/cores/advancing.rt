@@ -271,6 +271,10 @@ impl<S: Service + Drop, W: Worker + Drop> Core<S, W> {
     /// Makes a move that is ready, and gives it: a legal choice, as `choose` gives one, at an even number of moves a due job's where one is ready.
     /// There is none exactly where none is ready or the budget is used, and then, and for want of memory, all is as before. Memory lacks only where
     /// a ready move may want it.
+    ///
+    /// # Errors
+    ///
+    /// There is no memory for what a ready move may want: an object, a page, a server that grows, a job that grows by its answer. All is as before then.
     pub fn advance(&mut self, table: &Table) -> Result<Option<Move>, NoMemory>
         requires fits { AllFit (map (λ r. r.rule) table.now.list.items) self.old.services.list }
         requires come { IsGoing self.old }

@@ -163,6 +163,10 @@ impl<S: Service + Drop, W: Worker + Drop> Core<S, W> {
 
     /// Makes a move that is ready, and tells the servers, or the jobs. For want of memory all is as before, and memory lacks only for a move that
     /// may want it. That a run has come here makes it known that what a job asks for is fit.
+    ///
+    /// # Errors
+    ///
+    /// There is no memory for what the move may want: an object, a page, a server that grows, a job that grows by its answer. All is as before then.
     pub fn turn(&mut self, table: &Table, m: &Move) -> Result<(), NoMemory>
         requires ready { IsReadyMove self.old.jobs.jobs (run_core self.old) m.now }
         requires few { self.old.events < self.old.budget }
@@ -187,6 +191,10 @@ impl<S: Service + Drop, W: Worker + Drop> Core<S, W> {
 
     /// Makes a move where it is ready, tells the servers, and answers whether it was. Where it wasn't, and for
     /// want of memory, all is as before. Memory lacks only for a ready move that may want it.
+    ///
+    /// # Errors
+    ///
+    /// There is no memory for what the move may want: an object, a page, a server that grows, a job that grows by its answer. All is as before then.
     pub fn go(&mut self, table: &Table, m: &Move) -> Result<bool, NoMemory>
         requires few { self.old.events < self.old.budget }
         requires come { IsGoing self.old }

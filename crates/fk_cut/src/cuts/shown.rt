@@ -223,6 +223,10 @@ fn shown_holder(
 }
 
 /// The four pointer fields of an object of a subtree.
+///
+/// # Errors
+///
+/// There is no memory for the paths of what they lead to.
 pub fn fields_of(
     alloc: Global,
     store: &Store,

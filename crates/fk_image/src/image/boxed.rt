@@ -22,6 +22,10 @@ impl Model for BoxedThread {
 
 impl BoxedThread {
     /// Puts a record into memory of its own.
+    ///
+    /// # Errors
+    ///
+    /// There is no memory for it.
     pub fn new(alloc: Global, thread: ThreadRec) -> Result<BoxedThread, NoMemory>
         ensures { IfOk result (λ boxed. boxed ≡ thread) }
     {

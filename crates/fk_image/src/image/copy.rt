@@ -44,6 +44,10 @@ fn copy_body(alloc: Global, body: &Rec) -> Result<Rec, NoMemory>
 }
 
 /// Equal objects.
+///
+/// # Errors
+///
+/// There is no memory for the copy.
 pub fn copy_items(alloc: Global, items: &[ObjectRec]) -> Result<Vec<ObjectRec>, NoMemory>
     ensures { IfOk result (λ copy. copy.items ≡ items.now) }
 {
@@ -71,6 +75,10 @@ fn copy_space(alloc: Global, space: &SpaceRec) -> Result<SpaceRec, NoMemory>
 
 impl Image {
     /// An equal image.
+    ///
+    /// # Errors
+    ///
+    /// There is no memory for the copy.
     pub fn copy(&self, alloc: Global) -> Result<Image, NoMemory>
         ensures { IfOk result (λ copy. copy ≡ self.now) }
     {

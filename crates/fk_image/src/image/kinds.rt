@@ -114,6 +114,10 @@ fn tabulate(numbers: &mut Vec<u8>, items: &[ObjectRec]) -> Result<(), NoMemory>
 }
 
 /// Makes room for the kind of a slot, unless there is no table and objects are few.
+///
+/// # Errors
+///
+/// There is no memory for the table.
 #[inline(always)]
 pub fn make_room(numbers: &mut Vec<u8>, items: &[ObjectRec], slot: u8) -> Result<(), NoMemory>
     requires { words.Tells numbers.old.items items.now }

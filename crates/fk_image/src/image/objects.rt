@@ -42,6 +42,10 @@ impl Objects {
     }
 
     /// No objects, with memory for the records of so many.
+    ///
+    /// # Errors
+    ///
+    /// There is no memory for these.
     pub fn with_room(alloc: Global, room: usize) -> Result<Objects, NoMemory>
         ensures { IfOk result (λ objects. objects ≡ []) }
     {
@@ -66,6 +70,10 @@ impl Objects {
     }
 
     /// Adds an object in a slot above the others. For want of memory they stay as they were.
+    ///
+    /// # Errors
+    ///
+    /// There is no memory for one record more; the objects are as before then.
     #[inline(always)]
     pub fn push(&mut self, item: ObjectRec) -> Result<(), NoMemory>
         requires { words.next_slot self.old ≤ item.slot }
@@ -80,6 +88,10 @@ impl Objects {
     }
 
     /// Equal objects.
+    ///
+    /// # Errors
+    ///
+    /// There is no memory for the copy.
     pub fn copy(&self, alloc: Global) -> Result<Objects, NoMemory>
         ensures { IfOk result (λ copy. copy ≡ self.now) }
     {

@@ -10,6 +10,10 @@ use fk_stack::Stack;
 
 /// The lowest slot of a space in which a space may follow. None where it isn't on the path. The path then
 /// begins at that space.
+///
+/// # Errors
+///
+/// There is no memory for the path.
 #[tactic(auto, unfolding(crate::specs::Image::Preorder::from))]
 pub fn room_under(path: &mut Stack<Open>, space: u32) -> Result<Option<u16>, NoMemory>
     ensures { paths.Rooms result path.old path.new space }
@@ -24,6 +28,10 @@ pub fn room_under(path: &mut Stack<Open>, space: u32) -> Result<Option<u16>, NoM
 }
 
 /// Enters a space with this number in a slot of the path's last space.
+///
+/// # Errors
+///
+/// There is no memory for the path.
 pub fn enter(path: &mut Stack<Open>, number: u32, slot: u8) -> Result<(), NoMemory>
     ensures { OnOk result (path.new ≡ preorder.after_entering number slot path.old) }
 {

@@ -301,6 +301,10 @@ fn spaces_walk(
 }
 
 /// That each pointer leads to what its field may hold; else the first that doesn't.
+///
+/// # Errors
+///
+/// `Wrong`: the offset of the first pointer that leads elsewhere. `NoMemory`: there is none for what the walk keeps.
 #[tactic(auto, unfolding(crate::specs::Format::Offsets::wrong_in))]
 pub fn check_links(alloc: Global, spaces: &[SpaceRec]) -> Result<(), PointerFail>
     ensures { Checks result (words.wrong_in spaces.now) }

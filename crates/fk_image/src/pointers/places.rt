@@ -38,6 +38,9 @@ impl Places {
         self.set.contains(&place)
     }
 
+    /// # Errors
+    ///
+    /// There is no memory for one place more.
     pub fn insert(&mut self, place: Place) -> Result<(), NoMemory>
         ensures { OnOk result (words.has_place self.new ≡ with_thread place.space place.slot (words.has_place self.old)) }
     {
@@ -103,6 +106,9 @@ fn ends_of(alloc: Global, spaces: &[SpaceRec]) -> Result<Vec<usize>, NoMemory>
 }
 
 impl Index {
+    /// # Errors
+    ///
+    /// There is no memory for the ends of the spaces.
     pub fn of(alloc: Global, spaces: &[SpaceRec]) -> Result<Index, NoMemory>
         ensures { IfOk result (λ index. words.IsIndex spaces.now index) }
     {
@@ -114,6 +120,10 @@ impl Index {
 
     /// Whether a space lies in a slot of a space. Few images ask; the first question takes a step for each
     /// space.
+    ///
+    /// # Errors
+    ///
+    /// There is no memory for the places, at the first question.
     pub fn has_space_at(
         &mut self,
         spaces: &[SpaceRec],

@@ -99,6 +99,10 @@ fn leads(alloc: Global, spaces: &[SpaceRec]) -> Result<bool, NoMemory>
 }
 
 /// Whether an image is valid: it has a spelling, and its pointers lead to what their fields may hold.
+///
+/// # Errors
+///
+/// There is no memory for what the look keeps.
 #[tactic(auto, unfolding(crate::specs::Image::Valid::is_valid))]
 pub fn is_valid(alloc: Global, image: &Image) -> Result<bool, NoMemory>
     ensures { IfOk result (λ valid. valid ≡ words.is_valid image.now) }

@@ -149,6 +149,10 @@ fn answer_other(
 }
 
 /// Carries out a verdict on a stage of a porter, who gives 64 words, and lays what it tells into the room. For want of memory the store stays as it was.
+///
+/// # Errors
+///
+/// There is no memory for an object or a page; the store is as before then.
 pub fn answer(
     store: &mut Store,
     caller: Caller,

@@ -67,6 +67,10 @@ fn carry(store: &mut Store, deed: &Deed)
 }
 
 /// Does all of a plan. For want of memory all stays as it was.
+///
+/// # Errors
+///
+/// There is no memory for an object or a page; the store is as before then.
 #[tactic(auto, unfolding(fk_model::specs::World::apply_all))]
 pub fn carry_all(
     store: &mut Store,
@@ -166,6 +170,10 @@ fn end_all(
 
 /// Carries out a verdict on the first stage of a call, and ends the caller's own part. A porter gives
 /// 64 words, a user any. For want of memory all stays as it was.
+///
+/// # Errors
+///
+/// There is no memory for an object or a page; the store is as before then.
 pub fn carry_out(
     store: &mut Store,
     caller: Caller,

@@ -73,6 +73,10 @@ fn new_thread() -> Thread
 }
 
 /// Makes a new object. For want of memory, or of a birth number, all stays as it was.
+///
+/// # Errors
+///
+/// There is no memory for the object, or no birth number for a space; the store is as before then.
 pub fn make(store: &mut Store, object: Who, kind: u64) -> Result<(), NoMemory>
     requires fits { IsMaking (path store.old) (world store.old) object kind }
     ensures world { OnOk result (world store.new ≡ apply_all (made (new_object (place (path store.old) object) kind)) (world store.old)) }
@@ -88,6 +92,10 @@ pub fn make(store: &mut Store, object: Who, kind: u64) -> Result<(), NoMemory>
 
 /// Makes a new space that a thread holds. For want of memory, or of a birth number, all stays as it
 /// was.
+///
+/// # Errors
+///
+/// There is no memory for the space, or no birth number; the store is as before then.
 pub fn make_held(store: &mut Store, object: Who, holder: Who) -> Result<(), NoMemory>
     requires fits { IsMakingHeld (path store.old) (world store.old) object holder }
     ensures world { let change = MakeSpace (place (path store.old) object) (Some (At (place (path store.old) holder))) in

@@ -12,6 +12,10 @@ use fk_store::Store;
 
 /// The name of the object in a slot of a space, which is below 256. HELD where it is frozen for the
 /// caller.
+///
+/// # Errors
+///
+/// HELD: it is frozen for the caller.
 #[inline(always)]
 pub fn unfrozen(store: &Store, caller: Caller, space: u32, x: u64) -> Result<Who, u8>
     requires slot { x < 256 }

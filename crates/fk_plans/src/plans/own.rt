@@ -19,6 +19,10 @@ use fk_store::{Reach, Store};
 /// The page in which an address of a user's memory is read or written. Where none is there, what the
 /// stage comes to in its place: a fault, of which the page's keeper is told, or the refusal BADADDRESS
 /// where nobody keeps it and where the address leads to no page.
+///
+/// # Errors
+///
+/// The verdict in its place: the fault, or the refusal.
 #[tactic(auto, using(crate::proofs::InPlans::Low::home_low))]
 pub fn own_page(
     store: &Store,

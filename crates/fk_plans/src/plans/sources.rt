@@ -41,6 +41,10 @@ fn words_of(store: &Store, given: &[u64], source: Source) -> [u64; 64]
 }
 
 /// Gives a space a page. For want of memory all stays as it was.
+///
+/// # Errors
+///
+/// There is no memory for the page; the store is as before then.
 pub fn give(
     store: &mut Store,
     given: &[u64],

@@ -348,6 +348,10 @@ impl Restore {
     }
 
     /// Makes room for one answer, which takes none.
+    ///
+    /// # Errors
+    ///
+    /// None comes: it takes no memory.
     pub fn reserve(&mut self) -> Result<(), NoMemory>
         ensures same { self.new ≡ self.old }
         ensures done { IsOk result }

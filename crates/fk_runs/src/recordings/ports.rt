@@ -46,6 +46,10 @@ fn add_port(alloc: Global, server: &ServerEntry, ports: &mut Items<Text>) -> Res
 }
 
 /// The paths of the ports of servers that are no consoles, in the order of the file.
+///
+/// # Errors
+///
+/// There is no memory for the paths.
 pub fn ports_of(alloc: Global, servers: &[ServerEntry]) -> Result<Items<Text>, NoMemory>
     ensures ports { IfOk result (λ ports. ports ≡ definitions.ports_of servers.now) }
     ensures paths { IfOk result ArePorts }

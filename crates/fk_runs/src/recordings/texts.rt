@@ -93,6 +93,10 @@ fn place_behind(place: usize, post: &Post) -> Option<usize>
 }
 
 /// The record of what the taps of a run have noted, each with the path of its port.
+///
+/// # Errors
+///
+/// There is no memory for the text.
 pub fn record_text(
     alloc: Global,
     ports: &[Text],

@@ -99,6 +99,10 @@ fn outs_of<S: Service + Drop, W: Worker + Drop>(
 }
 
 /// The report and the text of a run of jobs that has come to a core.
+///
+/// # Errors
+///
+/// There is no memory for the report or the text.
 pub fn prepared<S: Service + Drop, W: Tells + Drop>(
     alloc: Global,
     core: Core<S, W>,
@@ -124,6 +128,10 @@ pub fn prepared<S: Service + Drop, W: Tells + Drop>(
 }
 
 /// The report of a run of jobs without images, and the line of `soak` in place of its text: so many servers are counted.
+///
+/// # Errors
+///
+/// There is no memory for the report or the line.
 pub fn soaked<S: Service + Drop, W: Tells + Drop>(
     alloc: Global,
     count: u32,

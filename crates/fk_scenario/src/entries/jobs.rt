@@ -208,6 +208,10 @@ fn job_of(alloc: Global, before: usize, table: &Table) -> Result<JobEntry, Fail>
 }
 
 /// The job of an entry, where `before` jobs stand before it.
+///
+/// # Errors
+///
+/// `Rule`: the first rule that the entry breaks. `NoMemory`: there is none for the job.
 #[tactic(auto, unfolding(crate::specs::Entries::Jobs::job_in))]
 pub fn job_in(alloc: Global, before: usize, value: &Value) -> Result<JobEntry, Fail>
     ensures { Gives (λ x. x) result (definitions.job_in before (view value.now)) }

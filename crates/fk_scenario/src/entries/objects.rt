@@ -199,6 +199,10 @@ fn object_of(alloc: Global, table: &Table) -> Result<ObjectEntry, Fail>
 }
 
 /// The object of an entry.
+///
+/// # Errors
+///
+/// `Rule`: the first rule that the entry breaks. `NoMemory`: there is none for the object.
 #[tactic(auto, unfolding(crate::specs::Entries::Objects::object_entry))]
 pub fn object_entry(alloc: Global, value: &Value) -> Result<ObjectEntry, Fail>
     ensures { Gives (λ x. x) result (definitions.object_entry (view value.now)) }

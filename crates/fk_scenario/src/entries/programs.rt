@@ -22,6 +22,10 @@ fn program_words(alloc: Global, text: &str) -> Result<List<u64>, Fail>
 }
 
 /// The program at a name: its text, assembled.
+///
+/// # Errors
+///
+/// `Rule`: the value is no text, the name is ill-formed, or the text is refused, in this order. `NoMemory`: there is none for the program.
 #[tactic(auto, unfolding(crate::specs::Entries::Programs::program_of))]
 pub fn program_of(alloc: Global, name: &str, value: &Value) -> Result<Program, Fail>
     ensures { Gives (λ x. x) result (definitions.program_of name.now (view value.now)) }

@@ -90,6 +90,10 @@ fn server_of(alloc: Global, rules: &[(String, Rule)], table: &Table) -> Result<S
 }
 
 /// The server of an entry. Its rule is `console` or one of `rules`, by name.
+///
+/// # Errors
+///
+/// `Rule`: the first rule that the entry breaks. `NoMemory`: there is none for the server.
 #[tactic(auto, unfolding(crate::specs::Entries::Servers::server_in))]
 pub fn server_in(
     alloc: Global,

@@ -134,6 +134,10 @@ impl<T: Keyed + Drop> Entries<T> {
     }
 
     /// These and one more at the end.
+    ///
+    /// # Errors
+    ///
+    /// There is no memory for one entry more.
     pub fn with(self, alloc: Global, entry: T) -> Result<Entries<T>, NoMemory>
         ensures { IfOk result (λ more. more ≡ self ++ entry ∷ []) }
     {

@@ -89,6 +89,10 @@ impl Fail {
 }
 
 /// A number of entries as an index. More than an index can count don't fit in memory.
+///
+/// # Errors
+///
+/// There are more than an index can count.
 pub fn index_at(count: usize) -> Result<u32, NoMemory>
     ensures { IfOk result (λ index. index ≡ count) }
 {

@@ -12,6 +12,10 @@ use toml::value::Array;
 use toml::{Table, Value};
 
 /// Refuses by a rule unless a test holds.
+///
+/// # Errors
+///
+/// `Rule`, with this rule: the test doesn't hold.
 pub fn unless(broken: u8, holds: bool) -> Result<(), Fail>
     ensures { Gives (λ x. x) result (refused_unless broken holds) }
 {
@@ -41,6 +45,10 @@ fn is_among(keys: &[&str], key: &str) -> bool
 }
 
 /// Refuses a table with a key that isn't one of these.
+///
+/// # Errors
+///
+/// `Rule`, with the rule of keys: the table has another key.
 #[tactic(auto, unfolding(crate::specs::Fields::Fields::known))]
 pub fn known(keys: &[&str], table: &Table) -> Result<(), Fail>
     ensures { Gives (λ x. x) result (fields.known (map (λ k. k.now) keys.now) (table_view table.now)) }
@@ -54,6 +62,10 @@ pub fn known(keys: &[&str], table: &Table) -> Result<(), Fail>
 }
 
 /// The text at a key, if the key is there.
+///
+/// # Errors
+///
+/// `Rule`, with the rule of keys: what stands there is no text.
 #[tactic(auto, unfolding(crate::specs::Fields::Fields::text_in))]
 pub fn text_in<'a>(table: &'a Table, key: &str) -> Result<Option<&'a str>, Fail>
     ensures { Gives (λ x. option_map (λ s. s.now) x) result (fields.text_in key.now (table_view table.now)) }
@@ -68,6 +80,10 @@ pub fn text_in<'a>(table: &'a Table, key: &str) -> Result<Option<&'a str>, Fail>
 }
 
 /// The text at a key that has to be there.
+///
+/// # Errors
+///
+/// `Rule`, with the rule of keys: the key isn't there, or what stands there is no text.
 #[tactic(auto, unfolding(crate::specs::Fields::Fields::needed_text))]
 pub fn needed_text<'a>(table: &'a Table, key: &str) -> Result<&'a str, Fail>
     ensures { Gives (λ s. s.now) result (fields.needed_text key.now (table_view table.now)) }
@@ -79,6 +95,10 @@ pub fn needed_text<'a>(table: &'a Table, key: &str) -> Result<&'a str, Fail>
 }
 
 /// The flag at a key, if the key is there.
+///
+/// # Errors
+///
+/// `Rule`, with the rule of keys: what stands there is neither `true` nor `false`.
 #[tactic(auto, unfolding(crate::specs::Fields::Fields::flag_in))]
 pub fn flag_in(table: &Table, key: &str) -> Result<Option<bool>, Fail>
     ensures { Gives (λ x. x) result (fields.flag_in key.now (table_view table.now)) }
@@ -93,6 +113,10 @@ pub fn flag_in(table: &Table, key: &str) -> Result<Option<bool>, Fail>
 }
 
 /// The number at a key, if the key is there.
+///
+/// # Errors
+///
+/// `Rule`, with the rule of keys: what stands there is no whole number.
 #[tactic(auto, unfolding(crate::specs::Fields::Fields::integer_in))]
 pub fn integer_in(table: &Table, key: &str) -> Result<Option<i64>, Fail>
     ensures { Gives (λ x. x) result (fields.integer_in key.now (table_view table.now)) }
@@ -107,6 +131,10 @@ pub fn integer_in(table: &Table, key: &str) -> Result<Option<i64>, Fail>
 }
 
 /// The number at a key that has to be there.
+///
+/// # Errors
+///
+/// `Rule`, with the rule of keys: the key isn't there, or what stands there is no whole number.
 #[tactic(auto, unfolding(crate::specs::Fields::Fields::needed_integer))]
 pub fn needed_integer(table: &Table, key: &str) -> Result<i64, Fail>
     ensures { Gives (λ x. x) result (fields.needed_integer key.now (table_view table.now)) }
@@ -118,6 +146,10 @@ pub fn needed_integer(table: &Table, key: &str) -> Result<i64, Fail>
 }
 
 /// The array at a key, if the key is there.
+///
+/// # Errors
+///
+/// `Rule`, with the rule of keys: what stands there is no array.
 #[tactic(auto, unfolding(crate::specs::Fields::Fields::array_in))]
 pub fn array_in<'a>(table: &'a Table, key: &str) -> Result<Option<&'a Array>, Fail>
     ensures { Gives (λ x. option_map (λ a. array_view a.now) x) result (fields.array_in key.now (table_view table.now)) }
@@ -132,6 +164,10 @@ pub fn array_in<'a>(table: &'a Table, key: &str) -> Result<Option<&'a Array>, Fa
 }
 
 /// The table at a key, if the key is there.
+///
+/// # Errors
+///
+/// `Rule`, with the rule of keys: what stands there is no table.
 #[tactic(auto, unfolding(crate::specs::Fields::Fields::table_in))]
 pub fn table_in<'a>(table: &'a Table, key: &str) -> Result<Option<&'a Table>, Fail>
     ensures { Gives (λ x. option_map (λ t. table_view t.now) x) result (fields.table_in key.now (table_view table.now)) }
@@ -146,6 +182,10 @@ pub fn table_in<'a>(table: &'a Table, key: &str) -> Result<Option<&'a Table>, Fa
 }
 
 /// A number from `low` to `high`.
+///
+/// # Errors
+///
+/// `Rule`, with the rule of ranges: it is another number.
 pub fn ranged(low: u64, high: u64, number: i64) -> Result<u64, Fail>
     ensures value { Gives (λ x. x) result (fields.ranged low high number) }
     ensures range { IfOk result (λ n. n ≤ high) }
@@ -157,6 +197,10 @@ pub fn ranged(low: u64, high: u64, number: i64) -> Result<u64, Fail>
 }
 
 /// A number from `low` to `high` where one is written, and else the default.
+///
+/// # Errors
+///
+/// `Rule`, with the rule of ranges: it is another number.
 pub fn ranged_or(default: u64, low: u64, high: u64, number: Option<i64>) -> Result<u64, Fail>
     requires { default ≤ high }
     ensures value { Gives (λ x. x) result (fields.ranged_or default low high number) }
@@ -169,6 +213,10 @@ pub fn ranged_or(default: u64, low: u64, high: u64, number: Option<i64>) -> Resu
 }
 
 /// The numbers of an array.
+///
+/// # Errors
+///
+/// `Rule`, with the rule of keys: an item is no whole number. `NoMemory`: there is none for the list.
 #[tactic(auto, unfolding(crate::specs::Fields::Fields::integers_from))]
 pub fn integers_of(alloc: Global, array: &Array) -> Result<List<i64>, Fail>
     ensures { Gives (λ x. x) result (fields.integers_from [] (array_view array.now)) }
@@ -184,6 +232,10 @@ pub fn integers_of(alloc: Global, array: &Array) -> Result<List<i64>, Fail>
 }
 
 /// The numbers of the array at a key, none if the key isn't there.
+///
+/// # Errors
+///
+/// `Rule`, with the rule of keys: what stands there is no array, or an item of it no whole number. `NoMemory`: there is none for the list.
 #[tactic(auto, unfolding(crate::specs::Fields::Fields::integers_in))]
 pub fn integers_in(alloc: Global, table: &Table, key: &str) -> Result<List<i64>, Fail>
     ensures { Gives (λ x. x) result (fields.integers_in key.now (table_view table.now)) }
@@ -195,6 +247,10 @@ pub fn integers_in(alloc: Global, table: &Table, key: &str) -> Result<List<i64>,
 }
 
 /// Numbers from 0 to 255.
+///
+/// # Errors
+///
+/// `Rule`, with the rule of ranges: a number isn't among these. `NoMemory`: there is none for the list.
 #[tactic(auto, unfolding(crate::specs::Fields::Fields::bytes_from))]
 pub fn bytes_of(alloc: Global, numbers: &[i64]) -> Result<List<u8>, Fail>
     ensures { Gives (λ x. x) result (fields.bytes_from [] numbers.now) }
@@ -207,6 +263,10 @@ pub fn bytes_of(alloc: Global, numbers: &[i64]) -> Result<List<u8>, Fail>
 }
 
 /// Numbers from 0 to 2^63 - 1.
+///
+/// # Errors
+///
+/// `Rule`, with the rule of ranges: a number isn't among these. `NoMemory`: there is none for the list.
 #[tactic(auto, unfolding(crate::specs::Fields::Fields::words_from))]
 pub fn words_of(alloc: Global, numbers: &[i64]) -> Result<List<u64>, Fail>
     ensures { Gives (λ x. x) result (fields.words_from [] numbers.now) }

@@ -40,6 +40,10 @@ fn slots_of(alloc: Global, pieces: &[&[u8]]) -> Result<List<u8>, Fail>
 }
 
 /// The path that a text is: a slash, or a slash and a slot, repeated.
+///
+/// # Errors
+///
+/// `Rule`, with the rule of forms: it is no path. `NoMemory`: there is none for the slots.
 #[tactic(auto, unfolding(crate::specs::Fields::Paths::parse_path))]
 pub fn parse_path(alloc: Global, text: &str) -> Result<List<u8>, Fail>
     ensures { Gives (λ x. x) result (paths.parse_path text.now) }
@@ -55,6 +59,10 @@ pub fn parse_path(alloc: Global, text: &str) -> Result<List<u8>, Fail>
 }
 
 /// The path that a text is, if there is a text.
+///
+/// # Errors
+///
+/// `Rule`, with the rule of forms: it is no path. `NoMemory`: there is none for the slots.
 pub fn optional_path(alloc: Global, text: Option<&str>) -> Result<Option<List<u8>>, Fail>
     ensures { Gives (λ x. x) result (paths.optional_path (option_map (λ s. s.now) text.entry)) }
 {

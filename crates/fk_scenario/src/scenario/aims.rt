@@ -152,6 +152,10 @@ fn aims_well(
 }
 
 /// Refuses the first object that aims badly.
+///
+/// # Errors
+///
+/// `Scenario`: that refusal. `NoMemory`: there is none for the look, or there are more objects than an index can count.
 #[tactic(auto, unfolding(crate::specs::Scenario::Aims::aims_from))]
 pub fn check_aims(
     alloc: Global,

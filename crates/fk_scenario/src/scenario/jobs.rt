@@ -144,6 +144,10 @@ fn job_after(
 }
 
 /// The jobs, each after those before it.
+///
+/// # Errors
+///
+/// `Scenario`: the refusal of the first job that may not work. `NoMemory`: there is none for the jobs.
 #[tactic(auto, unfolding(crate::specs::Scenario::Jobs::jobs_from))]
 pub fn jobs_of(
     alloc: Global,

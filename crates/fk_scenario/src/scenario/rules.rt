@@ -7,6 +7,10 @@ use fk_model::{NoMemory, Rule};
 use std::alloc::Global;
 
 /// The rules that native servers may have, by name, as `read_scenario` takes them.
+///
+/// # Errors
+///
+/// There is no memory for the list.
 pub fn server_rules(alloc: Global) -> Result<Vec<(String, Rule)>, NoMemory>
     ensures { IfOk result (λ rules. rules_view rules.items ≡ definitions.server_rules) }
 {

@@ -79,6 +79,10 @@ fn check_server(
 }
 
 /// Refuses the first server that may not serve.
+///
+/// # Errors
+///
+/// `Scenario`: that refusal. `NoMemory`: there is none for the ports that were met.
 #[tactic(auto, unfolding(crate::specs::Scenario::Servers::serving_from))]
 pub fn check_servers(
     alloc: Global,

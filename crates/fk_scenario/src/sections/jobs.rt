@@ -29,6 +29,10 @@ fn entries_of(alloc: Global, array: &Array) -> Result<List<JobEntry>, ScenarioFa
 }
 
 /// The jobs of the section, if it is there, each by itself.
+///
+/// # Errors
+///
+/// `Scenario`: the refusal of the first entry that is refused. `NoMemory`: there is none for the entries.
 #[tactic(auto, unfolding(crate::specs::Sections::Jobs::entries_from))]
 pub fn entries_in(alloc: Global, array: Option<&Array>) -> Result<List<JobEntry>, ScenarioFail>
     ensures { Answers result (definitions.entries_from [] (unwrap_or (option_map (λ a. array_view a.now) array.entry) no_items)) }

@@ -59,6 +59,10 @@ fn objects_of(
 }
 
 /// The objects of the section, if it is there.
+///
+/// # Errors
+///
+/// `Scenario`: the refusal of the first entry that is refused. `NoMemory`: there is none for the entries.
 #[tactic(auto, unfolding(crate::specs::Sections::Objects::objects_from))]
 pub fn objects_in(
     alloc: Global,

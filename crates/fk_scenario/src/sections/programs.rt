@@ -28,6 +28,10 @@ fn programs_of(alloc: Global, table: &Table) -> Result<Entries<Program>, Scenari
 }
 
 /// The programs of the section, by name, if it is there.
+///
+/// # Errors
+///
+/// `Scenario`: the refusal of the first entry that is refused. `NoMemory`: there is none for the entries.
 #[tactic(auto, unfolding(crate::specs::Sections::Programs::programs_from))]
 pub fn programs_in(alloc: Global, table: Option<&Table>) -> Result<Entries<Program>, ScenarioFail>
     ensures { Answers result (definitions.programs_from [] (unwrap_or (option_map (λ t. table_view t.now) table.entry) no_members)) }
@@ -39,6 +43,10 @@ pub fn programs_in(alloc: Global, table: Option<&Table>) -> Result<Entries<Progr
 }
 
 /// The index of the program that a space names, if it names one.
+///
+/// # Errors
+///
+/// `Rule`: no program has that name. `NoMemory`: there are more programs than an index can count.
 #[tactic(auto, unfolding(crate::specs::Sections::Programs::index_of))]
 pub fn index_of(programs: &Entries<Program>, name: Option<&str>) -> Result<Option<u32>, Fail>
     ensures { Gives (λ x. x) result (definitions.index_of programs.now (option_map (λ s. s.now) name.entry)) }

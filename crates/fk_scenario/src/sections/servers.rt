@@ -34,6 +34,10 @@ fn servers_of(
 }
 
 /// The servers of the section, if it is there, each by itself.
+///
+/// # Errors
+///
+/// `Scenario`: the refusal of the first entry that is refused. `NoMemory`: there is none for the entries.
 #[tactic(auto, unfolding(crate::specs::Sections::Servers::servers_from))]
 pub fn servers_in(
     alloc: Global,

@@ -149,6 +149,10 @@ fn spaces_of(
 }
 
 /// The spaces of the section, if it is there.
+///
+/// # Errors
+///
+/// `Scenario`: the refusal of the first entry that is refused. `NoMemory`: there is none for the entries.
 #[tactic(auto, unfolding(crate::specs::Sections::Spaces::spaces_from))]
 pub fn spaces_in(
     alloc: Global,

@@ -137,6 +137,10 @@ impl Tree {
     /// Puts an object in an empty slot, which leads to what is there. No other space has its birth
     /// number, and it is younger than the space in which it lies. For want of memory all stays as it
     /// was.
+    ///
+    /// # Errors
+    ///
+    /// There is no memory for the object; all is as before then.
     pub fn put(&mut self, who: Who, body: Body) -> Result<(), NoMemory>
         requires empty { map.get self.old who ≡ None }
         requires leads { LeadsAmong self.old body }

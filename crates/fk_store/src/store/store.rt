@@ -56,6 +56,10 @@ impl Model for Store {
 
 impl Store {
     /// The root alone.
+    ///
+    /// # Errors
+    ///
+    /// There is no memory for the root.
     pub fn new(alloc: Global) -> Result<Store, NoMemory>
         ensures { IfOk result (λ store. world store ≡ first_world) }
     {
@@ -175,6 +179,10 @@ impl Store {
     /// Puts a new object into an empty slot of a live space. A space has the next birth number,
     /// which is below 2^32 - 1, what the body names is there, and the pages of a mapping or a region
     /// are among 0 to 255. For want of memory all stays as it was.
+    ///
+    /// # Errors
+    ///
+    /// There is no memory for the object; all is as before then.
     pub fn make(&mut self, who: Who, body: Body) -> Result<(), NoMemory>
         requires space { IsSpace self.old who.space }
         requires empty { (world self.old).body (place_of self.old who) ≡ None }
@@ -256,6 +264,10 @@ impl Store {
 
     /// Gives a live space a page with these words, or writes over the one that is there, which
     /// takes no memory. For want of memory all stays as it was.
+    ///
+    /// # Errors
+    ///
+    /// There is no memory for the page; all is as before then.
     pub fn put_page(&mut self, space: u32, page: u8, words: &[u64; 64]) -> Result<(), NoMemory>
         requires { IsSpace self.old space }
         ensures world { let change = PutPage (path self.old space) page words.now in

@@ -119,6 +119,10 @@ impl Keys {
 
     /// Puts the key of an object in a slot of a space. For want of memory what stands where stays as
     /// it was.
+    ///
+    /// # Errors
+    ///
+    /// There is no memory for the table of a space; what stands where is as before then.
     pub fn put(&mut self, space: u32, slot: u8, key: u32) -> Result<(), AllocError>
         requires { key < 4294967295 }
         ensures ok { OnOk result ((s k : ℕ) → cell self.new.0 s k ≡ (if s == space && k == slot then Some key else cell self.old.0 s k)) }

@@ -159,6 +159,10 @@ pub fn give_back(tables: &mut Slab<Box<Table>>, place: u32)
 }
 
 /// A table with one key comes, and its place.
+///
+/// # Errors
+///
+/// There is no memory for a table; the tables are as before then.
 pub fn add(
     tables: &mut Slab<Box<Table>>,
     alloc: Global,

@@ -136,6 +136,10 @@ impl Objects {
 
     /// Puts an object in an empty slot, and answers its key. For want of memory, and of keys, what
     /// stands where stays as it was.
+    ///
+    /// # Errors
+    ///
+    /// There is no memory for the object, or no key; what stands where is as before then.
     pub fn make(&mut self, who: Who, body: Body) -> Result<u32, NoMemory>
         requires empty { key_of self.old who ≡ None }
         ensures ok { IfOk result (λ key. Makes self.old self.new key (fresh who body)) }

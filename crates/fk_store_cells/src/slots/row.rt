@@ -94,6 +94,10 @@ impl<V: Drop> Row<V> {
     }
 
     /// Puts a value in a slot. For want of memory all stays as it was.
+    ///
+    /// # Errors
+    ///
+    /// There is no memory for the row; it is as before then.
     pub fn put(&mut self, slot: u8, value: V) -> Result<(), AllocError>
         ensures ok { OnOk result ((k : ℕ) → cell_in self.new k ≡ (if k == slot then Some value else cell_in self.old k)) }
         ensures err { OnErr result (self.new ≡ self.old) }

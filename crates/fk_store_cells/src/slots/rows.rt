@@ -51,6 +51,10 @@ pub fn next_taken<V>(rows: &Vec<Row<V>>, space: u32, slot: u16) -> Option<(u32, 
 }
 
 /// Puts a value in a slot of a space. For want of memory what stands where stays as it was.
+///
+/// # Errors
+///
+/// There is no memory for the rows; what stands where is as before then.
 pub fn put_value<V: Drop>(
     rows: &mut Vec<Row<V>>,
     space: u32,

@@ -166,6 +166,10 @@ impl Bodies {
 
     /// Puts an object in an empty slot, which leads to what is there. No other space has its birth
     /// number. For want of memory all stays as it was.
+    ///
+    /// # Errors
+    ///
+    /// There is no memory for the object; all is as before then.
     pub fn put(&mut self, who: Who, body: Body) -> Result<(), NoMemory>
         requires empty { map.get self.old who ≡ None }
         requires leads { LeadsAmong self.old body }

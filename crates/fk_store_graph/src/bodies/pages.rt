@@ -25,6 +25,10 @@ impl Model for Page {
 
 impl Page {
     /// A page of these words.
+    ///
+    /// # Errors
+    ///
+    /// There is no memory for the page.
     pub fn of(alloc: Global, words: &[u64; 64]) -> Result<Page, AllocError>
         ensures { IfOk result (λ page. page ≡ words.now) }
     {
@@ -99,6 +103,10 @@ impl Pages {
     }
 
     /// Makes a page, or writes over the one that is there.
+    ///
+    /// # Errors
+    ///
+    /// There is no memory for the page; all is as before then.
     pub fn put(&mut self, space: u32, page: u8, words: &[u64; 64]) -> Result<(), NoMemory>
         ensures ok { OnOk result (self.new ≡ map.insert self.old (space, page) words.now) }
         ensures err { OnErr result (self.new ≡ self.old) }

@@ -30,6 +30,10 @@ fn key_word(word: u32) -> Option<u32>
 }
 
 /// Makes room for a birth number, if there is one.
+///
+/// # Errors
+///
+/// There is no memory for it.
 pub fn make_room(homes: &mut Vec<u32>, birth: Option<u32>) -> Result<(), AllocError>
     ensures same { (n : ℕ) → home_at homes.new.items n ≡ home_at homes.old.items n }
     ensures long { OnOk result ((n : ℕ) → birth ≡ Some n → n < length homes.new.items) }

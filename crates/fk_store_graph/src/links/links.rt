@@ -65,6 +65,10 @@ impl Links {
     }
 
     /// Makes nodes for a key, each alone. For want of memory there may be more nodes, each alone.
+    ///
+    /// # Errors
+    ///
+    /// There is no memory for the nodes.
     pub fn room(&mut self, key: u32) -> Result<(), AllocError>
         requires { key * 5 + 5 < 4294967296 }
         ensures rings { (owner : ℕ → Option ℕ) → AreRings self.old owner → AreRings self.new owner }

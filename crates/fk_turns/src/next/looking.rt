@@ -15,6 +15,10 @@ use fk_store::Store;
 use fk_waits::turns::Turns;
 
 /// A move of the user in a slot that is ready. Where none is, the locked mutex may be told at which it waits.
+///
+/// # Errors
+///
+/// No move of it is ready. It is queued at the locked mutex, if there is one.
 pub fn move_of(turns: &Turns, store: &Store, who: Who) -> Result<Move, Option<Who>>
     requires valid { IsValid (world store.now) }
     ensures ready { IfOk result (λ m. IsReadyMove store.now m asks.Run) }

@@ -22,6 +22,10 @@ use fk_store::Store;
 use fk_waits::turns::Turns;
 
 /// Makes room for one more thread, where a move may make something. The lists stay.
+///
+/// # Errors
+///
+/// There is no memory for one more, and the move makes an object or a page.
 pub fn reserve_for(turns: &mut Turns, store: &Store, m: &Move, ask: &Ask) -> Result<(), NoMemory>
     requires sound { IsSound turns.old.waits turns.old.marks }
     ensures wider { IsWider turns.old.waits turns.old.marks turns.new.waits turns.new.marks }
@@ -32,6 +36,10 @@ pub fn reserve_for(turns: &mut Turns, store: &Store, m: &Move, ask: &Ask) -> Res
 }
 
 /// The same before a porter's call.
+///
+/// # Errors
+///
+/// There is no memory for one more, and the stage makes an object or a page.
 pub fn reserve_for_stage(turns: &mut Turns, stage: &Stage) -> Result<(), NoMemory>
     requires sound { IsSound turns.old.waits turns.old.marks }
     ensures wider { IsWider turns.old.waits turns.old.marks turns.new.waits turns.new.marks }

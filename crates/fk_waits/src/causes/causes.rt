@@ -39,6 +39,10 @@ fn at_most(place: usize, many: usize) -> usize
 
 impl Causes {
     /// Nobody stands, and there is no room yet.
+    ///
+    /// # Errors
+    ///
+    /// There is no memory for the heads of the lists.
     pub fn new(alloc: Global) -> Result<Causes, NoMemory>
         ensures standing { IfOk result (λ c. AreStanding c c.ready []) }
         ensures seats { IfOk result (λ c. c.seats ≡ 0) }
@@ -66,6 +70,10 @@ impl Causes {
     }
 
     /// Makes room for so many threads in all, which are no fewer than before. For want of memory all stands as it did.
+    ///
+    /// # Errors
+    ///
+    /// There is no memory for so many; all stands as before then.
     pub fn reserve(&mut self, seats: usize) -> Result<(), NoMemory>
         requires more { self.old.seats ≤ seats }
         requires few { seats < 2 ^ 62 }

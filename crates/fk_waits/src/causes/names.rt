@@ -249,6 +249,10 @@ impl Names {
     }
 
     /// Makes room for so many more names. For want of memory there may be no more room than before.
+    ///
+    /// # Errors
+    ///
+    /// There is no memory for so many.
     pub fn reserve(&mut self, more: usize) -> Result<(), NoMemory>
         ensures entries { self.new.0 ≡ self.old.0 }
         ensures room { OnOk result (HasRoom self.new more) }

@@ -17,6 +17,10 @@ pub struct Threads {
 
 impl Threads {
     /// Nobody stands, and there is no room yet.
+    ///
+    /// # Errors
+    ///
+    /// There is no memory for the heads of the lists.
     pub fn new(alloc: Global) -> Result<Threads, NoMemory>
         ensures there { IfOk result (λ t. AreThere t []) }
         ensures seats { IfOk result (λ t. t.causes.seats ≡ 0) }
@@ -41,6 +45,10 @@ impl Threads {
     }
 
     /// Makes room for so many in all, which are no fewer than before. For want of memory all stands as it did.
+    ///
+    /// # Errors
+    ///
+    /// There is no memory for so many; all stands as before then.
     pub fn reserve(&mut self, seats: usize) -> Result<(), NoMemory>
         requires more { self.old.causes.seats ≤ seats }
         requires few { seats < 2 ^ 62 }

@@ -81,6 +81,10 @@ fn is_same_order(first: &Deeds, second: &Deeds) -> bool {
 }
 
 /// How two traces differ that have so many movers.
+///
+/// # Errors
+///
+/// There is no memory for the places of the second trace.
 pub fn first_apart(
     alloc: Global,
     first: &Deeds,
@@ -122,6 +126,10 @@ fn turns_before(
 }
 
 /// The last move before a place in one trace that may do something to others and comes only behind a place in the other.
+///
+/// # Errors
+///
+/// There is no memory for the counts of turns.
 pub fn last_before(
     alloc: Global,
     deeds: &Deeds,

@@ -30,6 +30,10 @@ fn go(core: &mut Run, table: &Table, lottery: &mut Lottery) -> Result<Option<Mov
 }
 
 /// Makes the moves of a schedule, each of which is added to the list.
+///
+/// # Errors
+///
+/// There is no memory for a move or the list.
 pub fn run_by(
     core: &mut Run,
     table: &Table,
