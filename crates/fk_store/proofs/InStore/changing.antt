@@ -23,4 +23,5 @@ pub mod PartLaws
 pub mod InPlace
 pub mod Proceeding
 pub mod Nudging
+pub mod Faulting
 pub mod GoneOn

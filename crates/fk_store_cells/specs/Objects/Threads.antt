@@ -1,8 +1,9 @@
 -- Threads: what becomes of a thread where it stands.
-use Rattle.std.specs.Prelude.{ℕ, ◌+◌, List, min, option_map}
+use Rattle.std.specs.Prelude.{ℕ, ◌+◌, List, Option, min, option_map}
 use Rattle.fk_model.specs.declared.limits.TheConstants.{MOST_MOVED}
 use Rattle.fk_model.specs.declared.body.Body.{Body}
 use Rattle.fk_model.specs.declared.body.Body.TheVariants.{Mutex, Cond, Mapping, Region, Port, Portset, Space, Thread, Reference}
+use Rattle.fk_model.specs.declared.thread.Fault.{Fault}
 use Rattle.fk_model.specs.declared.thread.Mode.{Mode}
 use Rattle.fk_model.specs.declared.thread.Talk.{Talk}
 use Rattle.fk_model.specs.declared.thread.Thread.{Thread as State}
@@ -39,3 +40,6 @@ passing turn t = record t { talk = option_map (passed turn) t.talk }
 
 abbrev pub stopping : ℕ → State → State
 stopping stops t = record t { stops = stops }
+
+abbrev pub faulting : Option Fault → State → State
+faulting fault t = record t { fault = fault }
