@@ -69,3 +69,12 @@ pub fn stop(entries: &mut Slab<Entry>, key: u32, stops: u16)
         alter::stop(&mut entry.body, stops);
     }
 }
+
+/// The mutex under a key is locked or unlocked.
+pub fn lock(entries: &mut Slab<Entry>, key: u32, locked: bool)
+    ensures { Rewrites entries.old entries.new key (on_body (threads.on_mutex locked)) }
+{
+    if let Some(entry) = entries.get_mut(key as usize) {
+        alter::lock(&mut entry.body, locked);
+    }
+}
