@@ -29,11 +29,10 @@ use Rattle.fk_plans.specs.declared.wakes.touching.Touched.{Touched}
 use Rattle.fk_plans.specs.declared.wakes.touching.Touched.TheVariants.{Few}
 use Rattle.fk_turns.specs.declared.whys.whys.Why.{Why}
 use Rattle.fk_turns.specs.declared.whys.whys.Why.TheVariants as whys
-use Rattle.fk_turns.specs.Whys.Whys.{IsAt, IsOwn, IsReadAt, IsStill, IsWhy}
-use Rattle.laws_waits.specs.Complete.{is_barred, HasReason}
+use Rattle.fk_turns.specs.Whys.Whys.{IsAt, IsLoudly, IsStill, IsWhy}
+use Rattle.laws_waits.specs.Complete.{is_barred}
 use Rattle.laws_waits.specs.Stuck.{IsStuck, Reason}
-use Rattle.laws_waits.specs.Stuck.Reason.{Barred, Beneath, Connecting, Locking, Resting, Sleeping}
-use Rattle.fk_turns.proofs.InWhys.Apart.{at_after, still_after}
+use Rattle.fk_turns.proofs.InWhys.Apart.{at_after, loud_named, own_named, read_named, still_after}
 use Rattle.laws_moves.specs.Users.Stood.{is_users_at}
 use Rattle.fk_kernel.specs.declared.replace.BurstPage.{BurstPage}
 use Rattle.fk_kernel.specs.Replaced.{rewritten}
@@ -133,21 +132,6 @@ user_running m who born runs =
     by None is = absurd (cc)
     by (Some t) is = mode_user t.mode is
 
--- ---- reasons
-
-own_named : (r : Reason) → IsOwn r → is_barred r ≡ false
-own_named Resting own = refl
-own_named (Sleeping c m) own = refl
-own_named Barred own = absurd own
-own_named r own = absurd own
-
-read_named : (x key : Path) (r : Reason) → IsReadAt x key r → is_barred r ≡ false
-read_named x key (Beneath space) read = refl
-read_named x key (Locking m) read = refl
-read_named x key (Connecting h port) read = refl
-read_named x key Barred read = absurd read
-read_named x key r read = absurd read
-
 -- ---- the lists
 
 abbrev nobody : Touched
@@ -232,9 +216,9 @@ module _ (m n : Contents) (thread : Who) (stored : IsStored m) (paths : path n �
             read = is.read;
           }))
       by who whys.Loud off some is =
-          subst (λ (x : Path). HasReason (world n) x) (sym (at_same who)) (record {
+          subst (λ (x : Path). IsLoudly (world n) x) (sym (at_same who)) (record {
             reason = is.reason;
-            stuck = reasons (place_of m who) (apart who off) is.reason is.stuck is.named;
-            named = is.named;
+            stuck = reasons (place_of m who) (apart who off) is.reason is.stuck (loud_named is.reason is.loud);
+            loud = is.loud;
           })
       by who whys.Barred off some is = absurd (some refl)

@@ -1,5 +1,4 @@
 pub mod WordLaws
-pub mod MutexLaws
 pub mod ThreadLaws
 pub mod EditLaws
 pub mod Sets

@@ -1,4 +1,4 @@
-//! Changes of a thread where it stands.
+//! Changes of a thread, or of a mutex, where it stands.
 ghost use Rattle.std.specs.Prelude.{◌≡◌, ◌+◌, min, option_map};
 ghost use Rattle.fk_model.specs.declared.limits.TheConstants.{MOST_MOVED};
 ghost use Rattle.fk_store_cells.specs.Objects.Threads as threads;
@@ -49,6 +49,15 @@ pub fn set_fault(body: &mut Body, fault: Option<Fault>)
 {
     if let Body::Thread(thread) = body {
         thread.fault = fault;
+    }
+}
+
+/// A mutex is locked or unlocked.
+pub fn lock(body: &mut Body, to: bool)
+    ensures { body.new ≡ threads.on_mutex to body.old }
+{
+    if let Body::Mutex { locked } = body {
+        *locked = to;
     }
 }
 

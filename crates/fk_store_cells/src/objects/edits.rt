@@ -78,3 +78,12 @@ pub fn set_fault(entries: &mut Slab<Entry>, key: u32, fault: Option<Fault>)
         alter::set_fault(&mut entry.body, fault);
     }
 }
+
+/// The mutex under a key is locked or unlocked.
+pub fn lock(entries: &mut Slab<Entry>, key: u32, locked: bool)
+    ensures { Rewrites entries.old entries.new key (on_body (threads.on_mutex locked)) }
+{
+    if let Some(entry) = entries.get_mut(key as usize) {
+        alter::lock(&mut entry.body, locked);
+    }
+}

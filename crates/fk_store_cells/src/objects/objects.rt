@@ -132,6 +132,13 @@ impl Objects {
         edits::set_fault(&mut self.entries, key, fault);
     }
 
+    /// The mutex under a key is locked or unlocked.
+    pub fn lock(&mut self, key: u32, locked: bool)
+        ensures { Edits self.old self.new key (on_body (threads.on_mutex locked)) }
+    {
+        edits::lock(&mut self.entries, key, locked);
+    }
+
     /// The key that the next object gets; none where none is left.
     pub fn vacant(&self) -> Option<u32>
         ensures key { IfSome result (λ key. key ≡ self.now.vacant) }

@@ -154,7 +154,7 @@ impl Bodies {
         }
     }
 
-    /// A thread changes a little. What is no thread stays as it is.
+    /// A thread or a mutex changes a little. What is neither stays as it is.
     pub fn nudge(&mut self, who: Who, change: Nudge)
         ensures there { (b : Body) → map.get self.old who ≡ Some b → self.new ≡ map.insert self.old who (nudged change b) }
         ensures none { map.get self.old who ≡ None → self.new ≡ self.old }
@@ -395,7 +395,7 @@ fn make_nodes(objects: &Objects, links: &mut Links) -> Result<(), NoMemory>
     Ok(())
 }
 
-/// A thread under a key changes a little.
+/// What is under a key changes a little.
 fn nudge_under(objects: &mut Objects, key: u32, change: Nudge)
     ensures { Edits objects.old objects.new key (on_body (nudged change)) }
 {
@@ -403,6 +403,7 @@ fn nudge_under(objects: &mut Objects, key: u32, change: Nudge)
         Nudge::Counts(words) => objects.count(key, words),
         Nudge::Passes(turn) => objects.pass(key, turn),
         Nudge::Stops(stops) => objects.stop(key, stops),
+        Nudge::Locks(locked) => objects.lock(key, locked),
     }
 }
 

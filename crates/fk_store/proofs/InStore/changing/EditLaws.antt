@@ -1,11 +1,10 @@
 -- Edits of the object at a path.
-use Rattle.std.proofs.Common.{◌≡◌, ℕ, Option, Some, None, option_map, refl, sym, ap, ◌∙◌}
-use Rattle.fk_model.specs.declared.thread.Turn.{Turn}
+use Rattle.std.proofs.Common.{◌≡◌, Option, Some, None, option_map, refl, sym, ap, ◌∙◌}
 use Rattle.fk_model.specs.Places.{Path}
 use Rattle.fk_model.specs.Objects.{Peer, Talk, Fault, Body}
 use Rattle.fk_model.specs.Objects.Body.{Mutex, Cond, Mapping, Region, Port, Portset, Space, Thread_of, Reference}
 use Rattle.fk_model.specs.World.{World, Edit, edited, apply}
-use Rattle.fk_model.specs.World.Edit.{SetStops, SetTalk, PassTurn, SetPeer, SetFault, SetTaker}
+use Rattle.fk_model.specs.World.Edit.{SetTalk, SetPeer, SetFault, SetTaker}
 use Rattle.fk_model.specs.World.Change.{Alter}
 use Rattle.fk_store.proofs.InStore.changing.ThreadLaws.{alter-same, alter-nobody}
 use Rattle.fk_model.specs.Searches.{fault_at, thread_at}
@@ -16,17 +15,9 @@ alter_nothing w x e none = alter-same w x e (ap (option_map (edited e)) none ∙
 
 -- ---- an edit of a thread where no thread is
 
-pub stops_nobody : (w : World) (x : Path) (stops : ℕ) → thread_at w x ≡ None → w ≡ apply (Alter x (SetStops stops)) w
-unfolding edited
-stops_nobody w x stops none = alter-nobody w x (SetStops stops) _ (λ b. refl) none
-
 pub talk_nobody : (w : World) (x : Path) (talk : Option Talk) → thread_at w x ≡ None → w ≡ apply (Alter x (SetTalk talk)) w
 unfolding edited
 talk_nobody w x talk none = alter-nobody w x (SetTalk talk) _ (λ b. refl) none
-
-pub turn_nobody : (w : World) (x : Path) (turn : Turn) → thread_at w x ≡ None → w ≡ apply (Alter x (PassTurn turn)) w
-unfolding edited
-turn_nobody w x turn none = alter-nobody w x (PassTurn turn) _ (λ b. refl) none
 
 pub peer_nobody : (w : World) (x : Path) (peer : Peer) → thread_at w x ≡ None → w ≡ apply (Alter x (SetPeer peer)) w
 unfolding edited
