@@ -4,3 +4,4 @@ pub use Rattle.fk_plans.specs.Answers.Rooms
 pub use Rattle.fk_turns.specs.Steps.Tried
 pub mod Tolds
 pub mod Replaced
+pub mod Stretches
