@@ -16,8 +16,8 @@ const MOST_STAYS: u32 = 512;
 /// So many turns in a row a worker waits at most where others have all who are ready out. One of them may have failed.
 const WAITS: u32 = 256;
 
-/// Which turns are with a lease: none of a worker who is alone. After a short burst 1, 2, 4 .. 16 turns go by without, after a long one none: so a run of messages pays little
-/// for leases.
+/// Which turns are with a lease: none of a worker who is alone. After a short burst 1, 2, 4 .. 16 turns go by without, after a long one
+/// none: so a run of messages pays little for leases.
 #[derive(Clone, Copy)]
 pub(crate) struct Plan {
     /// No turn is with a lease, since there is no other worker: instructions are made where they stand.
