@@ -5,3 +5,4 @@ pub use Rattle.fk_turns.specs.Steps.Tried
 pub use Rattle.fk_turns.specs.Steps.Classes
 pub mod Tolds
 pub mod Replaced
+pub mod Stretches

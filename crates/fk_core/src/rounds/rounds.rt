@@ -8,7 +8,7 @@ use fk_model::{Move, Who};
 use fk_natives::Service;
 
 /// After so many moves the look goes round.
-const ROUND: u64 = 64;
+pub const ROUND: u64 = 64;
 
 /// So many servers, besides who is met, are looked at before the move is taken of a job whose time has come.
 const FEW: usize = 4;
