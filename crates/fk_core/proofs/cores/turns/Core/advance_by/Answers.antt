@@ -28,8 +28,8 @@ advance_one-requires-clause-come g c =
     come_plain self.kernel then.kernel self.services.list then.services.list self.jobs then.jobs self.events then.events self.budget then.budget
     c.in_default.ensures.kernel c.proceed_by.ensures.services c.in_default.ensures.queue c.in_default.ensures.events c.proceed_by.ensures.budget c.requires.come
 
-pub returns-in_default-clause-advanced : goal.returns-in_default-clause-advanced
-returns-in_default-clause-advanced g c =
+pub returns-clause-advanced : goal.returns-clause-advanced
+returns-clause-advanced g c =
     let self = c.args.self.now in
     let then = c.proceed_by.new.self in
     let last = c.advance_one.new.self in
@@ -39,8 +39,8 @@ returns-in_default-clause-advanced g c =
     self.jobs then.jobs self.budget then.budget (run_core self) (run_core then) c.in_default.ensures.queue c.proceed_by.ensures.budget same
     c.advance_one.ensures.advanced
 
-pub returns-in_default-clause-none : goal.returns-in_default-clause-none
-returns-in_default-clause-none g c =
+pub returns-clause-none : goal.returns-clause-none
+returns-clause-none g c =
     let self = c.args.self.now in
     let then = c.proceed_by.new.self in
     let same : run_core then ≡ run_core self = λ i. core_at (c.in_default.ensures.kernel i) (c.proceed_by.ensures.services i) (c.in_default.ensures.queue i)
@@ -49,8 +49,8 @@ returns-in_default-clause-none g c =
     self.jobs then.jobs self.budget then.budget (run_core self) (run_core then) c.in_default.ensures.queue c.proceed_by.ensures.budget same
     c.advance_one.ensures.none
 
-pub returns-in_default-clause-first : goal.returns-in_default-clause-first
-returns-in_default-clause-first g c =
+pub returns-clause-first : goal.returns-clause-first
+returns-clause-first g c =
     let self = c.args.self.now in
     let then = c.proceed_by.new.self in
     let same : run_core then ≡ run_core self = λ i. core_at (c.in_default.ensures.kernel i) (c.proceed_by.ensures.services i) (c.in_default.ensures.queue i)
@@ -59,8 +59,8 @@ returns-in_default-clause-first g c =
     self.jobs then.jobs self.budget then.budget (run_core self) (run_core then) c.in_default.ensures.queue c.proceed_by.ensures.budget same
     c.advance_one.ensures.first
 
-pub returns-in_default-clause-lacking : goal.returns-in_default-clause-lacking
-returns-in_default-clause-lacking g c =
+pub returns-clause-lacking : goal.returns-clause-lacking
+returns-clause-lacking g c =
     let self = c.args.self.now in
     let then = c.proceed_by.new.self in
     let last = c.advance_one.new.self in
@@ -70,8 +70,8 @@ returns-in_default-clause-lacking g c =
     self.jobs then.jobs self.budget then.budget (run_core self) (run_core then) c.in_default.ensures.queue c.proceed_by.ensures.budget same
     c.advance_one.ensures.lacking
 
-pub returns-in_default-clause-lacks : goal.returns-in_default-clause-lacks
-returns-in_default-clause-lacks g c =
+pub returns-clause-lacks : goal.returns-clause-lacks
+returns-clause-lacks g c =
     let self = c.args.self.now in
     let then = c.proceed_by.new.self in
     let same : run_core then ≡ run_core self = λ i. core_at (c.in_default.ensures.kernel i) (c.proceed_by.ensures.services i) (c.in_default.ensures.queue i)
