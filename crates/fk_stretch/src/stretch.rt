@@ -218,15 +218,15 @@ pub fn run(store: &mut Store, who: Who, most: u64) -> u64
     ensures kinds { kind_there (world store.new) ≡ kind_there (world store.old) }
     ensures paths { path store.new ≡ path store.old }
 {
-    if !store.is_free(who) {
-        return 0;
-    }
     let Some(thread) = store.thread(who) else {
         return 0;
     };
     let Some(mut running) = running_of(thread) else {
         return 0;
     };
+    if !store.is_free(who) {
+        return 0;
+    }
     let made = run_beside(store, who.space, &mut running, most);
     if made == 0 {
         return 0;
