@@ -1,10 +1,10 @@
 -- Stretched: the lists once a user's thread has made instructions on the pages of its space.
-use Rattle.std.proofs.Common.{◌≡◌, ℕ, true, ◌∷◌, refl, sym, ap, subst, ◌∙◌}
+use Rattle.std.proofs.Common.{◌≡◌, ℕ, true, ◌∷◌, refl, sym, subst}
 use Rattle.fk_model.specs.declared.names.Who.{Who}
 use Rattle.fk_model.specs.Places.{Path}
 use Rattle.fk_model.specs.Valid.{IsPaged, IsValid}
 use Rattle.fk_model.specs.Who.{named, space_born}
-use Rattle.fk_model.specs.World.{World, apply}
+use Rattle.fk_model.specs.World.{World}
 use Rattle.fk_model.specs.World.Change.{PutPage}
 use Rattle.fk_plans.specs.Plans.Effects.{is_running}
 use Rattle.fk_model.specs.Searches.{thread_at}

@@ -1,5 +1,5 @@
 -- Written: pages of a space that get other words, and the thread that wrote them.
-use Rattle.std.proofs.Common.{◌≡◌, ℕ, zero, suc, ◌<◌, ◌∷◌, replicate, ◌&&◌, ◌==◌, Bool, true, false, cond, List, Option, Some, None, IsSome, is_some, option_map, refl, sym, ap, subst, ◌∙◌, arith}
+use Rattle.std.proofs.Common.{◌≡◌, ℕ, zero, suc, ◌<◌, ◌∷◌, replicate, ◌&&◌, ◌==◌, Bool, true, false, cond, Option, Some, None, is_some, refl, sym, ap, ◌∙◌, arith}
 use Rattle.fk_model.specs.declared.moves.Ask.TheVariants as asks
 use Rattle.fk_model.specs.Moves.{IsReady}
 use Rattle.fk_model.specs.Holds.{is_free}

@@ -1,5 +1,5 @@
 -- Several: moves of one mover, made at once.
-use Rattle.std.proofs.Common.{◌≡◌, ℕ, ◌+◌, ◌%◌, ◌<◌, ◌≤◌, true, false, List, [], Option, Some, None, ap, ◌∙◌, sym, arith}
+use Rattle.std.proofs.Common.{◌≡◌, ℕ, ◌<◌, true, false, List, [], Option, Some, None, ap, ◌∙◌, sym, arith}
 use Rattle.fk_model.specs.declared.moves.Move.{Move}
 use Rattle.laws_house.specs.Houses.{Job}
 use Rattle.laws_runs.specs.Cores.IsRun.{Begins, Goes}

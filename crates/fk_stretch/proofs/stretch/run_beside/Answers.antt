@@ -1,4 +1,4 @@
-use Rattle.std.proofs.Common.{◌≡◌, ◌<◌, ◌+◌, ℕ, Some, refl, subst, ◌∙◌, arith}
+use Rattle.std.proofs.Common.{◌≡◌, ◌+◌, ℕ, Some, refl, subst, ◌∙◌, arith}
 use Rattle.fk_model.specs.Places.{Path}
 use Rattle.fk_store.specs.Store.Paths.{path}
 use Rattle.fk_store.specs.Store.World.{world}

@@ -1,4 +1,4 @@
-use Rattle.std.proofs.Common.{◌≡◌, ◌<◌, ◌/◌, Some, sym, ap, subst, ◌∙◌, arith}
+use Rattle.std.proofs.Common.{◌≡◌, ◌/◌, Some, sym, ap, subst, ◌∙◌, arith}
 use Rattle.fk_store.specs.Store.Paths.{path}
 use Rattle.fk_store.specs.Store.World.{world}
 use Rattle.laws_bursts.specs.Bursts.{Burst, made}

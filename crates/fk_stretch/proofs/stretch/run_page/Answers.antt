@@ -3,7 +3,7 @@ use Rattle.std.proofs.lemmas.Bool.{OnTrue_at, OnFalse_at}
 use Rattle.fk_store.specs.Store.Contents.{Contents}
 use Rattle.fk_store.specs.Store.Paths.{path}
 use Rattle.fk_store.specs.Store.World.{world}
-use Rattle.laws_bursts.specs.Bursts.{Burst, made}
+use Rattle.laws_bursts.specs.Bursts.{made}
 use Rattle.fk_stretch.specs.declared.running.Running.{Running}
 use Rattle.fk_stretch.specs.Stretches.{burst_in, Rewrites}
 use Rattle.fk_stretch.specs.Stretches.Rewrites.{Stays}

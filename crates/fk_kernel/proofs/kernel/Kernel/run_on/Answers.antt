@@ -1,12 +1,10 @@
 use Rattle.std.proofs.Common.{◌≡◌, ◌<◌, ℕ, true, None, sym, ap, subst, ◌∙◌, arith}
 use Rattle.fk_model.specs.declared.moves.Ask.TheVariants as asks
 use Rattle.fk_model.specs.Moves.{IsReady}
-use Rattle.fk_model.specs.Objects.Mode.{Running}
 use Rattle.fk_model.specs.Places.{Path}
 use Rattle.fk_model.specs.Searches.{thread_at}
 use Rattle.fk_model.specs.Valid.{IsValid}
 use Rattle.fk_model.specs.Who.{named}
-use Rattle.fk_model.specs.World.{World}
 use Rattle.fk_plans.specs.Plans.Effects.{is_running}
 use Rattle.fk_store.specs.Store.Contents.{Contents}
 use Rattle.fk_store.specs.Store.Paths.{path, place}

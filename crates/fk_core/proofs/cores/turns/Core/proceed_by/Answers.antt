@@ -1,5 +1,4 @@
-use Rattle.std.proofs.Common.{◌≡◌, ◌<◌, ◌∙◌, IsSome, None, refl, sym, subst, arith}
-use Rattle.fk_core.specs.Cores.Cores.{run_core}
+use Rattle.std.proofs.Common.{◌<◌, IsSome, refl, sym, subst, arith}
 use Rattle.fk_core.proofs.cores.turns.Core.proceed_by.Goals as goal
 
 pub run_on-made-requires-clause-few : goal.run_on-made-requires-clause-few
