@@ -11,3 +11,5 @@ pub mod Untold
 pub mod Chosen
 pub mod Running
 pub mod Touches
+pub mod Locking
+pub mod Went

@@ -6,3 +6,4 @@ pub mod Choices
 pub mod Sayings
 pub mod Tried
 pub mod Quiet
+pub mod Goings

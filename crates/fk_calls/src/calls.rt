@@ -6,7 +6,8 @@
 //! a move touches. Here is the one match from a stage to its judge. It promises that `ready` answers exactly whether the
 //! abstract machine is ready to make a move, that `take` makes of the store's world what the machine
 //! makes of it, that `attempt` does both, judging once, and tells which native server lost its client,
-//! that `run` makes an instruction and tells whether the thread runs on, `stage` a stage that tells nothing,
+//! that `run` makes an instruction and tells whether the thread runs on, `go` a stage that has an arm of its own, and what the thread is at then,
+//! `stage` any other that tells nothing,
 //! that `say` does the same of words for a native server, which it lays into the caller's room, and `call` of a porter's answer,
 //! that each of them tells which objects the move touched, that `foretell` tells what a move would tell native servers,
 //! that `is_fit` tells which moves may be made at all, that `may_move` tells cheaply of whom no move is ready, and that
@@ -17,6 +18,7 @@ mod codes;
 mod doing;
 mod fitting;
 mod foretelling;
+mod going;
 mod judging;
 mod moves;
 mod picking;
@@ -28,6 +30,7 @@ mod straight;
 pub use answering::call;
 pub use fitting::is_fit;
 pub use foretelling::foretell;
+pub use going::{Then, Went, What, go, may_lock};
 pub use judging::may_move;
 pub use moves::{Ran, Told, attempt, ready, run, take};
 pub use picking::{Picks, may_pick};

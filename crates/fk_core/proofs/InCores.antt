@@ -12,3 +12,4 @@ pub mod Rooms
 pub mod Timely
 pub mod Bursting
 pub mod Lacking
+pub mod Several

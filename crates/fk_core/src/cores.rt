@@ -6,7 +6,8 @@
 //!
 //! It promises that `turn` is the turn of a run: the machine's step, that each server hears what the move tells
 //! at its port, or that its talk has ended, that the job whose move it is hears the answer, and that jobs end that are due and can't begin
-//! (`specs/Cores/Cores.antt`); that `burst` is as many turns as moves of a running thread were made at once; that each plain subtree stays so, and its cut
+//! (`specs/Cores/Cores.antt`); that `burst` is as many turns as moves of a running thread were made at once,
+//! and `advance_by` as many as it says, none past the end of a round; that each plain subtree stays so, and its cut
 //! does the move as which it sees this one, or nothing (`specs/Cores/Cuts.antt`); that a job's move leaves all but its nester's scratch and, of a checkpoint,
 //! who holds the subtree, of a restore the new space (`specs/Cores/Leaves.antt`); that for want of memory all is as
 //! before, and that memory lacks only where a ready move may want it (`specs/Cores/Memory.antt`); that `choose` finds a ready move, of a thread, a
@@ -19,6 +20,7 @@ mod lacking;
 mod looks;
 mod room;
 mod settling;
+mod several;
 mod turns;
 
 pub use fk_served::Kernel;

@@ -6,4 +6,4 @@
 
 mod rounds;
 
-pub use rounds::Rounds;
+pub use rounds::{ROUND, Rounds};

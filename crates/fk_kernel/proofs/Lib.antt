@@ -5,3 +5,4 @@ mod Replacing
 pub mod Promises
 mod Rewrote
 mod Quietly
+mod Stretched

@@ -27,7 +27,6 @@ use Rattle.laws_waits.proofs.Stays.{stuck_stays_lem}
 use Rattle.fk_kernel.specs.declared.replace.BurstPage.{BurstPage}
 use Rattle.fk_kernel.specs.Replaced.{rewritten, IsPageThere}
 use Rattle.fk_kernel.proofs.Replacing.{still-there}
-use Rattle.fk_kernel.proofs.Rewrote.{rewritten_bodies}
 
 -- a thread runs
 pub record Runs (w : World) (me : Path) : Type 0 where
@@ -84,10 +83,10 @@ apart_by w me x runs other (Holding s y space) stuck named = other
 apart_by w me x runs other (Waiting set) stuck named = other
 apart_by w me x runs other (WaitingOut set) stuck named = other
 
-calm_stays : (w : World) (me x : Path) (c : Change) (r : Reason) → IsCalm w me c → IsStuck w x r → IsApart me x r → IsStuck (apply c w) x r
+pub calm_stays : (w : World) (me x : Path) (c : Change) (r : Reason) → IsCalm w me c → IsStuck w x r → IsApart me x r → IsStuck (apply c w) x r
 calm_stays w me x c r calm stuck apart = stuck_stays_lem w c x r stuck (calm_touches_nobody_lem w me (c ∷ []) x r (calm, tt) stuck apart).0
 
-pages_stay : (p : ℕ → Path) (ps : List BurstPage) (w : World) (me x : Path) (r : Reason) → All (IsPageThere p w) ps → IsStuck w x r → IsApart me x r →
+pub pages_stay : (p : ℕ → Path) (ps : List BurstPage) (w : World) (me x : Path) (r : Reason) → All (IsPageThere p w) ps → IsStuck w x r → IsApart me x r →
     IsStuck (rewritten p ps w) x r
 unfolding rewritten
 pages_stay p [] w me x r all stuck apart = stuck
@@ -96,15 +95,15 @@ pages_stay p (page ∷ ps) w me x r all stuck apart =
     pages_stay p ps (apply put w) me x r (still-there p ps page w (apply put w) refl (All-tail (IsPageThere p w) page ps all))
     (calm_stays w me x put r (All-head (IsPageThere p w) page ps all).1 stuck apart) apart
 
-pub replaced_stays : (w v : World) (p : ℕ → Path) (ps : List BurstPage) (me : Path) (registers : List ℕ) (counter : ℕ) →
-    v ≡ apply (Alter me (Proceed (Running registers) counter)) (rewritten p ps w) → Runs w me → All (IsPageThere p w) ps →
+-- a thread that goes on, once pages have changed, leaves the reasons of all others
+pub replaced_stays : (w u v : World) (me : Path) (registers : List ℕ) (counter : ℕ) →
+    v ≡ apply (Alter me (Proceed (Running registers) counter)) u → u.body ≡ w.body → Runs w me →
+    ((x : Path) (r : Reason) → IsStuck w x r → IsApart me x r → IsStuck u x r) →
     (x : Path) → same_path x me ≡ false → (r : Reason) → IsStuck w x r → is_barred r ≡ false → IsStuck v x r
-replaced_stays w v p ps me registers counter is runs all x other r stuck named =
-    let u = rewritten p ps w in
+replaced_stays w u v me registers counter is bodies runs stay x other r stuck named =
     let goes = Alter me (Proceed (Running registers) counter) in
     let apart = apart_by w me x runs other r stuck named in
-    let there : thread_at u me ≡ Some runs.thread = ap (λ (bodies : Path → Option Body). and_then thread_of (bodies me)) (rewritten_bodies p ps w)
-    ∙ runs.there in
+    let there : thread_at u me ≡ Some runs.thread = ap (λ (bodies : Path → Option Body). and_then thread_of (bodies me)) bodies ∙ runs.there in
     let calm : IsCalm u me goes = record {
       edit = Proceed (Running registers) counter;
       thread = runs.thread;
@@ -113,4 +112,4 @@ replaced_stays w v p ps me registers counter is runs all x other r stuck named =
       quiet = rw runs.mode refl;
       plain = (refl, refl, refl);
     } in
-    subst (λ (u : World). IsStuck u x r) (sym is) (calm_stays u me x goes r calm (pages_stay p ps w me x r all stuck apart) apart)
+    subst (λ (u : World). IsStuck u x r) (sym is) (calm_stays u me x goes r calm (stay x r stuck apart) apart)

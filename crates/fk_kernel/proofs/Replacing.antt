@@ -112,7 +112,7 @@ valid-proceeded w x mode counter valid = record {
   paged = paged-apply (Alter x (Proceed mode counter)) w valid.paged tt;
 }
 
-valid-put : (w : World) (s : Path) (number : ℕ) (words : List ℕ) → IsSome (w.page s number) → IsValid w → IsValid (apply (PutPage s number words) w)
+pub valid-put : (w : World) (s : Path) (number : ℕ) (words : List ℕ) → IsSome (w.page s number) → IsValid w → IsValid (apply (PutPage s number words) w)
 valid-put w s number words there valid = record {
   consistent = valid-apply (PutPage s number words) w valid.consistent (valid.paged s number there);
   rooted = rooted-apply (PutPage s number words) w valid.rooted (valid.paged s number there);

@@ -29,11 +29,10 @@ use Rattle.fk_plans.specs.declared.wakes.touching.Touched.{Touched}
 use Rattle.fk_plans.specs.declared.wakes.touching.Touched.TheVariants.{Few}
 use Rattle.fk_turns.specs.declared.whys.whys.Why.{Why}
 use Rattle.fk_turns.specs.declared.whys.whys.Why.TheVariants as whys
-use Rattle.fk_turns.specs.Whys.Whys.{IsAt, IsOwn, IsReadAt, IsStill, IsWhy}
-use Rattle.laws_waits.specs.Complete.{is_barred, HasReason}
+use Rattle.fk_turns.specs.Whys.Whys.{IsAt, IsLoudly, IsStill, IsWhy}
+use Rattle.laws_waits.specs.Complete.{is_barred}
 use Rattle.laws_waits.specs.Stuck.{IsStuck, Reason}
-use Rattle.laws_waits.specs.Stuck.Reason.{Barred, Beneath, Connecting, Locking, Resting, Sleeping}
-use Rattle.fk_turns.proofs.InWhys.Apart.{at_after, still_after}
+use Rattle.fk_turns.proofs.InWhys.Apart.{at_after, loud_named, own_named, read_named, still_after}
 use Rattle.laws_moves.specs.Users.Stood.{is_users_at}
 use Rattle.fk_kernel.specs.declared.replace.BurstPage.{BurstPage}
 use Rattle.fk_kernel.specs.Replaced.{rewritten}
@@ -59,6 +58,15 @@ rewritten_at p [] w x key why = why
 rewritten_at p (page ∷ ps) w x key why =
     let put = PutPage (p page.space) page.page page.words in rewritten_at p ps (apply put w) x key (at_after w put x key why tt refl refl)
 
+-- pages alone have changed: all bodies stay, and so do the reasons of all threads
+pub record LeavesThreads (w u : World) : Type 0 where
+  pub bodies : u.body ≡ w.body
+  pub still : (x : Path) → IsStill w x → IsStill u x
+  pub at : (x key : Path) → IsAt w x key → IsAt u x key
+
+pub rewritten_leaves : (p : ℕ → Path) (ps : List BurstPage) (w : World) → LeavesThreads w (rewritten p ps w)
+rewritten_leaves p ps w = record { bodies = rewritten_bodies p ps w; still = rewritten_still p ps w; at = rewritten_at p ps w }
+
 -- what is left of reasons where what stands at one place has changed
 pub record LeavesWhys (w v : World) (place : Path) : Type 0 where
   own : (x : Path) → same_path x place ≡ false → IsStill w x → IsStill v x
@@ -78,24 +86,24 @@ runs_user registers counter (Some b) some = by b some
     by (Rattle.fk_model.specs.Objects.Body.Thread_of t) some = refl
     by other some = absurd (cc)
 
-module _ (w v : World) (p : ℕ → Path) (ps : List BurstPage) (place : Path) (registers : List ℕ) (counter : ℕ)
-    (is : v ≡ apply (Alter place (Proceed (Running registers) counter)) (rewritten p ps w)) where
+-- a thread that goes on, once pages have changed
+module _ (w u v : World) (leaves : LeavesThreads w u) (place : Path) (registers : List ℕ) (counter : ℕ)
+    (is : v ≡ apply (Alter place (Proceed (Running registers) counter)) u) where
   -- all other bodies stay
   pub others_stay : (x : Path) → same_path x place ≡ false → v.body x ≡ w.body x
   unfolding apply
   others_stay x off =
       ap (λ (u : World). u.body x) is
-      ∙ ap (λ (b : Bool). if b then option_map (edited (Proceed (Running registers) counter)) ((rewritten p ps w).body x) else (rewritten p ps w).body x) off
-      ∙ ap (λ (bodies : Path → Option Body). bodies x) (rewritten_bodies p ps w)
+      ∙ ap (λ (b : Bool). if b then option_map (edited (Proceed (Running registers) counter)) (u.body x) else u.body x) off
+      ∙ ap (λ (bodies : Path → Option Body). bodies x) leaves.bodies
 
   -- and so do the reasons of the others
   pub leaves_whys : LeavesWhys w v place
   leaves_whys =
       let goes = Alter place (Proceed (Running registers) counter) in
       record {
-        own = λ x off why. subst (λ (u : World). IsStill u x) (sym is) (still_after (rewritten p ps w) goes x (rewritten_still p ps w x why) tt off);
-        other = λ x key off apart why. subst (λ (u : World). IsAt u x key) (sym is)
-            (at_after (rewritten p ps w) goes x key (rewritten_at p ps w x key why) tt off apart);
+        own = λ x off why. subst (λ (u : World). IsStill u x) (sym is) (still_after u goes x (leaves.still x why) tt off);
+        other = λ x key off apart why. subst (λ (u : World). IsAt u x key) (sym is) (at_after u goes x key (leaves.at x key why) tt off apart);
       }
 
   -- the thread is a user's still
@@ -103,10 +111,9 @@ module _ (w v : World) (p : ℕ → Path) (ps : List BurstPage) (place : Path) (
   unfolding apply
   user_stays user =
       ap (λ (u : World). user_in (u.body place)) is
-      ∙ ap (λ (b : Bool). user_in (if b then option_map (edited (Proceed (Running registers) counter)) ((rewritten p ps w).body place) else
-      (rewritten p ps w).body place))
+      ∙ ap (λ (b : Bool). user_in (if b then option_map (edited (Proceed (Running registers) counter)) (u.body place) else u.body place))
       (same_path_refl place)
-      ∙ ap (λ (bodies : Path → Option Body). user_in (option_map (edited (Proceed (Running registers) counter)) (bodies place))) (rewritten_bodies p ps w)
+      ∙ ap (λ (bodies : Path → Option Body). user_in (option_map (edited (Proceed (Running registers) counter)) (bodies place))) leaves.bodies
       ∙ runs_user registers counter (w.body place) (some (w.body place) user)
     where
       some : (o : Option Body) → user_in o ≡ true → IsSome (and_then thread_of o)
@@ -132,21 +139,6 @@ user_running m who born runs =
     by : (o : Option Thread) → is_running o ≡ true → holds (λ (t : Thread). not (is_porter t.mode)) o ≡ true
     by None is = absurd (cc)
     by (Some t) is = mode_user t.mode is
-
--- ---- reasons
-
-own_named : (r : Reason) → IsOwn r → is_barred r ≡ false
-own_named Resting own = refl
-own_named (Sleeping c m) own = refl
-own_named Barred own = absurd own
-own_named r own = absurd own
-
-read_named : (x key : Path) (r : Reason) → IsReadAt x key r → is_barred r ≡ false
-read_named x key (Beneath space) read = refl
-read_named x key (Locking m) read = refl
-read_named x key (Connecting h port) read = refl
-read_named x key Barred read = absurd read
-read_named x key r read = absurd read
 
 -- ---- the lists
 
@@ -232,9 +224,9 @@ module _ (m n : Contents) (thread : Who) (stored : IsStored m) (paths : path n �
             read = is.read;
           }))
       by who whys.Loud off some is =
-          subst (λ (x : Path). HasReason (world n) x) (sym (at_same who)) (record {
+          subst (λ (x : Path). IsLoudly (world n) x) (sym (at_same who)) (record {
             reason = is.reason;
-            stuck = reasons (place_of m who) (apart who off) is.reason is.stuck is.named;
-            named = is.named;
+            stuck = reasons (place_of m who) (apart who off) is.reason is.stuck (loud_named is.reason is.loud);
+            loud = is.loud;
           })
       by who whys.Barred off some is = absurd (some refl)

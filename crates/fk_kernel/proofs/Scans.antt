@@ -15,7 +15,8 @@ use Rattle.fk_store.specs.Store.Paths.{path}
 use Rattle.fk_store.specs.Store.World.{world, place_of, IsLive}
 use Rattle.fk_turns.proofs.InSteps.Ahead.{IsAhead, rootless, thread_there}
 use Rattle.std.specs.Ordering.{is_le, is_lt, ordering_reverse}
-use Rattle.fk_store_graph.proofs.InLeads.NameLaws.{who_total}
+use Rattle.std.specs.Cmp.{IsTotalOrder, nat_cmp_total}
+use Rattle.std.proofs.lemmas.Cmp.{on_total, then_total}
 use Rattle.std.specs.declared.cmp.Ordering.{Ordering}
 use Rattle.std.specs.declared.cmp.Ordering.TheVariants.{Less, Equal, Greater}
 use Rattle.fk_store.specs.Store.Names.{who_cmp}
@@ -27,6 +28,9 @@ abbrev pub IsUp : Contents → Who → Type 0
 IsUp m other = IsMoveReady (world m) (place_of m other)
 
 -- ---- the order of names
+
+who_total : IsTotalOrder who_cmp
+who_total = then_total (on_total (λ (w : Who). w.space) nat_cmp_total) (on_total (λ (w : Who). w.slot) nat_cmp_total)
 
 -- after one that comes after, all come after
 lt_le : (a b c : Who) → is_lt (who_cmp a b) ≡ true → IsTrue (is_le (who_cmp b c)) → IsTrue (is_lt (who_cmp a c))

@@ -19,6 +19,7 @@ ghost use Rattle.laws_moves.specs.Prompt.Correct.{HasShapes};
 ghost use Rattle.laws_moves.specs.Prompt.Events.{IsPrompt, IsCorrect};
 ghost use Rattle.laws_moves.specs.Whole.Runnable.{IsRunnable};
 ghost use Rattle.fk_model.specs.Endings.{has_ended};
+ghost use Rattle.fk_turns.specs.Steps.Classes.{is_made};
 ghost use Rattle.fk_turns.specs.Steps.Steps.{was_made, IsPut};
 ghost use Rattle.fk_turns.specs.Steps.Waiting.{standing, ArePassed, AreWaiting};
 ghost use Rattle.fk_waits.specs.Waits.Lists.{first_ready};
@@ -30,7 +31,7 @@ ghost use Rattle.fk_kernel.specs.Events.{IsReadyBesides, IsReadyEvent, may_lack,
 use fk_model::{Ask, Move, NoMemory, Said, Stage, Who};
 use fk_store::Store;
 use fk_turns::next::ready_move;
-use fk_turns::steps::{Sent, Told};
+use fk_turns::steps::{Gone, Sent, Told};
 use fk_waits::Waits;
 use fk_waits::turns::Turns;
 use std::alloc::Global;
@@ -231,35 +232,38 @@ impl Kernel {
     }
 
     /// Makes the next instruction of the user in a slot, or the next stage of its call where that tells nothing, where it is
-    /// ready, and answers whether it did; else all stays as it is. No native server loses its client by it.
-    pub fn proceed(&mut self, who: Who) -> bool
-        ensures made { OnTrue result (
+    /// ready; else all stays as it is, and it may be told that no move of the user is ready. No native server loses its client by it.
+    pub fn proceed(&mut self, who: Who) -> Gone
+        ensures made { OnTrue (is_made result) (
             IsReadyEvent (world_of self.old) (event_of (world_of self.old) Ask.Run (record { who = who; pick = None }))
             × (step_of (world_of self.old) (event_of (world_of self.old) Ask.Run (record { who = who; pick = None }))
             ≡ record { world = world_of self.new; said = Nothing })) }
-        ensures ended { OnTrue result ((port : Who) → has_ended (world_of self.old) (world_of self.new) (named (world_of self.old) port) ≡ false) }
-        ensures placed { OnTrue result (IsPut (store_of self.old) (record { who = who; pick = None }) Ask.Run (store_of self.new) (standing_of self.new)) }
-        ensures same { OnFalse result (self.new ≡ self.old) }
+        ensures ended { OnTrue (is_made result) ((port : Who) → has_ended (world_of self.old) (world_of self.new) (named (world_of self.old) port) ≡ false) }
+        ensures waits { result ≡ Gone.Waits → IsMoveReady (world_of self.old) (place (path_of self.old) who) → ⊥ }
+        ensures placed { OnTrue (is_made result)
+            (IsPut (store_of self.old) (record { who = who; pick = None }) Ask.Run (store_of self.new) (standing_of self.new)) }
+        ensures same { OnFalse (is_made result) (self.new ≡ self.old) }
     {
         self.store.names();
-        let made = fk_turns::steps::proceed(&mut self.store, &mut self.turns, who);
+        let gone = fk_turns::steps::proceed(&mut self.store, &mut self.turns, who);
         self.store.names();
-        made
+        gone
     }
 
     /// The same of the user that has moved last: an instruction leaves it where it stands among the ready.
-    pub fn proceed_on(&mut self, who: Who) -> bool
-        ensures made { OnTrue result (
+    pub fn proceed_on(&mut self, who: Who) -> Gone
+        ensures made { OnTrue (is_made result) (
             IsReadyEvent (world_of self.old) (event_of (world_of self.old) Ask.Run (record { who = who; pick = None }))
             × (step_of (world_of self.old) (event_of (world_of self.old) Ask.Run (record { who = who; pick = None }))
             ≡ record { world = world_of self.new; said = Nothing })) }
-        ensures ended { OnTrue result ((port : Who) → has_ended (world_of self.old) (world_of self.new) (named (world_of self.old) port) ≡ false) }
-        ensures same { OnFalse result (self.new ≡ self.old) }
+        ensures ended { OnTrue (is_made result) ((port : Who) → has_ended (world_of self.old) (world_of self.new) (named (world_of self.old) port) ≡ false) }
+        ensures waits { result ≡ Gone.Waits → IsMoveReady (world_of self.old) (place (path_of self.old) who) → ⊥ }
+        ensures same { OnFalse (is_made result) (self.new ≡ self.old) }
     {
         self.store.names();
-        let made = fk_turns::steps::proceed_on(&mut self.store, &mut self.turns, who);
+        let gone = fk_turns::steps::proceed_on(&mut self.store, &mut self.turns, who);
         self.store.names();
-        made
+        gone
     }
 
     /// Makes the next stage of the user in a slot, where that sends words to a native server and is ready: lays the words into the room, with

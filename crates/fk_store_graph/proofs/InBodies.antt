@@ -11,6 +11,7 @@ pub mod QuietLaws
 pub mod NudgeLaws
 pub mod SettleLaws
 pub mod SetLaws
+pub mod FaultedLaws
 pub mod MakeLaws
 pub mod KillLaws
 pub mod RenameLaws

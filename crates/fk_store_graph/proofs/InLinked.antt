@@ -14,6 +14,7 @@ pub mod CountLaws
 pub mod AlikeLaws
 pub mod LinkedLaws
 pub mod TellLaws
+pub mod FaultLaws
 pub mod MarkLaws
 pub mod HomeLaws
 pub mod MemberBodies

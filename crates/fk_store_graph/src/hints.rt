@@ -6,4 +6,4 @@
 
 mod lead;
 
-pub use lead::{Lead, Sort, fields, led};
+pub use lead::{Lead, Sort, fields, led, led_by_fault};

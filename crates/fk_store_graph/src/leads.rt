@@ -19,4 +19,4 @@ pub use nudges::Nudge;
 pub use parts::Part;
 pub use pointers::hits;
 pub use sweeps::Sweep;
-pub use targets::{ends, is_same, larger, target_of};
+pub use targets::{ends, is_same, larger, target_of, target_of_fault};

@@ -6,6 +6,7 @@
 //! destroyed, and of what leads to one that gets another name, that rings, hints, marks and the
 //! count of held spaces are as the bodies say, and that none of them takes memory.
 
+mod faults;
 mod hinting;
 mod homes;
 mod linking;
@@ -14,7 +15,8 @@ mod members;
 mod replacing;
 mod sweeping;
 
-pub use hinting::{tell, told_of};
+pub use faults::set_fault;
+pub use hinting::{tell, tell_fault, told_of};
 pub use homes::{home_of, leave, make_room, settle};
 pub use linking::{link_all, unlink_all};
 pub use marks::{mark_again, mark_all};

@@ -5,3 +5,4 @@ pub mod Filled
 pub mod Places
 pub mod Told
 pub mod Quiet
+pub mod Mildly

@@ -9,3 +9,4 @@ pub mod Went
 pub mod Beside
 pub mod Known
 pub mod Unknown
+pub mod Locked

@@ -2,4 +2,5 @@ pub mod Reasons
 pub mod Waited
 pub mod Apart
 pub mod Calmly
+pub mod Mildly
 pub mod Locked

@@ -5,4 +5,5 @@ pub use Rattle.fk_turns.specs.Picks.Rows
 pub use Rattle.fk_turns.specs.Picks.Runs
 pub use Rattle.fk_turns.specs.Picks.Judgements
 pub use Rattle.fk_turns.specs.Picks.Doings
+pub use Rattle.fk_turns.specs.Picks.Goings
 pub mod Waiting

@@ -4,5 +4,6 @@ pub use Rattle.fk_calls.specs.Calls.Rows
 pub use Rattle.fk_calls.specs.Calls.Runs
 pub use Rattle.fk_calls.specs.Calls.Doings
 pub use Rattle.fk_calls.specs.Calls.Judgements
+pub use Rattle.fk_calls.specs.Calls.Goings
 pub mod Stands
 pub mod Tellings

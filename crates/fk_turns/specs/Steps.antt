@@ -8,3 +8,4 @@ pub use Rattle.fk_turns.specs.Next.Tellings
 pub use Rattle.fk_turns.specs.Next.Tried
 pub use Rattle.fk_turns.specs.Next.Waiting
 pub mod Steps
+pub mod Classes

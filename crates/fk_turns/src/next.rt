@@ -11,4 +11,4 @@ mod placing;
 mod taking;
 
 pub use going::{next, waiting};
-pub use placing::{after, ready_move};
+pub use placing::{after, put, ready_move};

@@ -88,7 +88,7 @@ running_user w k s pick free running = by (thread_at w (k ∷ s)) free running
     by (Some t) free running = ap (λ b. when b (goes_on w (k ∷ s) pick t t.mode)) free ∙ in_mode t t.mode running
 
 -- one in a call makes its first stage
-staged_user : (w : World) (k : ℕ) (s : Path) (pick : Option Path) (stage : Stage) →
+pub staged_user : (w : World) (k : ℕ) (s : Path) (pick : Option Path) (stage : Stage) →
     is_free_at w (k ∷ s) ≡ true → IsAtStage w (k ∷ s) stage → outcome w (k ∷ s) pick asks.Run ≡ call_row w (user_at (k ∷ s)) pick stage
 unfolding outcome is_free_at todo_at
 staged_user w k s pick stage free at = by (thread_at w (k ∷ s)) free at.todo

@@ -10,10 +10,11 @@ use fk_jobs::Worker;
 use fk_model::{Move, NoMemory};
 use fk_natives::Service;
 use fk_responders::Table;
+use fk_served::Gone;
 
 impl<S: Service + Drop, W: Worker + Drop> Core<S, W> {
     /// Makes the next move of the thread that moved last, where that is an instruction or a stage that tells nobody of anything, is
-    /// ready, and no job is left. What others' moves tell takes much room; this needs none.
+    /// ready, and no job is left. What others' moves tell takes much room; this needs none. A thread that is seen to wait isn't tried again.
     fn proceed(&mut self) -> Option<Move>
         requires none { current self.old.jobs ≡ None }
         ensures advanced { IsAdvanced self.old.jobs.jobs self.old.budget (run_core self.old) result (run_core self.new) }
@@ -22,12 +23,17 @@ impl<S: Service + Drop, W: Worker + Drop> Core<S, W> {
         ensures jobs { self.new.jobs.jobs ≡ self.old.jobs.jobs }
     {
         let who = self.same_thread()?;
-        if self.kernel.proceed_on(who) {
-            self.events += 1;
-            self.rounds.hear(None);
-            Some(Move { who, pick: None })
-        } else {
-            None
+        match self.kernel.proceed_on(who) {
+            Gone::Made => {
+                self.events += 1;
+                self.rounds.hear(None);
+                Some(Move { who, pick: None })
+            }
+            Gone::Waits => {
+                self.rounds.park();
+                None
+            }
+            Gone::Not => None,
         }
     }
 

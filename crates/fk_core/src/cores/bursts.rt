@@ -51,13 +51,14 @@ impl<S: Service + Drop, W: Worker + Drop> Core<S, W> {
     }
 
     /// The same of any number of moves. With none there is no turn, and a first core isn't settled.
-    fn goes_so(&mut self, thread: Who, count: u64) -> bool
+    pub(crate) fn goes_so(&mut self, thread: Who, count: u64) -> bool
         requires few { self.old.events + count ≤ self.old.budget }
         ensures so { result ≡ true }
         ensures turns { (m : Kept) → HasCome self.old.jobs.jobs self.old.budget (core_at m self.old.services.list self.old.jobs self.old.events)
             → MakesMoves thread count m true self.old.kernel
             → IsRun (house self.old.jobs.jobs) (core_at m self.old.services.list self.old.jobs self.old.events)
             (replicate count (record { who = thread; pick = None })) (run_core self.new) }
+        ensures services { self.new.services.list ≡ self.old.services.list }
         ensures budget { self.new.budget ≡ self.old.budget }
         ensures jobs { self.new.jobs.jobs ≡ self.old.jobs.jobs }
         ensures events { self.new.events ≡ self.old.events + count }

@@ -21,7 +21,7 @@ use fk_jobs::{Jobs, Worker};
 use fk_model::{Answer, Ask, Move, NoMemory, Reply, Said, Who};
 use fk_natives::Service;
 use fk_responders::Table;
-use fk_served::{Kernel, Services};
+use fk_served::{Gone, Kernel, Services};
 
 /// A kernel with its native servers and its jobs, and how many moves it has made of how many.
 #[derive(Drop)]
@@ -228,14 +228,14 @@ impl<S: Service + Drop, W: Worker + Drop> Core<S, W> {
         if m.pick.is_some() || self.is_porter(m.who) {
             return false;
         }
-        if self.kernel.proceed(m.who) {
-            self.events += 1;
-            self.last = Some(m.who);
-            self.rounds.hear(None);
-            self.settle();
-            return true;
-        }
-        false
+        let Gone::Made = self.kernel.proceed(m.who) else {
+            return false;
+        };
+        self.events += 1;
+        self.last = Some(m.who);
+        self.rounds.hear(None);
+        self.settle();
+        true
     }
 
     /// The same of any move.

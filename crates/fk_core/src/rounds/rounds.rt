@@ -8,7 +8,7 @@ use fk_model::{Move, Who};
 use fk_natives::Service;
 
 /// After so many moves the look goes round.
-const ROUND: u64 = 64;
+pub const ROUND: u64 = 64;
 
 /// So many servers, besides who is met, are looked at before the move is taken of a job whose time has come.
 const FEW: usize = 4;
@@ -20,6 +20,8 @@ pub struct Rounds {
     heard: Option<Who>,
     /// The place of the server that is looked at next.
     next: usize,
+    /// The thread that moved last is known to wait.
+    stuck: bool,
 }
 
 /// The place after one, among so many.
@@ -38,6 +40,7 @@ impl Rounds {
         Rounds {
             heard: None,
             next: 0,
+            stuck: false,
         }
     }
 
@@ -50,14 +53,14 @@ impl Rounds {
         }
     }
 
-    /// The thread that moved last, but where the look goes round and where the budget is used.
+    /// The thread that moved last, but where it waits, where the look goes round and where the budget is used.
     pub fn same_thread<S: Service + Drop, W: Worker + Drop>(
         &self,
         moment: &Moment<'_, S, W>,
     ) -> Option<Who>
         ensures { IsSome result → moment.now.events < moment.now.budget }
     {
-        if !moment.is_below_budget() || self.is_round(moment) {
+        if self.stuck || !moment.is_below_budget() || self.is_round(moment) {
             return None;
         }
         moment.last()
@@ -77,15 +80,25 @@ impl Rounds {
         if moment.ready(&m) { Some(m) } else { None }
     }
 
-    /// A move was made that told the server of this port something, or none.
+    /// A move was made that told the server of this port something, or none. By it who waited may move.
     pub fn hear(&mut self, heard: Option<Who>)
         ensures { self.new.heard ≡ heard }
     {
         // Mostly nobody hears anything, and then nothing is written.
+        if self.stuck {
+            self.stuck = false;
+        }
         if heard.is_none() && self.heard.is_none() {
             return;
         }
         self.heard = heard;
+    }
+
+    /// The thread that moved last waits: until another move was made it isn't tried again.
+    pub fn park(&mut self)
+        ensures { self.new.heard ≡ self.old.heard }
+    {
+        self.stuck = true;
     }
 
     /// A ready act that comes before the threads: of the server that heard of the last move, but where the look goes round; and in every second round of

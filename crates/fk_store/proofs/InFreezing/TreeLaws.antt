@@ -6,12 +6,15 @@ use Rattle.std.specs.FinMap.{FinMap, get, insert, get-insert, get-empty}
 use Rattle.fk_model.specs.declared.names.Who.{Who}
 use Rattle.fk_model.specs.declared.body.Body.{Body}
 use Rattle.fk_model.specs.declared.body.Body.TheVariants.{Mutex, Cond, Mapping, Region, Port, Portset, Space, Thread, Reference}
+use Rattle.fk_model.specs.declared.thread.Fault.{Fault}
 use Rattle.fk_model.specs.declared.thread.Mode.{Mode}
+use Rattle.fk_model.specs.declared.thread.Thread.{Thread as State}
 use Rattle.fk_model.specs.Objects.{and_then, holds}
 use Rattle.fk_store.specs.Holds.Frozen.{mark_at}
 use Rattle.fk_store.specs.Holds.Held.{IsTold}
 use Rattle.fk_store_graph.specs.Bodies.Births.{stored_birth, home_in, birth_in}
 use Rattle.fk_store_graph.specs.Bodies.Held.{is_held}
+use Rattle.fk_store_graph.specs.Bodies.Leading.{with_fault}
 use Rattle.fk_store_graph.specs.Bodies.Names.{who_cmp, same_who}
 use Rattle.fk_store_graph.specs.Bodies.Nudges.{nudged}
 use Rattle.fk_store_graph.specs.Bodies.Sweeps.{after, body_after}
@@ -26,6 +29,9 @@ use Rattle.fk_store.proofs.InFreezing.FreezeLaws.{one_name}
 
 pub inserted : (m : FinMap who_cmp Body) (who : Who) (b : Body) (q : Who) → get (insert m who b) q ≡ cond (same_who q who) (Some b) (get m q)
 inserted m who b q = get-insert who_total m who b q ∙ ap (λ t. cond t (Some b) (get m q)) (same_tied q who)
+
+same_some : {A : Type 0} (o : Option A) (a b : A) → o ≡ Some a → o ≡ Some b → a ≡ b
+same_some o a b h k = cc
 
 -- ---- no objects
 
@@ -266,6 +272,48 @@ nudged-held change Portset = refl
 nudged-held change (Space birth holder) = refl
 nudged-held change (Thread thread) = refl
 nudged-held change (Reference to) = refl
+
+-- a thread has another fault
+pub faulted_tree : (old : FinMap who_cmp Body) (who : Who) (t : State) (fault : Option Fault) → get old who ≡ Some (Thread t) → (new : FinMap who_cmp Body) →
+    new ≡ insert old who (with_fault t fault) → (marks : List Bool) (told : List ℕ × Bool) → IsTree old marks told → IsTree new marks told
+faulted_tree old who t fault here new is =
+    tree_changed old who faulted births holds_on new (λ b there. is ∙ ap (insert old who) (same b there)) (λ none. absurd (cc))
+  where
+    faulted : Body → Body
+    faulted (Mutex locked) = Mutex locked
+    faulted Cond = Cond
+    faulted (Mapping first count offset write region) = Mapping first count offset write region
+    faulted (Region first count write keeper) = Region first count write keeper
+    faulted (Port set served) = Port set served
+    faulted Portset = Portset
+    faulted (Space birth holder) = Space birth holder
+    faulted (Thread thread) = with_fault thread fault
+    faulted (Reference to) = Reference to
+
+    births : (b : Body) → stored_birth (faulted b) ≡ stored_birth b
+    births (Mutex locked) = refl
+    births Cond = refl
+    births (Mapping first count offset write region) = refl
+    births (Region first count write keeper) = refl
+    births (Port set served) = refl
+    births Portset = refl
+    births (Space birth holder) = refl
+    births (Thread thread) = refl
+    births (Reference to) = refl
+
+    holds_on : (b : Body) → is_held (faulted b) ≡ is_held b
+    holds_on (Mutex locked) = refl
+    holds_on Cond = refl
+    holds_on (Mapping first count offset write region) = refl
+    holds_on (Region first count write keeper) = refl
+    holds_on (Port set served) = refl
+    holds_on Portset = refl
+    holds_on (Space birth holder) = refl
+    holds_on (Thread thread) = refl
+    holds_on (Reference to) = refl
+
+    same : (b : Body) → get old who ≡ Some b → with_fault t fault ≡ faulted b
+    same b there = let is_thread : Thread t ≡ b = same_some (get old who) (Thread t) b here there in ap faulted is_thread
 
 -- ---- an object goes, or gets another name
 

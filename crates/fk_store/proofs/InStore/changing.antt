@@ -1,5 +1,4 @@
 pub mod WordLaws
-pub mod MutexLaws
 pub mod ThreadLaws
 pub mod EditLaws
 pub mod Sets
@@ -23,4 +22,5 @@ pub mod PartLaws
 pub mod InPlace
 pub mod Proceeding
 pub mod Nudging
+pub mod Faulting
 pub mod GoneOn

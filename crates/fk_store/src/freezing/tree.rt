@@ -6,14 +6,15 @@ ghost use Rattle.std.specs.FinMap.{entries};
 ghost use Rattle.std.specs.List.{sum_by};
 ghost use Rattle.fk_model.specs.declared.names.Who.{Who};
 ghost use Rattle.fk_model.specs.declared.body.Body.{Body};
-ghost use Rattle.fk_model.specs.declared.body.Body.TheVariants.{Reference};
+ghost use Rattle.fk_model.specs.declared.body.Body.TheVariants.{Reference, Thread};
+ghost use Rattle.fk_model.specs.declared.thread.Thread as threads_of;
 ghost use Rattle.fk_model.specs.Objects.{and_then, holds};
 ghost use Rattle.fk_model.proofs.walks.Members.{IsIn};
 ghost use Rattle.fk_store.specs.Freezing.Freezing.{AreFrozen, AreKnown, AreTold, IsAbove, is_held_at};
 ghost use Rattle.fk_store_graph.specs.Bodies.Births.{stored_birth, home_in, birth_in};
 ghost use Rattle.fk_store_graph.specs.Bodies.Held as held_by;
 ghost use Rattle.fk_store_graph.specs.Bodies.Held.{one_if};
-ghost use Rattle.fk_store_graph.specs.Bodies.Leading.{LeadsAmong, is_reference};
+ghost use Rattle.fk_store_graph.specs.Bodies.Leading.{with_fault, IsThread, LeadsAmong, is_reference};
 ghost use Rattle.fk_store_graph.specs.Bodies.Marks as marks_of;
 ghost use Rattle.fk_store_graph.specs.Bodies.Names.{at, who_cmp, same_who};
 ghost use Rattle.fk_store_graph.specs.Bodies.Nudges.{nudged};
@@ -25,7 +26,7 @@ ghost use Rattle.fk_store_graph.specs.Bodies.Threads.{proceeded};
 
 use crate::freezing::settle::{forget, make_room, settle};
 use crate::holds::{Frozen, Held};
-use fk_model::{Body, Mode, NoMemory, Ptr, Who};
+use fk_model::{Body, Fault, Mode, NoMemory, Ptr, Who};
 use fk_store_graph::bodies::{Bodies, Leaders};
 use fk_store_graph::leads::{Nudge, Part};
 use std::alloc::Global;
@@ -132,6 +133,15 @@ impl Tree {
         ensures none { map.get self.old who ≡ None → self.new ≡ self.old }
     {
         self.bodies.nudge(who, change);
+    }
+
+    /// A thread has this fault, or none, which leads to what is there.
+    pub fn set_fault(&mut self, who: Who, fault: Option<Fault>)
+        requires thread { IsThread (map.get self.old who) }
+        requires leads { (t : threads_of.Thread) → map.get self.old who ≡ Some (Thread t) → LeadsAmong self.old (with_fault t fault) }
+        ensures { (t : threads_of.Thread) → map.get self.old who ≡ Some (Thread t) → self.new ≡ map.insert self.old who (with_fault t fault) }
+    {
+        self.bodies.set_fault(who, fault);
     }
 
     /// Puts an object in an empty slot, which leads to what is there. No other space has its birth

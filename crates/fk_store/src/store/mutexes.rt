@@ -10,6 +10,7 @@ ghost use Rattle.fk_store.specs.Store.World.{world};
 
 use crate::store::store::Store;
 use fk_model::{Body, Who};
+use fk_store_graph::leads::Nudge;
 
 impl Store {
     /// Whether a mutex is locked; nothing where no mutex is there.
@@ -33,14 +34,11 @@ impl Store {
     }
 
     /// Locks a mutex, or unlocks it. What is no mutex stays as it is.
-    #[tactic(auto, using(crate::proofs::InStore::changing::MutexLaws::kind_mutex, crate::proofs::InStore::changing::MutexLaws::locked_mutex, crate::proofs::InStore::changing::MutexLaws::locked_nothing))]
     pub fn set_locked(&mut self, who: Who, locked: bool)
         ensures world { world self.new ≡ apply (Alter (place (path self.old) who) (SetLocked locked)) (world self.old) }
         ensures kinds { kind_there (world self.new) ≡ kind_there (world self.old) }
         ensures paths { path self.new ≡ path self.old }
     {
-        if let Some(_) = self.mutex(who) {
-            self.set(who, Body::Mutex { locked });
-        }
+        self.nudge(who, Nudge::Locks(locked));
     }
 }

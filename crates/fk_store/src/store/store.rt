@@ -20,6 +20,7 @@ ghost use Rattle.fk_store.specs.Store.World.{world, first_world, place_of, body_
 
 mod counting;
 mod counts;
+mod faulting;
 mod holds;
 mod proceeding;
 mod residents;

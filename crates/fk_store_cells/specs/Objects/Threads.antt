@@ -1,8 +1,9 @@
--- Threads: what becomes of a thread where it stands.
-use Rattle.std.specs.Prelude.{ℕ, ◌+◌, List, min, option_map}
+-- Threads: what becomes of a thread, or of a mutex, where it stands.
+use Rattle.std.specs.Prelude.{ℕ, Bool, ◌+◌, List, Option, min, option_map}
 use Rattle.fk_model.specs.declared.limits.TheConstants.{MOST_MOVED}
 use Rattle.fk_model.specs.declared.body.Body.{Body}
 use Rattle.fk_model.specs.declared.body.Body.TheVariants.{Mutex, Cond, Mapping, Region, Port, Portset, Space, Thread, Reference}
+use Rattle.fk_model.specs.declared.thread.Fault.{Fault}
 use Rattle.fk_model.specs.declared.thread.Mode.{Mode}
 use Rattle.fk_model.specs.declared.thread.Talk.{Talk}
 use Rattle.fk_model.specs.declared.thread.Thread.{Thread as State}
@@ -19,6 +20,18 @@ on_thread f Portset = Portset
 on_thread f (Space birth holder) = Space birth holder
 on_thread f (Thread thread) = Thread (f thread)
 on_thread f (Reference to) = Reference to
+
+-- a mutex is locked or unlocked; what is no mutex stays as it is
+abbrev pub on_mutex : Bool → Body → Body
+on_mutex locked (Mutex old) = Mutex locked
+on_mutex locked Cond = Cond
+on_mutex locked (Mapping first count offset write region) = Mapping first count offset write region
+on_mutex locked (Region first count write keeper) = Region first count write keeper
+on_mutex locked (Port set served) = Port set served
+on_mutex locked Portset = Portset
+on_mutex locked (Space birth holder) = Space birth holder
+on_mutex locked (Thread thread) = Thread thread
+on_mutex locked (Reference to) = Reference to
 
 abbrev pub going : List ℕ → ℕ → Mode → State → State
 going registers counter mode t = record t { regs = registers; pc = counter; mode = mode }
@@ -39,3 +52,6 @@ passing turn t = record t { talk = option_map (passed turn) t.talk }
 
 abbrev pub stopping : ℕ → State → State
 stopping stops t = record t { stops = stops }
+
+abbrev pub faulting : Option Fault → State → State
+faulting fault t = record t { fault = fault }

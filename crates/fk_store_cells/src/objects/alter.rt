@@ -1,9 +1,9 @@
-//! Changes of a thread where it stands, by which it leads where it led.
+//! Changes of a thread, or of a mutex, where it stands.
 ghost use Rattle.std.specs.Prelude.{◌≡◌, ◌+◌, min, option_map};
 ghost use Rattle.fk_model.specs.declared.limits.TheConstants.{MOST_MOVED};
 ghost use Rattle.fk_store_cells.specs.Objects.Threads as threads;
 
-use fk_model::{Body, Mode, Talk, Turn};
+use fk_model::{Body, Fault, Mode, Talk, Turn};
 
 /// A thread has these registers, this counter and this mode.
 pub fn proceed(body: &mut Body, registers: &[u64; 16], counter: u64, mode: Mode)
@@ -40,6 +40,24 @@ pub fn stop(body: &mut Body, stops: u16)
 {
     if let Body::Thread(thread) = body {
         thread.stops = stops;
+    }
+}
+
+/// A thread has this fault, or none.
+pub fn set_fault(body: &mut Body, fault: Option<Fault>)
+    ensures { body.new ≡ threads.on_thread (threads.faulting fault) body.old }
+{
+    if let Body::Thread(thread) = body {
+        thread.fault = fault;
+    }
+}
+
+/// A mutex is locked or unlocked.
+pub fn lock(body: &mut Body, to: bool)
+    ensures { body.new ≡ threads.on_mutex to body.old }
+{
+    if let Body::Mutex { locked } = body {
+        *locked = to;
     }
 }
 

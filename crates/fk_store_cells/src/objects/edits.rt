@@ -4,7 +4,7 @@ ghost use Rattle.fk_store_cells.specs.Objects.Threads as threads;
 
 use crate::objects::alter;
 use crate::objects::entry::{Entry, Hints};
-use fk_model::{Body, Mode, Turn, Who};
+use fk_model::{Body, Fault, Mode, Turn, Who};
 use slab::Slab;
 
 /// The object under a key has this body.
@@ -67,5 +67,23 @@ pub fn stop(entries: &mut Slab<Entry>, key: u32, stops: u16)
 {
     if let Some(entry) = entries.get_mut(key as usize) {
         alter::stop(&mut entry.body, stops);
+    }
+}
+
+/// The thread under a key has this fault, or none.
+pub fn set_fault(entries: &mut Slab<Entry>, key: u32, fault: Option<Fault>)
+    ensures { Rewrites entries.old entries.new key (on_body (threads.on_thread (threads.faulting fault))) }
+{
+    if let Some(entry) = entries.get_mut(key as usize) {
+        alter::set_fault(&mut entry.body, fault);
+    }
+}
+
+/// The mutex under a key is locked or unlocked.
+pub fn lock(entries: &mut Slab<Entry>, key: u32, locked: bool)
+    ensures { Rewrites entries.old entries.new key (on_body (threads.on_mutex locked)) }
+{
+    if let Some(entry) = entries.get_mut(key as usize) {
+        alter::lock(&mut entry.body, locked);
     }
 }

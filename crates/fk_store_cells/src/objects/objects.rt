@@ -14,7 +14,7 @@ ghost use Rattle.fk_store_cells.specs.Objects.Threads as threads;
 use crate::keys::Keys;
 use crate::objects::edits;
 use crate::objects::entry::{Entry, Hints};
-use fk_model::{Body, Mode, NoMemory, Turn, Who};
+use fk_model::{Body, Fault, Mode, NoMemory, Turn, Who};
 use slab::Slab;
 use std::alloc::Global;
 use std::marker::Model;
@@ -123,6 +123,20 @@ impl Objects {
         ensures { Edits self.old self.new key (on_body (threads.on_thread (threads.stopping stops))) }
     {
         edits::stop(&mut self.entries, key, stops);
+    }
+
+    /// The thread under a key has this fault, or none.
+    pub fn set_fault(&mut self, key: u32, fault: Option<Fault>)
+        ensures { Edits self.old self.new key (on_body (threads.on_thread (threads.faulting fault))) }
+    {
+        edits::set_fault(&mut self.entries, key, fault);
+    }
+
+    /// The mutex under a key is locked or unlocked.
+    pub fn lock(&mut self, key: u32, locked: bool)
+        ensures { Edits self.old self.new key (on_body (threads.on_mutex locked)) }
+    {
+        edits::lock(&mut self.entries, key, locked);
     }
 
     /// The key that the next object gets; none where none is left.

@@ -1,4 +1,4 @@
--- NudgeLaws: a thread that changes a little, or goes on, as an edit of its entry.
+-- NudgeLaws: a thread that changes a little, or goes on, and a mutex that is set, as an edit of its entry.
 use Rattle.std.proofs.Common.{◌≡◌, ℕ, ◌==◌, Bool, true, false, cond, List, Option, Some, None, option_map, refl, ap, ◌∙◌}
 use Rattle.fk_model.specs.declared.body.Body.{Body}
 use Rattle.fk_model.specs.declared.body.Body.TheVariants.{Mutex, Cond, Mapping, Region, Port, Portset, Space, Thread, Reference}
@@ -7,12 +7,12 @@ use Rattle.fk_model.specs.declared.thread.Turn.{Turn}
 use Rattle.fk_store_graph.specs.Linked.Shapes.{Entry}
 use Rattle.fk_store_graph.specs.Linked.Filed.{Filed, entry_under}
 use Rattle.fk_store_graph.specs.Linked.Edits.{Edits, on_body}
-use Rattle.fk_store_graph.specs.Linked.Threads.{on_thread, going, counting, passing, stopping}
+use Rattle.fk_store_graph.specs.Linked.Threads.{on_mutex, on_thread, going, counting, passing, stopping}
 use Rattle.fk_store_graph.specs.Linked.Nudges.{nudged}
 use Rattle.fk_store_graph.specs.Bodies.Threads.{proceeded}
 use Rattle.fk_store_graph.specs.Linked.Shapes.{Nudge}
-use Rattle.fk_store_graph.specs.Linked.Shapes.{Counts, Passes, Stops}
-use Rattle.fk_store_graph.proofs.InBodies.QuietLaws.{IsQuiet, quiet_along, quiet_counting, quiet_passing, quiet_stopping}
+use Rattle.fk_store_graph.specs.Linked.Shapes.{Counts, Locks, Passes, Stops}
+use Rattle.fk_store_graph.proofs.InBodies.QuietLaws.{IsQuiet, quiet_along, quiet_counting, quiet_locking, quiet_passing, quiet_stopping}
 
 pub edits-along : (o p : Filed) (key : ℕ) (f g : Body → Body) → ((b : Body) → f b ≡ g b) → Edits o p key (on_body f) → Edits o p key (on_body g)
 edits-along o p key f g same edits = record {
@@ -59,6 +59,17 @@ stops_is stops (Space birth holder) = refl
 stops_is stops (Thread thread) = refl
 stops_is stops (Reference to) = refl
 
+pub locks_is : (locked : Bool) (b : Body) → on_mutex locked b ≡ nudged (Locks locked) b
+locks_is locked (Mutex old) = refl
+locks_is locked Cond = refl
+locks_is locked (Mapping first count offset write region) = refl
+locks_is locked (Region first count write keeper) = refl
+locks_is locked (Port set served) = refl
+locks_is locked Portset = refl
+locks_is locked (Space birth holder) = refl
+locks_is locked (Thread thread) = refl
+locks_is locked (Reference to) = refl
+
 pub goes_is : (registers : List ℕ) (counter : ℕ) (mode : Mode) (b : Body) → on_thread (going registers counter mode) b ≡ proceeded registers counter mode b
 goes_is registers counter mode (Mutex locked) = refl
 goes_is registers counter mode Cond = refl
@@ -74,3 +85,4 @@ pub quiet_nudged : (change : Nudge) → IsQuiet (nudged change)
 quiet_nudged (Counts words) = quiet_along _ _ (counts_is words) (quiet_counting words)
 quiet_nudged (Passes turn) = quiet_along _ _ (passes_is turn) (quiet_passing turn)
 quiet_nudged (Stops stops) = quiet_along _ _ (stops_is stops) (quiet_stopping stops)
+quiet_nudged (Locks locked) = quiet_along _ _ (locks_is locked) (quiet_locking locked)

@@ -24,7 +24,7 @@ use Rattle.fk_store_graph.proofs.InLinked.NodeLaws.{rings_along}
 use Rattle.fk_store_graph.specs.Linked.Shapes.{Entry}
 use Rattle.fk_store_graph.specs.Linked.Filed.{Filed, IsFiled, entry_under, key_of, name_under}
 use Rattle.fk_store_graph.specs.Linked.Edits.{Edits, on_body}
-use Rattle.fk_store_graph.specs.Linked.Threads.{on_thread, going, stopping, counting, counted, passing, passed}
+use Rattle.fk_store_graph.specs.Linked.Threads.{on_mutex, on_thread, going, stopping, counting, counted, passing, passed}
 use Rattle.fk_store_graph.specs.Linked.Births.{stored_birth}
 use Rattle.fk_store_graph.specs.Linked.Bodied.{body_under, bodies, head_by, owner, Tells, told_by, AreBodies}
 use Rattle.fk_store_graph.specs.Linked.Leading.{target}
@@ -246,6 +246,27 @@ quiet_counting words = quiet_thread _ (λ t i. talk_same (counted words) (λ k j
 pub quiet_passing : (turn : Turn) → IsQuiet (on_thread (passing turn))
 unfolding of_talk
 quiet_passing turn = quiet_thread _ (λ t i. talk_same (passed turn) (λ k j. refl) t.talk t.fault i)
+
+-- a mutex leads nowhere
+read_set : {A : Type 0} (g : Body → A) (locked : Bool) → ((old : Bool) → g (Mutex locked) ≡ g (Mutex old)) → (b : Body) → g (on_mutex locked b) ≡ g b
+read_set g locked same (Mutex old) = same old
+read_set g locked same Cond = refl
+read_set g locked same (Mapping first count offset write region) = refl
+read_set g locked same (Region first count write keeper) = refl
+read_set g locked same (Port set served) = refl
+read_set g locked same Portset = refl
+read_set g locked same (Space birth holder) = refl
+read_set g locked same (Thread thread) = refl
+read_set g locked same (Reference to) = refl
+
+pub quiet_locking : (locked : Bool) → IsQuiet (on_mutex locked)
+quiet_locking locked = record {
+  leads = λ b i. read_set (λ b. led b i) locked (λ old. refl) b;
+  birth = read_set (λ b. stored_birth b) locked (λ old. refl);
+  held = read_set (λ b. is_held b) locked (λ old. refl);
+  pages = read_set (λ b. is_of_pages b) locked (λ old. refl);
+  members = read_set (λ b. is_member b) locked (λ old. refl);
+}
 
 -- a change that makes the same of each body
 pub quiet_along : (f g : Body → Body) → ((b : Body) → f b ≡ g b) → IsQuiet f → IsQuiet g

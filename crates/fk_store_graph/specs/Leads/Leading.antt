@@ -3,13 +3,15 @@ use Rattle.std.specs.Prelude.{◌≡◌, ℕ, ◌+◌, Bool, true, false, Option
 use Rattle.std.specs.FinMap.{FinMap, get, entries}
 use Rattle.std.specs.List.{sum_by}
 use Rattle.fk_model.specs.declared.names.Who.{Who}
+use Rattle.fk_model.specs.declared.thread.Fault.{Fault}
+use Rattle.fk_model.specs.declared.thread.Thread as threads_of
 use Rattle.fk_model.specs.declared.body.Body.{Body}
 use Rattle.fk_model.specs.declared.body.Body.TheVariants.{Mutex, Cond, Mapping, Region, Port, Portset, Space, Thread, Reference}
 use Rattle.fk_model.specs.Objects.{and_then}
 use Rattle.fk_store_graph.specs.declared.hints.lead.Sort.{Sort}
 use Rattle.fk_store_graph.specs.declared.hints.lead.Sort.TheVariants.{Pointer, Served, Taken}
 use Rattle.fk_store_graph.specs.declared.hints.lead.Lead.{Lead}
-use Rattle.fk_store_graph.specs.Hints.Leads.{led}
+use Rattle.fk_store_graph.specs.Hints.Leads.{led, of_fault}
 use Rattle.fk_store_graph.specs.Leads.Names.{who_cmp}
 use Rattle.fk_store_graph.specs.Leads.Pointers.{hit, hits_in}
 
@@ -24,6 +26,17 @@ pointed lead = pointed_by lead.sort lead.to
 -- where a field of a body leads as a pointer
 unfoldable pub target : ℕ → Body → Option Who
 target field b = and_then pointed (led b field)
+
+-- and where a field of a thread with this fault does, of the fields 3 to 5
+abbrev pub fault_target : ℕ → Option Fault → Option Who
+fault_target field fault = and_then pointed (and_then (of_fault field) fault)
+
+-- a thread, and its body with another fault
+abbrev pub IsThread : Option Body → Type 0
+IsThread o = (t : threads_of.Thread) × (o ≡ Some (Thread t))
+
+abbrev pub with_fault : threads_of.Thread → Option Fault → Body
+with_fault t fault = Thread (record t { fault = fault })
 
 -- a body leads to what is there
 abbrev pub LeadsAmong : FinMap who_cmp Body → Body → Type 0

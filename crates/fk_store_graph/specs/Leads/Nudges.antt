@@ -1,5 +1,5 @@
--- Nudges: small changes of a thread, by which it leads where it led.
-use Rattle.std.specs.Prelude.{ℕ, ◌+◌, min, option_map}
+-- Nudges: small changes of a thread, or of a mutex, by which it leads where it led.
+use Rattle.std.specs.Prelude.{ℕ, Bool, ◌+◌, min, option_map}
 use Rattle.fk_model.specs.declared.limits.TheConstants.{MOST_MOVED}
 use Rattle.fk_model.specs.declared.body.Body.{Body}
 use Rattle.fk_model.specs.declared.body.Body.TheVariants.{Mutex, Cond, Mapping, Region, Port, Portset, Space, Thread, Reference}
@@ -7,7 +7,7 @@ use Rattle.fk_model.specs.declared.thread.Talk.{Talk}
 use Rattle.fk_model.specs.declared.thread.Thread.{Thread as State}
 use Rattle.fk_model.specs.declared.thread.Turn.{Turn}
 use Rattle.fk_store_graph.specs.declared.leads.nudges.Nudge.{Nudge}
-use Rattle.fk_store_graph.specs.declared.leads.nudges.Nudge.TheVariants.{Counts, Passes, Stops}
+use Rattle.fk_store_graph.specs.declared.leads.nudges.Nudge.TheVariants.{Counts, Locks, Passes, Stops}
 
 -- a talk that has moved so many words more
 abbrev pub counted : ℕ → Talk → Talk
@@ -21,10 +21,17 @@ abbrev pub nudged_thread : Nudge → State → State
 nudged_thread (Counts count) t = record t { talk = option_map (counted count) t.talk }
 nudged_thread (Passes turn) t = record t { talk = option_map (passed turn) t.talk }
 nudged_thread (Stops stops) t = record t { stops = stops }
+nudged_thread (Locks locked) t = t
 
--- what is no thread stays as it is
+abbrev pub nudged_mutex : Nudge → Bool → Bool
+nudged_mutex (Counts count) old = old
+nudged_mutex (Passes turn) old = old
+nudged_mutex (Stops stops) old = old
+nudged_mutex (Locks locked) old = locked
+
+-- what is neither a thread nor a mutex stays as it is
 abbrev pub nudged : Nudge → Body → Body
-nudged change (Mutex locked) = Mutex locked
+nudged change (Mutex locked) = Mutex (nudged_mutex change locked)
 nudged change Cond = Cond
 nudged change (Mapping first count offset write region) = Mapping first count offset write region
 nudged change (Region first count write keeper) = Region first count write keeper

@@ -4,6 +4,8 @@ use Rattle.std.specs.Prelude.{Some, None, IsSome, option_map, if◌then◌else�
 use Rattle.std.specs.FinMap.{FinMap}
 use Rattle.fk_model.specs.declared.names.Who.{Who}
 use Rattle.fk_model.specs.declared.body.Body.{Body}
+use Rattle.fk_model.specs.declared.thread.Fault.{Fault}
+use Rattle.fk_model.specs.declared.thread.Thread as threads_of
 use Rattle.fk_model.specs.Objects.{and_then}
 use Rattle.fk_model.proofs.walks.Members.{IsIn}
 use Rattle.fk_store_cells.specs.Slots.Tabled.{map_of_rows}
@@ -23,7 +25,7 @@ use Rattle.fk_store_cells.specs.declared.objects.entry.Told.TheVariants.{Nobody,
 use Rattle.fk_store_cells.specs.Objects.Filed.{Filed, entry_under, key_of, name_under}
 use Rattle.fk_store_graph.specs.Leads.Births.{stored_birth}
 use Rattle.fk_store_graph.specs.Leads.Held.{held_in, IsCount}
-use Rattle.fk_store_graph.specs.Leads.Leading.{target}
+use Rattle.fk_store_graph.specs.Leads.Leading.{fault_target, target, with_fault}
 use Rattle.fk_store_graph.specs.Linked.Homes.{home_at}
 use Rattle.fk_store_graph.specs.Leads.Marks.{is_of_pages, is_member, page_mark, member_mark}
 use Rattle.fk_store_graph.specs.Leads.Names.{at, who_cmp}
@@ -44,6 +46,10 @@ head_by o who = option_map (λ k. nodes_of.node_of k 2) (key_of o who)
 abbrev pub head_led : Filed → Option Body → ℕ → Option ℕ
 head_led o b field = and_then (head_by o) (and_then (target field) b)
 
+-- and to which a field of a thread with this fault does, of the fields 3 to 5
+abbrev pub head_led_by_fault : Filed → Option Fault → ℕ → Option ℕ
+head_led_by_fault o fault field = and_then (head_by o) (fault_target field fault)
+
 -- the heads to which all nodes lead. Another name of an object changes none
 unfoldable pub owner : Filed → ℕ → Option ℕ
 owner o n = head_led o (body_under o (nodes_of.key_of n)) (nodes_of.field_of n)
@@ -55,6 +61,11 @@ owner_with o others key b n = if nodes_of.key_of n == key then head_led o b (nod
 -- and where the object under one key leads nowhere
 unfoldable pub unled_with : (ℕ → Option ℕ) → ℕ → ℕ → Option ℕ
 unled_with others key n = if nodes_of.key_of n == key then None else others n
+
+-- a thread with this fault is under a key
+pub record HasFault (o : Filed) (key : ℕ) (fault : Option Fault) : Type 0 where
+  pub thread : threads_of.Thread
+  pub there : body_under o key ≡ Some (with_fault thread fault)
 
 -- it may be the object under this key
 abbrev pub Tells : Told → ℕ → Type 0

@@ -22,8 +22,9 @@ ghost use Rattle.fk_store_graph.specs.Linked.Births.{stored_birth, home_in, birt
 ghost use Rattle.fk_store_graph.specs.Linked.Held as held_by;
 ghost use Rattle.fk_store_graph.specs.Linked.Held.{one_if, held_in, IsCount};
 ghost use Rattle.fk_store_graph.specs.Linked.Homes.{home_at};
-ghost use Rattle.fk_model.specs.declared.body.Body.TheVariants.{Reference};
-ghost use Rattle.fk_store_graph.specs.Linked.Leading.{LeadsAmong, is_reference};
+ghost use Rattle.fk_model.specs.declared.body.Body.TheVariants.{Reference, Thread};
+ghost use Rattle.fk_model.specs.declared.thread.Thread as threads_of;
+ghost use Rattle.fk_store_graph.specs.Linked.Leading.{with_fault, IsThread, LeadsAmong, is_reference};
 ghost use Rattle.fk_store_graph.specs.Linked.Marks as marks_of;
 ghost use Rattle.fk_store_graph.specs.Linked.Names.{at, who_cmp, same_who};
 ghost use Rattle.fk_store_graph.specs.Linked.Nudges.{nudged};
@@ -38,10 +39,10 @@ use crate::bodies::scans::{first_told, told_of_part};
 use crate::leads::{Nudge, Part, Sweep, birth_of, counted, ends, is_held};
 use crate::linked::{
     aim, free_all, home_of, leave, link_all, make_room, mark_again, mark_all, rename_all, replace,
-    settle, tell, unlink_all,
+    set_fault, settle, tell, tell_fault, unlink_all,
 };
 use crate::links::{Links, head_of};
-use fk_model::{Body, Mode, NoMemory, Ptr, Who};
+use fk_model::{Body, Fault, Mode, NoMemory, Ptr, Who};
 use fk_store_cells::objects::Objects;
 use std::alloc::Global;
 use std::marker::Model;
@@ -153,7 +154,7 @@ impl Bodies {
         }
     }
 
-    /// A thread changes a little. What is no thread stays as it is.
+    /// A thread or a mutex changes a little. What is neither stays as it is.
     pub fn nudge(&mut self, who: Who, change: Nudge)
         ensures there { (b : Body) → map.get self.old who ≡ Some b → self.new ≡ map.insert self.old who (nudged change b) }
         ensures none { map.get self.old who ≡ None → self.new ≡ self.old }
@@ -161,6 +162,19 @@ impl Bodies {
         self.objects.filed();
         if let Some(key) = self.objects.key(who) {
             nudge_under(&mut self.objects, key, change);
+        }
+    }
+
+    /// A thread has this fault, or none, which leads to what is there.
+    pub fn set_fault(&mut self, who: Who, fault: Option<Fault>)
+        requires thread { IsThread (map.get self.old who) }
+        requires leads { (t : threads_of.Thread) → map.get self.old who ≡ Some (Thread t) → LeadsAmong self.old (with_fault t fault) }
+        ensures { (t : threads_of.Thread) → map.get self.old who ≡ Some (Thread t) → self.new ≡ map.insert self.old who (with_fault t fault) }
+    {
+        self.objects.filed();
+        if let Some(key) = self.objects.key(who) {
+            set_fault(&mut self.objects, &mut self.links, key, fault);
+            tell_fault(&mut self.objects, key, fault);
         }
     }
 
@@ -381,7 +395,7 @@ fn make_nodes(objects: &Objects, links: &mut Links) -> Result<(), NoMemory>
     Ok(())
 }
 
-/// A thread under a key changes a little.
+/// What is under a key changes a little.
 fn nudge_under(objects: &mut Objects, key: u32, change: Nudge)
     ensures { Edits objects.old objects.new key (on_body (nudged change)) }
 {
@@ -389,6 +403,7 @@ fn nudge_under(objects: &mut Objects, key: u32, change: Nudge)
         Nudge::Counts(words) => objects.count(key, words),
         Nudge::Passes(turn) => objects.pass(key, turn),
         Nudge::Stops(stops) => objects.stop(key, stops),
+        Nudge::Locks(locked) => objects.lock(key, locked),
     }
 }
 

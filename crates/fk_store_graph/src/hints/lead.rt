@@ -39,6 +39,13 @@ pub fn led(body: &Body, field: u8) -> Option<Lead>
     }
 }
 
+/// Where a field of a thread with this fault leads, of the fields 3 to 5.
+pub fn led_by_fault(fault: Option<Fault>, field: u8) -> Option<Lead>
+    ensures { result ≡ and_then (leads.of_fault field) fault }
+{
+    of_fault(fault?, field)
+}
+
 /// How many fields of a body there are to look at; none past them leads anywhere.
 #[tactic(auto, using(crate::proofs::InHints::FieldLaws::led_past))]
 pub fn fields(body: &Body) -> u8

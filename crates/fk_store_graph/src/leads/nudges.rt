@@ -1,7 +1,7 @@
-//! Small changes of a thread, by which it leads where it led.
+//! Small changes of a thread, or of a mutex, by which it leads where it led.
 use fk_model::Turn;
 
-/// A small change of a thread.
+/// A small change of a thread, or of a mutex.
 #[derive(Clone, Copy)]
 pub enum Nudge {
     /// Its talk as a client has moved so many words more.
@@ -10,4 +10,6 @@ pub enum Nudge {
     Passes(Turn),
     /// It is stopped so many times.
     Stops(u16),
+    /// A mutex is locked or unlocked.
+    Locks(bool),
 }

@@ -4,8 +4,8 @@ ghost use Rattle.fk_store_graph.specs.Hints.Leads as leads;
 ghost use Rattle.fk_store_graph.specs.Leads.Leading as leading;
 ghost use Rattle.fk_store_graph.specs.Leads.Leading.{target};
 
-use crate::hints::{Sort, fields, led};
-use fk_model::{Body, Who};
+use crate::hints::{Sort, fields, led, led_by_fault};
+use fk_model::{Body, Fault, Who};
 
 /// Where a field of a body leads as a pointer.
 #[tactic(auto, unfolding(crate::specs::Leads::Leading::target))]
@@ -13,6 +13,17 @@ pub fn target_of(body: &Body, field: u8) -> Option<Who>
     ensures { result ≡ target field body.now }
 {
     let lead = led(body, field)?;
+    match lead.sort {
+        Sort::Pointer => Some(lead.to),
+        Sort::Served | Sort::Taken => None,
+    }
+}
+
+/// Where a field of a thread with this fault leads as a pointer, of the fields 3 to 5.
+pub fn target_of_fault(fault: Option<Fault>, field: u8) -> Option<Who>
+    ensures { result ≡ leading.fault_target field fault }
+{
+    let lead = led_by_fault(fault, field)?;
     match lead.sort {
         Sort::Pointer => Some(lead.to),
         Sort::Served | Sort::Taken => None,

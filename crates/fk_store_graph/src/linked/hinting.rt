@@ -7,11 +7,11 @@ ghost use Rattle.fk_store_graph.specs.declared.hints.lead.Sort.TheVariants.{Poin
 ghost use Rattle.fk_store_cells.specs.declared.objects.entry.Entry.{Entry};
 ghost use Rattle.fk_store_cells.specs.declared.objects.entry.Told.TheVariants.{Many};
 ghost use Rattle.fk_store_cells.specs.Objects.Filed.{key_of, entry_under};
-ghost use Rattle.fk_store_graph.specs.Linked.Bodied.{body_under, Tells, told_by, told_with as hints_with, IsTold, AreTold, Retells, StillTold};
+ghost use Rattle.fk_store_graph.specs.Linked.Bodied.{body_under, Tells, told_by, told_with as hints_with, HasFault, IsTold, AreTold, Retells, StillTold};
 
-use crate::hints::{Lead, Sort, led};
+use crate::hints::{Lead, Sort, led, led_by_fault};
 use crate::leads::may_tell;
-use fk_model::Body;
+use fk_model::{Body, Fault};
 use fk_store_cells::objects::{Hints, Objects, Told};
 
 /// All objects to which a body leads are told of its key; what the others lead to was told before.
@@ -26,6 +26,17 @@ pub fn tell(objects: &mut Objects, key: u32, body: &Body)
     }
     tell_field(objects, key, led(body, 2));
     tell_field(objects, key, led(body, 5));
+}
+
+/// Who has taken the fault of the thread under a key is told of its key; what that and the others lead to else was told before.
+pub fn tell_fault(objects: &mut Objects, key: u32, fault: Option<Fault>)
+    requires here { HasFault objects.old key fault }
+    requires served { (b : Body) (l : Lead) → body_under objects.old key ≡ Some b → leads_of.led b 2 ≡ Some l → IsTold objects.old l key }
+    requires others { (j : ℕ) (b : Body) (i : ℕ) (l : Lead) → j ≢ key → body_under objects.old j ≡ Some b → leads_of.led b i ≡ Some l → IsTold objects.old l j }
+    ensures told { AreTold objects.new }
+    ensures same { Retells objects.old objects.new }
+{
+    tell_field(objects, key, led_by_fault(fault, 5));
 }
 
 /// An object is told of a key that leads there like this, if it does.

@@ -18,11 +18,10 @@ use Rattle.fk_waits.specs.Causes.Names.{is_same}
 use Rattle.fk_plans.specs.declared.wakes.touching.Touched.TheVariants.{Few}
 use Rattle.fk_turns.specs.declared.whys.whys.Why.{Why}
 use Rattle.fk_turns.specs.declared.whys.whys.Why.TheVariants as whys
-use Rattle.fk_turns.specs.Whys.Whys.{IsAt, IsStill, IsWhy}
+use Rattle.fk_turns.specs.Whys.Whys.{IsAt, IsLoudly, IsStill, IsWhy}
 use Rattle.fk_turns.proofs.InWhys.Apart.{is_barred_why, key_there, why_calm}
 use Rattle.fk_turns.proofs.InWhys.Calmly.{instructions_calm, is_on}
 use Rattle.laws_waits.specs.Calm.{AreCalm}
-use Rattle.laws_waits.specs.Complete.{HasReason}
 use Rattle.fk_turns.specs.Moved.Told.{is_going, runs_on_at, IsMadeTo, IsRunning, IsStored, IsToldOf, ToldQuiet}
 use Rattle.fk_turns.proofs.InMoved.Told.{same_name, stays, taken_off, user_there}
 
@@ -96,7 +95,7 @@ module _ (m n : Contents) (mover : Who) (pick : Option Path) (old : IsStored m) 
           (subst (λ (x : Path). IsAt (world n) x (place_of m key)) (sym (leads who there))
           (subst (λ (u : World). IsAt u (place_of m who) (place_of m key)) (sym made.step) now))
       by whys.Loud none was now =
-          subst (λ (x : Path). HasReason (world n) x) (sym (leads who there)) (subst (λ (u : World). HasReason u (place_of m who)) (sym made.step) now)
+          subst (λ (x : Path). IsLoudly (world n) x) (sym (leads who there)) (subst (λ (u : World). IsLoudly u (place_of m who)) (sym made.step) now)
       by whys.Barred none was now = absurd (none refl)
 
 pub told_quiet : ToldQuiet

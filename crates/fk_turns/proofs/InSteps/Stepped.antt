@@ -77,7 +77,7 @@ has_room m n mover touched waits marks kept moved seat = record {
 -- ---- a move
 
 module _ (m n : Contents) (move : Move) (ask : Ask) (valid : IsValid (world m)) (few : (world m).next ≤ depth) (fit : is_fit_move m move ask ≡ true) where
-  kept_valid : (said : Said) → IsStepTo m move ask n said → IsValid (world n)
+  pub kept_valid : (said : Said) → IsStepTo m move ask n said → IsValid (world n)
   kept_valid said is = subst IsValid (ap (λ (s : Step). s.world) is)
       (step_keeps_valid_lem (world m) (place (path m) move.who) (picked_by (path m) move.pick) ask valid few fit)
 
@@ -129,7 +129,7 @@ module _ (m n : Contents) (move : Move) (ask : Ask) (valid : IsValid (world m)) 
         record { before = m; kept = kept; moved = moved; room = has_room m n move.who touched waits marks kept moved seat }
 
     -- the name that is told is the one that the move leaves
-    put_by : (waits : Lists) → IsReadyMove m move ask → TellsTouched m move ask touched →
+    pub put_by : (waits : Lists) → IsReadyMove m move ask → TellsTouched m move ask touched →
         (is_user_at n (now_named move.who touched) ≡ true → IsPlaced n (standing waits) (now_named move.who touched)) → IsPut m move ask n (standing waits)
     put_by waits ready told placed =
         subst (λ (w : Who). is_user_at n w ≡ true → IsPlaced n (standing waits) w)

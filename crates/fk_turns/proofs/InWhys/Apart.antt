@@ -36,7 +36,7 @@ use Rattle.laws_waits.proofs.Unready.{stuck_is_unready_lem}
 use Rattle.fk_turns.specs.declared.whys.whys.Why.{Why}
 use Rattle.fk_turns.specs.declared.whys.whys.Why.TheVariants as whys
 use Rattle.fk_turns.specs.Whys.Staying.{AreMild, IsMild, ReasonsStay}
-use Rattle.fk_turns.specs.Whys.Whys.{IsAt, IsOwn, IsReadAt, IsStill, IsWhy}
+use Rattle.fk_turns.specs.Whys.Whys.{is_loud_reason, IsAt, IsOwn, IsReadAt, IsStill, IsWhy}
 
 -- ---- what a mild change leaves
 
@@ -265,6 +265,25 @@ is_barred_why whys.Barred = true
 is_barred_why whys.Still = false
 is_barred_why other = false
 
+pub own_named : (r : Reason) → IsOwn r → is_barred r ≡ false
+own_named Resting own = refl
+own_named (Sleeping c m) own = refl
+own_named Barred own = absurd own
+own_named r own = absurd own
+
+pub read_named : (x key : Path) (r : Reason) → IsReadAt x key r → is_barred r ≡ false
+read_named x key (Beneath space) read = refl
+read_named x key (Locking m) read = refl
+read_named x key (Connecting h port) read = refl
+read_named x key Barred read = absurd read
+read_named x key r read = absurd read
+
+pub loud_named : (r : Reason) → is_loud_reason r ≡ true → is_barred r ≡ false
+loud_named (Locking m) loud = absurd (cc)
+loud_named Barred loud = absurd (cc)
+loud_named Resting loud = refl
+loud_named r loud = refl
+
 none_some : {A X : Type 0} (a : A) → None ≡ Some a → X
 none_some a is = absurd (cc)
 
@@ -302,26 +321,13 @@ module _ (w : World) (me : Path) (t : Thread) (g : List ℕ) (there : thread_at 
   stuck_after pick ask calm r stuck named =
       moves_leave_stuck_lem w x r me pick ask stuck (calm_touches_nobody_lem w me (listed (outcome w me pick ask)) x r calm stuck (apart_by r stuck named))
 
-  own_named : (r : Reason) → IsOwn r → is_barred r ≡ false
-  own_named Resting own = refl
-  own_named (Sleeping c m) own = refl
-  own_named Barred own = absurd own
-  own_named r own = absurd own
-
-  read_named : (key : Path) (r : Reason) → IsReadAt x key r → is_barred r ≡ false
-  read_named key (Beneath space) read = refl
-  read_named key (Locking m) read = refl
-  read_named key (Connecting h port) read = refl
-  read_named key Barred read = absurd read
-  read_named key r read = absurd read
-
   -- leaves every reason of another
   pub why_calm : (pick : Option Path) (ask : Ask) → AreCalm w me (listed (outcome w me pick ask)) → (p : ℕ → Path) (why : Why) → is_barred_why why ≡ false →
       IsWhy w p x why → IsWhy (step w me pick ask).world p x why
   why_calm pick ask calm p whys.Still some is =
       record { reason = is.reason; stuck = stuck_after pick ask calm is.reason is.stuck (own_named is.reason is.own); own = is.own }
   why_calm pick ask calm p (whys.At key) some is =
-      record { reason = is.reason; stuck = stuck_after pick ask calm is.reason is.stuck (read_named (place p key) is.reason is.read); read = is.read }
+      record { reason = is.reason; stuck = stuck_after pick ask calm is.reason is.stuck (read_named x (place p key) is.reason is.read); read = is.read }
   why_calm pick ask calm p whys.Loud some is =
-      record { reason = is.reason; stuck = stuck_after pick ask calm is.reason is.stuck is.named; named = is.named }
+      record { reason = is.reason; stuck = stuck_after pick ask calm is.reason is.stuck (loud_named is.reason is.loud); loud = is.loud }
   why_calm pick ask calm p whys.Barred some is = let off : true ≡ false = some in absurd (cc)

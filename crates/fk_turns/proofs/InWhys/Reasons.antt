@@ -41,13 +41,14 @@ use Rattle.fk_store.specs.Store.Names.{at}
 use Rattle.fk_store.specs.Store.Paths.{path, place, space_at}
 use Rattle.fk_store.specs.Store.World.{world}
 use Rattle.laws_waits.specs.Stuck.{is_held, is_resting, IsAtStage}
-use Rattle.laws_waits.specs.Stuck.Reason.{Beneath, Connecting, Locking, Resting, Sleeping}
-use Rattle.laws_waits.specs.Complete.{is_outer, HasReason, IsWholeWorld}
+use Rattle.laws_waits.specs.Stuck.{Reason, IsStuck}
+use Rattle.laws_waits.specs.Stuck.Reason.{Barred, Beneath, Connecting, Locking, Resting, Sleeping}
+use Rattle.laws_waits.specs.Complete.{is_barred, is_outer, HasReason, IsWholeWorld}
 use Rattle.laws_waits.proofs.Complete.{has_reason}
 use Rattle.fk_turns.specs.declared.whys.whys.Why.{Why}
 use Rattle.fk_turns.specs.declared.whys.whys.Why.TheVariants as whys
 use Rattle.fk_turns.specs.Whys.Causes.{named, outermost_held}
-use Rattle.fk_turns.specs.Whys.Whys.{IsAt, IsKnown, IsLocked, IsStill, IsThere, IsWhy}
+use Rattle.fk_turns.specs.Whys.Whys.{is_lock_stage, IsAt, IsKnown, IsLocked, IsLoudly, IsStill, IsThere, IsWhy}
 
 -- the first stage of a call, and that there is none where the registers name none
 pub first_shown : (g : List ℕ) (call : Todo) (stage : Stage) → Some (stages_of call) ≡ todo_of g →
@@ -236,9 +237,23 @@ whole m (k ∷ s) = by (space_at m s)
     by None = refl
     by (Some n) = there (get m.bodies (at n k))
 
-pub loud : (m : Contents) (k : ℕ) (s : Path) (t : Thread) → IsValid (world m) → (world m).next ≤ depth → ((q : Path) → decider (world m) q ≡ None) →
-    Some t ≡ thread_at (world m) (k ∷ s) → IsSome (first_stage t.mode) → ((pick : Option Path) → IsReady (world m) (k ∷ s) pick asks.Run → ⊥) →
-    HasReason (world m) (k ∷ s)
-loud m k s t valid few unheld there busy unready =
-    has_reason (world m) k s t valid few (whole m) unheld (sym there)
-    (λ rest is. let off : false ≡ true = sym (ap (λ (m : Mode). is_some (first_stage m)) is) ∙ busy in absurd (cc)) unready
+pub loud : (m : Contents) (k : ℕ) (s : Path) (t : Thread) (stage : Stage) → IsValid (world m) → (world m).next ≤ depth → ((q : Path) → decider (world m) q ≡ None) →
+    Some t ≡ thread_at (world m) (k ∷ s) → first_stage t.mode ≡ Some stage → is_lock_stage stage ≡ false →
+    ((pick : Option Path) → IsReady (world m) (k ∷ s) pick asks.Run → ⊥) → IsLoudly (world m) (k ∷ s)
+loud m k s t stage valid few unheld there first other unready = by found.reason found.stuck found.named
+  where
+    found : HasReason (world m) (k ∷ s)
+    found = has_reason (world m) k s t valid few (whole m) unheld (sym there)
+        (λ rest is. let off : false ≡ true = sym (ap (λ (m : Mode). is_some (first_stage m)) is) ∙ ap is_some first in absurd (cc)) unready
+
+    locks_at : Option Stage → Bool
+    locks_at o = holds is_lock_stage o
+
+    at : IsAtStage (world m) (k ∷ s) stage
+    at = at_stage (world m) (k ∷ s) t stage there first
+
+    by : (r : Reason) → IsStuck (world m) (k ∷ s) r → is_barred r ≡ false → IsLoudly (world m) (k ∷ s)
+    by (Locking mutex) stuck named = let off : false ≡ true = sym other ∙ ap locks_at (sym at ∙ stuck.0) in absurd (cc)
+    by Barred stuck named = absurd (cc)
+    by Resting stuck named = record { reason = Resting; stuck = stuck; loud = refl }
+    by r stuck named = record { reason = r; stuck = stuck; loud = refl }

@@ -47,7 +47,7 @@ fn name_now(mover: Who, touched: &Touched) -> Who
 }
 
 /// A user's thread stands last of the ready where a move of it is ready, and else last of the queued.
-fn put(turns: &mut Turns, store: &Store, who: Who)
+pub fn put(turns: &mut Turns, store: &Store, who: Who)
     requires valid { IsValid (world store.now) }
     requires kept { AreKept store.now turns.old.waits turns.old.marks }
     ensures kept { AreKept store.now turns.new.waits turns.new.marks }

@@ -66,7 +66,7 @@ pub fn after_on(turns: &mut Turns, store: &Store, mover: Who)
 
 /// Who moved can move, and went from first to last, and nobody else need be looked at; or all is as it was.
 #[inline(always)]
-fn turns_on(turns: &mut Turns, store: &Store, mover: Who) -> bool
+pub fn turns_on(turns: &mut Turns, store: &Store, mover: Who) -> bool
     requires valid { IsValid (world store.now) }
     requires on { is_under_way_at store.now mover ≡ true }
     requires sound { IsSound turns.old.waits turns.old.marks }
@@ -520,9 +520,22 @@ fn is_same(one: Who, other: Who) -> bool
     one == other
 }
 
-/// A user's thread runs, or after what was no instruction is in a call that waits for nobody, and nothing keeps it, as far as is seen at once.
+/// A user's thread runs, or after what was no instruction is in a call in which it can move, as far as is seen at once.
 #[inline(always)]
 fn goes_on(store: &Store, who: Who, ran: bool) -> bool
+    ensures up { OnTrue result (IsMoveReady (world store.now) (place_of store.now who)) }
+    ensures user { OnTrue result (is_user_at store.now who ≡ true) }
+    ensures on { OnTrue result (ran ≡ true → runs_on_at store.now who ≡ true) }
+{
+    if is_going(store, who, ran) {
+        return true;
+    }
+    locks_free(store, who, ran)
+}
+
+/// A user's thread runs, or after what was no instruction is in a call that waits for nobody, and nothing keeps it, as far as is seen at once.
+#[inline(always)]
+fn is_going(store: &Store, who: Who, ran: bool) -> bool
     ensures up { OnTrue result (IsMoveReady (world store.now) (place_of store.now who)) }
     ensures user { OnTrue result (is_user_at store.now who ≡ true) }
     ensures on { OnTrue result (ran ≡ true → runs_on_at store.now who ≡ true) }
@@ -534,6 +547,21 @@ fn goes_on(store: &Store, who: Who, ran: bool) -> bool
         Some(thread) => keeps_on(thread, ran),
         None => false,
     }
+}
+
+/// After what was no instruction it is at the lock of a mutex that isn't locked, while nothing is held.
+fn locks_free(store: &Store, who: Who, ran: bool) -> bool
+    ensures up { OnTrue result (IsMoveReady (world store.now) (place_of store.now who)) }
+    ensures user { OnTrue result (is_user_at store.now who ≡ true) }
+    ensures on { OnTrue result (ran ≡ true → runs_on_at store.now who ≡ true) }
+{
+    if ran {
+        return false;
+    }
+    if store.is_any_held() {
+        return false;
+    }
+    fk_calls::may_lock(store, who)
 }
 
 /// It isn't stopped and has no fault, and runs, or is in such a call.

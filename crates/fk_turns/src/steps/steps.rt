@@ -5,16 +5,18 @@ ghost use Rattle.fk_model.specs.declared.moves.Ask.TheVariants as asks;
 ghost use Rattle.fk_model.specs.Valid.{IsValid};
 ghost use Rattle.fk_plans.specs.Answers.Rooms.{IsRoom};
 ghost use Rattle.fk_plans.specs.Plans.Hearers.{IsPadded};
-ghost use Rattle.fk_store.specs.Store.World.{world};
+ghost use Rattle.fk_store.specs.Store.World.{world, place_of};
 ghost use Rattle.fk_turns.specs.Next.Judgements.{is_fit_move, may_lack, IsEnded, IsHeardBy, IsReadyMove, IsStepTo};
 ghost use Rattle.fk_turns.specs.Next.Tellings as calls;
 ghost use Rattle.fk_turns.specs.Next.Sayings.{told_by};
 ghost use Rattle.fk_turns.specs.Next.Tried.{tried_of, IsMade, HasEnded, IsTold, IsToldPadded, IsUnready};
 ghost use Rattle.fk_turns.specs.Moved.Kept.{is_user_at, AreKept};
 ghost use Rattle.fk_turns.specs.Moved.Moved.{now_named};
-ghost use Rattle.fk_turns.specs.Next.Waiting.{standing, ComesAfter, IsPlaced};
+ghost use Rattle.fk_turns.specs.Next.Waiting.{standing, ComesAfter, IsMoveReady, IsPlaced};
+ghost use Rattle.fk_turns.specs.Steps.Classes.{is_made};
 ghost use Rattle.fk_turns.specs.Steps.Steps.{was_made, ComesByPorter, IsPut, MayBeQuiet};
 
+use crate::steps::going::{Gone, go_stage};
 use crate::steps::plain::{after_call, after_off, after_on, after_plain, after_stay};
 use crate::steps::room::{reserve_for, reserve_for_stage, seat_for};
 use fk_calls::{Ran, Sent, Told};
@@ -183,18 +185,19 @@ fn is_done(made: &Result<bool, NoMemory>) -> bool
     }
 }
 
-/// Makes the next instruction of the user in a slot, or the next stage of its call where that tells nothing, and keeps the lists.
-pub fn proceed(store: &mut Store, turns: &mut Turns, who: Who) -> bool
+/// Makes the next instruction of the user in a slot, or the next stage of its call where that is made by one look or tells nothing, and keeps the lists.
+pub fn proceed(store: &mut Store, turns: &mut Turns, who: Who) -> Gone
     requires valid { IsValid (world store.old) }
     requires kept { AreKept store.old turns.old.waits turns.old.marks }
-    ensures made { OnTrue result (IsReadyMove store.old (record { who = who; pick = None }) asks.Run
+    ensures made { OnTrue (is_made result) (IsReadyMove store.old (record { who = who; pick = None }) asks.Run
         × IsStepTo store.old (record { who = who; pick = None }) asks.Run store.new Said.Nothing) }
-    ensures ended { OnTrue result (IsEnded store.old store.new None) }
-    ensures same { OnFalse result (store.new ≡ store.old) }
+    ensures ended { OnTrue (is_made result) (IsEnded store.old store.new None) }
+    ensures waits { result ≡ Gone.Waits → IsMoveReady (world store.old) (place_of store.old who) → ⊥ }
+    ensures same { OnFalse (is_made result) (store.new ≡ store.old) }
     ensures valid { IsValid (world store.new) }
     ensures kept { AreKept store.new turns.new.waits turns.new.marks }
-    ensures placed { OnTrue result (IsPut store.old (record { who = who; pick = None }) asks.Run store.new (standing turns.new.waits)) }
-    ensures still { OnFalse result (standing turns.new.waits ≡ standing turns.old.waits) }
+    ensures placed { OnTrue (is_made result) (IsPut store.old (record { who = who; pick = None }) asks.Run store.new (standing turns.new.waits)) }
+    ensures still { OnFalse (is_made result) (standing turns.new.waits ≡ standing turns.old.waits) }
 {
     store.names();
     let ran = fk_calls::run(store, who);
@@ -203,19 +206,50 @@ pub fn proceed(store: &mut Store, turns: &mut Turns, who: Who) -> bool
     match ran {
         Ran::On => {
             after_on(turns, store, who);
-            true
+            Gone::Made
         }
         Ran::Off => {
             after_off(turns, store, who);
-            true
+            Gone::Made
         }
-        Ran::Not => proceed_stage(store, turns, who),
+        Ran::Not => go_stage(store, turns, who),
     }
 }
 
-/// The same of the next stage of its call.
+/// The same of the user that has moved last. An instruction leaves it where it stands among the ready, so that the lists aren't written: who moves on and on
+/// isn't to be put last each time.
+pub fn proceed_on(store: &mut Store, turns: &mut Turns, who: Who) -> Gone
+    requires valid { IsValid (world store.old) }
+    requires kept { AreKept store.old turns.old.waits turns.old.marks }
+    ensures made { OnTrue (is_made result) (IsReadyMove store.old (record { who = who; pick = None }) asks.Run
+        × IsStepTo store.old (record { who = who; pick = None }) asks.Run store.new Said.Nothing) }
+    ensures ended { OnTrue (is_made result) (IsEnded store.old store.new None) }
+    ensures waits { result ≡ Gone.Waits → IsMoveReady (world store.old) (place_of store.old who) → ⊥ }
+    ensures same { OnFalse (is_made result) (store.new ≡ store.old) }
+    ensures valid { IsValid (world store.new) }
+    ensures kept { AreKept store.new turns.new.waits turns.new.marks }
+    ensures still { OnFalse (is_made result) (standing turns.new.waits ≡ standing turns.old.waits) }
+{
+    store.names();
+    let ran = fk_calls::run(store, who);
+    // And so they do in the world that it leaves.
+    store.names();
+    match ran {
+        Ran::On => {
+            after_stay(turns, store, who);
+            Gone::Made
+        }
+        Ran::Off => {
+            after_off(turns, store, who);
+            Gone::Made
+        }
+        Ran::Not => go_stage(store, turns, who),
+    }
+}
+
+/// Makes the next stage of the user in a slot, where that tells nothing, and keeps the lists.
 #[inline(never)]
-fn proceed_stage(store: &mut Store, turns: &mut Turns, who: Who) -> bool
+pub fn proceed_stage(store: &mut Store, turns: &mut Turns, who: Who) -> bool
     requires valid { IsValid (world store.old) }
     requires kept { AreKept store.old turns.old.waits turns.old.marks }
     ensures made { OnTrue result (IsReadyMove store.old (record { who = who; pick = None }) asks.Run
@@ -237,36 +271,6 @@ fn proceed_stage(store: &mut Store, turns: &mut Turns, who: Who) -> bool
     store.names();
     after_plain_if(turns, store, made, who, &touched, false);
     made
-}
-
-/// The same of the user that has moved last. An instruction leaves it where it stands among the ready, so that the lists aren't written: who moves on and on
-/// isn't to be put last each time.
-pub fn proceed_on(store: &mut Store, turns: &mut Turns, who: Who) -> bool
-    requires valid { IsValid (world store.old) }
-    requires kept { AreKept store.old turns.old.waits turns.old.marks }
-    ensures made { OnTrue result (IsReadyMove store.old (record { who = who; pick = None }) asks.Run
-        × IsStepTo store.old (record { who = who; pick = None }) asks.Run store.new Said.Nothing) }
-    ensures ended { OnTrue result (IsEnded store.old store.new None) }
-    ensures same { OnFalse result (store.new ≡ store.old) }
-    ensures valid { IsValid (world store.new) }
-    ensures kept { AreKept store.new turns.new.waits turns.new.marks }
-    ensures still { OnFalse result (standing turns.new.waits ≡ standing turns.old.waits) }
-{
-    store.names();
-    let ran = fk_calls::run(store, who);
-    // And so they do in the world that it leaves.
-    store.names();
-    match ran {
-        Ran::On => {
-            after_stay(turns, store, who);
-            true
-        }
-        Ran::Off => {
-            after_off(turns, store, who);
-            true
-        }
-        Ran::Not => proceed_stage(store, turns, who),
-    }
 }
 
 /// Makes the next stage of the user in a slot, where that sends words to a native server, as `next::say` does, and keeps the lists.

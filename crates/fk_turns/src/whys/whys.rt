@@ -1,5 +1,5 @@
 //! Reasons.
-ghost use Rattle.std.specs.Prelude.{◌≡◌, ℕ, Option, None, Some, false, IfSome, IsSome, is_some};
+ghost use Rattle.std.specs.Prelude.{◌≡◌, ℕ, Option, None, Some, false, IfSome, is_some};
 ghost use Rattle.std.specs.Bool.{OnTrue};
 ghost use Rattle.fk_model.specs.declared.moves.Ask.TheVariants as asks;
 ghost use Rattle.fk_model.specs.declared.names.Kind.TheVariants as kinds;
@@ -15,7 +15,7 @@ ghost use Rattle.fk_store.specs.Store.World.{world};
 ghost use Rattle.laws_waits.specs.Stuck as stuck;
 ghost use Rattle.laws_waits.specs.Stuck.{IsAtStage};
 ghost use Rattle.fk_turns.specs.Whys.Causes.{cause_at};
-ghost use Rattle.fk_turns.specs.Whys.Whys.{IsAt, IsKnown, IsLocked, IsThere, IsWhy};
+ghost use Rattle.fk_turns.specs.Whys.Whys.{is_lock_stage, IsAt, IsKnown, IsLocked, IsThere, IsWhy};
 
 use crate::whys::causes::{named, outermost_held};
 use crate::whys::stages::{first_stage, is_user};
@@ -151,21 +151,25 @@ fn in_call(store: &Store, who: Who, thread: &Thread) -> Why
     ensures { IsKnown (world store.now) (path store.now) (place (path store.now) who) result }
 {
     match first_stage(thread) {
-        Some(stage) => known_or(store, who, thread, at_stage(store, who, thread, stage)),
+        Some(stage) => known_or(store, who, thread, stage, at_stage(store, who, thread, stage)),
         None => Why::Barred,
     }
 }
 
-/// Where that isn't known, and nothing is held, there is a reason that no instruction of another ends.
-fn known_or(store: &Store, who: Who, thread: &Thread, why: Why) -> Why
+/// Where that isn't known at this stage of it, and nothing is held, there is a reason that no instruction of another ends. Who locks a mutex waits for that
+/// alone, and is found there.
+fn known_or(store: &Store, who: Who, thread: &Thread, stage: Stage, why: Why) -> Why
     requires valid { IsValid (world store.now) }
     requires there { Some (thread_by (path store.now) thread.now) ≡ thread_at (world store.now) (place (path store.now) who) }
-    requires busy { IsSome (talks.first_stage (thread_by (path store.now) thread.now).mode) }
+    requires stage { talks.first_stage (thread_by (path store.now) thread.now).mode ≡ Some stage }
     requires known { IsKnown (world store.now) (path store.now) (place (path store.now) who) why }
     ensures { IsKnown (world store.now) (path store.now) (place (path store.now) who) result }
 {
     match why {
         Why::Barred => {
+            if locks(stage) {
+                return Why::Barred;
+            }
             if store.is_any_held() {
                 return Why::Barred;
             }
@@ -173,6 +177,16 @@ fn known_or(store: &Store, who: Who, thread: &Thread, why: Why) -> Why
             Why::Loud
         }
         Why::Still | Why::At { .. } | Why::Loud => why,
+    }
+}
+
+/// A stage locks a mutex.
+fn locks(stage: Stage) -> bool
+    ensures { result ≡ is_lock_stage stage }
+{
+    match stage {
+        Stage::MutexLock { .. } => true,
+        _ => false,
     }
 }
 

@@ -104,6 +104,21 @@ room_so first s t past l count room run moves made wide =
     let budget = run.budget in
     omega (arith, events, counted, long, within, budget, wide, made)
 
+-- the same of so many moves of one mover
+pub room_by : (first s t : Shown) (past : List Move) (times room : ℕ) (m : Move) → HasRun first past s → MovesSo s (replicate times m) t →
+    first.budget ≤ room → length past + times ≤ room
+room_by first s t past times room m run moves wide =
+    let events = run.events in
+    let counted = moves.events in
+    let long : length (replicate times m) ≡ times = long_replicate times m in
+    let within = moves.within in
+    let budget = run.budget in
+    omega (arith, events, counted, long, within, budget, wide)
+
+pub longer_by : (past longer : List Move) (times : ℕ) (m : Move) → longer ≡ past ++ replicate times m → length longer ≡ length past + times
+longer_by past longer times m is =
+    ap length is ∙ (length-append past (replicate times m) ∙ ap (λ n. length past + n) (long_replicate times m))
+
 -- the events of a run are within its budget
 pub within_now : (first s : Shown) (past : List Move) → HasRun first past s → s.core.events ≤ s.budget
 within_now first s past run =

@@ -8,6 +8,7 @@ use Rattle.fk_burst.specs.Burst.Lease.{Lease}
 use Rattle.laws_house.specs.Houses.{Job}
 use Rattle.laws_runs.specs.Cores.{IsRun}
 use Rattle.fk_core.specs.Cores.Events.{is_who}
+pub use Rattle.fk_core.specs.Cores.Bursts.{mover_of}
 use Rattle.fk_core.specs.Cores.Cores.{RunCore, house, may_lack, porter_of, IsReadyMove, IsTurned, IsOver}
 use Rattle.fk_core.specs.Cores.Goings.{IsFirstCore, HasCome}
 
@@ -57,6 +58,11 @@ pub record MovesSo (s : Shown) (ms : List Move) (t : Shown) : Type 0 where
   pub within : t.core.events ≤ s.budget
   pub jobs : t.jobs ≡ s.jobs
   pub budget : t.budget ≡ s.budget
+
+-- what comes of so many moves of one mover, at least one and at most so many, or of none
+abbrev pub ComesBy : Shown → ℕ → Option (Move × ℕ) → Shown → Type 0
+ComesBy s most None t = t ≡ s
+ComesBy s most (Some made) t = (0 < made.1) × (made.1 ≤ most) × MovesSo s (replicate made.1 made.0) t
 
 -- the moves of a lease
 abbrev pub moves_of : Lease → List Move

@@ -1,5 +1,5 @@
 -- What contracts see of a book, and what becomes of it.
-use Rattle.std.specs.Prelude.{◌≡◌, ◌⊎◌, ℕ, ◌%◌, true, List, [], ◌∷◌, ◌++◌, refl}
+use Rattle.std.specs.Prelude.{◌≡◌, ◌⊎◌, ℕ, ◌%◌, true, List, [], ◌∷◌, ◌++◌, replicate, refl}
 use Rattle.std.specs.Coded.{Coded, code_by, coded×, coded_list}
 use Rattle.fk_model.specs.declared.moves.Move.{Move}
 use Rattle.fk_model.specs.contracts.moves.Move as move
@@ -44,6 +44,10 @@ module _ {C : Type 0} (shown : C → Shown) where
     pub boot : d.boot ≡ b.boot
     pub moved : MovesSo (shown b.core) ms (shown d.core)
     pub history : d.history ≡ b.history ++ ms
+
+  -- it has so many moves of one mover more
+  abbrev pub HasMadeSo : Told C → ℕ → Told C → Type 0
+  HasMadeSo b times d = (m : Move) × HasMore b (replicate times m) d
 
   abbrev pub HasOneMore : Told C → Told C → Type 0
   HasOneMore b d = (m : Move) × IsOneMore b m d

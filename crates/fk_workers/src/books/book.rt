@@ -3,7 +3,7 @@ ghost use Rattle.std.specs.Prelude.{◌≡◌, ◌+◌, ◌≤◌, ◌<◌, [], 
 ghost use Rattle.std.specs.Bool.{OnTrue, OnFalse};
 ghost use Rattle.fk_core.specs.Cores.Served.{AllFit};
 ghost use Rattle.fk_workers.specs.Books.Shown.{IsSound, MayMove, MayLack, SomeMayLack, MayBurst, moves_of, HasEnded};
-ghost use Rattle.fk_workers.specs.Books.Told.{Told, IsKept, IsSame, IsOneMore, HasMore, HasOneMore, TakesDue, BeginsDue, MakesLease, GoesOn};
+ghost use Rattle.fk_workers.specs.Books.Told.{Told, IsKept, IsSame, IsOneMore, HasMadeSo, HasMore, HasOneMore, TakesDue, BeginsDue, MakesLease, GoesOn};
 
 use crate::books::playable::{Lent, Playable, WORKERS};
 use fk_burst::{Leased, count};
@@ -148,6 +148,34 @@ impl<C: Playable + Drop> Book<C> {
         }
     }
 
+    /// Makes moves of one mover, at least one and at most so many, and answers how many: none exactly where the core has ended. Then, and for want of
+    /// memory, all is as before.
+    ///
+    /// # Errors
+    ///
+    /// There is no memory for what the move makes, or for what is told of it. So it is only where a move may be made that may want some.
+    #[tactic(auto, using(crate::proofs::InBooks::Runs::come, crate::proofs::InBooks::Runs::fits_now, crate::proofs::InBooks::Runs::same_run, crate::proofs::InBooks::Runs::goes_not, crate::proofs::InBooks::Bursting::goes_so))]
+    fn some(&mut self, table: &Table, most: u64) -> Result<u64, NoMemory>
+        requires some { 0 < most }
+        requires fits { AllFit (map (λ r. r.rule) table.now.list.items) (C.shown self.old.boot).core.servers }
+        ensures kept { IsKept C.shown self.old × IsKept C.shown self.new }
+        ensures goes { GoesOn self.old self.new }
+        ensures made { IfOk result (λ made. (made ≤ most) × (0 < made → HasMadeSo C.shown self.old made self.new)) }
+        ensures longer { IfOk result (λ made. length self.new.history ≡ length self.old.history + made) }
+        ensures ended { IfOk result (λ made. made ≡ 0 → HasEnded (C.shown self.new.core)) }
+        ensures same { IfOk result (λ made. made ≡ 0 → IsSame C.shown self.old self.new) }
+        ensures lacking { OnErr result (IsSame C.shown self.old self.new) }
+        ensures lacks { OnErr result (SomeMayLack (C.shown self.old.core)) }
+    {
+        match self.core.make_some(table, most)? {
+            Some((m, times)) => {
+                self.history.add(m, times);
+                Ok(times)
+            }
+            None => Ok(0),
+        }
+    }
+
     /// Makes this move where it is ready and the budget has one more, and answers whether it was made. Where it wasn't, and for want of memory, all is
     /// as before.
     ///
@@ -270,10 +298,16 @@ impl<C: Playable + Drop> Book<C> {
         ensures goes { GoesOn self.old self.new }
         ensures most { length self.new.history ≤ length self.old.history + most }
     {
+        let mut left = u64::from(most);
         for _ in 0..most {
-            if !self.one(table)? {
+            if left == 0 {
                 return Ok(());
             }
+            let made = self.some(table, left)?;
+            if made == 0 {
+                return Ok(());
+            }
+            left -= made;
         }
         Ok(())
     }

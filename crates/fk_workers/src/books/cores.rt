@@ -25,6 +25,11 @@ impl<S: Service + Drop, W: Worker + Drop> Playable for Core<S, W> {
         self.advance(table)
     }
 
+    #[tactic(auto, using(crate::proofs::InBooks::Coming::has_come_by, crate::proofs::InBooks::Coming::has_ended_by, crate::proofs::InBooks::Coming::stays, crate::proofs::InBooks::Coming::was_first_by, crate::proofs::InBooks::Coming::some_lacked))]
+    fn make_some(&mut self, table: &Table, most: u64) -> Result<Option<(Move, u64)>, NoMemory> {
+        self.advance_by(table, most)
+    }
+
     #[tactic(auto, using(crate::proofs::InBooks::Coming::was_made, crate::proofs::InBooks::Coming::was_unready, crate::proofs::InBooks::Coming::was_same, crate::proofs::InBooks::Coming::was_lacking, crate::proofs::InBooks::Coming::lacked))]
     fn make(&mut self, table: &Table, m: &Move) -> Result<bool, NoMemory> {
         if self.is_below_budget() {

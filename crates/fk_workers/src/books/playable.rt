@@ -1,8 +1,8 @@
 //! What a book asks of its core.
-ghost use Rattle.std.specs.Prelude.{◌≡◌, ◌≤◌, map, IfOk, OnErr, IfNone};
+ghost use Rattle.std.specs.Prelude.{◌≡◌, ◌≤◌, ◌<◌, map, IfOk, OnErr, IfNone};
 ghost use Rattle.std.specs.Bool.{OnTrue, OnFalse};
 ghost use Rattle.fk_core.specs.Cores.Served.{AllFit};
-ghost use Rattle.fk_workers.specs.Books.Shown.{Shown, MayMove, MayLack, SomeMayLack, MayBurst, HasEnded, Moves, MovesSo, moves_of, Comes, IsFirstDue, HasComeTo};
+ghost use Rattle.fk_workers.specs.Books.Shown.{Shown, MayMove, MayLack, SomeMayLack, MayBurst, HasEnded, Moves, MovesSo, moves_of, mover_of, Comes, ComesBy, IsFirstDue, HasComeTo};
 
 use fk_burst::Leased;
 use fk_model::{Move, NoMemory, Who};
@@ -38,6 +38,19 @@ pub trait Playable {
         ensures comes { IfOk result (λ made. Comes (shown self.old) made (shown self.new)) }
         ensures none { IfOk result (λ made. IfNone made (HasEnded (shown self.new))) }
         ensures first { IfOk result (λ made. IsFirstDue (shown self.old) made) }
+        ensures lacking { OnErr result (shown self.new ≡ shown self.old) }
+        ensures lacks { OnErr result (SomeMayLack (shown self.old)) };
+
+    /// Makes moves of one mover that are ready, at least one and at most so many, and gives whose and how many: at an even number of moves a due
+    /// job's where one is ready. There is none exactly where none is ready or the budget is used. Then, and for want of memory, all is as before.
+    /// Memory lacks only where a move may be made that may want it.
+    fn make_some(&mut self, table: &Table, most: u64) -> Result<Option<(Move, u64)>, NoMemory>
+        requires some { 0 < most }
+        requires come { HasComeTo (shown self.old) }
+        requires fits { AllFit (map (λ r. r.rule) table.now.list.items) (shown self.old).core.servers }
+        ensures comes { IfOk result (λ made. ComesBy (shown self.old) most made (shown self.new)) }
+        ensures none { IfOk result (λ made. IfNone made (HasEnded (shown self.new))) }
+        ensures first { IfOk result (λ made. IsFirstDue (shown self.old) (mover_of made)) }
         ensures lacking { OnErr result (shown self.new ≡ shown self.old) }
         ensures lacks { OnErr result (SomeMayLack (shown self.old)) };
 

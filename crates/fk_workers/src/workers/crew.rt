@@ -29,6 +29,7 @@ fn work_at<R: Wait, G: Gate, C: Playable + Drop>(
     lock: &Ruled<Book<C>>,
     desk: &mut Desk<C>,
     worker: u32,
+    alone: bool,
     table: &Table,
     gate: &G,
 )
@@ -36,7 +37,7 @@ fn work_at<R: Wait, G: Gate, C: Playable + Drop>(
     requires fits { AllFit (map (λ r. r.rule) table.now.list.items) (C.shown desk.old.pass.boot).core.servers }
     ensures same { (desk.new.pass.lock ≡ desk.old.pass.lock) × (desk.new.pass.boot ≡ desk.old.pass.boot) × (desk.new.pass.parts ≡ desk.old.pass.parts) }
 {
-    desk.done = work(rt, lock, &mut desk.pass, worker, table, gate);
+    desk.done = work(rt, lock, &mut desk.pass, worker, alone, table, gate);
 }
 
 /// All work at their desks, each in a thread of its own.
@@ -68,6 +69,7 @@ fn work_all<R: Threads + Wait + Sync, G: Gate + Sync, C: Playable + Drop + Send>
                 lock,
                 desk,
                 u32::try_from(worker).unwrap_or(u32::MAX),
+                threads == 1,
                 table,
                 gate,
             )

@@ -16,14 +16,16 @@ const MOST_STAYS: u32 = 512;
 /// So many turns in a row a worker waits at most where others have all who are ready out. One of them may have failed.
 const WAITS: u32 = 256;
 
-/// Which turns are with a lease. After a short burst 1, 2, 4 .. 16 turns go by without, after a long one none: so a run of messages pays little
-/// for leases.
+/// Which turns are with a lease: none of a worker who is alone. After a short burst 1, 2, 4 .. 16 turns go by without, after a long one
+/// none: so a run of messages pays little for leases.
 #[derive(Clone, Copy)]
 pub(crate) struct Plan {
+    /// No turn is with a lease, since there is no other worker: instructions are made where they stand.
+    alone: bool,
     /// There is a lease to be committed.
     pub(crate) held: bool,
     /// So many turns go by without one.
-    pub(crate) rest: u32,
+    rest: u32,
     /// So many after the next short one.
     next: u32,
     /// So many bursts were made since another thread was sought.
@@ -37,8 +39,9 @@ pub(crate) struct Plan {
 }
 
 impl Plan {
-    pub(crate) fn new() -> Plan {
+    pub(crate) fn new(alone: bool) -> Plan {
         Plan {
+            alone,
             held: false,
             rest: 0,
             next: 1,
@@ -47,6 +50,11 @@ impl Plan {
             last: None,
             waited: 0,
         }
+    }
+
+    /// The next turn may be with a lease.
+    pub(crate) fn leases(&self) -> bool {
+        !self.alone && self.rest == 0
     }
 
     /// The next turn makes no move: all who are ready are out.

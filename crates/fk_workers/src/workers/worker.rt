@@ -15,8 +15,8 @@ use fk_rlock::{Pass, Ruled};
 use std::sync::Wait;
 
 /// Takes turns at the lock, and makes some moves in each, until the run has ended; what it makes of a lease between two turns is committed in
-/// the next one, and one plain move goes with it. Where it is done, the book that its last turn met has ended; that was begun from what the
-/// pass knows, and has as many moves as the pass has then seen. It calls the gate before each turn.
+/// the next one, and one plain move goes with it. A worker who is alone takes no lease. Where it is done, the book that its last turn met has
+/// ended; that was begun from what the pass knows, and has as many moves as the pass has then seen. It calls the gate before each turn.
 ///
 /// # Errors
 ///
@@ -27,6 +27,7 @@ pub fn work<R: Wait, G: Gate, C: Playable + Drop>(
     lock: &Ruled<Book<C>>,
     pass: &mut Pass<Book<C>>,
     worker: u32,
+    alone: bool,
     table: &Table,
     gate: &G,
 ) -> Result<(), NoMemory>
@@ -40,7 +41,7 @@ pub fn work<R: Wait, G: Gate, C: Playable + Drop>(
     let mut turn = 0u64;
     // It is large, so it stays where it is.
     let mut lease = Leased::blank();
-    let mut plan = Plan::new();
+    let mut plan = Plan::new(alone);
     for _ in rt.forever() {
         gate.pass(worker, turn);
         let done = lock.turn(
@@ -142,7 +143,7 @@ fn next_lease<C: Playable + Drop>(
 ) -> Lent
     ensures same { IsSame C.shown book.old book.new }
 {
-    if more && plan.rest == 0 {
+    if more && plan.leases() {
         book.lease(worker, plan.stays < plan.most, lease)
     } else {
         book.rest(worker);

@@ -4,9 +4,8 @@ use Rattle.std.specs.FinMap.{FinMap, get, insert}
 use Rattle.fk_model.specs.declared.names.Who.{Who}
 use Rattle.fk_model.specs.declared.body.Body.{Body}
 use Rattle.fk_model.specs.Places.{Path}
-use Rattle.fk_model.specs.Objects.{kind_of, and_then, thread_of}
-use Rattle.fk_model.specs.Searches.{thread_at}
-use Rattle.fk_model.specs.World.{World, Edit, edited, apply}
+use Rattle.fk_model.specs.Objects.{kind_of}
+use Rattle.fk_model.specs.World.{Edit, edited, apply}
 use Rattle.fk_model.specs.World.Change.{Alter}
 use Rattle.fk_model.specs.Valid.{kind_there}
 use Rattle.fk_store.specs.Store.Names.{who_cmp}
@@ -19,6 +18,7 @@ use Rattle.fk_store.specs.Store.WellFormed.{is_there, IsSized, IsWellFormed}
 use Rattle.fk_store.proofs.InStore.finding.NamedLaws.{OnNamed-map}
 use Rattle.fk_store.proofs.InStore.finding.LookUps.{body-place, there-IsLive}
 use Rattle.fk_store.proofs.InStore.finding.LookUps.{there-IsAtHome}
+use Rattle.fk_store.proofs.InStore.changing.EditLaws.{alter_nothing}
 use Rattle.fk_store.proofs.InStore.changing.Sets.{with_body, set-kept, set-edits, set-kinds, set-paths}
 
 -- the kind, the place and what is named stay
@@ -34,10 +34,9 @@ pub record Changes (m now : Contents) (who : Who) (e : Edit) : Type 0 where
   pub kinds : kind_there (world now) ≡ kind_there (world m)
   pub paths : path now ≡ path m
 
--- what is no thread stays as it is
+-- where nothing is there all stays as it is
 module _ (f : Body → Body) (e : Edit) (edits : (p : ℕ → Path) (b : Body) → edited e (body_by p b) ≡ body_by p (f b))
     (stays : (p : ℕ → Path) (who : Who) (P : Who → Type 0) (b : Body) → Stays f p who P b)
-    (nobody : (w : World) (x : Path) → thread_at w x ≡ None → w ≡ apply (Alter x e) w)
     (m : Contents) (kept : IsWellFormed m) (who : Who) where
   there_changes : (b : Body) → get m.bodies who ≡ Some b → Changes m (with_body m who (f b)) who e
   unfolding kind_there
@@ -66,7 +65,7 @@ module _ (f : Body → Body) (e : Edit) (edits : (p : ℕ → Path) (b : Body) �
   nobody_changes : get m.bodies who ≡ None → Changes m m who e
   nobody_changes none = record {
     kept = kept;
-    step = nobody (world m) (place (path m) who) (ap (and_then thread_of) (body-place m kept who ∙ ap (option_map (body_by (path m))) none));
+    step = alter_nothing (world m) (place (path m) who) e (body-place m kept who ∙ ap (option_map (body_by (path m))) none);
     kinds = refl;
     paths = refl;
   }

@@ -1,4 +1,4 @@
--- Nudges: a thread that changes a little where it stands.
+-- Nudges: a thread or a mutex that changes a little where it stands.
 use Rattle.std.proofs.Common.{◌≡◌, ℕ, Option, Some, None, ◌+◌, min, option_map, refl, ap}
 use Rattle.std.specs.FinMap.{FinMap, get, insert}
 use Rattle.fk_model.specs.declared.limits.TheConstants.{MOST_MOVED}
@@ -10,21 +10,17 @@ use Rattle.fk_model.specs.declared.thread.Thread.{Thread as State}
 use Rattle.fk_model.specs.Objects.{Talk}
 use Rattle.fk_model.specs.Objects.Body.{Thread_of}
 use Rattle.fk_model.specs.Places.{Path}
-use Rattle.fk_model.specs.Searches.{thread_at}
-use Rattle.fk_model.specs.World.{World, edited, apply}
-use Rattle.fk_model.specs.World.Change.{Alter}
+use Rattle.fk_model.specs.World.{edited}
 use Rattle.fk_store.specs.Freezing.Nudges.{counted, passed, nudged, nudged_thread}
 use Rattle.fk_store_graph.specs.declared.leads.nudges.Nudge.{Nudge}
-use Rattle.fk_store_graph.specs.declared.leads.nudges.Nudge.TheVariants.{Counts, Passes, Stops}
+use Rattle.fk_store_graph.specs.declared.leads.nudges.Nudge.TheVariants.{Counts, Locks, Passes, Stops}
 use Rattle.fk_store.specs.Store.Names.{who_cmp}
 use Rattle.fk_store.specs.Store.Contents.{Contents}
 use Rattle.fk_store.specs.Store.Bodies.{talk_by, thread_by, body_by}
 use Rattle.fk_store.specs.Store.Named.{Each, OnTalk, OnNamed}
 use Rattle.fk_store.specs.Store.Nudges.{edit_of}
 use Rattle.fk_store.specs.Store.WellFormed.{IsSized, IsWellFormed}
-use Rattle.fk_store.proofs.InStore.changing.EditLaws.{stops_nobody, turn_nobody}
 use Rattle.fk_store.proofs.InStore.changing.InPlace.{Stays, Changes, changes}
-use Rattle.fk_store.proofs.InStore.changing.ThreadLaws.{alter-nobody}
 
 -- what is done to a talk
 talk_edits : (p : ℕ → Path) (f : StoredTalk → StoredTalk) (g : Talk → Talk) → ((talk : StoredTalk) → g (talk_by p talk) ≡ talk_by p (f talk)) →
@@ -40,6 +36,7 @@ thread_edits (Counts count) p t = ap (λ o. Thread_of (record (thread_by p t) { 
 thread_edits (Passes turn) p t = ap (λ o. Thread_of (record (thread_by p t) { talk = o }))
     (talk_edits p (passed turn) (λ talk. record talk { turn = turn; moved = 0 }) (λ talk. refl) t.talk)
 thread_edits (Stops stops) p t = refl
+thread_edits (Locks locked) p t = refl
 
 talk_named : (P : Who → Type 0) (f : StoredTalk → StoredTalk) → ((talk : StoredTalk) → OnTalk P talk → OnTalk P (f talk)) →
     (o : Option StoredTalk) → Each (OnTalk P) o → Each (OnTalk P) (option_map f o)
@@ -50,11 +47,13 @@ thread_named : (change : Nudge) (P : Who → Type 0) (t : State) → OnNamed P (
 thread_named (Counts count) P t on = (talk_named P (counted count) (λ talk h. h) t.talk on.0, on.1)
 thread_named (Passes turn) P t on = (talk_named P (passed turn) (λ talk h. h) t.talk on.0, on.1)
 thread_named (Stops stops) P t on = on
+thread_named (Locks locked) P t on = on
 
 thread_sized : (change : Nudge) (t : State) → IsSized (Thread t) → IsSized (Thread (nudged_thread change t))
 thread_sized (Counts count) t h = h
 thread_sized (Passes turn) t h = h
 thread_sized (Stops stops) t h = h
+thread_sized (Locks locked) t h = h
 
 edits : (change : Nudge) (p : ℕ → Path) (b : Body) → edited (edit_of change) (body_by p b) ≡ body_by p (nudged change b)
 unfolding edited
@@ -83,12 +82,14 @@ edits (Stops stops) p (Port set served) = refl
 edits (Stops stops) p Portset = refl
 edits (Stops stops) p (Space birth holder) = refl
 edits (Stops stops) p (Reference to) = refl
-
-nobody : (change : Nudge) (w : World) (x : Path) → thread_at w x ≡ None → w ≡ apply (Alter x (edit_of change)) w
-unfolding edited
-nobody (Counts count) w x none = alter-nobody w x (edit_of (Counts count)) _ (λ b. refl) none
-nobody (Passes turn) w x none = turn_nobody w x turn none
-nobody (Stops stops) w x none = stops_nobody w x stops none
+edits (Locks set) p (Mutex locked) = refl
+edits (Locks set) p Cond = refl
+edits (Locks set) p (Mapping first count offset write region) = refl
+edits (Locks set) p (Region first count write keeper) = refl
+edits (Locks set) p (Port set2 served) = refl
+edits (Locks set) p Portset = refl
+edits (Locks set) p (Space birth holder) = refl
+edits (Locks set) p (Reference to) = refl
 
 module _ (change : Nudge) where
   stays : (p : ℕ → Path) (who : Who) (P : Who → Type 0) (b : Body) → Stays (nudged change) p who P b
@@ -105,4 +106,4 @@ module _ (change : Nudge) where
   pub small_change : (m : Contents) → IsWellFormed m → (who : Who) (bodies2 : FinMap who_cmp Body) →
       ((b : Body) → get m.bodies who ≡ Some b → bodies2 ≡ insert m.bodies who (nudged change b)) →
       (get m.bodies who ≡ None → bodies2 ≡ m.bodies) → Changes m (record m { bodies = bodies2 }) who (edit_of change)
-  small_change = changes (nudged change) (edit_of change) (edits change) stays (nobody change)
+  small_change = changes (nudged change) (edit_of change) (edits change) stays

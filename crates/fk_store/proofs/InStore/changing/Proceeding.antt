@@ -14,7 +14,6 @@ use Rattle.fk_store.specs.Store.Contents.{Contents}
 use Rattle.fk_store.specs.Store.Bodies.{mode_by, body_by}
 use Rattle.fk_store.specs.Store.WellFormed.{HasCall, IsWellFormed}
 use Rattle.fk_store.proofs.InStore.changing.InPlace.{Stays, Changes, changes}
-use Rattle.fk_store.proofs.InStore.changing.ThreadLaws.{proceed_nobody}
 
 module _ (g : List ℕ) (long : length g ≡ 16) (c : ℕ) (mode : Mode) (call : HasCall mode g) where
   edits : (p : ℕ → Path) (b : Body) → edited (Proceed (mode_by mode g) c) (body_by p b) ≡ body_by p (proceeded g c mode b)
@@ -43,4 +42,4 @@ module _ (g : List ℕ) (long : length g ≡ 16) (c : ℕ) (mode : Mode) (call :
   pub goes_on : (m : Contents) → IsWellFormed m → (who : Who) (bodies2 : FinMap who_cmp Body) →
       ((b : Body) → get m.bodies who ≡ Some b → bodies2 ≡ insert m.bodies who (proceeded g c mode b)) →
       (get m.bodies who ≡ None → bodies2 ≡ m.bodies) → Changes m (record m { bodies = bodies2 }) who (Proceed (mode_by mode g) c)
-  goes_on = changes (proceeded g c mode) (Proceed (mode_by mode g) c) edits stays (λ w x. proceed_nobody w x (mode_by mode g) c)
+  goes_on = changes (proceeded g c mode) (Proceed (mode_by mode g) c) edits stays

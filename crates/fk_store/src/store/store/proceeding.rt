@@ -1,4 +1,4 @@
-//! A thread goes on where it stands.
+//! A thread goes on where it stands, and a mutex is set there.
 ghost use Rattle.std.specs.Prelude.{◌≡◌};
 ghost use Rattle.fk_model.specs.World.{apply};
 ghost use Rattle.fk_model.specs.World.Change.{Alter};
@@ -26,7 +26,7 @@ impl Store {
         self.bodies.proceed(me, registers, counter, mode);
     }
 
-    /// A thread changes a little. What is no thread stays as it is.
+    /// A thread or a mutex changes a little. What is neither stays as it is.
     pub fn nudge(&mut self, who: Who, change: Nudge)
         ensures world { world self.new ≡ apply (Alter (place (path self.old) who) (edit_of change)) (world self.old) }
         ensures kinds { kind_there (world self.new) ≡ kind_there (world self.old) }

@@ -1,27 +1,31 @@
 use Rattle.fk_kernel.proofs.Endings.{ended-proceeded, made-proceeded}
+use Rattle.fk_turns.specs.Steps.Classes.{is_made}
 use Rattle.fk_turns.specs.Steps.Waiting.{standing}
 use Rattle.fk_kernel.proofs.Kept.{same-false}
 use Rattle.fk_kernel.proofs.kernel.Kernel.proceed_on.Goals as goal
 
 pub invariant_of-self : goal.invariant_of-self
-invariant_of-self c = record { valid = c.proceed_on-made.ensures.valid; kept = c.proceed_on-made.ensures.kept }
+invariant_of-self c = record { valid = c.proceed_on-gone.ensures.valid; kept = c.proceed_on-gone.ensures.kept }
 
 pub returns-clause-made : goal.returns-clause-made
 returns-clause-made c =
-    let made = made-proceeded c.self.inside.store c.proceed_on-made.new.store c.args.who c.names.ensures.born c.proceed_on-made.result c.proceed_on-made.ensures.made in
+    let made = made-proceeded c.self.inside.store c.proceed_on-gone.new.store c.args.who c.names.ensures.born (is_made c.proceed_on-gone.result) c.proceed_on-gone.ensures.made in
     rw (← c.self.view_is) made
 
 pub returns-clause-ended : goal.returns-clause-ended
 returns-clause-ended c =
     let m = c.self.inside.store in
-    let n = c.proceed_on-made.new.store in
-    let ended = ended-proceeded m n c.self.invariant.valid c.names.ensures.few c.proceed_on-made.ensures.valid c.names-2.ensures.few c.names.ensures.born
-    c.proceed_on-made.result c.proceed_on-made.ensures.ended in
+    let n = c.proceed_on-gone.new.store in
+    let ended = ended-proceeded m n c.self.invariant.valid c.names.ensures.few c.proceed_on-gone.ensures.valid c.names-2.ensures.few c.names.ensures.born
+    (is_made c.proceed_on-gone.result) c.proceed_on-gone.ensures.ended in
     rw (← c.self.view_is) ended
 
 pub returns-clause-same : goal.returns-clause-same
 returns-clause-same c =
     let inside = c.self.inside in
-    let same = same-false inside.store c.proceed_on-made.new.store (standing inside.turns.waits) (standing c.proceed_on-made.new.turns.waits) c.proceed_on-made.result
-    c.proceed_on-made.ensures.same c.proceed_on-made.ensures.still in
+    let same = same-false inside.store c.proceed_on-gone.new.store (standing inside.turns.waits) (standing c.proceed_on-gone.new.turns.waits) (is_made c.proceed_on-gone.result)
+    c.proceed_on-gone.ensures.same c.proceed_on-gone.ensures.still in
     rw (← c.self.view_is) same
+
+pub returns-clause-waits : goal.returns-clause-waits
+returns-clause-waits c = rw (← c.self.view_is) c.proceed_on-gone.ensures.waits

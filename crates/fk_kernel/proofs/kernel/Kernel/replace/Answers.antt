@@ -14,9 +14,9 @@ use Rattle.fk_turns.specs.Steps.Told.{IsStored}
 use Rattle.fk_turns.proofs.InSteps.Went.{free_when_ready}
 use Rattle.laws_moves.specs.Users.Stood.{is_users_at}
 use Rattle.fk_kernel.specs.Replaced.{rewritten, IsPageThere}
-use Rattle.fk_kernel.proofs.Quietly.{replaced_stays, runs_at}
+use Rattle.fk_kernel.proofs.Quietly.{pages_stay, replaced_stays, runs_at}
 use Rattle.fk_kernel.proofs.Replacing.{valid-proceeded, valid-rewritten}
-use Rattle.fk_kernel.proofs.Rewrote.{leaves_whys, moved_rewritten, others_stay, quiet_rewritten, room_rewritten, user_running, user_stays}
+use Rattle.fk_kernel.proofs.Rewrote.{leaves_whys, moved_rewritten, others_stay, quiet_rewritten, rewritten_leaves, room_rewritten, user_running, user_stays}
 use Rattle.fk_kernel.proofs.kernel.Kernel.replace.Goals as goal
 
 pub after_still-requires : goal.after_still-requires
@@ -34,18 +34,21 @@ after_still-requires c =
     let is : world n ≡ apply (Alter (place (path m) thread) (Proceed (Running c.args.regs.now) c.args.pc)) (rewritten (path m) c.args.pages.now (world m)) =
     c.proceed.ensures.world
     ∙ (λ i. apply (Alter (place (c.rewrite.ensures.paths i) thread) (Proceed (Running c.args.regs.now) c.args.pc)) (c.rewrite.ensures.world i)) in
-    let others = others_stay (world m) (world n) (path m) c.args.pages.now (place (path m) thread) c.args.regs.now c.args.pc is in
+    let u = rewritten (path m) c.args.pages.now (world m) in
+    let leaves = rewritten_leaves (path m) c.args.pages.now (world m) in
+    let others = others_stay (world m) u (world n) leaves (place (path m) thread) c.args.regs.now c.args.pc is in
     let user : is_user_at m thread ≡ true = user_running m thread stored.born (rw (sym c.self.view_is) at c.requires.running) in
     let still : is_user_at n thread ≡ true = ap (λ (p : ℕ → Path). is_users_at (world n) (place p thread)) paths
-    ∙ user_stays (world m) (world n) (path m) c.args.pages.now (place (path m) thread) c.args.regs.now c.args.pc is user in
-    let left = leaves_whys (world m) (world n) (path m) c.args.pages.now (place (path m) thread) c.args.regs.now c.args.pc is in
+    ∙ user_stays (world m) u (world n) leaves (place (path m) thread) c.args.regs.now c.args.pc is user in
+    let left = leaves_whys (world m) u (world n) leaves (place (path m) thread) c.args.regs.now c.args.pc is in
     let there = rw (sym c.self.view_is) at c.requires.pages in
     let all : All (IsPageThere (path m) (world m)) c.args.pages.now =
     subst (λ (p : ℕ → Path). All (IsPageThere p (world m)) c.args.pages.now) (sym stored.born) there in
     let rewrites : IsValid (world c.rewrite.new.store) = subst IsValid (sym c.rewrite.ensures.world)
     (valid-rewritten (path m) c.args.pages.now (world m) all c.self.invariant.valid) in
     let runs = runs_at m thread stored.born (rw (sym c.self.view_is) at c.requires.running) in
-    let reasons = replaced_stays (world m) (world n) (path m) c.args.pages.now (place (path m) thread) c.args.regs.now c.args.pc is runs all in
+    let reasons = replaced_stays (world m) u (world n) (place (path m) thread) c.args.regs.now c.args.pc is leaves.bodies runs
+    (λ x r stuck apart. pages_stay (path m) c.args.pages.now (world m) (place (path m) thread) x r all stuck apart) in
     let ready : IsReady (world m) (place (path m) thread) None asks.Run =
     subst (λ (p : ℕ → Path). IsReady (world m) (place p thread) None asks.Run) (sym stored.born) (rw (sym c.self.view_is) at c.requires.ready) in
     let goes = moved_rewritten m n thread stored paths others user still left in

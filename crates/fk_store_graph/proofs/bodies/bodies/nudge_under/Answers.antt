@@ -1,4 +1,4 @@
-use Rattle.fk_store_graph.proofs.InBodies.NudgeLaws.{edits-along, counts_is, passes_is, stops_is}
+use Rattle.fk_store_graph.proofs.InBodies.NudgeLaws.{edits-along, counts_is, locks_is, passes_is, stops_is}
 use Rattle.fk_store_graph.proofs.bodies.bodies.nudge_under.Goals as goal
 
 pub returns-in-Counts : goal.returns-in-Counts
@@ -9,3 +9,6 @@ returns-in-Passes c = rw c.in-Passes.is (edits-along _ _ c.args.key _ _ (passes_
 
 pub returns-in-Stops : goal.returns-in-Stops
 returns-in-Stops c = rw c.in-Stops.is (edits-along _ _ c.args.key _ _ (stops_is c.in-Stops.stops) c.stop.ensures)
+
+pub returns-in-Locks : goal.returns-in-Locks
+returns-in-Locks c = rw c.in-Locks.is (edits-along _ _ c.args.key _ _ (locks_is c.in-Locks.locked) c.lock.ensures)

@@ -5,11 +5,13 @@ use Rattle.fk_model.specs.declared.moves.Move.{Move}
 use Rattle.fk_model.specs.declared.moves.Said.TheVariants as says
 use Rattle.fk_model.specs.Valid.{IsValid}
 use Rattle.fk_store.specs.Store.Contents.{Contents}
-use Rattle.fk_store.specs.Store.World.{world}
+use Rattle.fk_store.specs.Store.World.{world, place_of}
 use Rattle.fk_turns.specs.Next.Judgements.{IsEnded, IsReadyMove, IsStepTo}
 use Rattle.fk_turns.specs.Next.Runs.{has_run}
+use Rattle.fk_turns.specs.Next.Waiting.{IsMoveReady}
 use Rattle.fk_turns.specs.Moved.Kept.{AreKept}
 use Rattle.fk_plans.specs.declared.wakes.touching.Touched.TheVariants.{Few}
+use Rattle.fk_turns.specs.Steps.Classes.{is_made}
 use Rattle.fk_turns.proofs.InSteps.Stepped.{comes_ran, quiet_ran, run_fit, valid_true}
 use Rattle.fk_turns.proofs.InSteps.Went.{running_there, under_way_going}
 use Rattle.fk_turns.proofs.steps.steps.proceed_on.Goals as goal
@@ -50,8 +52,8 @@ after_off-requires c =
           (Few None None None) was.waits was.marks says.Nothing c.requires.kept refl made.0 made.1 tells;
     }
 
-pub proceed_stage-requires : goal.proceed_stage-requires
-proceed_stage-requires c =
+pub go_stage-requires : goal.go_stage-requires
+go_stage-requires c =
     let same = rw c.in-Not.is at c.run-ran.ensures.same in
     let was = c.args.turns.now in
     record {
@@ -95,16 +97,21 @@ pub returns-in-Not-clause-made : goal.returns-in-Not-clause-made
 returns-in-Not-clause-made c =
     let run : Move = record { who = c.args.who; pick = None } in
     let same = rw c.in-Not.is at c.run-ran.ensures.same in
-    let v = c.proceed_stage.new.store in
-    subst (λ (d : Contents). OnTrue c.proceed_stage.result (IsReadyMove d run asks.Run × IsStepTo d run asks.Run v says.Nothing)) same
-    c.proceed_stage.ensures.made
+    let v = c.go_stage.new.store in
+    subst (λ (d : Contents). OnTrue (is_made c.go_stage.result) (IsReadyMove d run asks.Run × IsStepTo d run asks.Run v says.Nothing)) same
+    c.go_stage.ensures.made
 
 pub returns-in-Not-clause-ended : goal.returns-in-Not-clause-ended
 returns-in-Not-clause-ended c =
     let same = rw c.in-Not.is at c.run-ran.ensures.same in
-    subst (λ (d : Contents). OnTrue c.proceed_stage.result (IsEnded d c.proceed_stage.new.store None)) same c.proceed_stage.ensures.ended
+    subst (λ (d : Contents). OnTrue (is_made c.go_stage.result) (IsEnded d c.go_stage.new.store None)) same c.go_stage.ensures.ended
 
 pub returns-in-Not-clause-same : goal.returns-in-Not-clause-same
 returns-in-Not-clause-same c =
     let same = rw c.in-Not.is at c.run-ran.ensures.same in
-    subst (λ (d : Contents). OnFalse c.proceed_stage.result (c.proceed_stage.new.store ≡ d)) same c.proceed_stage.ensures.same
+    subst (λ (d : Contents). OnFalse (is_made c.go_stage.result) (c.go_stage.new.store ≡ d)) same c.go_stage.ensures.same
+
+pub returns-in-Not-clause-waits : goal.returns-in-Not-clause-waits
+returns-in-Not-clause-waits c waits up =
+    let same = rw c.in-Not.is at c.run-ran.ensures.same in
+    c.go_stage.ensures.waits waits (subst (λ (d : Contents). IsMoveReady (world d) (place_of d c.args.who)) (sym same) up)

@@ -1,4 +1,4 @@
-use Rattle.std.proofs.Common.{is_some, sym, ap}
+use Rattle.std.proofs.Common.{sym}
 use Rattle.fk_store.specs.Store.Bodies.{thread_by}
 use Rattle.fk_store.specs.Store.Paths.{path, place}
 use Rattle.fk_store.specs.Store.World.{world}
@@ -11,7 +11,7 @@ known_or-requires c =
     record {
       valid = c.requires.valid;
       there = c.requires.there;
-      busy = sym (ap is_some (c.in-Some.ensures (path m)));
+      stage = sym (c.in-Some.ensures (path m));
       known = c.at_stage.ensures;
     }
 

@@ -3,7 +3,7 @@ use Rattle.fk_store.specs.Store.Paths.{path}
 use Rattle.fk_store.specs.Store.World.{world}
 use Rattle.fk_turns.specs.Steps.Steps.{keeps_on}
 use Rattle.fk_turns.proofs.InSteps.Went.{keeps_going, keeps_up, keeps_user, on_going}
-use Rattle.fk_turns.proofs.steps.plain.goes_on.Goals as goal
+use Rattle.fk_turns.proofs.steps.plain.is_going.Goals as goal
 
 pub returns-in-Some-clause-up : goal.returns-in-Some-clause-up
 returns-in-Some-clause-up c =

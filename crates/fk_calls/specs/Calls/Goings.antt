@@ -1,0 +1,114 @@
+-- Goings: what came of one look at a thread, and what it is at then.
+use Rattle.std.specs.Prelude.{◌≡◌, ℕ, Bool, true, false, List, [], ◌∷◌, Option, Some, None, ⊤}
+use Rattle.fk_model.specs.declared.moves.Ask.TheVariants as asks
+use Rattle.fk_model.specs.declared.moves.Move.{Move}
+use Rattle.fk_model.specs.declared.moves.Said.TheVariants as says
+use Rattle.fk_model.specs.declared.names.Who.{Who}
+use Rattle.fk_model.specs.declared.stage.Stage.{Stage}
+use Rattle.fk_model.specs.declared.stage.Stage.TheVariants.{Create, MutexLock, MutexTrylock, MutexUnlock}
+use Rattle.fk_model.specs.Moves.{IsReady}
+use Rattle.fk_model.specs.Objects.{and_then, mutex_of}
+use Rattle.fk_model.specs.Outcomes.{listed}
+use Rattle.fk_model.specs.Places.{Path}
+use Rattle.fk_model.specs.World.{World, Change}
+use Rattle.fk_model.specs.World.Change.{Alter}
+use Rattle.fk_model.specs.World.Edit.{Finish, SetLocked}
+use Rattle.fk_plans.specs.declared.wakes.touching.Touched.{Touched}
+use Rattle.fk_plans.specs.declared.wakes.touching.Touched.TheVariants.{Few}
+use Rattle.fk_store.specs.Store.Contents.{Contents}
+use Rattle.fk_store.specs.Store.Paths.{path, place}
+use Rattle.fk_store.specs.Store.Threads.{todo_at}
+use Rattle.fk_store.specs.Store.World.{world}
+use Rattle.fk_calls.specs.declared.calls.going.Then.{Then}
+use Rattle.fk_calls.specs.declared.calls.going.Then.TheVariants as thens
+use Rattle.fk_calls.specs.declared.calls.going.Went.{Went}
+use Rattle.fk_calls.specs.declared.calls.going.Went.TheVariants as wents
+use Rattle.fk_calls.specs.declared.calls.going.What.{What}
+use Rattle.fk_calls.specs.declared.calls.going.What.TheVariants as whats
+use Rattle.fk_calls.specs.Calls.Judgements.{outcome_of, IsEnded, IsReadyMove, IsStepTo, TellsTouched}
+use Rattle.fk_calls.specs.Calls.Runs.{is_under_way_at}
+
+-- a thread's own move, which picks nobody
+abbrev pub run_of : Who → Move
+run_of who = record { who = who; pick = None }
+
+-- ---- what a stage did
+
+-- the mutex that it set
+abbrev pub mutex_by : What → Who
+mutex_by (whats.Locks mutex) = mutex
+mutex_by (whats.Unlocks mutex) = mutex
+
+-- and whether it is locked then. It was the other way before
+abbrev pub locks_by : What → Bool
+locks_by (whats.Locks mutex) = true
+locks_by (whats.Unlocks mutex) = false
+
+abbrev pub was_locked : What → Bool
+was_locked (whats.Locks mutex) = false
+was_locked (whats.Unlocks mutex) = true
+
+-- its changes, in their order
+abbrev pub changes_of : (ℕ → Path) → Who → What → List Change
+changes_of p who what = Alter (place p (mutex_by what)) (SetLocked (locks_by what)) ∷ Alter (place p who) (Finish []) ∷ []
+
+-- it locks a mutex or unlocks it
+abbrev pub is_lock : Stage → Bool
+is_lock (MutexLock m) = true
+is_lock (MutexTrylock m) = true
+is_lock (MutexUnlock m) = true
+is_lock (Create s x kind) = false
+is_lock other = false
+
+-- a thread's call has such a stage alone
+pub record IsLocking (w : World) (x : Path) : Type 0 where
+  pub stage : Stage
+  pub alone : todo_at w x ≡ stage ∷ []
+  pub lock : is_lock stage ≡ true
+
+-- the row of a thread's stage did this, and found that
+pub record HasRow (m : Contents) (who : Who) (what : What) : Type 0 where
+  pub begins : IsLocking (world m) (place (path m) who)
+  pub changes : listed (outcome_of m (run_of who) asks.Run) ≡ changes_of (path m) who what
+  pub found : and_then mutex_of ((world m).body (place (path m) (mutex_by what))) ≡ Some (was_locked what)
+
+-- ---- what a look came to
+
+-- a stage was made
+abbrev pub was_made : Went → Bool
+was_made wents.Not = false
+was_made wents.Waits = false
+was_made (wents.Made what at) = true
+
+-- so it is with what it did, and what the thread is at then
+abbrev pub IfMade : Went → (What → Then → Type 0) → Type 0
+IfMade (wents.Made what at) P = P what at
+IfMade wents.Not P = ⊤
+IfMade wents.Waits P = ⊤
+
+-- what it touched besides the thread
+abbrev pub touched_by : What → Touched
+touched_by what = Few (Some (mutex_by what)) None None
+
+-- what a thread is at
+abbrev pub IsThen : Contents → Who → Then → Type 0
+IsThen n who thens.Runs = is_under_way_at n who ≡ true
+
+-- a move of the user at a path is ready, whomever it picks
+abbrev pub IsAnyReady : World → Path → Type 0
+IsAnyReady w x = (pick : Option Path) × IsReady w x pick asks.Run
+
+-- a thread's stage was made, which did this, and that is where the thread is then
+pub record HasGone (m n : Contents) (who : Who) (what : What) (at : Then) : Type 0 where
+  pub ready : IsReadyMove m (run_of who) asks.Run
+  pub step : IsStepTo m (run_of who) asks.Run n says.Nothing
+  pub ended : IsEnded m n None
+  pub touched : TellsTouched m (run_of who) asks.Run (touched_by what)
+  pub row : HasRow m who what
+  pub at_then : IsThen n who at
+
+-- a look came to this
+abbrev pub WentTo : Contents → Contents → Who → Went → Type 0
+WentTo m n who wents.Not = n ≡ m
+WentTo m n who wents.Waits = (n ≡ m) × (IsAnyReady (world m) (place (path m) who) → ⊥)
+WentTo m n who (wents.Made what at) = HasGone m n who what at

@@ -1,0 +1,2 @@
+-- Stretches, as the calls have them.
+pub use Rattle.fk_stretch.specs.Stretches.{IsBurst}
