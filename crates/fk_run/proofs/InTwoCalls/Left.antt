@@ -4,11 +4,11 @@ use Rattle.std.proofs.lemmas.List.{reverse-append, reverse-reverse}
 use Rattle.std.specs.List.{slice_get}
 use Rattle.fk_causes.specs.Shelf.{FileMap, HasAt, KeepsOthers}
 use Rattle.fk_commands.specs.declared.outcome.Report.{Report}
-use Rattle.fk_run.specs.Files.{image_name, trace_name}
+use Rattle.fk_commands.specs.Files.{image_name, trace_name}
 use Rattle.fk_image.specs.declared.image.image.Image.{Image}
 use Rattle.fk_image.specs.Format.Spells.{SpellsImage}
 use Rattle.fk_model.specs.declared.moves.Move.{Move}
-use Rattle.fk_run.specs.Puts.{PutsEnd, PutImages, PutsTrace, PutsRun}
+use Rattle.fk_puts.specs.Puts.{PutsEnd, PutImages, PutsTrace, PutsRun}
 use Rattle.fk_report.specs.Jobs.{end_in}
 use Rattle.fk_report.specs.declared.job_end.JobEnd.{JobEnd}
 use Rattle.fk_report.specs.declared.job_end.JobEnd.TheVariants.{Checkpointed, Foreign, Dead, Restored, NoImage, Occupied, NoPort}

@@ -7,19 +7,19 @@ use Rattle.fk_commands.specs.declared.outcome.Outcome.{Outcome}
 use Rattle.fk_commands.specs.declared.outcome.Report.{Report}
 use Rattle.fk_commands.specs.declared.status.Status.{Status}
 use Rattle.fk_model.specs.declared.moves.Rule.{Rule}
-use Rattle.fk_run.specs.Commands.{Exec, Check, Run, Play, Show, Soak, Record, Replay}
-use Rattle.fk_run.specs.Cores.{RunCore}
-use Rattle.fk_run.specs.First.{IsBegun, IsFirst}
-use Rattle.fk_run.specs.Images.{FindsImages}
+use Rattle.fk_words.specs.Commands.{Exec, Check, Run, Play, Show, Soak, Record, Replay}
+use Rattle.fk_plays.specs.Cores.{RunCore}
+use Rattle.fk_plays.specs.First.{IsBegun, IsFirst}
+use Rattle.fk_plays.specs.Images.{FindsImages}
 use Rattle.fk_run.specs.Jobs.{HoldsOf}
-use Rattle.fk_run.specs.Made.{Images, IsText}
-use Rattle.fk_run.specs.Outcomes.{IsRefused}
-use Rattle.fk_run.specs.Play.{IsWith, IsTraced, IsPlayedBy, IsPlay, IsWholeRun}
-use Rattle.fk_run.specs.Runs.{IsAlone, IsPlayed, IsRunFrom, IsPlayedFrom}
+use Rattle.fk_plays.specs.Made.{Images, IsText}
+use Rattle.fk_commands.specs.Outcomes.{IsRefused}
+use Rattle.fk_plays.specs.Play.{IsWith, IsTraced, IsPlayedBy, IsPlay, IsWholeRun}
+use Rattle.fk_plays.specs.Runs.{IsAlone, IsPlayed, IsRunFrom, IsPlayedFrom}
 use Rattle.fk_scenario.specs.declared.fields.fail.ScenarioError.{ScenarioError}
 use Rattle.fk_scenario.specs.declared.scenario.scenario.Scenario.{Scenario}
 use Rattle.fk_scenario.specs.Scenario.Reading.{scenario_reading}
-use Rattle.laws_two_calls.specs.TwoCalls.{ReportedRun, ReportsAreOfRuns}
+use Rattle.fk_run.specs.TwoCalls.{ReportedRun, ReportsAreOfRuns}
 
 -- a first core is one in which a run begins
 begun : (s : Scenario) (c : RunCore) → IsFirst s c → IsBegun s c
