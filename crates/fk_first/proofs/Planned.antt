@@ -1,5 +1,6 @@
 -- Jobs that are planned, and those that are yet to be.
-use Rattle.std.proofs.Common.{◌≡◌, ℕ, zero, suc, ◌+◌, ◌<◌, ◌≤◌, List, [], ◌∷◌, ◌++◌, map, length, length-append, take, drop, Option, Some, None, refl, sym, ap, subst, ◌∙◌, append-nil, arith}
+use Rattle.std.proofs.Common.{◌≡◌, ℕ, zero, suc, ◌+◌, ◌<◌, ◌≤◌, List, [], ◌∷◌, ◌++◌, map, length, length-append, take, drop, Option, Some, None, refl, sym, ap}
+use Rattle.std.proofs.Common.{subst, ◌∙◌, append-nil, arith}
 use Rattle.std.specs.List.{slice_get}
 use Rattle.std.proofs.lemmas.List.{append_assoc, map-append}
 use Rattle.fk_image.specs.declared.image.image.Image.{Image}
@@ -10,13 +11,15 @@ use Rattle.laws_house.specs.Houses as houses
 use Rattle.laws_house.specs.Houses.{given_first, jobs_from, jobs_of}
 
 -- a list at a place
-split-suc : {X : Type 0} (xs : List X) (n : ℕ) (x : X) → slice_get xs n ≡ Some x → (drop n xs ≡ x ∷ drop (suc n) xs) × (take (suc n) xs ≡ take n xs ++ x ∷ []) × (n < length xs)
+split-suc : {X : Type 0} (xs : List X) (n : ℕ) (x : X) → slice_get xs n ≡ Some x → (drop n xs ≡ x ∷ drop (suc n) xs)
+    × (take (suc n) xs ≡ take n xs ++ x ∷ []) × (n < length xs)
 split-suc [] n x got = absurd (cc)
 split-suc (y ∷ ys) zero x got = let same : y ≡ x = cc in (ap (λ z. z ∷ ys) same, ap (λ z. z ∷ []) same, omega arith)
 split-suc (y ∷ ys) (suc n) x got =
     let (left, right, within) = split-suc ys n x got in (left, ap (λ zs. y ∷ zs) right, omega (arith, within))
 
-split : {X : Type 0} (xs : List X) (n : ℕ) (x : X) → slice_get xs n ≡ Some x → (drop n xs ≡ x ∷ drop (n + 1) xs) × (take (n + 1) xs ≡ take n xs ++ x ∷ []) × (n < length xs)
+split : {X : Type 0} (xs : List X) (n : ℕ) (x : X) → slice_get xs n ≡ Some x → (drop n xs ≡ x ∷ drop (n + 1) xs)
+    × (take (n + 1) xs ≡ take n xs ++ x ∷ []) × (n < length xs)
 split xs n x got = let more : n + 1 ≡ suc n = omega arith in rw more (split-suc xs n x got)
 
 none-left : {X : Type 0} (xs : List X) (n : ℕ) → slice_get xs n ≡ None → drop n xs ≡ []

@@ -31,7 +31,8 @@ mapped_at f (y ∷ xs) zero x e = let same : y ≡ x = cc in ap (λ z. Some (f z
 mapped_at f (y ∷ xs) (suc index) x e = mapped_at f xs index x e
 
 -- what no earlier job makes was given
-was_given : (found : FileMap) (report : Report) (run : ReportedRun found report) (birth slot make done : ℕ) (name : List ℕ) (bind : List (ℕ × ℕ)) (image : Image)
+was_given : (found : FileMap) (report : Report) (run : ReportedRun found report) (birth slot make done : ℕ) (name : List ℕ) (bind : List (ℕ × ℕ))
+    (image : Image)
     (takes : TakesImage run birth slot make done name bind) → IsFrom run.scenario.jobs run.given run.is.last.ends takes.index name image
     → given_at takes.index run.given ≡ Some image
 was_given found report run birth slot make done name bind image takes (Made from hold release maker before ended) =

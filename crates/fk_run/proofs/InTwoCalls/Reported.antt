@@ -35,7 +35,8 @@ module _ (rules : List (List ℕ × Rule)) (bytes : List ℕ) (files : FileMap) 
   not_refused status is = absurd (refused status outcome text report has is)
 
   -- what came of a scenario with images
-  of_run : (s : Scenario) (given : Images) → scenario_reading rules bytes ≡ Ok s → FindsImages (Some files) [] s.jobs (Ok given) → IsRunFrom s given outcome text
+  of_run : (s : Scenario) (given : Images) → scenario_reading rules bytes ≡ Ok s → FindsImages (Some files) [] s.jobs (Ok given)
+      → IsRunFrom s given outcome text
       → ReportedRun files report
   of_run s given read found is =
       let ran : IsAlone (IsText s.jobs) s.jobs given is.first s.budget outcome.status (Some report) text =
@@ -90,7 +91,8 @@ module _ (rules : List (List ℕ × Rule)) (bytes : List ℕ) (files : FileMap) 
   play_read name (Err e) read is = not_refused _ is
   play_read name (Ok s) read is = play_found name s read is.found is.finds is.is
 
-  run_long : (long : Bool) (status : Status) → MatchBool long (IsRefused status outcome text) (IsWholeRun (Some files) (scenario_reading rules bytes) outcome text)
+  run_long : (long : Bool) (status : Status) → MatchBool long (IsRefused status outcome text)
+      (IsWholeRun (Some files) (scenario_reading rules bytes) outcome text)
       → ReportedRun files report
   run_long true status is = not_refused status is
   run_long false status is = run_read (scenario_reading rules bytes) refl is
