@@ -84,7 +84,7 @@ replays_play_again s given first trace status report text is_first played =
 -- ---- a run that was recorded
 
 -- the report without its record
-bare-written : (s : Scenario) (given : Images) (first : RunCore) (report : Report) (text : List ℕ) 
+bare-written : (s : Scenario) (given : Images) (first : RunCore) (report : Report) (text : List ℕ)
     → IsWritten (IsText s.jobs) s.jobs given first s.budget report text
     → IsWritten (IsText s.jobs) s.jobs given first s.budget (without_record report) text
 bare-written s given first report text w = (
