@@ -8,8 +8,7 @@ use Rattle.fk_commands.specs.declared.outcome.Report.{Report}
 use Rattle.fk_commands.specs.declared.status.Status.{Status}
 use Rattle.fk_model.specs.declared.moves.Rule.{Rule}
 use Rattle.fk_words.specs.Commands.{Exec, Check, Run, Play, Show, Soak, Record, Replay}
-use Rattle.fk_plays.specs.Cores.{RunCore}
-use Rattle.fk_plays.specs.First.{IsBegun, IsFirst}
+use Rattle.fk_plays.proofs.Grounds.{first-begun}
 use Rattle.fk_plays.specs.Images.{FindsImages}
 use Rattle.fk_run.specs.Jobs.{HoldsOf}
 use Rattle.fk_plays.specs.Made.{Images, IsText}
@@ -20,10 +19,6 @@ use Rattle.fk_scenario.specs.declared.fields.fail.ScenarioError.{ScenarioError}
 use Rattle.fk_scenario.specs.declared.scenario.scenario.Scenario.{Scenario}
 use Rattle.fk_scenario.specs.Scenario.Reading.{scenario_reading}
 use Rattle.fk_run.specs.TwoCalls.{ReportedRun, ReportsAreOfRuns}
-
--- a first core is one in which a run begins
-begun : (s : Scenario) (c : RunCore) → IsFirst s c → IsBegun s c
-begun s c is = record { world = is.world; sound = is.sound; ends = is.ends; work = is.work; events = is.events }
 
 -- a refusal has no report
 refused : (status : Status) (outcome : Outcome) (text : List ℕ) (report : Report) → outcome.report ≡ Some report → IsRefused status outcome text → ⊥
@@ -47,7 +42,7 @@ module _ (rules : List (List ℕ × Rule)) (bytes : List ℕ) (files : FileMap) 
         found = found;
         first = is.first;
         is = ran.0.0;
-        headline = headline bytes s given is.first read (begun s is.first is.is_first) ran.0.0;
+        headline = headline bytes s given is.first read (first-begun s is.first is.is_first) ran.0.0;
       }
 
   of_play : (s : Scenario) (given : Images) (trace : List ℕ) → scenario_reading rules bytes ≡ Ok s → FindsImages (Some files) [] s.jobs (Ok given)
@@ -61,7 +56,7 @@ module _ (rules : List (List ℕ × Rule)) (bytes : List ℕ) (files : FileMap) 
         found = found;
         first = is.first;
         is = played.1.0;
-        headline = headline bytes s given is.first read (begun s is.first is.is_first) played.1.0;
+        headline = headline bytes s given is.first read (first-begun s is.first is.is_first) played.1.0;
       }
 
   of_trace : (name : List ℕ) (s : Scenario) (given : Images) → scenario_reading rules bytes ≡ Ok s → FindsImages (Some files) [] s.jobs (Ok given)
