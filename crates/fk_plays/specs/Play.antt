@@ -17,7 +17,7 @@ abbrev pub IsWith : (Images → Outcome → List ℕ → Type 0) → Result Imag
 IsWith Is (Err status) outcome text = IsRefused status outcome text
 IsWith Is (Ok images) outcome text = Is images outcome text
 
--- the same over the files of the shelf
+-- what is said of a scenario with the images that the files of the shelf give for its jobs
 pub record IsWithImages (files : Option FileMap) (s : Scenario) (Is : Images → Outcome → List ℕ → Type 0) (outcome : Outcome) (text : List ℕ) : Type 0 where
   pub found : Result Images Status
   pub finds : FindsImages files [] s.jobs found
@@ -28,6 +28,7 @@ abbrev pub IsTraced : List ℕ → Scenario → Images → Option (List ℕ) →
 IsTraced name s images None outcome text = IsRefused (Absent name) outcome text
 IsTraced name s images (Some trace) outcome text = IsPlayedFrom s images trace outcome text
 
+-- a play of whatever the shelf may have under the name of the trace
 abbrev pub IsPlayedBy : List ℕ → Option FileMap → Scenario → Images → Outcome → List ℕ → Type 0
 IsPlayedBy name files s images outcome text = (trace : Option (List ℕ)) × HasAt files (trace_name name) trace × IsTraced name s images trace outcome text
 
