@@ -1,9 +1,19 @@
-//! What is seen of a run, who watches it, and who has images for it.
+//! What is seen of a run, who watches it, who plays it, and who has images for it.
+ghost use Rattle.std.specs.Prelude.{Bool, Result, map};
+ghost use Rattle.fk_core.specs.Cores.Cores.{RunCore, run_core};
+ghost use Rattle.fk_core.specs.Cores.Goings.{IsGoing};
+ghost use Rattle.fk_core.specs.Cores.Served.{AllFit};
+ghost use Rattle.fk_first.specs.First.{IsFirst};
+ghost use Rattle.fk_model.specs.declared.no_memory.NoMemory.{NoMemory};
+
+use fk_core::Core;
 use fk_finish::ValidImage;
 use fk_jobs::Jobs;
 use fk_model::{Move, NoMemory, Stage, Who};
 use fk_natives::Native;
 use fk_porters::Porter;
+use fk_responders::Table;
+use fk_scenario::Scenario;
 use fk_store::Store;
 use std::collections::BTreeMap;
 
@@ -82,6 +92,28 @@ pub trait Watcher {
     ///
     /// It has no memory.
     fn stops(&mut self, seen: Seen<'_>, ready: &Ready, stop: Stop) -> Result<(), NoMemory>;
+}
+
+/// Who plays from the core with which a scenario begins. What a call may make of it, from the player before to the player after, its member says: by the
+/// core that was lent, and by the answer. Who lends knows no more of that, so a clause by it says that the call was made.
+pub trait Player {
+    ghost plays: { Self → RunCore → Result Bool NoMemory → Self → Type 0 };
+
+    /// It is lent such a core, of a scenario that was read by the rules of the table, and answers whether it wants another.
+    ///
+    /// # Errors
+    ///
+    /// It has no memory.
+    fn play(
+        &mut self,
+        table: &Table,
+        scenario: &Scenario,
+        core: &mut Core<Native, Porter>,
+    ) -> Result<bool, NoMemory>
+        requires first { IsFirst scenario.now (run_core core.old) }
+        requires come { IsGoing core.old }
+        requires fits { AllFit (map (λ r. r.rule) table.now.list.items) core.old.services.list }
+        ensures { plays self.old (run_core core.old) result self.new };
 }
 
 /// Who has the images of a run's jobs.

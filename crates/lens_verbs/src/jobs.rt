@@ -10,4 +10,5 @@ mod noport;
 mod resting;
 mod watch;
 
+pub use names::end_at;
 pub use watch::JobWatch;

@@ -1,84 +1,207 @@
-//! The verbs that watch a run.
-ghost use Rattle.std.specs.Prelude.{⊤};
+//! The verbs over a scenario.
+ghost use Rattle.std.specs.Prelude.{⊤, map};
+ghost use Rattle.fk_scenario.specs.Scenario.Kept.{KeepsScenario, HasRules};
 
+use crate::apart::{Taker, push_apart};
+use crate::hunt::Hunter;
 use crate::images::Files;
-use crate::shows::{Show, show_of};
+use crate::records::Noting;
+use crate::shows::show_of;
 use crate::stops::check_stop;
 use fk_causes::Shelf;
 use fk_commands::{ScenarioReader, Status, lend_scenario};
-use fk_first::{Trace, watch};
+use fk_first::{Trace, Watcher, lend_cores, watch};
 use fk_responders::Table;
 use fk_scenario::Scenario;
-use lens_text::{Asked, Sheet, Verb, file_of, programs_of, refused_scenario};
+use fk_scenario::entries::SpaceEntry;
+use lens_text::{
+    Asked, Programs, Sheet, Verb, file_of, programs_of, push_plain, push_record,
+    refused_scenario,
+};
 
-/// Says that a text isn't taken for a scenario, by the status with which it is refused.
-pub fn refuse_scenario(sheet: &Sheet, text: &[u8], status: &Status) {
-    match status {
-        Status::BadScenario {
-            rule,
-            section,
-            index,
-        } => refused_scenario(sheet, text, *rule, *section, *index),
-        _ => sheet.lacks(),
+/// Notes with which programs the spaces of these entries begin. The root's birth number is 0, those of the others follow from 1 on.
+fn note_spaces(sheet: &Sheet, programs: &mut Programs, entries: &[SpaceEntry]) {
+    let mut birth = 0u32;
+    for entry in entries {
+        if entry.path.len() > 0 {
+            birth = birth.saturating_add(1);
+        }
+        let space = if entry.path.len() > 0 { birth } else { 0 };
+        if let Some(program) = entry.program {
+            programs.stands_in(sheet, space, program as usize);
+        }
     }
 }
 
-/// The run of a scenario by the trace with these bytes, and who is shown it; the text is the scenario's.
+/// What is asked for of a scenario with this text, beside the bytes of the files that the verb wants; and the files of the shelf.
 #[derive(Drop)]
-struct Run<'a, 's, H: Shelf> {
+struct Showing<'a, H: Shelf> {
     asked: &'a Asked<'a>,
     text: &'a [u8],
-    bytes: &'a [u8],
+    /// Those of the trace.
+    trace: &'a [u8],
+    /// Those of the other trace, or of the record.
+    other: &'a [u8],
     files: Files<'a, H>,
-    show: &'a mut Show<'s>,
 }
 
-impl<H: Shelf> ScenarioReader for Run<'_, '_, H> {
+impl<H: Shelf> Showing<'_, H> {
+    /// Lets a watcher see the run by the trace with this name and these bytes, and says what is wrong with that.
+    fn play<V: Watcher>(
+        &mut self,
+        table: &Table,
+        scenario: &Scenario,
+        name: &str,
+        bytes: &[u8],
+        watcher: &mut V,
+    )
+        requires keeps { KeepsScenario scenario.now }
+        requires rules { HasRules (map (λ r. r.rule) table.now.list.items) scenario.now }
+    {
+        let (sheet, asked) = (self.files.sheet, *self.asked);
+        let trace = Some(Trace {
+            bytes,
+            most: asked.end,
+            looks_ahead: matches!(asked.verb, Verb::Why),
+        });
+        match watch(sheet.alloc, table, scenario, &mut self.files, trace, watcher) {
+            Ok(stop) => check_stop(sheet, &Asked { name, ..asked }, stop),
+            Err(problem) => sheet.fails(problem),
+        }
+    }
+
+    /// Shows where two traces come apart.
+    fn compare(&mut self, table: &Table, scenario: &Scenario, programs: &Programs)
+        requires keeps { KeepsScenario scenario.now }
+        requires rules { HasRules (map (λ r. r.rule) table.now.list.items) scenario.now }
+    {
+        let (sheet, asked) = (self.files.sheet, self.asked);
+        let (trace, other) = (self.trace, self.other);
+        let mut taker = Taker::new(sheet, programs);
+        self.play(table, scenario, asked.name, trace, &mut taker);
+        if sheet.problem().is_none() {
+            taker.turn_over();
+            self.play(table, scenario, asked.other, other, &mut taker);
+        }
+        if sheet.problem().is_none() && push_apart(&taker, asked.name, asked.other).is_err() {
+            sheet.lacks();
+        }
+    }
+
+    /// Shows a record with the moves that made it.
+    fn record(&mut self, table: &Table, scenario: &Scenario, programs: &Programs)
+        requires keeps { KeepsScenario scenario.now }
+        requires rules { HasRules (map (λ r. r.rule) table.now.list.items) scenario.now }
+    {
+        let (sheet, asked, trace) = (self.files.sheet, self.asked, self.trace);
+        let mut noting = Noting::new(sheet, programs, scenario.servers.as_slice());
+        self.play(table, scenario, asked.name, trace, &mut noting);
+        if sheet.problem().is_none() {
+            push_record(sheet, asked.name, &noting.noted, self.other);
+        }
+    }
+
+    /// Shows what is asked for of runs by traces.
+    fn show_run(&mut self, table: &Table, scenario: &Scenario)
+        requires keeps { KeepsScenario scenario.now }
+        requires rules { HasRules (map (λ r. r.rule) table.now.list.items) scenario.now }
+    {
+        let (sheet, asked, trace) = (self.files.sheet, self.asked, self.trace);
+        let mut programs = programs_of(sheet, self.text);
+        note_spaces(sheet, &mut programs, scenario.spaces.as_slice());
+        match asked.verb {
+            Verb::Apart => self.compare(table, scenario, &programs),
+            Verb::Record => self.record(table, scenario, &programs),
+            _ => {
+                let mut show = show_of(sheet, asked, &programs);
+                self.play(table, scenario, asked.name, trace, &mut show);
+            }
+        }
+    }
+
+    /// Shows the trace that a hunt finds, and says which ends came.
+    fn hunt(&mut self, table: &Table, scenario: &Scenario)
+        requires keeps { KeepsScenario scenario.now }
+        requires rules { HasRules (map (λ r. r.rule) table.now.list.items) scenario.now }
+    {
+        let sheet = self.files.sheet;
+        let mut hunter = Hunter::new(sheet, self.asked);
+        match lend_cores(sheet.alloc, table, scenario, &mut self.files, &mut hunter) {
+            Ok(()) => hunter.show(),
+            Err(problem) => sheet.fails(problem),
+        }
+    }
+}
+
+impl<H: Shelf> ScenarioReader for Showing<'_, H> {
     ghost looks = { λ _ _ _. ⊤ };
 
     ghost hears = { λ _ _ _. ⊤ };
 
     fn scenario(&mut self, table: &Table, scenario: &Scenario) {
-        let (sheet, asked) = (self.files.sheet, self.asked);
-        self.show.note_spaces(scenario.spaces.as_slice());
-        let trace = Trace {
-            bytes: self.bytes,
-            most: asked.end,
-            looks_ahead: matches!(asked.verb, Verb::Why),
-        };
-        match watch(
-            sheet.alloc,
-            table,
-            scenario,
-            &mut self.files,
-            Some(trace),
-            self.show,
-        ) {
-            Ok(stop) => check_stop(sheet, asked, stop),
-            Err(problem) => sheet.fails(problem),
+        match self.asked.verb {
+            Verb::Plain => {}
+            Verb::Hunt => self.hunt(table, scenario),
+            _ => self.show_run(table, scenario),
         }
     }
 
     fn refused(&mut self, status: &Status) {
-        refuse_scenario(self.files.sheet, self.text, status);
+        let sheet = self.files.sheet;
+        match status {
+            Status::BadScenario {
+                rule,
+                section,
+                index,
+            } => refused_scenario(sheet, self.text, *rule, *section, *index),
+            _ => sheet.lacks(),
+        }
     }
 }
 
-/// Shows what is asked for of a run of a scenario's text, or says why not.
-pub fn show_run<H: Shelf>(sheet: &Sheet, asked: &Asked<'_>, text: &[u8], shelf: &mut H) {
-    let bytes = match asked.verb {
-        Verb::First => Some(Vec::new(sheet.alloc)),
+/// The bytes of the trace that a verb wants, if it wants one; nothing where it can't be had, which the sheet says then.
+fn trace_of<H: Shelf>(sheet: &Sheet, asked: &Asked<'_>, shelf: &mut H) -> Option<Vec<u8>> {
+    match asked.verb {
+        Verb::First | Verb::Plain | Verb::Hunt => Some(Vec::new(sheet.alloc)),
         _ => file_of(sheet, shelf, asked.name, ".trc"),
+    }
+}
+
+/// The same of the other file that a verb wants.
+fn other_of<H: Shelf>(sheet: &Sheet, asked: &Asked<'_>, shelf: &mut H) -> Option<Vec<u8>> {
+    match asked.verb {
+        Verb::Apart => file_of(sheet, shelf, asked.other, ".trc"),
+        Verb::Record => file_of(sheet, shelf, asked.name, ".rec"),
+        _ => Some(Vec::new(sheet.alloc)),
+    }
+}
+
+/// Shows what is asked for of a scenario's text, or says why not.
+pub fn show_scenario<H: Shelf>(sheet: &Sheet, asked: &Asked<'_>, text: &[u8], shelf: &mut H) {
+    let Some(trace) = trace_of(sheet, asked, shelf) else {
+        return;
     };
-    if let Some(bytes) = bytes {
-        let mut show = show_of(sheet, asked, programs_of(sheet, text));
-        let mut run = Run {
-            asked,
-            text,
-            bytes: &bytes,
-            files: Files { sheet, shelf },
-            show: &mut show,
-        };
-        lend_scenario(sheet.alloc, text, &mut run);
+    let Some(other) = other_of(sheet, asked, shelf) else {
+        return;
+    };
+    let mut showing = Showing {
+        asked,
+        text,
+        trace: &trace,
+        other: &other,
+        files: Files { sheet, shelf },
+    };
+    lend_scenario(sheet.alloc, text, &mut showing);
+}
+
+/// Adds the plain form of a scenario's text, or says why there is none: a name that is none, or a plain form that `fluke` refuses.
+pub fn show_plain<H: Shelf>(sheet: &Sheet, asked: &Asked<'_>, text: &[u8], shelf: &mut H) {
+    let plain = Sheet::new(sheet.alloc);
+    push_plain(&plain, text);
+    let plain = plain.shown();
+    sheet.add(plain.text.as_str());
+    match plain.problem {
+        Some(problem) => sheet.fails(problem),
+        None => show_scenario(sheet, asked, plain.text.as_bytes(), shelf),
     }
 }

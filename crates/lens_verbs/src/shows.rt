@@ -5,7 +5,6 @@ use crate::sums::Sums;
 use crate::why::{Known, Lockers, Why};
 use fk_first::{Ready, Seen, Stop, Watcher};
 use fk_model::{Move, NoMemory};
-use fk_scenario::entries::SpaceEntry;
 use lens_text::{Asked, Programs, Scene, Sheet, Verb, push_tree};
 
 /// How a run is shown.
@@ -24,7 +23,7 @@ enum How {
 pub struct Show<'a> {
     sheet: &'a Sheet,
     /// The programs of the scenario.
-    programs: Programs,
+    programs: &'a Programs,
     how: How,
 }
 
@@ -45,30 +44,9 @@ fn known_of<'a, 'l>(programs: &'a Programs, seen: Seen<'a>, lockers: &'l Lockers
     }
 }
 
-/// Notes with which programs the spaces of these entries begin. The root's birth number is 0, those of the others follow from 1 on.
-pub fn note_spaces(sheet: &Sheet, programs: &mut Programs, entries: &[SpaceEntry]) {
-    let mut birth = 0u32;
-    for entry in entries {
-        if entry.path.len() > 0 {
-            birth = birth.saturating_add(1);
-        }
-        let space = if entry.path.len() > 0 { birth } else { 0 };
-        if let Some(program) = entry.program {
-            programs.stands_in(sheet, space, program as usize);
-        }
-    }
-}
-
-impl Show<'_> {
-    /// Notes with which programs the spaces of these entries begin.
-    pub fn note_spaces(&mut self, entries: &[SpaceEntry]) {
-        note_spaces(self.sheet, &mut self.programs, entries);
-    }
-}
-
 impl Watcher for Show<'_> {
     fn before(&mut self, seen: Seen<'_>, one: &Move) -> Result<(), NoMemory> {
-        let scene = scene_of(&self.programs, seen);
+        let scene = scene_of(self.programs, seen);
         match &mut self.how {
             How::Tree => {}
             How::Steps(steps) => steps.before(self.sheet, seen, scene, one),
@@ -80,7 +58,7 @@ impl Watcher for Show<'_> {
     }
 
     fn after(&mut self, seen: Seen<'_>, one: &Move) -> Result<(), NoMemory> {
-        let scene = scene_of(&self.programs, seen);
+        let scene = scene_of(self.programs, seen);
         match &mut self.how {
             How::Tree => {}
             How::Steps(steps) => steps.after(self.sheet, seen, one),
@@ -92,7 +70,7 @@ impl Watcher for Show<'_> {
     }
 
     fn stops(&mut self, seen: Seen<'_>, ready: &Ready, stop: Stop) -> Result<(), NoMemory> {
-        let programs = &self.programs;
+        let programs = self.programs;
         match &mut self.how {
             How::Tree => push_tree(self.sheet, scene_of(programs, seen)),
             How::Steps(_) => {}
@@ -111,7 +89,7 @@ impl Watcher for Show<'_> {
 }
 
 /// What is asked for of a scenario with these programs, of which nothing of the run is shown yet.
-pub fn show_of<'a>(sheet: &'a Sheet, asked: &Asked<'_>, programs: Programs) -> Show<'a> {
+pub fn show_of<'a>(sheet: &'a Sheet, asked: &Asked<'_>, programs: &'a Programs) -> Show<'a> {
     let how = match asked.verb {
         Verb::Steps => How::Steps(Steps::new(sheet, asked.first)),
         Verb::Why => How::Why(Why::new(sheet)),

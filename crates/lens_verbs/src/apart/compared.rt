@@ -28,8 +28,8 @@ fn places_of(alloc: Global, deeds: &Deeds, movers: usize) -> Result<Vec<Vec<usiz
     for _ in 0..movers {
         places.push(Vec::new(alloc))?;
     }
-    for (place, deed) in deeds.list.iter().enumerate() {
-        if let Some(list) = places.get_mut(deed.mover) {
+    for place in 0..deeds.list.len() {
+        if let Some(list) = places.get_mut(deeds.list[place].mover) {
             list.push(place)?;
         }
     }
@@ -44,7 +44,8 @@ fn partner(places: &[Vec<usize>], deed: Deed) -> Option<usize> {
 
 /// The first place in a trace whose mover makes no such move in the other.
 fn alone(deeds: &Deeds, other: &Deeds) -> Option<usize> {
-    for (place, deed) in deeds.list.iter().enumerate() {
+    for place in 0..deeds.list.len() {
+        let deed = deeds.list[place];
         if deed.turn >= other.turns_of(deed.mover) {
             return Some(place);
         }
@@ -54,10 +55,11 @@ fn alone(deeds: &Deeds, other: &Deeds) -> Option<usize> {
 
 /// The first move, in the order of the first trace, that does something else in the second.
 fn first_other(first: &Deeds, second: &Deeds, places: &[Vec<usize>]) -> Option<Both> {
-    for (place, deed) in first.list.iter().enumerate() {
-        if let Some(at) = partner(places, *deed) {
+    for place in 0..first.list.len() {
+        let deed = first.list[place];
+        if let Some(at) = partner(places, deed) {
             if let Some(other) = second.list.get(at) {
-                if first.text_of(*deed) != second.text_of(*other) {
+                if first.text_of(deed) != second.text_of(*other) {
                     return Some(Both {
                         first: place,
                         second: at,
@@ -71,9 +73,9 @@ fn first_other(first: &Deeds, second: &Deeds, places: &[Vec<usize>]) -> Option<B
 
 /// Whether two traces have the same movers one after the other.
 fn is_same_order(first: &Deeds, second: &Deeds) -> bool {
-    for (place, deed) in first.list.iter().enumerate() {
+    for place in 0..first.list.len() {
         match second.list.get(place) {
-            Some(other) if other.mover == deed.mover => {}
+            Some(other) if other.mover == first.list[place].mover => {}
             _ => return false,
         }
     }
@@ -117,7 +119,8 @@ fn turns_before(
     for _ in 0..movers {
         turns.push(0)?;
     }
-    for deed in deeds.list.iter().take(place) {
+    for at in 0..place.min(deeds.list.len()) {
+        let deed = deeds.list[at];
         if let Some(turn) = turns.get_mut(deed.mover) {
             *turn = deed.turn.saturating_add(1);
         }
@@ -140,7 +143,8 @@ pub fn last_before(
 ) -> Result<Option<usize>, NoMemory> {
     let turns = turns_before(alloc, other, movers, there)?;
     let mut found = None;
-    for (at, deed) in deeds.list.iter().take(place).enumerate() {
+    for at in 0..place.min(deeds.list.len()) {
+        let deed = deeds.list[at];
         let were = match turns.get(deed.mover) {
             Some(turns) => *turns,
             None => 0,

@@ -4,7 +4,9 @@ use crate::steps::Steps;
 use fk_first::{Ready, Seen, Stop, Watcher};
 use fk_model::{Mode, Move, NoMemory};
 use lens_text::{Programs, Sheet};
+use std::alloc::Global;
 use std::collections::BTreeMap;
+use std::mem;
 
 /// The movers of two traces by their paths, each with a number.
 pub type Movers = BTreeMap<String, usize>;
@@ -35,11 +37,11 @@ pub struct Deeds {
 
 impl Deeds {
     /// None yet.
-    fn new(sheet: &Sheet) -> Deeds {
+    fn new(alloc: Global) -> Deeds {
         Deeds {
-            list: Vec::new(sheet.alloc),
-            text: String::new(sheet.alloc),
-            turns: Vec::new(sheet.alloc),
+            list: Vec::new(alloc),
+            text: String::new(alloc),
+            turns: Vec::new(alloc),
         }
     }
 
@@ -85,28 +87,37 @@ impl Deeds {
     }
 }
 
-/// Keeps what the moves of a run do.
+/// Keeps what the moves of two runs do.
 #[derive(Drop)]
 pub struct Taker<'a> {
-    sheet: &'a Sheet,
-    movers: &'a mut Movers,
-    programs: Programs,
+    pub sheet: &'a Sheet,
+    programs: &'a Programs,
+    pub movers: Movers,
     steps: Steps,
     is_call: bool,
+    /// What those of the first run do, while the second is watched.
+    pub first: Deeds,
+    /// What those of the run do that is watched.
     pub deeds: Deeds,
 }
 
 impl<'a> Taker<'a> {
     /// It has seen no move yet of a scenario with these programs.
-    pub fn new(sheet: &'a Sheet, movers: &'a mut Movers, programs: Programs) -> Taker<'a> {
+    pub fn new(sheet: &'a Sheet, programs: &'a Programs) -> Taker<'a> {
         Taker {
             sheet,
-            movers,
             programs,
+            movers: Movers::new(sheet.alloc),
             steps: Steps::new(&Sheet::new(sheet.alloc), 0),
             is_call: false,
-            deeds: Deeds::new(sheet),
+            first: Deeds::new(sheet.alloc),
+            deeds: Deeds::new(sheet.alloc),
         }
+    }
+
+    /// The first run is over.
+    pub fn turn_over(&mut self) {
+        self.first = mem::replace(&mut self.deeds, Deeds::new(self.sheet.alloc));
     }
 
     /// The number of the mover with this path.
@@ -139,7 +150,7 @@ impl Watcher for Taker<'_> {
             Some(thread) => !matches!(thread.mode, Mode::Running),
             None => true,
         };
-        let scene = scene_of(&self.programs, seen);
+        let scene = scene_of(self.programs, seen);
         self.steps.before(self.sheet, seen, scene, one);
         Ok(())
     }

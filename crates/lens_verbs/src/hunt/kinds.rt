@@ -22,9 +22,10 @@ pub enum Until<'a> {
     Text(&'a str),
 }
 
-/// What a word says of when a hunt stops.
+/// What a word says of when a hunt stops, an empty one where none was given.
 pub fn until_of(word: &str) -> Until<'_> {
     match word {
+        "" => Until::Never,
         "quiet" => Until::Quiet,
         "fault" => Until::Fault,
         _ => Until::Text(word),

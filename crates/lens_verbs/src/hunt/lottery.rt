@@ -14,6 +14,11 @@ const ROUND: u64 = 16;
 /// So many native servers are known at most that may have an act.
 const SERVERS: usize = 16;
 
+/// The number of the first native server, above those of all slots, and that of the job.
+const FIRST_SERVER: u64 = 281_474_976_710_656;
+
+const JOB: u64 = 562_949_953_421_312;
+
 /// How one of those that may move is chosen.
 #[derive(Clone, Copy)]
 enum Way {
@@ -55,12 +60,12 @@ fn way_of(random: &mut Random) -> Way {
     }
 }
 
-/// What stands for one in its priority.
-fn mark_of(entrant: Entrant) -> u64 {
+/// The number of one in its priority: the slots of all spaces are counted through, and the native servers and the job behind them.
+fn number_of(entrant: Entrant) -> u64 {
     match entrant {
-        Entrant::Thread(who) => (u64::from(who.space) << 8) | u64::from(who.slot),
-        Entrant::Server(place) => (1 << 48) ^ place as u64,
-        Entrant::Job(_) => 1 << 49,
+        Entrant::Thread(who) => u64::from(who.space) * 256 + u64::from(who.slot),
+        Entrant::Server(place) => FIRST_SERVER.wrapping_add(place as u64),
+        Entrant::Job(_) => JOB,
     }
 }
 
@@ -106,15 +111,12 @@ fn place_of(core: &Run, port: Who) -> Option<usize> {
 }
 
 impl Lottery {
-    /// That of the schedule with a number.
-    pub fn new(alloc: Global, number: u64) -> Lottery {
-        let mut random = Random::new(number);
-        let way = way_of(&mut random);
-        let priorities = random.number();
+    /// No schedule has begun.
+    pub fn new(alloc: Global) -> Lottery {
         Lottery {
-            random,
-            way,
-            priorities,
+            random: Random::new(0),
+            way: Way::Evenly,
+            priorities: 0,
             entrants: Vec::new(alloc),
             is_old: true,
             servers: Vec::new(alloc),
@@ -122,6 +124,16 @@ impl Lottery {
             is_instruction: false,
             pause: 0,
         }
+    }
+
+    /// Begins the schedule with a number.
+    pub fn begin(&mut self, number: u64) {
+        self.random = Random::new(number);
+        self.way = way_of(&mut self.random);
+        self.priorities = self.random.number();
+        self.is_old = true;
+        self.servers.clear();
+        self.pause = 0;
     }
 
     /// Looks at the threads that may be ready.
@@ -167,7 +179,7 @@ impl Lottery {
         let mut best = None;
         let mut most = 0;
         for entrant in &self.entrants {
-            let priority = mixed(self.priorities ^ mark_of(*entrant));
+            let priority = mixed(self.priorities ^ number_of(*entrant));
             if best.is_none() || priority > most {
                 best = Some(*entrant);
                 most = priority;

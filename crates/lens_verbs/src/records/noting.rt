@@ -22,7 +22,7 @@ struct At<'a> {
 #[derive(Drop)]
 pub struct Noting<'a> {
     sheet: &'a Sheet,
-    programs: Programs,
+    programs: &'a Programs,
     steps: Steps,
     /// Of each server that is no console, in the order of the file.
     pub noted: Vec<Noted>,
@@ -58,7 +58,7 @@ fn noted_of(sheet: &Sheet, servers: &[ServerEntry]) -> Vec<Noted> {
 
 impl<'a> Noting<'a> {
     /// It has seen no move yet of a scenario with these programs and these servers.
-    pub fn new(sheet: &'a Sheet, programs: Programs, servers: &[ServerEntry]) -> Noting<'a> {
+    pub fn new(sheet: &'a Sheet, programs: &'a Programs, servers: &[ServerEntry]) -> Noting<'a> {
         Noting {
             sheet,
             programs,
@@ -119,15 +119,15 @@ impl<'a> Noting<'a> {
 
 impl Watcher for Noting<'_> {
     fn before(&mut self, seen: Seen<'_>, one: &Move) -> Result<(), NoMemory> {
-        let scene = scene_of(&self.programs, seen);
+        let scene = scene_of(self.programs, seen);
         self.steps.before(self.sheet, seen, scene, one);
         Ok(())
     }
 
     fn after(&mut self, seen: Seen<'_>, one: &Move) -> Result<(), NoMemory> {
         let mut place = 0usize;
-        for (index, (port, native)) in seen.services.iter().enumerate() {
-            if let Native::Server(server) = native {
+        for index in 0..seen.services.len() {
+            if let Some((port, Native::Server(server))) = seen.services.get(index) {
                 let at = At {
                     place,
                     port: *port,

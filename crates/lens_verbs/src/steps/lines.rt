@@ -109,9 +109,9 @@ impl Steps {
         }
         sheet.put(b"\t");
         let start = sheet.len();
-        for (place, (port, native)) in seen.services.iter().enumerate() {
-            if let Some(was) = self.servers.get(place) {
-                push_news(sheet, start, store, *port, native, was);
+        for place in 0..self.servers.len() {
+            if let Some((port, native)) = seen.services.get(place) {
+                push_news(sheet, start, store, *port, native, &self.servers[place]);
             }
         }
         sheet.put_around(b"\t", self.place.as_str(), b"\n");
