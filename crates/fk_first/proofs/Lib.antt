@@ -4,3 +4,4 @@ pub mod Servers
 pub mod Grounds
 pub mod Planned
 pub mod Beginnings
+pub mod Lent

@@ -17,11 +17,12 @@ const UNTIL: &str = "--until";
 
 /// Whether a word may be sought in a line.
 fn is_line(word: &str) -> bool {
+    for byte in word.as_bytes() {
+        if *byte < 32 || *byte == 127 {
+            return false;
+        }
+    }
     !word.is_empty()
-        && word
-            .as_bytes()
-            .iter()
-            .all(|byte| *byte >= 32 && *byte != 127)
 }
 
 /// The number in a word, from a least to a most; where it is none, the line says so.

@@ -83,8 +83,8 @@ impl<H: Shelf> Showing<'_, H> {
             taker.turn_over();
             self.play(table, scenario, asked.other, other, &mut taker);
         }
-        if sheet.problem().is_none() && push_apart(&taker, asked.name, asked.other).is_err() {
-            sheet.lacks();
+        if sheet.problem().is_none() {
+            push_apart(&taker, asked.name, asked.other);
         }
     }
 

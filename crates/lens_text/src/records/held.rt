@@ -96,14 +96,19 @@ impl<'a> Holding<'a> {
 /// Whose notes a record has, by the first of them: one that all are seen by begins with no reply and with no words. Where it has none, of an observer who
 /// sees none of what was noted, if there is one.
 fn watch_of(noted: &[Noted], notes: &str) -> Watch {
-    let word = word_of(parted(notes, '\n').0);
+    let mut has_replies = false;
+    let mut has_words = false;
+    for one in noted {
+        has_replies = has_replies | one.has_replies;
+        has_words = has_words | one.has_words;
+    }
     let is_empty = notes.is_empty();
-    if word == "reply" || (is_empty && !noted.iter().any(|one| one.has_replies)) {
-        Watch::Replies
-    } else if word == "said" || (is_empty && !noted.iter().any(|one| one.has_words)) {
-        Watch::Said
-    } else {
-        Watch::All
+    match word_of(parted(notes, '\n').0) {
+        "reply" => Watch::Replies,
+        "said" => Watch::Said,
+        _ if is_empty & !has_replies => Watch::Replies,
+        _ if is_empty & !has_words => Watch::Said,
+        _ => Watch::All,
     }
 }
 

@@ -17,7 +17,7 @@ pub struct Deed {
     /// The number of its mover.
     pub mover: usize,
     /// How many moves the mover has made before.
-    pub turn: u64,
+    turn: usize,
     /// Where what it does stands in the text, and where that ends.
     start: usize,
     end: usize,
@@ -31,8 +31,8 @@ pub struct Deeds {
     pub list: Vec<Deed>,
     /// Behind the path of each mover what it does.
     text: String,
-    /// How many moves each mover has made.
-    turns: Vec<u64>,
+    /// Of each mover the places of its moves.
+    places: Vec<Vec<usize>>,
 }
 
 impl Deeds {
@@ -41,7 +41,7 @@ impl Deeds {
         Deeds {
             list: Vec::new(alloc),
             text: String::new(alloc),
-            turns: Vec::new(alloc),
+            places: Vec::new(alloc),
         }
     }
 
@@ -50,30 +50,43 @@ impl Deeds {
         self.text.as_str().get(deed.start..deed.end).unwrap_or("")
     }
 
-    /// How many moves a mover has made.
-    pub fn turns_of(&self, mover: usize) -> u64 {
-        match self.turns.get(mover) {
-            Some(turns) => *turns,
-            None => 0,
+    /// What the one at a place does.
+    pub fn text_at(&self, place: usize) -> &str {
+        match self.list.get(place) {
+            Some(deed) => self.text_of(*deed),
+            None => "",
         }
     }
 
+    /// The place of the same mover's move of the same turn, if it makes as many.
+    pub fn place_of(&self, deed: Deed) -> Option<usize> {
+        let places = self.places.get(deed.mover)?;
+        Some(*places.get(deed.turn)?)
+    }
+
     /// Counts a move of a mover, and answers how many it has made before.
-    fn turn(&mut self, mover: usize) -> Result<u64, NoMemory> {
-        for _ in self.turns.len()..mover.saturating_add(1) {
-            self.turns.push(0)?;
+    fn turn(&mut self, alloc: Global, mover: usize) -> Result<usize, NoMemory> {
+        for _ in self.places.len()..mover.saturating_add(1) {
+            self.places.push(Vec::new(alloc))?;
         }
-        let Some(turns) = self.turns.get_mut(mover) else {
+        let place = self.list.len();
+        let Some(places) = self.places.get_mut(mover) else {
             return Ok(0);
         };
-        let turn = *turns;
-        *turns = turn.saturating_add(1);
+        let turn = places.len();
+        places.push(place)?;
         Ok(turn)
     }
 
     /// Adds what a mover does.
-    fn add(&mut self, mover: usize, does: &str, reaches: bool) -> Result<(), NoMemory> {
-        let turn = self.turn(mover)?;
+    fn add(
+        &mut self,
+        alloc: Global,
+        mover: usize,
+        does: &str,
+        reaches: bool,
+    ) -> Result<(), NoMemory> {
+        let turn = self.turn(alloc, mover)?;
         let start = self.text.len();
         self.text.push_str(does)?;
         self.list.push(Deed {
@@ -164,7 +177,7 @@ impl Watcher for Taker<'_> {
         };
         let mover = self.mover(path)?;
         let reaches = self.is_call || does.starts_with("store");
-        self.deeds.add(mover, does, reaches)
+        self.deeds.add(self.sheet.alloc, mover, does, reaches)
     }
 
     fn stops(&mut self, _seen: Seen<'_>, _ready: &Ready, _stop: Stop) -> Result<(), NoMemory> {

@@ -1,7 +1,6 @@
 //! Where two traces come apart, told.
-use crate::apart::compared::{Apart, Both, first_apart, last_before};
+use crate::apart::compared::{Apart, first_apart, last_before};
 use crate::apart::taken::{Deeds, Movers, Taker};
-use fk_model::NoMemory;
 use lens_text::Sheet;
 
 /// The path of the mover with a number.
@@ -31,49 +30,27 @@ fn push_before(
     movers: &Movers,
     deeds: (&Deeds, &Deeds),
     places: (usize, usize),
-) -> Result<(), NoMemory> {
-    let found = last_before(
-        sheet.alloc,
-        deeds.0,
-        places.0,
-        deeds.1,
-        places.1,
-        movers.len(),
-    )?;
-    if let Some(place) = found {
+) {
+    if let Some(place) = last_before(deeds.0, places.0, deeds.1, places.1) {
         sheet.put_around(b"before it in ", name, b" alone\n");
         push_deed(sheet, name, movers, deeds.0, place);
     }
-    Ok(())
 }
 
-/// Adds a move in which two traces differ, as both make it, and what came before it in one of them alone.
-fn push_both(
-    taker: &Taker<'_>,
-    name: &str,
-    other: &str,
-    both: Both,
-) -> Result<(), NoMemory> {
+/// Adds how two traces with these names differ, which were watched one after the other: the first move in which they do, and where both make it, what came
+/// before it in one of them alone.
+pub fn push_apart(taker: &Taker<'_>, name: &str, other: &str) {
     let (sheet, movers) = (taker.sheet, &taker.movers);
     let (first, second) = (&taker.first, &taker.deeds);
-    push_deed(sheet, name, movers, first, both.first);
-    push_deed(sheet, other, movers, second, both.second);
-    let places = (both.first, both.second);
-    push_before(sheet, name, movers, (first, second), places)?;
-    let places = (both.second, both.first);
-    push_before(sheet, other, movers, (second, first), places)
-}
-
-/// Adds how two traces with these names differ, which were watched one after the other.
-///
-/// # Errors
-///
-/// There is no memory for what is compared.
-pub fn push_apart(taker: &Taker<'_>, name: &str, other: &str) -> Result<(), NoMemory> {
-    let (sheet, movers) = (taker.sheet, &taker.movers);
-    let (first, second) = (&taker.first, &taker.deeds);
-    match first_apart(sheet.alloc, first, second, movers.len())? {
-        Apart::Does(both) => push_both(taker, name, other, both)?,
+    match first_apart(first, second) {
+        Apart::Does(both) => {
+            push_deed(sheet, name, movers, first, both.first);
+            push_deed(sheet, other, movers, second, both.second);
+            let places = (both.first, both.second);
+            push_before(sheet, name, movers, (first, second), places);
+            let places = (both.second, both.first);
+            push_before(sheet, other, movers, (second, first), places);
+        }
         Apart::FirstAlone(place) => {
             sheet.put_around(b"in ", name, b" alone\n");
             push_deed(sheet, name, movers, first, place);
@@ -87,5 +64,4 @@ pub fn push_apart(taker: &Taker<'_>, name: &str, other: &str) -> Result<(), NoMe
         } => sheet.put(b"no difference\n"),
         Apart::Nowhere { .. } => sheet.put(b"the same moves in another order\n"),
     }
-    Ok(())
 }

@@ -1,6 +1,6 @@
 //! The move of one that was drawn.
 use crate::hunt::random::Random;
-use fk_core::{Core, Kernel};
+use fk_core::Core;
 use fk_model::limits::LAST_PORTER_SLOT;
 use fk_model::{Ask, Mode, Move, Stage, Who};
 use fk_natives::{Native, Service};
@@ -73,36 +73,31 @@ fn varied(core: &Run, random: &mut Random, found: Move) -> Move {
     one
 }
 
-/// A move of a thread that picks somebody, or of the first behind it that can move.
-fn picking(core: &Run, random: &mut Random, who: Who) -> Option<Move> {
-    let found = core.kernel().next_after(before(who))?;
-    Some(varied(core, random, found))
-}
-
 /// A thread's move, which may turn out not to be ready.
 fn thread_move(core: &Run, random: &mut Random, who: Who) -> Option<Move> {
     let store = core.kernel().store();
     match store.thread(who)?.mode {
         Mode::Running => Some(Move { who, pick: None }),
         Mode::Calling => match next_stage(store, who)? {
-            Stage::Wait { .. } | Stage::CondSignal { .. } => picking(core, random, who),
+            Stage::Wait { .. } | Stage::CondSignal { .. } => {
+                // Its own move, or that of the first behind it that can move.
+                let found = core.kernel().next_after(before(who))?;
+                Some(varied(core, random, found))
+            }
             _ => Some(Move { who, pick: None }),
         },
         _ => None,
     }
 }
 
-/// Whom the native server of a port accepts.
-fn accepting(core: &Run, random: &mut Random, kernel: &Kernel, who: Who) -> Option<Move> {
-    let pick = Some(kernel.ready_accept(who)?);
-    Some(varied(core, random, Move { who, pick }))
-}
-
 /// The act of the native server at a place.
 fn server_move(core: &Run, random: &mut Random, place: usize) -> Option<Move> {
     let (port, native) = core.services().get(place)?;
     match native.ask()? {
-        Ask::Accept => accepting(core, random, core.kernel(), *port),
+        Ask::Accept => {
+            let pick = Some(core.kernel().ready_accept(*port)?);
+            Some(varied(core, random, Move { who: *port, pick }))
+        }
         _ => Some(Move {
             who: *port,
             pick: None,

@@ -49,17 +49,6 @@ pub struct Lottery {
     pause: u64,
 }
 
-/// The way of a schedule.
-fn way_of(random: &mut Random) -> Way {
-    match random.below(8) {
-        0..=3 => Way::Evenly,
-        4 => Way::ByPriority { change: 4 },
-        5 => Way::ByPriority { change: 12 },
-        6 => Way::ByPriority { change: 40 },
-        _ => Way::ByPriority { change: 1000 },
-    }
-}
-
 /// The number of one in its priority: the slots of all spaces are counted through, and the native servers and the job behind them.
 fn number_of(entrant: Entrant) -> u64 {
     match entrant {
@@ -98,8 +87,9 @@ fn port_of(core: &Run, who: Who) -> Option<Who> {
     }
 }
 
-/// The place of the native server of a port.
-fn place_of(core: &Run, port: Who) -> Option<usize> {
+/// The place of the native server that a mover is, or that a thread speaks to or comes to.
+fn server_of(core: &Run, who: Who) -> Option<usize> {
+    let port = port_of(core, who)?;
     for place in 0..core.services().len() {
         if let Some((one, _)) = core.services().get(place) {
             if *one == port {
@@ -129,7 +119,13 @@ impl Lottery {
     /// Begins the schedule with a number.
     pub fn begin(&mut self, number: u64) {
         self.random = Random::new(number);
-        self.way = way_of(&mut self.random);
+        self.way = match self.random.below(8) {
+            0..=3 => Way::Evenly,
+            4 => Way::ByPriority { change: 4 },
+            5 => Way::ByPriority { change: 12 },
+            6 => Way::ByPriority { change: 40 },
+            _ => Way::ByPriority { change: 1000 },
+        };
         self.priorities = self.random.number();
         self.is_old = true;
         self.servers.clear();
@@ -235,17 +231,6 @@ impl Lottery {
         }
     }
 
-    /// It knows the native server of a port as one that may have an act.
-    fn know(&mut self, core: &Run, port: Who) -> Result<(), NoMemory> {
-        let Some(place) = place_of(core, port) else {
-            return Ok(());
-        };
-        if self.servers.len() < SERVERS && !self.servers.contains(&place) {
-            self.servers.push(place)?;
-        }
-        Ok(())
-    }
-
     /// It hears that a move was made.
     ///
     /// # Errors
@@ -257,9 +242,12 @@ impl Lottery {
             return Ok(());
         }
         self.is_old = true;
-        match port_of(core, one.who) {
-            Some(port) => self.know(core, port),
-            None => Ok(()),
+        // Its native server may have an act now.
+        if let Some(place) = server_of(core, one.who) {
+            if self.servers.len() < SERVERS && !self.servers.contains(&place) {
+                self.servers.push(place)?;
+            }
         }
+        Ok(())
     }
 }
