@@ -89,7 +89,7 @@ pub fn handled(store: &Store, space: u32, slot: u64) -> Option<Who> {
 }
 
 /// The space that is named as a place in another: 256 is that one itself.
-fn place_named(store: &Store, space: u32, place: u64) -> Option<u32> {
+pub fn place_named(store: &Store, space: u32, place: u64) -> Option<u32> {
     if place == OWN_SPACE {
         return Some(space);
     }
