@@ -26,7 +26,7 @@ fn lend_core<P: Player>(
     ensures { IsPlayed P.plays (IsFirst scenario.now) player.old result player.new }
 {
     let mut core = first_core(alloc, scenario, images)?;
-    player.play(table, scenario, &mut core)
+    Ok(player.play(table, scenario, &mut core))
 }
 
 /// Lends a player such cores, each with these images for its jobs, one after the other for as long as it wants another.
@@ -54,7 +54,7 @@ fn lend_with<P: Player>(
 ///
 /// # Errors
 ///
-/// There is no memory, the player has none, or an image can't be had.
+/// There is no memory, or an image can't be had.
 pub fn lend_cores<I: Images, P: Player>(
     alloc: Global,
     table: &Table,

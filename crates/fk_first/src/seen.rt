@@ -1,10 +1,9 @@
 //! What is seen of a run, who watches it, who plays it, and who has images for it.
-ghost use Rattle.std.specs.Prelude.{Bool, Result, map};
+ghost use Rattle.std.specs.Prelude.{Bool, map};
 ghost use Rattle.fk_core.specs.Cores.Cores.{RunCore, run_core};
 ghost use Rattle.fk_core.specs.Cores.Goings.{IsGoing};
 ghost use Rattle.fk_core.specs.Cores.Served.{AllFit};
 ghost use Rattle.fk_first.specs.First.{IsFirst};
-ghost use Rattle.fk_model.specs.declared.no_memory.NoMemory.{NoMemory};
 
 use fk_core::Core;
 use fk_finish::ValidImage;
@@ -73,43 +72,22 @@ pub struct Trace<'a> {
 /// Who watches a run.
 pub trait Watcher {
     /// It sees what stands before a move, of which it isn't known yet whether it is ready.
-    ///
-    /// # Errors
-    ///
-    /// It has no memory.
-    fn before(&mut self, seen: Seen<'_>, one: &Move) -> Result<(), NoMemory>;
+    fn before(&mut self, seen: Seen<'_>, one: &Move);
 
     /// It sees what stands after that move, which was made.
-    ///
-    /// # Errors
-    ///
-    /// It has no memory.
-    fn after(&mut self, seen: Seen<'_>, one: &Move) -> Result<(), NoMemory>;
+    fn after(&mut self, seen: Seen<'_>, one: &Move);
 
     /// It sees what stands where the run stops, and who could go on.
-    ///
-    /// # Errors
-    ///
-    /// It has no memory.
-    fn stops(&mut self, seen: Seen<'_>, ready: &Ready, stop: Stop) -> Result<(), NoMemory>;
+    fn stops(&mut self, seen: Seen<'_>, ready: &Ready, stop: Stop);
 }
 
 /// Who plays from the core with which a scenario begins. What a call may make of it, from the player before to the player after, its member says: by the
 /// core that was lent, and by the answer. Who lends knows no more of that, so a clause by it says that the call was made.
 pub trait Player {
-    ghost plays: { Self → RunCore → Result Bool NoMemory → Self → Type 0 };
+    ghost plays: { Self → RunCore → Bool → Self → Type 0 };
 
     /// It is lent such a core, of a scenario that was read by the rules of the table, and answers whether it wants another.
-    ///
-    /// # Errors
-    ///
-    /// It has no memory.
-    fn play(
-        &mut self,
-        table: &Table,
-        scenario: &Scenario,
-        core: &mut Core<Native, Porter>,
-    ) -> Result<bool, NoMemory>
+    fn play(&mut self, table: &Table, scenario: &Scenario, core: &mut Core<Native, Porter>) -> bool
         requires first { IsFirst scenario.now (run_core core.old) }
         requires come { IsGoing core.old }
         requires fits { AllFit (map (λ r. r.rule) table.now.list.items) core.old.services.list }

@@ -79,11 +79,11 @@ fn play<V: Watcher>(
             return Ok(Stop::Budget { index });
         }
         let job = job_of(core);
-        watcher.before(seen(core, job), &one)?;
+        watcher.before(seen(core, job), &one);
         if !core.go(table, &one)? {
             return Ok(Stop::Unready { index, one });
         }
-        watcher.after(seen(core, None), &one)?;
+        watcher.after(seen(core, None), &one);
         rest = after;
     }
     if trace.looks_ahead {
@@ -92,24 +92,21 @@ fn play<V: Watcher>(
     Ok(Stop::Enough)
 }
 
-/// Makes the moves of a trace, if there is one, and shows the watcher where that stops.
+/// Makes the moves of a trace, and shows the watcher where that stops.
 fn play_to_stop<V: Watcher>(
     alloc: Global,
     core: &mut Core<Native, Porter>,
     table: &Table,
-    trace: Option<Trace<'_>>,
+    trace: Trace<'_>,
     watcher: &mut V,
 ) -> Result<Stop, NoMemory>
     requires fits { AllFit (map (λ r. r.rule) table.now.list.items) core.old.services.list }
     requires come { IsGoing core.old }
 {
-    let stop = match trace {
-        Some(trace) => play(core, table, trace, watcher)?,
-        None => Stop::Ended,
-    };
+    let stop = play(core, table, trace, watcher)?;
     let job = job_of(core);
     let ready = ready_threads(alloc, core, job)?;
-    watcher.stops(seen(core, job), &ready, stop)?;
+    watcher.stops(seen(core, job), &ready, stop);
     Ok(stop)
 }
 
@@ -155,7 +152,7 @@ fn watch_with<V: Watcher>(
     table: &Table,
     scenario: &Scenario,
     images: &[Option<ValidImage>],
-    trace: Option<Trace<'_>>,
+    trace: Trace<'_>,
     watcher: &mut V,
 ) -> Result<Stop, NoMemory>
     requires keeps { KeepsScenario scenario.now }
@@ -166,7 +163,7 @@ fn watch_with<V: Watcher>(
 }
 
 /// Makes the moves of a trace from the first core of a scenario that was read by the rules of a table, with the images that its jobs need; shows
-/// them to a watcher, and answers where that stops. With no trace the watcher sees the first core alone. The core is let go here, and so are the
+/// them to a watcher, and answers where that stops. Of what is no trace the watcher sees the first core alone. The core is let go here, and so are the
 /// images, so that who watches proves nothing of them.
 ///
 /// # Errors
@@ -177,7 +174,7 @@ pub fn watch<I: Images, V: Watcher>(
     table: &Table,
     scenario: &Scenario,
     images: &mut I,
-    trace: Option<Trace<'_>>,
+    trace: Trace<'_>,
     watcher: &mut V,
 ) -> Result<Stop, I::Fault>
     requires keeps { KeepsScenario scenario.now }

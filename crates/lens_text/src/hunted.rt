@@ -38,21 +38,21 @@ fn number_in(line: &Sheet, word: &String, least: u64, most: u64, expected: &str)
 
 /// The numbers before the word that is sought: how many schedules, and the number of the first.
 fn numbers_of(line: &Sheet, words: &[String]) -> Option<(u64, u64)> {
-    let count = number_in(
-        line,
-        words.first()?,
-        1,
-        MOST,
-        "a number of schedules, 1 to 1000000",
-    )?;
-    let first = match words.get(1) {
-        Some(word) => {
-            let expected = "the seed of the first schedule, 0 to 4294967295, or --until";
-            number_in(line, word, 0, LAST, expected)?
-        }
-        None => FIRST,
+    let Some(word) = words.first() else {
+        return None;
     };
-    Some((count, first))
+    let expected = "a number of schedules, 1 to 1000000";
+    let Some(count) = number_in(line, word, 1, MOST, expected) else {
+        return None;
+    };
+    let Some(word) = words.get(1) else {
+        return Some((count, FIRST));
+    };
+    let expected = "the seed of the first schedule, 0 to 4294967295, or --until";
+    match number_in(line, word, 0, LAST, expected) {
+        Some(first) => Some((count, first)),
+        None => None,
+    }
 }
 
 /// The word that is sought: behind `--until`, at this place of the words; none where there are no more words.
@@ -77,8 +77,15 @@ fn sought_in<'a>(line: &Sheet, words: &'a [String], place: usize) -> Option<&'a 
 pub fn hunt_asked<'a>(line: &Sheet, words: &'a [String]) -> Option<Asked<'a>> {
     let has_first = words.len() == 2 || words.len() == 4;
     let place = if has_first { 2 } else { 1 };
-    let (count, first) = numbers_of(line, words.get(..place)?)?;
-    let name = sought_in(line, words, place)?;
+    let Some(words_before) = words.get(..place) else {
+        return None;
+    };
+    let Some((count, first)) = numbers_of(line, words_before) else {
+        return None;
+    };
+    let Some(name) = sought_in(line, words, place) else {
+        return None;
+    };
     Some(Asked {
         verb: Verb::Hunt,
         name,

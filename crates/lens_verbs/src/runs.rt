@@ -59,11 +59,11 @@ impl<H: Shelf> Showing<'_, H> {
         requires rules { HasRules (map (λ r. r.rule) table.now.list.items) scenario.now }
     {
         let (sheet, asked) = (self.files.sheet, *self.asked);
-        let trace = Some(Trace {
+        let trace = Trace {
             bytes,
             most: asked.end,
             looks_ahead: matches!(asked.verb, Verb::Why),
-        });
+        };
         match watch(sheet.alloc, table, scenario, &mut self.files, trace, watcher) {
             Ok(stop) => check_stop(sheet, &Asked { name, ..asked }, stop),
             Err(problem) => sheet.fails(problem),

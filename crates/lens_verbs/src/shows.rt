@@ -4,7 +4,7 @@ use crate::steps::Steps;
 use crate::sums::Sums;
 use crate::why::{Known, Lockers, Why};
 use fk_first::{Ready, Seen, Stop, Watcher};
-use fk_model::{Move, NoMemory};
+use fk_model::Move;
 use lens_text::{Asked, Programs, Scene, Sheet, Verb, push_tree};
 
 /// How a run is shown.
@@ -45,7 +45,7 @@ fn known_of<'a, 'l>(programs: &'a Programs, seen: Seen<'a>, lockers: &'l Lockers
 }
 
 impl Watcher for Show<'_> {
-    fn before(&mut self, seen: Seen<'_>, one: &Move) -> Result<(), NoMemory> {
+    fn before(&mut self, seen: Seen<'_>, one: &Move) {
         let scene = scene_of(self.programs, seen);
         match &mut self.how {
             How::Tree => {}
@@ -54,10 +54,9 @@ impl Watcher for Show<'_> {
             How::Sums(sums) => sums.before(self.sheet, seen.store, one),
             How::Page(page) => page.before(self.sheet, seen, scene, one),
         }
-        Ok(())
     }
 
-    fn after(&mut self, seen: Seen<'_>, one: &Move) -> Result<(), NoMemory> {
+    fn after(&mut self, seen: Seen<'_>, one: &Move) {
         let scene = scene_of(self.programs, seen);
         match &mut self.how {
             How::Tree => {}
@@ -66,10 +65,9 @@ impl Watcher for Show<'_> {
             How::Sums(sums) => sums.after(self.sheet, seen, scene, one),
             How::Page(page) => page.steps.after(self.sheet, seen, one),
         }
-        Ok(())
     }
 
-    fn stops(&mut self, seen: Seen<'_>, ready: &Ready, stop: Stop) -> Result<(), NoMemory> {
+    fn stops(&mut self, seen: Seen<'_>, ready: &Ready, stop: Stop) {
         let programs = self.programs;
         match &mut self.how {
             How::Tree => push_tree(self.sheet, scene_of(programs, seen)),
@@ -84,7 +82,6 @@ impl Watcher for Show<'_> {
             }
             How::Page(page) => page.stops(self.sheet, scene_of(programs, seen), stop),
         }
-        Ok(())
     }
 }
 

@@ -15,4 +15,4 @@ mod sides;
 pub use acts::push_act;
 pub use kept::Kept;
 pub use lines::Steps;
-pub use sides::{ended_port, other_side};
+pub use sides::{ended_port, other_side, talk_of};

@@ -14,7 +14,6 @@ mod places;
 mod reasons;
 mod talks;
 
-pub use blocked::awaited;
 pub use holds::push_hold;
 pub use known::{Known, Lockers, Locking};
 pub use lines::{Why, push_thread};

@@ -67,7 +67,10 @@ fn value_of(text: &str) -> Option<New<'_>> {
     if is_number(text) {
         return Some(New::Text(text));
     }
-    Some(New::Number(number_named(text)?))
+    match number_named(text) {
+        Some(number) => Some(New::Number(number)),
+        None => None,
+    }
 }
 
 impl<'a> Finding<'_, 'a> {

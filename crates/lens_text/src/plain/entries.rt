@@ -59,7 +59,12 @@ fn program_of<'p, 'a>(
     programs: &'p [Program<'a>],
     object: &Value,
 ) -> Option<&'p Program<'a>> {
-    let name = program_name(document, home_of(text_of(object, "at")?))?;
+    let Some(at) = text_of(object, "at") else {
+        return None;
+    };
+    let Some(name) = program_name(document, home_of(at)) else {
+        return None;
+    };
     for program in programs {
         if program.name == name {
             return Some(program);

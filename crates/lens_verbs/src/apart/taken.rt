@@ -2,8 +2,8 @@
 use crate::shows::scene_of;
 use crate::steps::Steps;
 use fk_first::{Ready, Seen, Stop, Watcher};
-use fk_model::{Mode, Move, NoMemory};
-use lens_text::{Programs, Sheet};
+use fk_model::{Mode, Move};
+use lens_text::{Programs, Sheet, parted};
 use std::alloc::Global;
 use std::collections::BTreeMap;
 use std::mem;
@@ -60,43 +60,45 @@ impl Deeds {
 
     /// The place of the same mover's move of the same turn, if it makes as many.
     pub fn place_of(&self, deed: Deed) -> Option<usize> {
-        let places = self.places.get(deed.mover)?;
-        Some(*places.get(deed.turn)?)
+        match self.places.get(deed.mover) {
+            Some(places) => places.get(deed.turn).copied(),
+            None => None,
+        }
     }
 
     /// Counts a move of a mover, and answers how many it has made before.
-    fn turn(&mut self, alloc: Global, mover: usize) -> Result<usize, NoMemory> {
+    fn turn(&mut self, sheet: &Sheet, mover: usize) -> usize {
         for _ in self.places.len()..mover.saturating_add(1) {
-            self.places.push(Vec::new(alloc))?;
+            if self.places.push(Vec::new(sheet.alloc)).is_err() {
+                sheet.lacks();
+            }
         }
         let place = self.list.len();
         let Some(places) = self.places.get_mut(mover) else {
-            return Ok(0);
+            return 0;
         };
         let turn = places.len();
-        places.push(place)?;
-        Ok(turn)
+        if places.push(place).is_err() {
+            sheet.lacks();
+        }
+        turn
     }
 
     /// Adds what a mover does.
-    fn add(
-        &mut self,
-        alloc: Global,
-        mover: usize,
-        does: &str,
-        reaches: bool,
-    ) -> Result<(), NoMemory> {
-        let turn = self.turn(alloc, mover)?;
+    fn add(&mut self, sheet: &Sheet, mover: usize, does: &str, reaches: bool) {
+        let turn = self.turn(sheet, mover);
         let start = self.text.len();
-        self.text.push_str(does)?;
-        self.list.push(Deed {
+        let is_written = self.text.push_str(does).is_ok();
+        let deed = Deed {
             mover,
             turn,
             start,
             end: self.text.len(),
             reaches,
-        })?;
-        Ok(())
+        };
+        if self.list.push(deed).is_err() | !is_written {
+            sheet.lacks();
+        }
     }
 }
 
@@ -134,53 +136,40 @@ impl<'a> Taker<'a> {
     }
 
     /// The number of the mover with this path.
-    fn mover(&mut self, path: &str) -> Result<usize, NoMemory> {
-        let path = String::from_str(self.sheet.alloc, path)?;
+    fn mover(&mut self, path: &str) -> usize {
+        let path = self.sheet.copied(path);
         if let Some(number) = self.movers.get(&path) {
-            return Ok(*number);
+            return *number;
         }
         let number = self.movers.len();
-        self.movers.insert(path, number)?;
-        Ok(number)
+        if self.movers.insert(path, number).is_err() {
+            self.sheet.lacks();
+        }
+        number
     }
-}
-
-/// What stands behind so many tabs.
-fn behind_tabs(line: &str, count: u32) -> &str {
-    let mut later = line;
-    for _ in 0..count {
-        let Some((_, behind)) = later.split_once('\t') else {
-            break;
-        };
-        later = behind;
-    }
-    later
 }
 
 impl Watcher for Taker<'_> {
-    fn before(&mut self, seen: Seen<'_>, one: &Move) -> Result<(), NoMemory> {
+    fn before(&mut self, seen: Seen<'_>, one: &Move) {
         self.is_call = match seen.store.thread(one.who) {
             Some(thread) => !matches!(thread.mode, Mode::Running),
             None => true,
         };
         let scene = scene_of(self.programs, seen);
         self.steps.before(self.sheet, seen, scene, one);
-        Ok(())
     }
 
-    fn after(&mut self, seen: Seen<'_>, one: &Move) -> Result<(), NoMemory> {
+    fn after(&mut self, seen: Seen<'_>, one: &Move) {
         let sheet = Sheet::new(self.sheet.alloc);
         self.steps.after(&sheet, seen, one);
         let line = self.sheet.taken(sheet);
-        let Some((path, does)) = behind_tabs(line.as_str(), 2).split_once('\t') else {
-            return Ok(());
-        };
-        let mover = self.mover(path)?;
+        // Before the path stand the trace's own line and the move's number.
+        let behind = parted(parted(line.as_str(), '\t').1, '\t').1;
+        let (path, does) = parted(behind, '\t');
+        let mover = self.mover(path);
         let reaches = self.is_call || does.starts_with("store");
-        self.deeds.add(self.sheet.alloc, mover, does, reaches)
+        self.deeds.add(self.sheet, mover, does, reaches);
     }
 
-    fn stops(&mut self, _seen: Seen<'_>, _ready: &Ready, _stop: Stop) -> Result<(), NoMemory> {
-        Ok(())
-    }
+    fn stops(&mut self, _seen: Seen<'_>, _ready: &Ready, _stop: Stop) {}
 }

@@ -26,14 +26,13 @@ pub enum Entrant {
 /// The porter of the job whose turn it is, where its time has come.
 pub fn timely_porter(core: &Run) -> Option<Who> {
     let jobs = core.jobs();
-    let plan = jobs.current()?;
-    if core.events() < plan.at && !jobs.is_at_work() {
-        return None;
+    match jobs.current() {
+        Some(plan) if core.events() >= plan.at || jobs.is_at_work() => Some(Who {
+            space: plan.nester,
+            slot: LAST_PORTER_SLOT as u8,
+        }),
+        _ => None,
     }
-    Some(Who {
-        space: plan.nester,
-        slot: LAST_PORTER_SLOT as u8,
-    })
 }
 
 /// The object before another in the order of spaces and slots, whether there is one or not.
@@ -76,15 +75,22 @@ fn varied(core: &Run, random: &mut Random, found: Move) -> Move {
 /// A thread's move, which may turn out not to be ready.
 fn thread_move(core: &Run, random: &mut Random, who: Who) -> Option<Move> {
     let store = core.kernel().store();
-    match store.thread(who)?.mode {
-        Mode::Running => Some(Move { who, pick: None }),
-        Mode::Calling => match next_stage(store, who)? {
-            Stage::Wait { .. } | Stage::CondSignal { .. } => {
-                // Its own move, or that of the first behind it that can move.
-                let found = core.kernel().next_after(before(who))?;
-                Some(varied(core, random, found))
+    let own = Some(Move { who, pick: None });
+    let Some(thread) = store.thread(who) else {
+        return None;
+    };
+    match thread.mode {
+        Mode::Running => own,
+        Mode::Calling => match next_stage(store, who) {
+            // Its own move, or that of the first behind it that can move.
+            Some(Stage::Wait { .. } | Stage::CondSignal { .. }) => {
+                match core.kernel().next_after(before(who)) {
+                    Some(found) => Some(varied(core, random, found)),
+                    None => None,
+                }
             }
-            _ => Some(Move { who, pick: None }),
+            Some(_) => own,
+            None => None,
         },
         _ => None,
     }
@@ -92,16 +98,20 @@ fn thread_move(core: &Run, random: &mut Random, who: Who) -> Option<Move> {
 
 /// The act of the native server at a place.
 fn server_move(core: &Run, random: &mut Random, place: usize) -> Option<Move> {
-    let (port, native) = core.services().get(place)?;
-    match native.ask()? {
-        Ask::Accept => {
-            let pick = Some(core.kernel().ready_accept(*port)?);
-            Some(varied(core, random, Move { who: *port, pick }))
+    let Some((port, native)) = core.services().get(place) else {
+        return None;
+    };
+    let who = *port;
+    match native.ask() {
+        Some(Ask::Accept) => {
+            let pick = core.kernel().ready_accept(who);
+            match pick {
+                Some(_) => Some(varied(core, random, Move { who, pick })),
+                None => None,
+            }
         }
-        _ => Some(Move {
-            who: *port,
-            pick: None,
-        }),
+        Some(_) => Some(Move { who, pick: None }),
+        None => None,
     }
 }
 

@@ -1,9 +1,8 @@
 //! Who moves next, drawn at random.
 use crate::hunt::drawing::{Entrant, Run, move_of, timely_porter};
 use crate::hunt::random::{Random, mixed};
-use fk_model::{Mode, Move, NoMemory, Peer, Stage, Who};
-use lens_text::{handled, next_stage};
-use std::alloc::Global;
+use fk_model::{Mode, Move, Peer, Stage, Who};
+use lens_text::{Sheet, handled, next_stage};
 
 /// So many threads are looked at, those that have waited longest for their turn.
 const WIDTH: usize = 8;
@@ -30,7 +29,8 @@ enum Way {
 
 /// Draws the moves of one schedule.
 #[derive(Drop)]
-pub struct Lottery {
+pub struct Lottery<'a> {
+    pub sheet: &'a Sheet,
     random: Random,
     way: Way,
     /// What priorities are made of, until they change.
@@ -75,21 +75,23 @@ fn port_of(core: &Run, who: Who) -> Option<Who> {
     let Mode::Calling = thread.mode else {
         return None;
     };
-    let Some(talk) = &thread.talk else {
-        return match next_stage(store, who)? {
-            Stage::Connect { h } => handled(store, who.space, h),
+    match &thread.talk {
+        Some(talk) => match talk.peer {
+            Peer::Service => Some(talk.port),
             _ => None,
-        };
-    };
-    match talk.peer {
-        Peer::Service => Some(talk.port),
-        _ => None,
+        },
+        None => match next_stage(store, who) {
+            Some(Stage::Connect { h }) => handled(store, who.space, h),
+            _ => None,
+        },
     }
 }
 
 /// The place of the native server that a mover is, or that a thread speaks to or comes to.
 fn server_of(core: &Run, who: Who) -> Option<usize> {
-    let port = port_of(core, who)?;
+    let Some(port) = port_of(core, who) else {
+        return None;
+    };
     for place in 0..core.services().len() {
         if let Some((one, _)) = core.services().get(place) {
             if *one == port {
@@ -100,16 +102,172 @@ fn server_of(core: &Run, who: Who) -> Option<usize> {
     None
 }
 
-impl Lottery {
+impl<'a> Lottery<'a> {
     /// No schedule has begun.
-    pub fn new(alloc: Global) -> Lottery {
+    pub fn new(sheet: &'a Sheet) -> Lottery<'a> {
         Lottery {
+            sheet,
             random: Random::new(0),
             way: Way::Evenly,
             priorities: 0,
-            entrants: Vec::new(alloc),
+            entrants: Vec::new(sheet.alloc),
             is_old: true,
-            servers: Vec::new(alloc),
+            servers: Vec::new(sheet.alloc),
+            drawn: None,
+            is_instruction: false,
+            pause: 0,
+        }
+    }
+
+    /// Begins the schedule with a number.
+    pub fn begin(&mut self, number: u64) {
+        self.random = Random::new(number);
+        self.way = match self.random.below(8) {
+            0..=3 => Way::Evenly,
+            4 => Way::ByPriority { change: 4 },
+            5 => Way::ByPriority { change: 12 },
+            6 => Way::ByPriority { change: 40 },
+            _ => Way::ByPriority { change: 1000 },
+        };
+        self.priorities = self.random.number();
+        self.is_old = true;
+        self.servers.clear();
+        self.pause = 0;
+    }
+
+    /// Adds one that may move.
+    fn enter(&mut self, entrant: Entrant) {
+        if self.entrants.push(entrant).is_err() {
+            self.sheet.lacks();
+        }
+    }
+
+    /// Looks at the threads that may be ready.
+    fn look_at_threads(&mut self, core: &Run) {
+        let last = core.last_thread();
+        let mut is_met = false;
+        let mut at = core.next_thread(None);
+        for _ in 0..WIDTH {
+            let Some(who) = at else {
+                return;
+            };
+            self.enter(Entrant::Thread(who));
+            is_met = is_met || last == Some(who);
+            at = core.next_thread(at);
+        }
+        // Who moved last stands behind those, and may go on all the same.
+        if let Some(who) = last {
+            if at.is_some() && !is_met && runs(core, who) {
+                self.enter(Entrant::Thread(who));
+            }
+        }
+    }
+
+    /// Looks at who may move: threads, native servers that were spoken to, and the job whose turn it is.
+    fn look(&mut self, core: &Run) {
+        self.entrants.clear();
+        self.look_at_threads(core);
+        for place in 0..self.servers.len() {
+            self.enter(Entrant::Server(self.servers[place]));
+        }
+        if core.events() >= self.pause {
+            if let Some(porter) = timely_porter(core) {
+                self.enter(Entrant::Job(porter));
+            }
+        }
+        self.is_old = false;
+    }
+
+    /// The one of the highest priority. All priorities are drawn anew at one move of so many.
+    ByPriority { change: u64 },
+}
+
+/// Draws the moves of one schedule.
+#[derive(Drop)]
+pub struct Lottery<'a> {
+    pub sheet: &'a Sheet,
+    random: Random,
+    way: Way,
+    /// What priorities are made of, until they change.
+    priorities: u64,
+    /// Who may move, as far as it was looked at.
+    entrants: Vec<Entrant>,
+    /// It has to be looked at anew.
+    is_old: bool,
+    /// The places of native servers that may have an act.
+    servers: Vec<usize>,
+    /// Who was drawn last.
+    drawn: Option<Entrant>,
+    /// Who was drawn makes an instruction.
+    is_instruction: bool,
+    /// Before so many moves the job whose turn it is isn't drawn, since it wasn't ready.
+    pause: u64,
+}
+
+/// The number of one in its priority: the slots of all spaces are counted through, and the native servers and the job behind them.
+fn number_of(entrant: Entrant) -> u64 {
+    match entrant {
+        Entrant::Thread(who) => u64::from(who.space) * 256 + u64::from(who.slot),
+        Entrant::Server(place) => FIRST_SERVER.wrapping_add(place as u64),
+        Entrant::Job(_) => JOB,
+    }
+}
+
+/// Whether a thread is at an instruction.
+fn runs(core: &Run, who: Who) -> bool {
+    match core.kernel().store().thread(who) {
+        Some(thread) => matches!(thread.mode, Mode::Running),
+        None => false,
+    }
+}
+
+/// The port of the native server that a mover is, or that a thread speaks to or comes to.
+fn port_of(core: &Run, who: Who) -> Option<Who> {
+    let store = core.kernel().store();
+    let Some(thread) = store.thread(who) else {
+        return Some(who);
+    };
+    let Mode::Calling = thread.mode else {
+        return None;
+    };
+    match &thread.talk {
+        Some(talk) => match talk.peer {
+            Peer::Service => Some(talk.port),
+            _ => None,
+        },
+        None => match next_stage(store, who) {
+            Some(Stage::Connect { h }) => handled(store, who.space, h),
+            _ => None,
+        },
+    }
+}
+
+/// The place of the native server that a mover is, or that a thread speaks to or comes to.
+fn server_of(core: &Run, who: Who) -> Option<usize> {
+    let Some(port) = port_of(core, who) else {
+        return None;
+    };
+    for place in 0..core.services().len() {
+        if let Some((one, _)) = core.services().get(place) {
+            if *one == port {
+                return Some(place);
+            }
+        }
+    }
+    None
+}
+
+impl<'a> Lottery<'a> {
+    /// No schedule has begun.
+    pub fn new(sheet: &'a Sheet) -> Lottery<'a> {
+        Lottery {
+            sheet,
+            random: Random::new(0),
+            way: Way::Evenly,
+            priorities: 0,
+            entrants: Vec::new(sheet.alloc),
+            is_old: true,
+            servers: Vec::new(sheet.alloc),
             drawn: None,
             is_instruction: false,
             pause: 0,
@@ -189,7 +347,7 @@ impl Lottery {
         match self.way {
             Way::Evenly => {
                 let place = self.random.below(self.entrants.len() as u64);
-                Some(*self.entrants.get(place as usize)?)
+                self.entrants.get(place as usize).copied()
             }
             Way::ByPriority { change } => {
                 if self.random.below(change) == 0 {
@@ -201,24 +359,20 @@ impl Lottery {
     }
 
     /// A move that may be ready; none where nobody is known who could make one.
-    ///
-    /// # Errors
-    ///
-    /// There is no memory.
-    pub fn draw(&mut self, core: &Run) -> Result<Option<Move>, NoMemory> {
+    pub fn draw(&mut self, core: &Run) -> Option<Move> {
         if self.is_old || core.events() % ROUND == 0 {
-            self.look(core)?;
+            self.look(core);
         }
         self.drawn = self.chosen();
         let Some(entrant) = self.drawn else {
-            return Ok(None);
+            return None;
         };
         let drawn = move_of(core, &mut self.random, entrant);
         self.is_instruction = match &drawn {
             Some(one) => runs(core, one.who),
             None => false,
         };
-        Ok(drawn)
+        drawn
     }
 
     /// It hears that who was drawn has no ready move.
@@ -232,22 +386,19 @@ impl Lottery {
     }
 
     /// It hears that a move was made.
-    ///
-    /// # Errors
-    ///
-    /// There is no memory.
-    pub fn made(&mut self, core: &Run, one: &Move) -> Result<(), NoMemory> {
+    pub fn made(&mut self, core: &Run, one: &Move) {
         // An instruction of a thread that runs on frees nobody.
         if self.is_instruction && !self.is_old && runs(core, one.who) {
-            return Ok(());
+            return;
         }
         self.is_old = true;
         // Its native server may have an act now.
         if let Some(place) = server_of(core, one.who) {
             if self.servers.len() < SERVERS && !self.servers.contains(&place) {
-                self.servers.push(place)?;
+                if self.servers.push(place).is_err() {
+                    self.sheet.lacks();
+                }
             }
         }
-        Ok(())
     }
 }

@@ -7,7 +7,7 @@ use crate::hunt::kinds::{Kinds, Until, until_of};
 use crate::hunt::lottery::Lottery;
 use crate::hunt::runs::run_by;
 use fk_first::Player;
-use fk_model::{Move, NoMemory};
+use fk_model::Move;
 use fk_responders::Table;
 use fk_scenario::Scenario;
 use fk_trace_text::trace_text;
@@ -20,7 +20,7 @@ pub struct Hunter<'a> {
     sheet: &'a Sheet,
     asked: &'a Asked<'a>,
     until: Until<'a>,
-    lottery: Lottery,
+    lottery: Lottery<'a>,
     /// The ends that came.
     kinds: Kinds,
     /// How many schedules were run.
@@ -38,7 +38,7 @@ impl<'a> Hunter<'a> {
             sheet,
             asked,
             until: until_of(asked.name),
-            lottery: Lottery::new(sheet.alloc),
+            lottery: Lottery::new(sheet),
             kinds: Kinds::new(sheet.alloc),
             done: 0,
             found: None,
@@ -47,15 +47,12 @@ impl<'a> Hunter<'a> {
     }
 
     /// Counts how the schedule with a number has ended, and answers whether another is to be run.
-    fn count_end(&mut self, core: &Run, number: u64) -> Result<bool, NoMemory> {
+    fn count_end(&mut self, core: &Run, number: u64) -> bool {
         let line = Sheet::new(self.sheet.alloc);
         push_ending(&line, core);
-        if line.problem().is_some() {
-            return Err(NoMemory);
-        }
         let line = self.sheet.taken(line);
         let is_met = self.until.is_met(line.as_str());
-        self.kinds.count(line, number)?;
+        self.kinds.count(self.sheet, line, number);
         self.done = self.done.saturating_add(1);
         let is_last = self.done >= self.asked.end;
         if is_met {
@@ -63,7 +60,7 @@ impl<'a> Hunter<'a> {
         } else if is_last && matches!(self.until, Until::Never) {
             self.found = Some(self.kinds.rarest());
         }
-        Ok(!is_met && (!is_last || self.found.is_some()))
+        !is_met && (!is_last || self.found.is_some())
     }
 
     /// Shows the trace that was found, and says which ends came; or says that it wasn't found.
@@ -92,22 +89,15 @@ impl<'a> Hunter<'a> {
 impl Player for Hunter<'_> {
     ghost plays = { λ _ _ _ _. ⊤ };
 
-    fn play(
-        &mut self,
-        table: &Table,
-        _scenario: &Scenario,
-        core: &mut Run,
-    ) -> Result<bool, NoMemory> {
+    fn play(&mut self, table: &Table, _scenario: &Scenario, core: &mut Run) -> bool {
         let number = match self.found {
             Some(number) => number,
             None => self.asked.first.wrapping_add(self.done),
         };
         self.moves.clear();
         self.lottery.begin(number);
-        run_by(core, table, &mut self.lottery, &mut self.moves)?;
-        match self.found {
-            Some(_) => Ok(false),
-            None => self.count_end(core, number),
-        }
+        run_by(core, table, &mut self.lottery, &mut self.moves);
+        let is_more = self.found.is_none() && self.count_end(core, number);
+        is_more && self.sheet.problem().is_none()
     }
 }

@@ -106,8 +106,14 @@ fn led_by(body: &Body, field: u8) -> Option<Who> {
         } => Some(to),
         Body::Reference { to: Ptr::At(to) } => Some(to),
         Body::Space { holder, .. } => holder,
-        Body::Thread(ref thread) if field == 0 => Some(thread.talk?.port),
-        Body::Thread(ref thread) => Some(thread.fault?.port),
+        Body::Thread(Thread {
+            talk: Some(ref talk),
+            ..
+        }) if field == 0 => Some(talk.port),
+        Body::Thread(Thread {
+            fault: Some(ref fault),
+            ..
+        }) if field > 0 => Some(fault.port),
         _ => None,
     }
 }

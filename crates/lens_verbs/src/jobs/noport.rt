@@ -111,8 +111,8 @@ fn image_of<'a>(jobs: &'a Jobs<Porter>, source: &'a Source) -> Option<&'a ValidI
     match source {
         Source::Given(Some(image)) => Some(image),
         Source::Given(None) => None,
-        Source::MadeBy(maker) => match jobs.ends().get(*maker)? {
-            Ended::Worked { worker, .. } => worker.image(),
+        Source::MadeBy(maker) => match jobs.ends().get(*maker) {
+            Some(Ended::Worked { worker, .. }) => worker.image(),
             _ => None,
         },
     }

@@ -3,7 +3,7 @@ use crate::records::notes::{has_replied, said, turned};
 use crate::shows::scene_of;
 use crate::steps::Steps;
 use fk_first::{Ready, Seen, Stop, Watcher};
-use fk_model::{Move, NoMemory, Who};
+use fk_model::{Move, Who};
 use fk_natives::{Native, Server, Side};
 use fk_responders::Note;
 use fk_scenario::entries::{ServerEntry, ServiceSpec};
@@ -80,51 +80,44 @@ impl<'a> Noting<'a> {
         if !self.steps.sends || self.steps.other != Some(port) {
             return None;
         }
-        let (who, before) = self.steps.kept.threads.first()?;
-        said(seen.store, *who, before)
+        match self.steps.kept.threads.first() {
+            Some((who, before)) => said(seen.store, *who, before),
+            None => None,
+        }
     }
 
-    /// Keeps a note that a move has made at a place, with the line of that move.
-    fn keep(
-        &mut self,
-        place: usize,
-        seen: Seen<'_>,
-        one: &Move,
-        note: &Note,
-    ) -> Result<(), NoMemory> {
+    /// Keeps what a move has made a server note, with the line of that move.
+    fn keep(&mut self, seen: Seen<'_>, one: &Move, at: At<'_>, note: Option<Note>) {
+        let Some(note) = note else {
+            return;
+        };
         let line = Sheet::new(self.sheet.alloc);
         self.steps.after(&line, seen, one);
         let line = self.sheet.taken(line);
-        match self.noted.get_mut(place) {
-            Some(noted) => noted.add(note, parted(line.as_str(), '\t').1),
-            None => Ok(()),
+        if let Some(noted) = self.noted.get_mut(at.place) {
+            noted.add(self.sheet, &note, parted(line.as_str(), '\t').1);
         }
     }
 
-    /// Keeps what a move has made a server note.
-    fn keep_all(&mut self, seen: Seen<'_>, one: &Move, at: At<'_>) -> Result<(), NoMemory> {
+    /// Keeps all that a move has made a server note.
+    fn keep_all(&mut self, seen: Seen<'_>, one: &Move, at: At<'_>) {
         let is = at.server.side;
-        if let Some(note) = turned(seen.store, at.port, at.was, is) {
-            self.keep(at.place, seen, one, &note)?;
-        }
-        if let Some(note) = self.said_to(seen, at.port) {
-            self.keep(at.place, seen, one, &note)?;
-        }
+        let said = self.said_to(seen, at.port);
+        self.keep(seen, one, at, turned(seen.store, at.port, at.was, is));
+        self.keep(seen, one, at, said);
         if has_replied(at.was, is) {
-            self.keep(at.place, seen, one, &Note::Reply(at.server.left))?;
+            self.keep(seen, one, at, Some(Note::Reply(at.server.left)));
         }
-        Ok(())
     }
 }
 
 impl Watcher for Noting<'_> {
-    fn before(&mut self, seen: Seen<'_>, one: &Move) -> Result<(), NoMemory> {
+    fn before(&mut self, seen: Seen<'_>, one: &Move) {
         let scene = scene_of(self.programs, seen);
         self.steps.before(self.sheet, seen, scene, one);
-        Ok(())
     }
 
-    fn after(&mut self, seen: Seen<'_>, one: &Move) -> Result<(), NoMemory> {
+    fn after(&mut self, seen: Seen<'_>, one: &Move) {
         let mut place = 0usize;
         for index in 0..seen.services.len() {
             if let Some((port, Native::Server(server))) = seen.services.get(index) {
@@ -134,14 +127,11 @@ impl Watcher for Noting<'_> {
                     was: self.side_before(index),
                     server,
                 };
-                self.keep_all(seen, one, at)?;
+                self.keep_all(seen, one, at);
                 place = place.saturating_add(1);
             }
         }
-        Ok(())
     }
 
-    fn stops(&mut self, _seen: Seen<'_>, _ready: &Ready, _stop: Stop) -> Result<(), NoMemory> {
-        Ok(())
-    }
+    fn stops(&mut self, _seen: Seen<'_>, _ready: &Ready, _stop: Stop) {}
 }

@@ -14,12 +14,16 @@ fn page_home(store: &Store, space: u32, address: u64) -> Option<Who> {
 
 /// The space into which somebody receives, where that is a thread at its receive.
 fn received_in(store: &Store, who: Option<Who>) -> Option<Who> {
-    let who = who?;
-    match next_stage(store, who)? {
-        Stage::ClientReceive { addr, .. }
-        | Stage::ServerReceive { addr, .. }
-        | Stage::ClientReceiveRef { addr, .. }
-        | Stage::ServerReceiveRef { addr, .. } => page_home(store, who.space, addr),
+    let Some(who) = who else {
+        return None;
+    };
+    match next_stage(store, who) {
+        Some(
+            Stage::ClientReceive { addr, .. }
+            | Stage::ServerReceive { addr, .. }
+            | Stage::ClientReceiveRef { addr, .. }
+            | Stage::ServerReceiveRef { addr, .. },
+        ) => page_home(store, who.space, addr),
         _ => None,
     }
 }

@@ -37,7 +37,7 @@ fn push_locked(sheet: &Sheet, known: Known<'_, '_>, mutex: Who) {
 }
 
 /// The object that a stage names and waits for.
-pub fn awaited(store: &Store, space: u32, stage: &Stage) -> Option<Who> {
+fn awaited(store: &Store, space: u32, stage: &Stage) -> Option<Who> {
     match *stage {
         Stage::SpaceHold { s, x } => object_named(store, space, s, x),
         Stage::MutexLock { m: handle }

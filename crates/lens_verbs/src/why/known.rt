@@ -27,10 +27,12 @@ pub struct Locking {
 
 /// The mutex that a handle names in a space, where it isn't locked.
 fn unlocked(store: &Store, space: u32, handle: u64) -> Option<Who> {
-    let mutex = handled(store, space, handle)?;
-    match store.mutex(mutex) {
-        Some(false) => Some(mutex),
-        _ => None,
+    match handled(store, space, handle) {
+        Some(mutex) => match store.mutex(mutex) {
+            Some(false) => Some(mutex),
+            _ => None,
+        },
+        None => None,
     }
 }
 
