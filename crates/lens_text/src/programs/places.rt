@@ -44,10 +44,14 @@ fn word_of<'a>(scene: Scene<'a>, space: u32, address: u64) -> Option<(&'a Listin
     };
     let at = address % 64;
     let number = page as u64 * 64 + at;
-    match (scene.store.page(space, page), listing.words.get(number as usize)) {
-        (Some(words), Some(word)) if words[at as usize] == *word => Some((listing, number)),
-        _ => None,
+    if let Some(words) = scene.store.page(space, page) {
+        if let Some(word) = listing.words.get(number as usize) {
+            if words[at as usize] == *word {
+                return Some((listing, number));
+            }
+        }
     }
+    None
 }
 
 /// Adds the label at or before a word of a program, where there is one, and the word's line: the scenario's, or the program's own.

@@ -1,18 +1,11 @@
 //! The first move in which two traces differ.
 use crate::apart::taken::Deeds;
 
-/// The places in both traces of a mover's move.
-#[derive(Clone, Copy)]
-pub struct Both {
-    pub first: usize,
-    pub second: usize,
-}
-
 /// How two traces differ.
 #[derive(Clone, Copy)]
 pub enum Apart {
-    /// In what a mover does or is told by this move.
-    Does(Both),
+    /// In what a mover does or is told by its move at these places of both.
+    Does { first: usize, second: usize },
     /// The first makes a move at this place that its mover makes no more in the second.
     FirstAlone(usize),
     SecondAlone(usize),
@@ -31,15 +24,18 @@ fn alone(deeds: &Deeds, other: &Deeds) -> Option<usize> {
 }
 
 /// The first move, in the order of the first trace, that does something else in the second.
-fn first_other(first: &Deeds, second: &Deeds) -> Option<Both> {
+fn first_other(first: &Deeds, second: &Deeds) -> Option<Apart> {
     for place in 0..first.list.len() {
         let deed = first.list[place];
         if let Some(at) = second.place_of(deed) {
-            if first.text_of(deed) != second.text_at(at) {
-                return Some(Both {
-                    first: place,
-                    second: at,
-                });
+            match second.list.get(at) {
+                Some(other) if first.text_of(deed) != second.text_of(*other) => {
+                    return Some(Apart::Does {
+                        first: place,
+                        second: at,
+                    });
+                }
+                _ => {}
             }
         }
     }
@@ -59,8 +55,8 @@ fn is_same_order(first: &Deeds, second: &Deeds) -> bool {
 
 /// How two traces differ.
 pub fn first_apart(first: &Deeds, second: &Deeds) -> Apart {
-    if let Some(both) = first_other(first, second) {
-        return Apart::Does(both);
+    if let Some(apart) = first_other(first, second) {
+        return apart;
     }
     if let Some(place) = alone(first, second) {
         return Apart::FirstAlone(place);

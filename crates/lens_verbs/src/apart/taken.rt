@@ -50,14 +50,6 @@ impl Deeds {
         self.text.as_str().get(deed.start..deed.end).unwrap_or("")
     }
 
-    /// What the one at a place does.
-    pub fn text_at(&self, place: usize) -> &str {
-        match self.list.get(place) {
-            Some(deed) => self.text_of(*deed),
-            None => "",
-        }
-    }
-
     /// The place of the same mover's move of the same turn, if it makes as many.
     pub fn place_of(&self, deed: Deed) -> Option<usize> {
         match self.places.get(deed.mover) {
@@ -66,27 +58,20 @@ impl Deeds {
         }
     }
 
-    /// Counts a move of a mover, and answers how many it has made before.
-    fn turn(&mut self, sheet: &Sheet, mover: usize) -> usize {
+    /// Adds what a mover does.
+    fn add(&mut self, sheet: &Sheet, mover: usize, does: &str, reaches: bool) {
         for _ in self.places.len()..mover.saturating_add(1) {
             if self.places.push(Vec::new(sheet.alloc)).is_err() {
                 sheet.lacks();
             }
         }
-        let place = self.list.len();
-        let Some(places) = self.places.get_mut(mover) else {
-            return 0;
-        };
-        let turn = places.len();
-        if places.push(place).is_err() {
-            sheet.lacks();
+        let mut turn = 0;
+        if let Some(places) = self.places.get_mut(mover) {
+            turn = places.len();
+            if places.push(self.list.len()).is_err() {
+                sheet.lacks();
+            }
         }
-        turn
-    }
-
-    /// Adds what a mover does.
-    fn add(&mut self, sheet: &Sheet, mover: usize, does: &str, reaches: bool) {
-        let turn = self.turn(sheet, mover);
         let start = self.text.len();
         let is_written = self.text.push_str(does).is_ok();
         let deed = Deed {

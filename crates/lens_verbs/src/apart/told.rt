@@ -43,13 +43,14 @@ pub fn push_apart(taker: &Taker<'_>, name: &str, other: &str) {
     let (sheet, movers) = (taker.sheet, &taker.movers);
     let (first, second) = (&taker.first, &taker.deeds);
     match first_apart(first, second) {
-        Apart::Does(both) => {
-            push_deed(sheet, name, movers, first, both.first);
-            push_deed(sheet, other, movers, second, both.second);
-            let places = (both.first, both.second);
-            push_before(sheet, name, movers, (first, second), places);
-            let places = (both.second, both.first);
-            push_before(sheet, other, movers, (second, first), places);
+        Apart::Does {
+            first: here,
+            second: there,
+        } => {
+            push_deed(sheet, name, movers, first, here);
+            push_deed(sheet, other, movers, second, there);
+            push_before(sheet, name, movers, (first, second), (here, there));
+            push_before(sheet, other, movers, (second, first), (there, here));
         }
         Apart::FirstAlone(place) => {
             sheet.put_around(b"in ", name, b" alone\n");

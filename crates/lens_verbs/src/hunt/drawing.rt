@@ -1,7 +1,6 @@
 //! The move of one that was drawn.
 use crate::hunt::random::Random;
 use fk_core::Core;
-use fk_model::limits::LAST_PORTER_SLOT;
 use fk_model::{Ask, Mode, Move, Stage, Who};
 use fk_natives::{Native, Service};
 use fk_porters::Porter;
@@ -21,18 +20,6 @@ pub enum Entrant {
     Server(usize),
     /// The porter of the job whose turn it is.
     Job(Who),
-}
-
-/// The porter of the job whose turn it is, where its time has come.
-pub fn timely_porter(core: &Run) -> Option<Who> {
-    let jobs = core.jobs();
-    match jobs.current() {
-        Some(plan) if core.events() >= plan.at || jobs.is_at_work() => Some(Who {
-            space: plan.nester,
-            slot: LAST_PORTER_SLOT as u8,
-        }),
-        _ => None,
-    }
 }
 
 /// The object before another in the order of spaces and slots, whether there is one or not.
@@ -73,7 +60,7 @@ fn varied(core: &Run, random: &mut Random, found: Move) -> Move {
 }
 
 /// A thread's move, which may turn out not to be ready.
-fn thread_move(core: &Run, random: &mut Random, who: Who) -> Option<Move> {
+pub fn thread_move(core: &Run, random: &mut Random, who: Who) -> Option<Move> {
     let store = core.kernel().store();
     let own = Some(Move { who, pick: None });
     let Some(thread) = store.thread(who) else {
@@ -97,7 +84,7 @@ fn thread_move(core: &Run, random: &mut Random, who: Who) -> Option<Move> {
 }
 
 /// The act of the native server at a place.
-fn server_move(core: &Run, random: &mut Random, place: usize) -> Option<Move> {
+pub fn server_move(core: &Run, random: &mut Random, place: usize) -> Option<Move> {
     let Some((port, native)) = core.services().get(place) else {
         return None;
     };
@@ -112,14 +99,5 @@ fn server_move(core: &Run, random: &mut Random, place: usize) -> Option<Move> {
         }
         Some(_) => Some(Move { who, pick: None }),
         None => None,
-    }
-}
-
-/// The move of one that was drawn, which may turn out not to be ready; none where it surely has none.
-pub fn move_of(core: &Run, random: &mut Random, entrant: Entrant) -> Option<Move> {
-    match entrant {
-        Entrant::Thread(who) => thread_move(core, random, who),
-        Entrant::Server(place) => server_move(core, random, place),
-        Entrant::Job(who) => Some(Move { who, pick: None }),
     }
 }

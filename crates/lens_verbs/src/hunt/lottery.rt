@@ -1,6 +1,7 @@
 //! Who moves next, drawn at random.
-use crate::hunt::drawing::{Entrant, Run, move_of, timely_porter};
+use crate::hunt::drawing::{Entrant, Run, server_move, thread_move};
 use crate::hunt::random::{Random, mixed};
+use fk_model::limits::LAST_PORTER_SLOT;
 use fk_model::{Mode, Move, Peer, Stage, Who};
 use lens_text::{Sheet, handled, next_stage};
 
@@ -47,15 +48,6 @@ pub struct Lottery<'a> {
     is_instruction: bool,
     /// Before so many moves the job whose turn it is isn't drawn, since it wasn't ready.
     pause: u64,
-}
-
-/// The number of one in its priority: the slots of all spaces are counted through, and the native servers and the job behind them.
-fn number_of(entrant: Entrant) -> u64 {
-    match entrant {
-        Entrant::Thread(who) => u64::from(who.space) * 256 + u64::from(who.slot),
-        Entrant::Server(place) => FIRST_SERVER.wrapping_add(place as u64),
-        Entrant::Job(_) => JOB,
-    }
 }
 
 /// Whether a thread is at an instruction.
@@ -167,173 +159,37 @@ impl<'a> Lottery<'a> {
     fn look(&mut self, core: &Run) {
         self.entrants.clear();
         self.look_at_threads(core);
-        for place in 0..self.servers.len() {
-            self.enter(Entrant::Server(self.servers[place]));
+        for place in &self.servers {
+            if self.entrants.push(Entrant::Server(*place)).is_err() {
+                self.sheet.lacks();
+            }
         }
-        if core.events() >= self.pause {
-            if let Some(porter) = timely_porter(core) {
+        let (events, jobs) = (core.events(), core.jobs());
+        match jobs.current() {
+            Some(plan) if events >= self.pause && (events >= plan.at || jobs.is_at_work()) => {
+                let porter = Who {
+                    space: plan.nester,
+                    slot: LAST_PORTER_SLOT as u8,
+                };
                 self.enter(Entrant::Job(porter));
             }
+            _ => {}
         }
         self.is_old = false;
     }
 
-    /// The one of the highest priority. All priorities are drawn anew at one move of so many.
-    ByPriority { change: u64 },
-}
-
-/// Draws the moves of one schedule.
-#[derive(Drop)]
-pub struct Lottery<'a> {
-    pub sheet: &'a Sheet,
-    random: Random,
-    way: Way,
-    /// What priorities are made of, until they change.
-    priorities: u64,
-    /// Who may move, as far as it was looked at.
-    entrants: Vec<Entrant>,
-    /// It has to be looked at anew.
-    is_old: bool,
-    /// The places of native servers that may have an act.
-    servers: Vec<usize>,
-    /// Who was drawn last.
-    drawn: Option<Entrant>,
-    /// Who was drawn makes an instruction.
-    is_instruction: bool,
-    /// Before so many moves the job whose turn it is isn't drawn, since it wasn't ready.
-    pause: u64,
-}
-
-/// The number of one in its priority: the slots of all spaces are counted through, and the native servers and the job behind them.
-fn number_of(entrant: Entrant) -> u64 {
-    match entrant {
-        Entrant::Thread(who) => u64::from(who.space) * 256 + u64::from(who.slot),
-        Entrant::Server(place) => FIRST_SERVER.wrapping_add(place as u64),
-        Entrant::Job(_) => JOB,
-    }
-}
-
-/// Whether a thread is at an instruction.
-fn runs(core: &Run, who: Who) -> bool {
-    match core.kernel().store().thread(who) {
-        Some(thread) => matches!(thread.mode, Mode::Running),
-        None => false,
-    }
-}
-
-/// The port of the native server that a mover is, or that a thread speaks to or comes to.
-fn port_of(core: &Run, who: Who) -> Option<Who> {
-    let store = core.kernel().store();
-    let Some(thread) = store.thread(who) else {
-        return Some(who);
-    };
-    let Mode::Calling = thread.mode else {
-        return None;
-    };
-    match &thread.talk {
-        Some(talk) => match talk.peer {
-            Peer::Service => Some(talk.port),
-            _ => None,
-        },
-        None => match next_stage(store, who) {
-            Some(Stage::Connect { h }) => handled(store, who.space, h),
-            _ => None,
-        },
-    }
-}
-
-/// The place of the native server that a mover is, or that a thread speaks to or comes to.
-fn server_of(core: &Run, who: Who) -> Option<usize> {
-    let Some(port) = port_of(core, who) else {
-        return None;
-    };
-    for place in 0..core.services().len() {
-        if let Some((one, _)) = core.services().get(place) {
-            if *one == port {
-                return Some(place);
-            }
-        }
-    }
-    None
-}
-
-impl<'a> Lottery<'a> {
-    /// No schedule has begun.
-    pub fn new(sheet: &'a Sheet) -> Lottery<'a> {
-        Lottery {
-            sheet,
-            random: Random::new(0),
-            way: Way::Evenly,
-            priorities: 0,
-            entrants: Vec::new(sheet.alloc),
-            is_old: true,
-            servers: Vec::new(sheet.alloc),
-            drawn: None,
-            is_instruction: false,
-            pause: 0,
-        }
-    }
-
-    /// Begins the schedule with a number.
-    pub fn begin(&mut self, number: u64) {
-        self.random = Random::new(number);
-        self.way = match self.random.below(8) {
-            0..=3 => Way::Evenly,
-            4 => Way::ByPriority { change: 4 },
-            5 => Way::ByPriority { change: 12 },
-            6 => Way::ByPriority { change: 40 },
-            _ => Way::ByPriority { change: 1000 },
-        };
-        self.priorities = self.random.number();
-        self.is_old = true;
-        self.servers.clear();
-        self.pause = 0;
-    }
-
-    /// Looks at the threads that may be ready.
-    fn look_at_threads(&mut self, core: &Run) -> Result<(), NoMemory> {
-        let last = core.last_thread();
-        let mut is_met = false;
-        let mut at = core.next_thread(None);
-        for _ in 0..WIDTH {
-            let Some(who) = at else {
-                return Ok(());
-            };
-            self.entrants.push(Entrant::Thread(who))?;
-            is_met = is_met || last == Some(who);
-            at = core.next_thread(at);
-        }
-        // Who moved last stands behind those, and may go on all the same.
-        if let Some(who) = last {
-            if at.is_some() && !is_met && runs(core, who) {
-                self.entrants.push(Entrant::Thread(who))?;
-            }
-        }
-        Ok(())
-    }
-
-    /// Looks at who may move: threads, native servers that were spoken to, and the job whose turn it is.
-    fn look(&mut self, core: &Run) -> Result<(), NoMemory> {
-        self.entrants.clear();
-        self.look_at_threads(core)?;
-        for place in &self.servers {
-            self.entrants.push(Entrant::Server(*place))?;
-        }
-        if core.events() >= self.pause {
-            if let Some(porter) = timely_porter(core) {
-                self.entrants.push(Entrant::Job(porter))?;
-            }
-        }
-        self.is_old = false;
-        Ok(())
-    }
-
-    /// The one of the highest priority.
+    /// The one of the highest priority, which is drawn from its number: the slots of all spaces are counted through, and the native servers and the job behind
+    /// them.
     fn highest(&self) -> Option<Entrant> {
         let mut best = None;
         let mut most = 0;
         for entrant in &self.entrants {
-            let priority = mixed(self.priorities ^ number_of(*entrant));
+            let number = match *entrant {
+                Entrant::Thread(who) => u64::from(who.space) * 256 + u64::from(who.slot),
+                Entrant::Server(place) => FIRST_SERVER.wrapping_add(place as u64),
+                Entrant::Job(_) => JOB,
+            };
+            let priority = mixed(self.priorities ^ number);
             if best.is_none() || priority > most {
                 best = Some(*entrant);
                 most = priority;
@@ -367,7 +223,11 @@ impl<'a> Lottery<'a> {
         let Some(entrant) = self.drawn else {
             return None;
         };
-        let drawn = move_of(core, &mut self.random, entrant);
+        let drawn = match entrant {
+            Entrant::Thread(who) => thread_move(core, &mut self.random, who),
+            Entrant::Server(place) => server_move(core, &mut self.random, place),
+            Entrant::Job(who) => Some(Move { who, pick: None }),
+        };
         self.is_instruction = match &drawn {
             Some(one) => runs(core, one.who),
             None => false,

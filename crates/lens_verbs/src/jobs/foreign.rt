@@ -36,19 +36,6 @@ fn lies_in(store: &Store, top: Who, who: Who) -> bool {
     false
 }
 
-/// By what a thread leads to an object, if it does.
-fn thread_leads(thread: &Thread, who: Who) -> Option<&'static str> {
-    if let Some(talk) = &thread.talk {
-        if talk.port == who {
-            return Some("the talk of ");
-        }
-    }
-    match &thread.fault {
-        Some(fault) if fault.port == who => Some("the fault of "),
-        _ => None,
-    }
-}
-
 /// By what an object leads to another, if it does.
 fn leads(body: &Body, who: Who) -> Option<&'static str> {
     let (to, word) = match *body {
@@ -59,7 +46,14 @@ fn leads(body: &Body, who: Who) -> Option<&'static str> {
             holder: Some(holder),
             ..
         } => (Ptr::At(holder), "the hold of its thread on "),
-        Body::Thread(ref thread) => return thread_leads(thread, who),
+        Body::Thread(Thread {
+            talk: Some(ref talk),
+            ..
+        }) if talk.port == who => (Ptr::At(who), "the talk of "),
+        Body::Thread(Thread {
+            fault: Some(ref fault),
+            ..
+        }) => (Ptr::At(fault.port), "the fault of "),
         _ => return None,
     };
     match to {
@@ -118,8 +112,12 @@ fn led_by(body: &Body, field: u8) -> Option<Who> {
     }
 }
 
-/// Adds by which of its pointers an object leads, by its field.
-fn push_field(sheet: &Sheet, body: &Body, field: u8) {
+/// Adds where an object of a subtree leads that may not lead there.
+fn push_led(sheet: &Sheet, store: &Store, plan: &Plan, who: Who, field: u8) {
+    push_path(sheet, store, who);
+    let Some(body) = store.at(who) else {
+        return;
+    };
     sheet.put_around(b", ", kind_word(body), b", ");
     match body {
         Body::Region { .. } => sheet.put(b"has its keeper at "),
@@ -128,15 +126,6 @@ fn push_field(sheet: &Sheet, body: &Body, field: u8) {
         Body::Thread(_) => sheet.put(b"has its fault at "),
         _ => sheet.put(b"leads to "),
     }
-}
-
-/// Adds where an object of a subtree leads that may not lead there.
-fn push_led(sheet: &Sheet, store: &Store, plan: &Plan, who: Who, field: u8) {
-    push_path(sheet, store, who);
-    let Some(body) = store.at(who) else {
-        return;
-    };
-    push_field(sheet, body, field);
     if let Some(to) = led_by(body, field) {
         push_path(sheet, store, to);
     }

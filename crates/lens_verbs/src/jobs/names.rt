@@ -43,21 +43,16 @@ pub fn push_job(sheet: &Sheet, store: &Store, number: usize, plan: &Plan) {
     push_space(sheet, store, plan.nester);
 }
 
-/// How a job has ended by its own moves, by the report's word.
-fn finish_word(finish: Option<&Finish>) -> &'static str {
-    match finish {
-        Some(Finish::Image(_) | Finish::Restored) => "done",
-        Some(Finish::Foreign(_)) => "foreign",
-        Some(Finish::Occupied) => "occupied",
-        Some(Finish::NoPort(_)) => "noport",
-        Some(Finish::Dead) | None => "dead",
-    }
-}
-
 /// How a job has ended, by the report's word.
 pub fn end_word(ended: &Ended<Porter>) -> &'static str {
     match ended {
-        Ended::Worked { worker, .. } => finish_word(worker.end()),
+        Ended::Worked { worker, .. } => match worker.end() {
+            Some(Finish::Image(_) | Finish::Restored) => "done",
+            Some(Finish::Foreign(_)) => "foreign",
+            Some(Finish::Occupied) => "occupied",
+            Some(Finish::NoPort(_)) => "noport",
+            Some(Finish::Dead) | None => "dead",
+        },
         Ended::NoImage => "noimage",
         Ended::Dead => "dead",
     }

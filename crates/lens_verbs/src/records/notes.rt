@@ -38,11 +38,6 @@ pub fn turned(store: &Store, port: Who, was: Side, is: Side) -> Option<Note> {
     }
 }
 
-/// Whether a server has computed a reply: its own turn has begun.
-pub fn has_replied(was: Side, is: Side) -> bool {
-    matches!(is, Side::Own) && !matches!(was, Side::Own)
-}
-
 /// The words that a thread has sent by a move, which was at this before; none where it has sent none.
 pub fn said(store: &Store, who: Who, before: &Thread) -> Option<Note> {
     let left = match store.thread(who) {

@@ -1,5 +1,5 @@
 //! What a run makes its native servers note.
-use crate::records::notes::{has_replied, said, turned};
+use crate::records::notes::{said, turned};
 use crate::shows::scene_of;
 use crate::steps::Steps;
 use fk_first::{Ready, Seen, Stop, Watcher};
@@ -67,25 +67,6 @@ impl<'a> Noting<'a> {
         }
     }
 
-    /// Whose turn it was before the move for the native server with this index.
-    fn side_before(&self, index: usize) -> Side {
-        match self.steps.servers.get(index) {
-            Some(state) => state.side,
-            None => Side::Idle,
-        }
-    }
-
-    /// The words that the mover has sent to a port, if it has.
-    fn said_to(&self, seen: Seen<'_>, port: Who) -> Option<Note> {
-        if !self.steps.sends || self.steps.other != Some(port) {
-            return None;
-        }
-        match self.steps.kept.threads.first() {
-            Some((who, before)) => said(seen.store, *who, before),
-            None => None,
-        }
-    }
-
     /// Keeps what a move has made a server note, with the line of that move.
     fn keep(&mut self, seen: Seen<'_>, one: &Move, at: At<'_>, note: Option<Note>) {
         let Some(note) = note else {
@@ -99,13 +80,19 @@ impl<'a> Noting<'a> {
         }
     }
 
-    /// Keeps all that a move has made a server note.
+    /// Keeps all that a move has made a server note: that it stands on another side, the words that the mover has sent there, the reply that it has computed
+    /// where its own turn has begun.
     fn keep_all(&mut self, seen: Seen<'_>, one: &Move, at: At<'_>) {
         let is = at.server.side;
-        let said = self.said_to(seen, at.port);
+        let sent = match self.steps.kept.threads.first() {
+            Some((who, before)) if self.steps.sends && self.steps.other == Some(at.port) => {
+                said(seen.store, *who, before)
+            }
+            _ => None,
+        };
         self.keep(seen, one, at, turned(seen.store, at.port, at.was, is));
-        self.keep(seen, one, at, said);
-        if has_replied(at.was, is) {
+        self.keep(seen, one, at, sent);
+        if matches!(is, Side::Own) && !matches!(at.was, Side::Own) {
             self.keep(seen, one, at, Some(Note::Reply(at.server.left)));
         }
     }
@@ -121,10 +108,14 @@ impl Watcher for Noting<'_> {
         let mut place = 0usize;
         for index in 0..seen.services.len() {
             if let Some((port, Native::Server(server))) = seen.services.get(index) {
+                let was = match self.steps.servers.get(index) {
+                    Some(state) => state.side,
+                    None => Side::Idle,
+                };
                 let at = At {
                     place,
                     port: *port,
-                    was: self.side_before(index),
+                    was,
                     server,
                 };
                 self.keep_all(seen, one, at);

@@ -1,5 +1,5 @@
 //! Threads that wait for each other in a ring.
-use crate::sums::waits::{push_before, push_behind, wait_of};
+use crate::sums::waits::{Cause, push_before, wait_of};
 use crate::why::{Known, push_place};
 use fk_first::Ready;
 use fk_model::Who;
@@ -48,7 +48,9 @@ fn push_cycle(sheet: &Sheet, known: Known<'_, '_>, members: &[Who]) {
             } else {
                 push_place(sheet, known.scene, b"", wait.other);
             }
-            push_behind(sheet, wait.cause);
+            if let Cause::Mutex(_) = wait.cause {
+                sheet.put(b" has locked");
+            }
         }
         is_first = false;
     }

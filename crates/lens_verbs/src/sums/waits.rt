@@ -1,7 +1,7 @@
 //! Whom a thread waits for, where that is one thread.
 use crate::steps::talk_of;
 use crate::why::Known;
-use fk_model::{Body, Fault, Mode, Peer, Stage, Who};
+use fk_model::{Body, Mode, Peer, Stage, Who};
 use fk_store::Store;
 use lens_text::{Sheet, handled, next_stage, push_between, push_path};
 
@@ -53,14 +53,6 @@ fn only_server(store: &Store, port: Who) -> Option<Who> {
             },
         ) => only_thread(store, port.space),
         _ => None,
-    }
-}
-
-/// Whom a thread with a fault waits for.
-fn taker_of(store: &Store, fault: &Fault) -> Option<Who> {
-    match fault.taker {
-        Some(Peer::Thread(taker)) => Some(taker),
-        _ => only_server(store, fault.port),
     }
 }
 
@@ -122,7 +114,11 @@ pub fn wait_of(known: Known<'_, '_>, who: Who) -> Option<Wait> {
         _ => {}
     }
     if let Some(fault) = &thread.fault {
-        return waits_for(taker_of(store, fault), Cause::Fault);
+        let other = match fault.taker {
+            Some(Peer::Thread(taker)) => Some(taker),
+            _ => only_server(store, fault.port),
+        };
+        return waits_for(other, Cause::Fault);
     }
     if store.is_frozen(who.space) {
         return waits_for(store.decider(who), Cause::Hold);
@@ -152,13 +148,5 @@ pub fn push_before(sheet: &Sheet, store: &Store, cause: Cause) {
             push_path(sheet, store, port);
             sheet.put(b" is accepted by ");
         }
-    }
-}
-
-/// Adds what follows that one's path.
-pub fn push_behind(sheet: &Sheet, cause: Cause) {
-    match cause {
-        Cause::Mutex(_) => sheet.put(b" has locked"),
-        _ => {}
     }
 }

@@ -12,11 +12,8 @@ fn page_home(store: &Store, space: u32, address: u64) -> Option<Who> {
     }
 }
 
-/// The space into which somebody receives, where that is a thread at its receive.
-fn received_in(store: &Store, who: Option<Who>) -> Option<Who> {
-    let Some(who) = who else {
-        return None;
-    };
+/// The space into which a thread receives, where it is at its receive.
+fn received_in(store: &Store, who: Who) -> Option<Who> {
     match next_stage(store, who) {
         Some(
             Stage::ClientReceive { addr, .. }
@@ -81,7 +78,10 @@ fn reached_beyond(store: &Store, who: Who, stage: &Stage) -> (Option<Who>, Optio
         | Stage::ServerReceive { .. }
         | Stage::ClientReceiveRef { .. }
         | Stage::ServerReceiveRef { .. } => (None, None),
-        Stage::ClientSend { .. } | Stage::ServerSend { .. } => (other, received_in(store, other)),
+        Stage::ClientSend { .. } | Stage::ServerSend { .. } => match other {
+            Some(receiver) => (other, received_in(store, receiver)),
+            None => (None, None),
+        },
         _ => (other, ended_port(store, who, stage)),
     }
 }

@@ -25,17 +25,6 @@ pub struct Locking {
     mutex: Option<Who>,
 }
 
-/// The mutex that a handle names in a space, where it isn't locked.
-fn unlocked(store: &Store, space: u32, handle: u64) -> Option<Who> {
-    match handled(store, space, handle) {
-        Some(mutex) => match store.mutex(mutex) {
-            Some(false) => Some(mutex),
-            _ => None,
-        },
-        None => None,
-    }
-}
-
 impl Locking {
     /// Nobody has locked anything yet.
     pub fn new(alloc: Global) -> Locking {
@@ -47,12 +36,15 @@ impl Locking {
 
     /// It sees what stands before a move of somebody.
     pub fn before(&mut self, store: &Store, mover: Who) {
-        self.mutex = match next_stage(store, mover) {
-            Some(Stage::MutexLock { m } | Stage::MutexTrylock { m }) => {
-                unlocked(store, mover.space, m)
-            }
-            _ => None,
+        self.mutex = None;
+        let Some(Stage::MutexLock { m } | Stage::MutexTrylock { m }) = next_stage(store, mover) else {
+            return;
         };
+        if let Some(mutex) = handled(store, mover.space, m) {
+            if let Some(false) = store.mutex(mutex) {
+                self.mutex = Some(mutex);
+            }
+        }
     }
 
     /// It sees what stands after that move, and notes who has locked a mutex.

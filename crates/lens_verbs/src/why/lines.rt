@@ -63,27 +63,22 @@ impl Why {
         self.jobs.after(sheet, &seen);
     }
 
-    /// It sees what stands where the run stops, and says why threads aren't ready, and why jobs have failed.
+    /// It sees what stands where the run stops, and says why threads aren't ready, in the order of their paths, and why jobs have failed.
     pub fn stops(&self, sheet: &Sheet, known: Known<'_, '_>, ready: &Ready, stop: Stop) {
-        push_why(sheet, known, ready, stop);
-        self.jobs.push_lines(sheet, &known.seen, false);
-    }
-}
-
-/// Says where a run stops why threads aren't ready, in the order of their paths.
-fn push_why(sheet: &Sheet, known: Known<'_, '_>, ready: &Ready, stop: Stop) {
-    if let Stop::Unready { one, .. } = stop {
-        push_move(sheet, known, ready, &one);
-    }
-    let store = known.scene.store;
-    let mut next = store.after(None);
-    for _ in 0..u64::MAX {
-        let Some(who) = next else {
-            break;
-        };
-        if !ready.contains_key(&who) {
-            push_thread(sheet, known, &who);
+        if let Stop::Unready { one, .. } = stop {
+            push_move(sheet, known, ready, &one);
         }
-        next = next_in_tree(store, who);
+        let store = known.scene.store;
+        let mut next = store.after(None);
+        for _ in 0..u64::MAX {
+            let Some(who) = next else {
+                break;
+            };
+            if !ready.contains_key(&who) {
+                push_thread(sheet, known, &who);
+            }
+            next = next_in_tree(store, who);
+        }
+        self.jobs.push_lines(sheet, &known.seen, false);
     }
 }
