@@ -36,25 +36,6 @@ fn number_in(line: &Sheet, word: &String, least: u64, most: u64, expected: &str)
     }
 }
 
-/// The numbers before the word that is sought: how many schedules, and the number of the first.
-fn numbers_of(line: &Sheet, words: &[String]) -> Option<(u64, u64)> {
-    let Some(word) = words.first() else {
-        return None;
-    };
-    let expected = "a number of schedules, 1 to 1000000";
-    let Some(count) = number_in(line, word, 1, MOST, expected) else {
-        return None;
-    };
-    let Some(word) = words.get(1) else {
-        return Some((count, FIRST));
-    };
-    let expected = "the seed of the first schedule, 0 to 4294967295, or --until";
-    match number_in(line, word, 0, LAST, expected) {
-        Some(first) => Some((count, first)),
-        None => None,
-    }
-}
-
 /// The word that is sought: behind `--until`, at this place of the words; none where there are no more words.
 fn sought_in<'a>(line: &Sheet, words: &'a [String], place: usize) -> Option<&'a str> {
     let Some(word) = words.get(place) else {
@@ -75,14 +56,25 @@ fn sought_in<'a>(line: &Sheet, words: &'a [String], place: usize) -> Option<&'a 
 /// What the words behind `hunt` ask for: the name is what is sought, an empty one where nothing is. Of the first that isn't what is wanted there
 /// the line says so.
 pub fn hunt_asked<'a>(line: &Sheet, words: &'a [String]) -> Option<Asked<'a>> {
-    let has_first = words.len() == 2 || words.len() == 4;
-    let place = if has_first { 2 } else { 1 };
-    let Some(words_before) = words.get(..place) else {
+    let Some(word) = words.first() else {
         return None;
     };
-    let Some((count, first)) = numbers_of(line, words_before) else {
+    let expected = "a number of schedules, 1 to 1000000";
+    let Some(end) = number_in(line, word, 1, MOST, expected) else {
         return None;
     };
+    let (mut first, mut place) = (FIRST, 1);
+    if words.len() == 2 || words.len() == 4 {
+        let Some(word) = words.get(1) else {
+            return None;
+        };
+        let expected = "the seed of the first schedule, 0 to 4294967295, or --until";
+        let Some(number) = number_in(line, word, 0, LAST, expected) else {
+            return None;
+        };
+        first = number;
+        place = 2;
+    }
     let Some(name) = sought_in(line, words, place) else {
         return None;
     };
@@ -91,6 +83,6 @@ pub fn hunt_asked<'a>(line: &Sheet, words: &'a [String]) -> Option<Asked<'a>> {
         name,
         other: "",
         first,
-        end: count,
+        end,
     })
 }

@@ -49,22 +49,13 @@ fn is_register(token: &str) -> bool {
     }
 }
 
-/// Whether a token begins as a name does.
-fn begins_as_name(token: &str) -> bool {
-    matches!(token.as_bytes(), [b'a'..=b'z' | b'A'..=b'Z' | b'_', ..])
-}
-
-/// Whether a text is a number that some place may have.
-fn is_number(text: &str) -> bool {
-    match text.strip_prefix('-') {
+/// What a constant's value is, where it is one: a number that some place may have, or one that has a name.
+fn value_of(text: &str) -> Option<New<'_>> {
+    let is_number = match text.strip_prefix('-') {
         Some(digits) => number_up_to(2_147_483_648, digits.as_bytes()).is_some(),
         None => number_up_to(u64::MAX, text.as_bytes()).is_some(),
-    }
-}
-
-/// What a constant's value is, where it is one.
-fn value_of(text: &str) -> Option<New<'_>> {
-    if is_number(text) {
+    };
+    if is_number {
         return Some(New::Text(text));
     }
     match number_named(text) {
@@ -116,12 +107,10 @@ impl<'a> Finding<'_, 'a> {
         self.push(at, at, New::Text("; "));
     }
 
-    /// What stands for a token, where it is a name. Registers, numbers and labels stay.
+    /// What stands for a token, where it is a name. Registers, labels and what doesn't begin as a name does stay.
     fn new_for(&self, token: &str) -> Option<New<'a>> {
-        if is_register(token) || !begins_as_name(token) {
-            return None;
-        }
-        if self.program.address_of(token).is_some() {
+        let may_be = matches!(token.as_bytes(), [b'a'..=b'z' | b'A'..=b'Z' | b'_', ..]);
+        if !may_be || is_register(token) || self.program.address_of(token).is_some() {
             return None;
         }
         if let Some(constant) = self.program.constant(token) {

@@ -75,14 +75,6 @@ fn first_spelled(body: &str, is_escaping: bool, length: usize) -> (&str, &str) {
         .unwrap_or((body, ""))
 }
 
-/// Adds what is put into a text.
-fn push_new(sheet: &Sheet, new: New<'_>) {
-    match new {
-        New::Number(number) => sheet.add_number(number),
-        New::Text(text) => sheet.add(text),
-    }
-}
-
 /// What stands in a text from a byte on; nothing where no character begins there.
 fn text_from(text: &str, from: usize) -> &str {
     match text.split_at_checked(from) {
@@ -104,7 +96,10 @@ pub fn push_changed(sheet: &Sheet, raw: &str, said: &str, edits: &[Edit<'_>]) {
         from = from.saturating_add(spelled.len());
         if let [edit, rest @ ..] = later {
             if edit.from == at {
-                push_new(sheet, edit.new);
+                match edit.new {
+                    New::Number(number) => sheet.add_number(number),
+                    New::Text(text) => sheet.add(text),
+                }
                 end = edit.to;
                 later = rest;
             }

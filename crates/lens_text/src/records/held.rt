@@ -143,12 +143,6 @@ fn notes_in(bytes: &[u8]) -> Option<&str> {
     }
 }
 
-/// Says that a line of a record is bad by itself.
-fn refuse(sheet: &Sheet, name: &str, line: u64) {
-    let form = if line == 1 { HEAD } else { NOTE };
-    given(sheet, name, form, line, 0, "");
-}
-
 /// Says that a line of a record isn't what was noted.
 fn tell_apart(sheet: &Sheet, name: &str, apart: Apart<'_>) {
     if apart.note.is_empty() {
@@ -182,7 +176,8 @@ pub fn push_record<'x>(sheet: &'x Sheet, name: &str, noted: &'x [Noted], bytes: 
         return;
     };
     match bad_line(sheet.alloc, noted, bytes) {
-        Ok(Some(line)) => refuse(sheet, name, line),
+        Ok(Some(1)) => given(sheet, name, HEAD, 1, 0, ""),
+        Ok(Some(line)) => given(sheet, name, NOTE, line, 0, ""),
         Ok(None) => tell_apart(sheet, name, apart),
         Err(_) => sheet.lacks(),
     }
