@@ -6,10 +6,10 @@ use lens_text::{Sheet, place_named, push_between, push_held_there};
 
 /// The space of a thread that makes a call, and where it is told what that names.
 #[derive(Clone, Copy)]
-struct Caller<'a> {
-    sheet: &'a Sheet,
-    store: &'a Store,
-    space: u32,
+pub struct Caller<'a> {
+    pub sheet: &'a Sheet,
+    pub store: &'a Store,
+    pub space: u32,
 }
 
 impl Caller<'_> {
@@ -50,7 +50,7 @@ impl Caller<'_> {
     }
 
     /// Adds what stands where each argument of a stage leads that names a slot, in their order.
-    fn push_all(self, stage: &Stage) {
+    pub fn push_all(self, stage: &Stage) {
         match *stage {
             Stage::Create { s, x, .. }
             | Stage::Destroy { s, x }
@@ -124,14 +124,4 @@ impl Caller<'_> {
             _ => {}
         }
     }
-}
-
-/// Adds what stands where each argument of a stage leads that names a slot, of a call of a space's thread.
-pub fn push_handles(sheet: &Sheet, store: &Store, space: u32, stage: &Stage) {
-    let caller = Caller {
-        sheet,
-        store,
-        space,
-    };
-    caller.push_all(stage);
 }

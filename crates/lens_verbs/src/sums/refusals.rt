@@ -1,5 +1,5 @@
 //! Calls that were refused.
-use crate::sums::handles::push_handles;
+use crate::sums::handles::Caller;
 use crate::sums::statuses::MEANINGS;
 use crate::why::push_hold;
 use fk_model::{Stage, Thread, Who};
@@ -80,7 +80,12 @@ fn push_why(sheet: &Sheet, scene: Scene<'_>, who: Who, before: &Thread, status: 
     let Some(stage) = first_stage(&before.regs) else {
         return sheet.fill(b", but @", before.regs[0], 0, 0);
     };
-    push_handles(sheet, scene.store, who.space, &stage);
+    let caller = Caller {
+        sheet,
+        store: scene.store,
+        space: who.space,
+    };
+    caller.push_all(&stage);
     match status {
         9 => push_holder(sheet, scene, who.space, &stage),
         12 => push_address(sheet, scene.store, who.space, &stage),
