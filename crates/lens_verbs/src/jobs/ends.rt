@@ -9,20 +9,6 @@ use fk_porters::Porter;
 use fk_store::Store;
 use lens_text::Sheet;
 
-/// Adds why a job has ended as it has by its own moves.
-fn push_finish(sheet: &Sheet, store: &Store, jobs: &Jobs<Porter>, plan: &Plan, finish: &Finish) {
-    match finish {
-        Finish::Image(_) | Finish::Restored => {}
-        Finish::Foreign(place) => push_foreign(sheet, store, plan, place),
-        Finish::Dead => push_dead(sheet, store, plan, true),
-        Finish::Occupied => {
-            push_slot(sheet, store, plan);
-            sheet.put(b", where the new space was to be made");
-        }
-        Finish::NoPort(port) => push_noport(sheet, store, jobs, plan, *port),
-    }
-}
-
 /// Adds why a job has failed.
 fn push_cause(
     sheet: &Sheet,
@@ -38,8 +24,15 @@ fn push_cause(
             last,
         } => {
             sheet.fill(b", moves @ to @: ", *begun, *last, 0);
-            if let Some(finish) = worker.end() {
-                push_finish(sheet, store, jobs, plan, finish);
+            match worker.end() {
+                Some(Finish::Foreign(place)) => push_foreign(sheet, store, plan, place),
+                Some(Finish::Dead) => push_dead(sheet, store, plan, true),
+                Some(Finish::Occupied) => {
+                    push_slot(sheet, store, plan);
+                    sheet.put(b", where the new space was to be made");
+                }
+                Some(Finish::NoPort(port)) => push_noport(sheet, store, jobs, plan, *port),
+                _ => {}
             }
         }
         Ended::NoImage => {
