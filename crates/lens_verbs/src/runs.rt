@@ -176,6 +176,25 @@ fn other_of<H: Shelf>(sheet: &Sheet, asked: &Asked<'_>, shelf: &mut H) -> Option
     }
 }
 
+/// Shows what is asked for of a scenario's text, beside the bytes of these files.
+fn show_beside<'x, H: Shelf>(
+    sheet: &'x Sheet,
+    asked: &'x Asked<'x>,
+    text: &'x [u8],
+    trace: &'x [u8],
+    other: &'x [u8],
+    shelf: &'x mut H,
+) {
+    let mut showing = Showing {
+        asked,
+        text,
+        trace,
+        other,
+        files: Files { sheet, shelf },
+    };
+    lend_scenario(sheet.alloc, text, &mut showing);
+}
+
 /// Shows what is asked for of a scenario's text, or says why not.
 pub fn show_scenario<H: Shelf>(sheet: &Sheet, asked: &Asked<'_>, text: &[u8], shelf: &mut H) {
     let Some(trace) = trace_of(sheet, asked, shelf) else {
@@ -184,14 +203,7 @@ pub fn show_scenario<H: Shelf>(sheet: &Sheet, asked: &Asked<'_>, text: &[u8], sh
     let Some(other) = other_of(sheet, asked, shelf) else {
         return;
     };
-    let mut showing = Showing {
-        asked,
-        text,
-        trace: &trace,
-        other: &other,
-        files: Files { sheet, shelf },
-    };
-    lend_scenario(sheet.alloc, text, &mut showing);
+    show_beside(sheet, asked, text, &trace, &other, shelf);
 }
 
 /// Adds the plain form of a scenario's text, or says why there is none: a name that is none, or a plain form that `fluke` refuses.
