@@ -22,4 +22,4 @@ pub use lending::lend_cores;
 pub use plans::maker_of;
 pub use posts::{replaying_core, tapped_core};
 pub use seen::{Images, Job, Player, Ready, Seen, Stop, Trace, Watcher};
-pub use watching::{images_for, watch};
+pub use watching::watch;

@@ -1,6 +1,6 @@
 use Rattle.fk_first.specs.First.{IsFirst}
 use Rattle.fk_first.specs.Lent.{ArePlayed}
-use Rattle.fk_first.proofs.lending.lend_with.Given as goal
+use Rattle.fk_first.proofs.lending.lend_cores.Given as goal
 
 -- such calls were made of the player so far
 abbrev pub invariant-loop : goal.invariant-loop
