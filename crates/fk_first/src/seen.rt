@@ -33,9 +33,7 @@ pub struct Seen<'a> {
     pub store: &'a Store,
     /// The native servers with their ports, in the order of the file.
     pub services: &'a [(Who, Native)],
-    pub job: Option<Job>,
-    /// All jobs: what is planned of each, and how those have ended that have.
-    pub jobs: &'a Jobs<Porter>,
+    pub job: Option<&'a Job>,
     /// How many moves were made.
     pub events: u64,
 }
@@ -72,13 +70,13 @@ pub struct Trace<'a> {
 /// Who watches a run.
 pub trait Watcher {
     /// It sees what stands before a move, of which it isn't known yet whether it is ready.
-    fn before(&mut self, seen: Seen<'_>, one: &Move);
+    fn before(&mut self, seen: &Seen<'_>, one: &Move);
 
-    /// It sees what stands after that move, which was made.
-    fn after(&mut self, seen: Seen<'_>, one: &Move);
+    /// It sees what stands after that move, which was made; and all jobs: what is planned of each, and how those have ended that have.
+    fn after(&mut self, seen: &Seen<'_>, jobs: &Jobs<Porter>, one: &Move);
 
-    /// It sees what stands where the run stops, and who could go on.
-    fn stops(&mut self, seen: Seen<'_>, ready: &Ready, stop: Stop);
+    /// It sees what stands where the run stops, all jobs, and who could go on.
+    fn stops(&mut self, seen: &Seen<'_>, jobs: &Jobs<Porter>, ready: &Ready, stop: Stop);
 }
 
 /// Who plays from the core with which a scenario begins. What a call may make of it, from the player before to the player after, its member says: by the

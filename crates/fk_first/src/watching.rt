@@ -35,12 +35,11 @@ fn job_of(core: &Core<Native, Porter>) -> Option<Job> {
 }
 
 /// What is seen of a core, and of its job.
-fn seen<'a>(core: &'a Core<Native, Porter>, job: Option<Job>) -> Seen<'a> {
+fn seen<'a>(core: &'a Core<Native, Porter>, job: Option<&'a Job>) -> Seen<'a> {
     Seen {
         store: core.kernel().store(),
         services: core.services(),
         job,
-        jobs: core.jobs(),
         events: core.events(),
     }
 }
@@ -77,11 +76,11 @@ fn play<V: Watcher>(
             return Ok(Stop::Budget { index });
         }
         let job = job_of(core);
-        watcher.before(seen(core, job), &one);
+        watcher.before(&seen(core, job.as_ref()), &one);
         if !core.go(table, &one)? {
             return Ok(Stop::Unready { index, one });
         }
-        watcher.after(seen(core, None), &one);
+        watcher.after(&seen(core, None), core.jobs(), &one);
         rest = after;
     }
     if trace.looks_ahead {
@@ -104,7 +103,7 @@ fn play_to_stop<V: Watcher>(
     let stop = play(core, table, trace, watcher)?;
     let job = job_of(core);
     let ready = ready_threads(alloc, core, job)?;
-    watcher.stops(seen(core, job), &ready, stop);
+    watcher.stops(&seen(core, job.as_ref()), core.jobs(), &ready, stop);
     Ok(stop)
 }
 
