@@ -10,5 +10,5 @@ mod noport;
 mod resting;
 mod watch;
 
-pub use names::end_at;
+pub use names::{Ending, ending_word, fate_of};
 pub use watch::JobWatch;

@@ -5,12 +5,16 @@ ghost use Rattle.fk_scenario.specs.Scenario.Kept.{KeepsScenario, HasRules};
 use crate::apart::{Taker, push_apart};
 use crate::hunt::Hunter;
 use crate::images::Files;
+use crate::page::Page;
 use crate::records::Noting;
-use crate::shows::show_of;
+use crate::shows::{Show, Shows, Tree};
+use crate::steps::{Keeps, Lines, Steps, Stepwise};
 use crate::stops::check_stop;
+use crate::sums::Sums;
+use crate::why::Why;
 use fk_causes::Shelf;
 use fk_commands::{ScenarioReader, Status, lend_scenario};
-use fk_first::{Trace, Watcher, lend_cores, watch};
+use fk_first::{Trace, lend_cores, watch};
 use fk_responders::Table;
 use fk_scenario::Scenario;
 use fk_scenario::entries::SpaceEntry;
@@ -46,28 +50,54 @@ struct Showing<'a, H: Shelf> {
 }
 
 impl<H: Shelf> Showing<'_, H> {
-    /// Lets a watcher see the run by the trace with this name and these bytes, and says what is wrong with that.
-    fn play<V: Watcher>(
+    /// Lets a run be shown, that by the trace or that by the other one, and says what is wrong with the trace.
+    fn show<T: Shows + Drop>(
         &mut self,
         table: &Table,
         scenario: &Scenario,
-        name: &str,
-        bytes: &[u8],
-        watcher: &mut V,
+        programs: &Programs,
+        is_other: bool,
+        by: T,
     )
         requires keeps { KeepsScenario scenario.now }
         requires rules { HasRules (map (λ r. r.rule) table.now.list.items) scenario.now }
     {
         let (sheet, asked) = (self.files.sheet, *self.asked);
+        let (name, bytes) = if is_other {
+            (asked.other, self.other)
+        } else {
+            (asked.name, self.trace)
+        };
         let trace = Trace {
             bytes,
             most: asked.end,
             looks_ahead: matches!(asked.verb, Verb::Why),
         };
-        match watch(sheet.alloc, table, scenario, &mut self.files, trace, watcher) {
+        let mut show = Show {
+            sheet,
+            programs,
+            by,
+        };
+        match watch(sheet.alloc, table, scenario, &mut self.files, trace, &mut show) {
             Ok(stop) => check_stop(sheet, &Asked { name, ..asked }, stop),
             Err(problem) => sheet.fails(problem),
         }
+    }
+
+    /// The same, by the moves' own lines.
+    fn step<K: Keeps>(
+        &mut self,
+        table: &Table,
+        scenario: &Scenario,
+        programs: &Programs,
+        is_other: bool,
+        by: &mut K,
+    )
+        requires keeps { KeepsScenario scenario.now }
+        requires rules { HasRules (map (λ r. r.rule) table.now.list.items) scenario.now }
+    {
+        let steps = Steps::new(self.files.sheet.alloc, self.asked.first);
+        self.show(table, scenario, programs, is_other, Stepwise { steps, by });
     }
 
     /// Shows where two traces come apart.
@@ -76,15 +106,14 @@ impl<H: Shelf> Showing<'_, H> {
         requires rules { HasRules (map (λ r. r.rule) table.now.list.items) scenario.now }
     {
         let (sheet, asked) = (self.files.sheet, self.asked);
-        let (trace, other) = (self.trace, self.other);
-        let mut taker = Taker::new(sheet, programs);
-        self.play(table, scenario, asked.name, trace, &mut taker);
+        let mut taker = Taker::new(sheet.alloc);
+        self.step(table, scenario, programs, false, &mut taker);
         if sheet.problem().is_none() {
-            taker.turn_over();
-            self.play(table, scenario, asked.other, other, &mut taker);
+            taker.turn_over(sheet.alloc);
+            self.step(table, scenario, programs, true, &mut taker);
         }
         if sheet.problem().is_none() {
-            push_apart(&taker, asked.name, asked.other);
+            push_apart(sheet, &taker, asked.name, asked.other);
         }
     }
 
@@ -93,9 +122,9 @@ impl<H: Shelf> Showing<'_, H> {
         requires keeps { KeepsScenario scenario.now }
         requires rules { HasRules (map (λ r. r.rule) table.now.list.items) scenario.now }
     {
-        let (sheet, asked, trace) = (self.files.sheet, self.asked, self.trace);
-        let mut noting = Noting::new(sheet, programs, scenario.servers.as_slice());
-        self.play(table, scenario, asked.name, trace, &mut noting);
+        let (sheet, asked) = (self.files.sheet, self.asked);
+        let mut noting = Noting::new(sheet, scenario.servers.as_slice());
+        self.step(table, scenario, programs, false, &mut noting);
         if sheet.problem().is_none() {
             push_record(sheet, asked.name, &noting.noted, self.other);
         }
@@ -106,16 +135,20 @@ impl<H: Shelf> Showing<'_, H> {
         requires keeps { KeepsScenario scenario.now }
         requires rules { HasRules (map (λ r. r.rule) table.now.list.items) scenario.now }
     {
-        let (sheet, asked, trace) = (self.files.sheet, self.asked, self.trace);
+        let (sheet, asked) = (self.files.sheet, self.asked);
         let mut programs = programs_of(sheet, self.text);
         note_spaces(sheet, &mut programs, scenario.spaces.as_slice());
         match asked.verb {
             Verb::Apart => self.compare(table, scenario, &programs),
             Verb::Record => self.record(table, scenario, &programs),
-            _ => {
-                let mut show = show_of(sheet, asked, &programs);
-                self.play(table, scenario, asked.name, trace, &mut show);
+            Verb::Steps => {
+                sheet.put(b"fluke-trace 1\n");
+                self.step(table, scenario, &programs, false, &mut Lines);
             }
+            Verb::Why => self.show(table, scenario, &programs, false, Why::new(sheet)),
+            Verb::Sums => self.show(table, scenario, &programs, false, Sums::new(sheet)),
+            Verb::Page => self.show(table, scenario, &programs, false, Page::new(sheet, asked.name)),
+            _ => self.show(table, scenario, &programs, false, Tree),
         }
     }
 

@@ -15,6 +15,6 @@ mod reasons;
 mod talks;
 
 pub use holds::push_hold;
-pub use known::{Known, Lockers, Locking};
+pub use known::{Known, Locking, known_of};
 pub use lines::{Why, push_thread};
 pub use places::push_place;

@@ -1,9 +1,8 @@
 //! What each move of a trace does.
-use crate::shows::scene_of;
-use crate::steps::Steps;
-use fk_first::{Ready, Seen, Stop, Watcher};
+use crate::steps::{Keeps, Steps};
+use fk_first::Seen;
 use fk_model::{Mode, Move};
-use lens_text::{Programs, Sheet, parted};
+use lens_text::{Sheet, parted};
 use std::alloc::Global;
 use std::collections::BTreeMap;
 use std::mem;
@@ -89,72 +88,57 @@ impl Deeds {
 
 /// Keeps what the moves of two runs do.
 #[derive(Drop)]
-pub struct Taker<'a> {
-    pub sheet: &'a Sheet,
-    programs: &'a Programs,
+pub struct Taker {
     pub movers: Movers,
-    steps: Steps,
-    is_call: bool,
     /// What those of the first run do, while the second is watched.
     pub first: Deeds,
     /// What those of the run do that is watched.
     pub deeds: Deeds,
 }
 
-impl<'a> Taker<'a> {
-    /// It has seen no move yet of a scenario with these programs.
-    pub fn new(sheet: &'a Sheet, programs: &'a Programs) -> Taker<'a> {
+impl Taker {
+    /// It has seen no move yet.
+    pub fn new(alloc: Global) -> Taker {
         Taker {
-            sheet,
-            programs,
-            movers: Movers::new(sheet.alloc),
-            steps: Steps::new(&Sheet::new(sheet.alloc), 0),
-            is_call: false,
-            first: Deeds::new(sheet.alloc),
-            deeds: Deeds::new(sheet.alloc),
+            movers: Movers::new(alloc),
+            first: Deeds::new(alloc),
+            deeds: Deeds::new(alloc),
         }
     }
 
     /// The first run is over.
-    pub fn turn_over(&mut self) {
-        self.first = mem::replace(&mut self.deeds, Deeds::new(self.sheet.alloc));
-    }
-
-    /// The number of the mover with this path.
-    fn mover(&mut self, path: &str) -> usize {
-        let path = self.sheet.copied(path);
-        if let Some(number) = self.movers.get(&path) {
-            return *number;
-        }
-        let number = self.movers.len();
-        if self.movers.insert(path, number).is_err() {
-            self.sheet.lacks();
-        }
-        number
+    pub fn turn_over(&mut self, alloc: Global) {
+        self.first = mem::replace(&mut self.deeds, Deeds::new(alloc));
     }
 }
 
-impl Watcher for Taker<'_> {
-    fn before(&mut self, seen: Seen<'_>, one: &Move) {
-        self.is_call = match seen.store.thread(one.who) {
-            Some(thread) => !matches!(thread.mode, Mode::Running),
-            None => true,
-        };
-        let scene = scene_of(self.programs, seen);
-        self.steps.before(self.sheet, seen, scene, one);
+/// The number of the mover with this path.
+fn number_of(sheet: &Sheet, movers: &mut Movers, path: &str) -> usize {
+    let path = sheet.copied(path);
+    if let Some(number) = movers.get(&path) {
+        return *number;
     }
+    let number = movers.len();
+    if movers.insert(path, number).is_err() {
+        sheet.lacks();
+    }
+    number
+}
 
-    fn after(&mut self, seen: Seen<'_>, one: &Move) {
-        let sheet = Sheet::new(self.sheet.alloc);
-        self.steps.after(&sheet, seen, one);
-        let line = self.sheet.taken(sheet);
+impl Keeps for Taker {
+    fn keep(&mut self, sheet: &Sheet, steps: &Steps, seen: &Seen<'_>, one: &Move) {
+        let line = Sheet::new(sheet.alloc);
+        steps.after(&line, seen, one);
+        let line = sheet.taken(line);
         // Before the path stand the trace's own line and the move's number.
         let behind = parted(parted(line.as_str(), '\t').1, '\t').1;
         let (path, does) = parted(behind, '\t');
-        let mover = self.mover(path);
-        let reaches = self.is_call || does.starts_with("store");
-        self.deeds.add(self.sheet, mover, does, reaches);
+        let is_call = match steps.kept.threads.first() {
+            Some((who, before)) if *who == one.who => !matches!(before.mode, Mode::Running),
+            _ => true,
+        };
+        let mover = number_of(sheet, &mut self.movers, path);
+        let reaches = is_call || does.starts_with("store");
+        self.deeds.add(sheet, mover, does, reaches);
     }
-
-    fn stops(&mut self, _seen: Seen<'_>, _ready: &Ready, _stop: Stop) {}
 }

@@ -39,9 +39,8 @@ fn push_before(
 
 /// Adds how two traces with these names differ, which were watched one after the other: the first move in which they do, and where both make it, what came
 /// before it in one of them alone.
-pub fn push_apart(taker: &Taker<'_>, name: &str, other: &str) {
-    let (sheet, movers) = (taker.sheet, &taker.movers);
-    let (first, second) = (&taker.first, &taker.deeds);
+pub fn push_apart(sheet: &Sheet, taker: &Taker, name: &str, other: &str) {
+    let (movers, first, second) = (&taker.movers, &taker.first, &taker.deeds);
     match first_apart(first, second) {
         Apart::Does {
             first: here,

@@ -1,8 +1,7 @@
 //! How a run has ended, in a line.
 use crate::hunt::drawing::Run;
-use crate::jobs::end_at;
-use fk_finish::Finish;
-use fk_jobs::{Ended, Jobs, Task};
+use crate::jobs::{Ending, ending_word, fate_of};
+use fk_jobs::{Jobs, Task};
 use fk_model::Mode;
 use fk_natives::{Native, Service};
 use fk_porters::Porter;
@@ -49,25 +48,23 @@ fn push_out(sheet: &Sheet, service: &Native) {
 
 /// Adds what has become of the job with a number.
 fn push_fate(sheet: &Sheet, jobs: &Jobs<Porter>, number: usize) {
-    sheet.put_around(b" ", end_at(jobs, number), b"");
-    if let Some(Ended::Worked { worker, .. }) = jobs.ends().get(number) {
-        match worker.end() {
-            Some(Finish::Foreign(place)) => {
-                sheet.put(b" ");
-                for slot in place.path.as_slice() {
-                    sheet.fill(b"/@", u64::from(*slot), 0, 0);
-                }
-                sheet.fill(b" @", u64::from(place.field), 0, 0);
+    let ending = fate_of(jobs, number).ending;
+    sheet.put_around(b" ", ending_word(ending), b"");
+    match ending {
+        Ending::Foreign(place) => {
+            sheet.put(b" ");
+            for slot in place.path.as_slice() {
+                sheet.fill(b"/@", u64::from(*slot), 0, 0);
             }
-            Some(Finish::NoPort(port)) => sheet.fill(b" @", u64::from(*port), 0, 0),
-            _ => {}
+            sheet.fill(b" @", u64::from(place.field), 0, 0);
         }
+        Ending::NoPort(port) => sheet.fill(b" @", u64::from(port), 0, 0),
+        _ => {}
     }
 }
 
 /// Adds what has become of jobs.
-fn push_jobs(sheet: &Sheet, core: &Run) {
-    let jobs = core.jobs();
+fn push_jobs(sheet: &Sheet, jobs: &Jobs<Porter>) {
     for place in 0..jobs.plans().len() {
         if let Some(plan) = jobs.plans().get(place) {
             sheet.fill(b"; job @", place as u64, 0, 0);
@@ -93,5 +90,5 @@ pub fn push_ending(sheet: &Sheet, core: &Run) {
             push_out(sheet, service);
         }
     }
-    push_jobs(sheet, core);
+    push_jobs(sheet, core.jobs());
 }

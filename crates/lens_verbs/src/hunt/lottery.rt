@@ -3,6 +3,7 @@ use crate::hunt::drawing::{Entrant, Run, server_move, thread_move};
 use crate::hunt::random::{Random, mixed};
 use fk_model::limits::LAST_PORTER_SLOT;
 use fk_model::{Mode, Move, Peer, Stage, Who};
+use fk_store::Store;
 use lens_text::{Sheet, handled, next_stage};
 
 /// So many threads are looked at, those that have waited longest for their turn.
@@ -51,16 +52,15 @@ pub struct Lottery<'a> {
 }
 
 /// Whether a thread is at an instruction.
-fn runs(core: &Run, who: Who) -> bool {
-    match core.kernel().store().thread(who) {
+fn runs(store: &Store, who: Who) -> bool {
+    match store.thread(who) {
         Some(thread) => matches!(thread.mode, Mode::Running),
         None => false,
     }
 }
 
 /// The port of the native server that a mover is, or that a thread speaks to or comes to.
-fn port_of(core: &Run, who: Who) -> Option<Who> {
-    let store = core.kernel().store();
+fn port_of(store: &Store, who: Who) -> Option<Who> {
     let Some(thread) = store.thread(who) else {
         return Some(who);
     };
@@ -81,7 +81,7 @@ fn port_of(core: &Run, who: Who) -> Option<Who> {
 
 /// The place of the native server that a mover is, or that a thread speaks to or comes to.
 fn server_of(core: &Run, who: Who) -> Option<usize> {
-    let Some(port) = port_of(core, who) else {
+    let Some(port) = port_of(core.kernel().store(), who) else {
         return None;
     };
     for place in 0..core.services().len() {
@@ -149,7 +149,7 @@ impl<'a> Lottery<'a> {
         }
         // Who moved last stands behind those, and may go on all the same.
         if let Some(who) = last {
-            if at.is_some() && !is_met && runs(core, who) {
+            if at.is_some() && !is_met && runs(core.kernel().store(), who) {
                 self.enter(Entrant::Thread(who));
             }
         }
@@ -229,7 +229,7 @@ impl<'a> Lottery<'a> {
             Entrant::Job(who) => Some(Move { who, pick: None }),
         };
         self.is_instruction = match &drawn {
-            Some(one) => runs(core, one.who),
+            Some(one) => runs(core.kernel().store(), one.who),
             None => false,
         };
         drawn
@@ -248,7 +248,7 @@ impl<'a> Lottery<'a> {
     /// It hears that a move was made.
     pub fn made(&mut self, core: &Run, one: &Move) {
         // An instruction of a thread that runs on frees nobody.
-        if self.is_instruction && !self.is_old && runs(core, one.who) {
+        if self.is_instruction && !self.is_old && runs(core.kernel().store(), one.who) {
             return;
         }
         self.is_old = true;

@@ -1,7 +1,9 @@
 //! The line of the job whose turn it is.
 use crate::jobs::names::push_job;
 use fk_first::Seen;
+use fk_jobs::Jobs;
 use fk_model::{Body, Who};
+use fk_porters::Porter;
 use fk_store::Store;
 use lens_text::{Sheet, push_asked, push_between};
 
@@ -35,9 +37,14 @@ fn push_held(sheet: &Sheet, store: &Store, porter: Who) {
 
 /// Adds the line of the job whose turn it is: since when it has been at work, or when it begins, what it holds, which call comes next, and how many come
 /// behind it.
-pub fn push_resting(sheet: &Sheet, seen: &Seen<'_>, begun: Option<u64>) {
-    let number = seen.jobs.ends().len();
-    let Some(plan) = seen.jobs.plans().get(number) else {
+pub fn push_resting(
+    sheet: &Sheet,
+    seen: &Seen<'_>,
+    jobs: &Jobs<Porter>,
+    begun: Option<u64>,
+) {
+    let number = jobs.ends().len();
+    let Some(plan) = jobs.plans().get(number) else {
         return;
     };
     push_job(sheet, seen.store, number, plan);
@@ -48,12 +55,12 @@ pub fn push_resting(sheet: &Sheet, seen: &Seen<'_>, begun: Option<u64>) {
             sheet.fill(form, plan.at, 0, 0);
         }
     }
-    if let Some(job) = &seen.job {
+    if let Some(job) = seen.job {
         push_held(sheet, seen.store, job.porter);
         sheet.put(b"; its next call is ");
         push_asked(sheet, &job.stage);
     }
-    let count = seen.jobs.plans().len();
+    let count = jobs.plans().len();
     let behind = count.saturating_sub(number).saturating_sub(1);
     if behind > 0 {
         sheet.fill(b"; jobs behind it that wait for it: @", behind as u64, 0, 0);

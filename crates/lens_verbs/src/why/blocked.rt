@@ -26,7 +26,7 @@ fn push_held(sheet: &Sheet, scene: Scene<'_>, space: Who) {
 }
 
 /// Adds that a mutex is locked, and who has locked it.
-fn push_locked(sheet: &Sheet, known: Known<'_, '_>, mutex: Who) {
+fn push_locked(sheet: &Sheet, known: &Known<'_>, mutex: Who) {
     let scene = known.scene;
     push_between(sheet, scene.store, b"waits until the mutex ", mutex, b" is");
     match known.lockers.get(&mutex) {
@@ -49,7 +49,7 @@ fn awaited(store: &Store, space: u32, stage: &Stage) -> Option<Who> {
 }
 
 /// Adds what a stage waits for by what it names.
-fn push_awaited(sheet: &Sheet, known: Known<'_, '_>, space: u32, stage: &Stage) {
+fn push_awaited(sheet: &Sheet, known: &Known<'_>, space: u32, stage: &Stage) {
     let scene = known.scene;
     let store = scene.store;
     let Some(named) = awaited(store, space, stage) else {
@@ -80,7 +80,7 @@ fn push_awaited(sheet: &Sheet, known: Known<'_, '_>, space: u32, stage: &Stage) 
 }
 
 /// Adds why a stage isn't ready, of a thread that is free or of a porter: the hold that is known to bar it, or who is waited for.
-pub fn push_blocked(sheet: &Sheet, known: Known<'_, '_>, who: Who, stage: &Stage) {
+pub fn push_blocked(sheet: &Sheet, known: &Known<'_>, who: Who, stage: &Stage) {
     let scene = known.scene;
     let store = scene.store;
     if let Some(object) = barred_of(store, who, stage) {

@@ -11,10 +11,19 @@ pub type Lockers = BTreeMap<Who, Who>;
 
 /// What is known where it is asked why somebody can't move.
 #[derive(Clone, Copy)]
-pub struct Known<'a, 'l> {
-    pub seen: Seen<'a>,
+pub struct Known<'a> {
+    pub seen: &'a Seen<'a>,
     pub scene: Scene<'a>,
-    pub lockers: &'l Lockers,
+    pub lockers: &'a Lockers,
+}
+
+/// What is known there, beside who has locked a mutex last.
+pub fn known_of<'a>(seen: &'a Seen<'a>, scene: Scene<'a>, lockers: &'a Lockers) -> Known<'a> {
+    Known {
+        seen,
+        scene,
+        lockers,
+    }
 }
 
 /// Watches who locks mutexes.
