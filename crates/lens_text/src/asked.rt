@@ -91,14 +91,6 @@ a name";
 const EXPECTED: &str = "a number of moves, 0 to 1000000
 a name, 1 to 32 of a to z, 0 to 9 and _";
 
-/// Before which move a run is to stop whose steps are shown: behind the last that is asked for, or nowhere.
-fn end_of(words: &[String]) -> u64 {
-    match plain_number_up_to(MOST, text_at(words, 2).as_bytes()) {
-        Some(last) => last.saturating_add(1),
-        None => u64::MAX,
-    }
-}
-
 /// What a verb with these words behind it asks for: so many names at most, and then numbers of moves. Of the first that isn't what is wanted
 /// there the line says so.
 fn asked_of<'a>(line: &Sheet, verb: Verb, words: &'a [String]) -> Option<Asked<'a>> {
@@ -122,7 +114,10 @@ fn asked_of<'a>(line: &Sheet, verb: Verb, words: &'a [String]) -> Option<Asked<'
     let one = plain_number_up_to(MOST, other.as_bytes()).unwrap_or(0);
     let (first, end) = match verb {
         Verb::Tree | Verb::Why => (0, one),
-        Verb::Steps => (one, end_of(words)),
+        Verb::Steps => match plain_number_up_to(MOST, text_at(words, 2).as_bytes()) {
+            Some(last) => (one, last.saturating_add(1)),
+            None => (one, u64::MAX),
+        },
         _ => (0, u64::MAX),
     };
     if let Some(word) = words.get(2) {

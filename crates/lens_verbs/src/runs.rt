@@ -192,23 +192,6 @@ impl<H: Shelf> ScenarioReader for Showing<'_, H> {
     }
 }
 
-/// The bytes of the trace that a verb wants, if it wants one; nothing where it can't be had, which the sheet says then.
-fn trace_of<H: Shelf>(sheet: &Sheet, asked: &Asked<'_>, shelf: &mut H) -> Option<Vec<u8>> {
-    match asked.verb {
-        Verb::First | Verb::Plain | Verb::Hunt => Some(Vec::new(sheet.alloc)),
-        _ => file_of(sheet, shelf, asked.name, ".trc"),
-    }
-}
-
-/// The same of the other file that a verb wants.
-fn other_of<H: Shelf>(sheet: &Sheet, asked: &Asked<'_>, shelf: &mut H) -> Option<Vec<u8>> {
-    match asked.verb {
-        Verb::Apart => file_of(sheet, shelf, asked.other, ".trc"),
-        Verb::Record => file_of(sheet, shelf, asked.name, ".rec"),
-        _ => Some(Vec::new(sheet.alloc)),
-    }
-}
-
 /// Shows what is asked for of a scenario's text, beside the bytes of these files.
 fn show_beside<'x, H: Shelf>(
     sheet: &'x Sheet,
@@ -230,10 +213,19 @@ fn show_beside<'x, H: Shelf>(
 
 /// Shows what is asked for of a scenario's text, or says why not.
 pub fn show_scenario<H: Shelf>(sheet: &Sheet, asked: &Asked<'_>, text: &[u8], shelf: &mut H) {
-    let Some(trace) = trace_of(sheet, asked, shelf) else {
+    let trace = match asked.verb {
+        Verb::First | Verb::Plain | Verb::Hunt => Some(Vec::new(sheet.alloc)),
+        _ => file_of(sheet, shelf, asked.name, ".trc"),
+    };
+    let Some(trace) = trace else {
         return;
     };
-    let Some(other) = other_of(sheet, asked, shelf) else {
+    let other = match asked.verb {
+        Verb::Apart => file_of(sheet, shelf, asked.other, ".trc"),
+        Verb::Record => file_of(sheet, shelf, asked.name, ".rec"),
+        _ => Some(Vec::new(sheet.alloc)),
+    };
+    let Some(other) = other else {
         return;
     };
     show_beside(sheet, asked, text, &trace, &other, shelf);

@@ -86,20 +86,15 @@ impl<'a> Finding<'_, 'a> {
         sheet.fails(Problem::Given);
     }
 
-    /// Whether a constant that the line gives may have this name.
-    fn is_new(&self, name: &str) -> bool {
+    /// Makes a comment of a line that gives a constant, whose first token is at this offset.
+    fn constant(&mut self, at: usize, name: &str, value: &str) {
         let is_first = match self.program.constant(name) {
             Some(constant) => constant.line == self.line,
             None => false,
         };
         let is_free = self.program.address_of(name).is_none() && number_named(name).is_none();
         let is_formed = is_name(name.as_bytes()) && matches!(name.as_bytes(), [b'a'..=b'z', ..]);
-        is_first && is_free && is_formed && !is_register(name)
-    }
-
-    /// Makes a comment of a line that gives a constant, whose first token is at this offset.
-    fn constant(&mut self, at: usize, name: &str, value: &str) {
-        if !self.is_new(name) {
+        if !is_first || !is_free || !is_formed || is_register(name) {
             self.refuse(name, NEW);
         } else if value_of(value).is_none() {
             self.refuse(value, VALUE);

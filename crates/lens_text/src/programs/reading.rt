@@ -1,7 +1,6 @@
 //! The programs of a scenario, and in which spaces they stand.
 use crate::programs::listing::Listing;
 use crate::sheet::Sheet;
-use std::alloc::Global;
 use std::collections::BTreeMap;
 use toml::Table;
 
@@ -15,14 +14,6 @@ pub struct Programs {
 }
 
 impl Programs {
-    /// No programs.
-    pub fn new(alloc: Global) -> Programs {
-        Programs {
-            listings: Vec::new(alloc),
-            homes: BTreeMap::new(alloc),
-        }
-    }
-
     /// Notes that a space begins with the program with this index.
     pub fn stands_in(&mut self, sheet: &Sheet, space: u32, program: usize) {
         if self.homes.insert(space, program).is_err() {
@@ -57,7 +48,10 @@ fn read_all(sheet: &Sheet, programs: &mut Programs, scenario: &str, document: &T
 
 /// The programs of a scenario's text, of which it isn't noted yet where they stand. A text that is no scenario has none.
 pub fn programs_of(sheet: &Sheet, text: &[u8]) -> Programs {
-    let mut programs = Programs::new(sheet.alloc);
+    let mut programs = Programs {
+        listings: Vec::new(sheet.alloc),
+        homes: BTreeMap::new(sheet.alloc),
+    };
     if let Ok(scenario) = str::from_utf8(text) {
         if let Ok(document) = toml::table_from_slice(sheet.alloc, text) {
             read_all(sheet, &mut programs, scenario, &document);

@@ -135,14 +135,6 @@ fn hold<'a>(sheet: &'a Sheet, noted: &'a [Noted], notes: &'a str) -> Option<Apar
     })
 }
 
-/// The notes of a record, if its bytes are a text that begins with the first line of one.
-fn notes_in(bytes: &[u8]) -> Option<&str> {
-    match str::from_utf8(bytes) {
-        Ok(text) => text.strip_prefix(FIRST),
-        Err(_) => None,
-    }
-}
-
 /// Says that a line of a record isn't what was noted.
 fn tell_apart(sheet: &Sheet, name: &str, apart: Apart<'_>) {
     if apart.note.is_empty() {
@@ -161,7 +153,11 @@ fn tell_apart(sheet: &Sheet, name: &str, apart: Apart<'_>) {
 /// Adds the record with this name and these bytes, each line with the move that made it. Where the record isn't that of what was noted, says which line is
 /// the first that is bad by itself, or else the first that differs.
 pub fn push_record<'x>(sheet: &'x Sheet, name: &str, noted: &'x [Noted], bytes: &'x [u8]) {
-    let apart = match notes_in(bytes) {
+    let notes = match str::from_utf8(bytes) {
+        Ok(text) => text.strip_prefix(FIRST),
+        Err(_) => None,
+    };
+    let apart = match notes {
         Some(notes) => {
             sheet.add(FIRST);
             hold(sheet, noted, notes)

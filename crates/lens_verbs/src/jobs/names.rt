@@ -62,17 +62,6 @@ pub struct Fate<'a> {
     pub moves: Option<(u64, u64)>,
 }
 
-/// How a job has ended by its own moves.
-fn ending_of(finish: Option<&Finish>) -> Ending<'_> {
-    match finish {
-        Some(Finish::Image(_) | Finish::Restored) => Ending::Done,
-        Some(Finish::Foreign(place)) => Ending::Foreign(place),
-        Some(Finish::Occupied) => Ending::Occupied,
-        Some(Finish::NoPort(port)) => Ending::NoPort(*port),
-        Some(Finish::Dead) | None => Ending::Dead,
-    }
-}
-
 /// What has become of the job with this number. Who only asks this needs to know nothing of how jobs work.
 pub fn fate_of<'a>(jobs: &'a Jobs<Porter>, number: usize) -> Fate<'a> {
     match jobs.ends().get(number) {
@@ -81,7 +70,13 @@ pub fn fate_of<'a>(jobs: &'a Jobs<Porter>, number: usize) -> Fate<'a> {
             begun,
             last,
         }) => Fate {
-            ending: ending_of(worker.end()),
+            ending: match worker.end() {
+                Some(Finish::Image(_) | Finish::Restored) => Ending::Done,
+                Some(Finish::Foreign(place)) => Ending::Foreign(place),
+                Some(Finish::Occupied) => Ending::Occupied,
+                Some(Finish::NoPort(port)) => Ending::NoPort(*port),
+                Some(Finish::Dead) | None => Ending::Dead,
+            },
             moves: Some((*begun, *last)),
         },
         Some(Ended::NoImage) => Fate {

@@ -12,7 +12,6 @@ use fk_jobs::Jobs;
 use fk_model::operation::CALL;
 use fk_model::{Mode, Move, Thread, Who};
 use fk_porters::Porter;
-use fk_store::Store;
 use lens_text::{Scene, Sheet, next_in_tree, word_at};
 use std::collections::BTreeSet;
 
@@ -23,28 +22,6 @@ pub struct Sums {
     jobs: JobWatch,
     kept: Kept,
     refusals: Refusals,
-}
-
-/// Whether a running thread is at a `call`.
-fn is_at_call(store: &Store, who: Who, thread: &Thread) -> bool {
-    match word_at(store, who.space, thread.pc) {
-        Some(word) => match decode(word) {
-            Some(instr) => instr.op == CALL,
-            None => false,
-        },
-        None => false,
-    }
-}
-
-/// The status with which a move of somebody has ended a thread's call, or refused to begin it, where it has: before the move the thread was at this.
-fn ended_with(store: &Store, mover: Who, who: Who, before: &Thread, after: &Thread) -> Option<u64> {
-    match (before.mode, after.mode) {
-        (Mode::Calling, Mode::Running) => Some(after.regs[0]),
-        (Mode::Running, Mode::Running) if (who == mover) & is_at_call(store, who, before) => {
-            Some(after.regs[0])
-        }
-        _ => None,
-    }
 }
 
 impl Sums {
@@ -72,10 +49,21 @@ fn note_one(
     let Some(after) = scene.store.thread(*who) else {
         return;
     };
-    if let Some(status) = ended_with(scene.store, mover, *who, before, after) {
-        refusals.note(sheet, scene, number, kept, status);
-    }
     match (before.mode, after.mode) {
+        (Mode::Calling, Mode::Running) => {
+            refusals.note(sheet, scene, number, kept, after.regs[0]);
+        }
+        // The call of a thread that was at one, and goes on, was refused.
+        (Mode::Running, Mode::Running) if *who == mover => {
+            if let Some(word) = word_at(scene.store, who.space, before.pc) {
+                match decode(word) {
+                    Some(instr) if instr.op == CALL => {
+                        refusals.note(sheet, scene, number, kept, after.regs[0]);
+                    }
+                    _ => {}
+                }
+            }
+        }
         (Mode::Running, Mode::Halted(code)) if (code > 0) & (*who == mover) => {
             push_fault(sheet, scene, number, *who, before, code);
         }

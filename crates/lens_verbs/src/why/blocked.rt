@@ -25,17 +25,6 @@ fn push_held(sheet: &Sheet, scene: Scene<'_>, space: Who) {
     push_path(sheet, store, space);
 }
 
-/// Adds that a mutex is locked, and who has locked it.
-fn push_locked(sheet: &Sheet, known: &Known<'_>, mutex: Who) {
-    let scene = known.scene;
-    push_between(sheet, scene.store, b"waits until the mutex ", mutex, b" is");
-    match known.lockers.get(&mutex) {
-        Some(locker) => push_whereabouts(sheet, scene, b" unlocked, which ", *locker),
-        None => sheet.put(b" unlocked, which no move so far"),
-    }
-    sheet.put(b" locked");
-}
-
 /// The object that a stage names and waits for.
 fn awaited(store: &Store, space: u32, stage: &Stage) -> Option<Who> {
     match *stage {
@@ -57,7 +46,14 @@ fn push_awaited(sheet: &Sheet, known: &Known<'_>, space: u32, stage: &Stage) {
     };
     match stage {
         Stage::SpaceHold { .. } => push_held(sheet, scene, named),
-        Stage::MutexLock { .. } => push_locked(sheet, known, named),
+        Stage::MutexLock { .. } => {
+            push_between(sheet, store, b"waits until the mutex ", named, b" is");
+            match known.lockers.get(&named) {
+                Some(locker) => push_whereabouts(sheet, scene, b" unlocked, which ", *locker),
+                None => sheet.put(b" unlocked, which no move so far"),
+            }
+            sheet.put(b" locked");
+        }
         Stage::CondAsleep { .. } => push_between(
             sheet,
             store,
