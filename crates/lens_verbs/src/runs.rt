@@ -40,7 +40,7 @@ fn note_spaces(sheet: &Sheet, programs: &mut Programs, entries: &[SpaceEntry]) {
 /// What is asked for of a scenario with this text, beside the bytes of the files that the verb wants; and the files of the shelf.
 #[derive(Drop)]
 struct Showing<'a, H: Shelf> {
-    asked: &'a Asked<'a>,
+    asked: Asked<'a>,
     text: &'a [u8],
     /// Those of the trace.
     trace: &'a [u8],
@@ -62,7 +62,7 @@ impl<H: Shelf> Showing<'_, H> {
         requires keeps { KeepsScenario scenario.now }
         requires rules { HasRules (map (λ r. r.rule) table.now.list.items) scenario.now }
     {
-        let (sheet, asked) = (self.files.sheet, *self.asked);
+        let (sheet, asked) = (self.files.sheet, self.asked);
         let (name, bytes) = if is_other {
             (asked.other, self.other)
         } else {
@@ -195,7 +195,7 @@ impl<H: Shelf> ScenarioReader for Showing<'_, H> {
 /// Shows what is asked for of a scenario's text, beside the bytes of these files.
 fn show_beside<'x, H: Shelf>(
     sheet: &'x Sheet,
-    asked: &'x Asked<'x>,
+    asked: Asked<'x>,
     text: &'x [u8],
     trace: &'x [u8],
     other: &'x [u8],
@@ -228,7 +228,7 @@ pub fn show_scenario<H: Shelf>(sheet: &Sheet, asked: &Asked<'_>, text: &[u8], sh
     let Some(other) = other else {
         return;
     };
-    show_beside(sheet, asked, text, &trace, &other, shelf);
+    show_beside(sheet, *asked, text, &trace, &other, shelf);
 }
 
 /// Adds the plain form of a scenario's text, or says why there is none: a name that is none, or a plain form that `fluke` refuses.

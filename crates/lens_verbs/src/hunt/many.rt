@@ -18,7 +18,7 @@ use lens_text::{Asked, Problem, Sheet};
 #[derive(Drop)]
 pub struct Hunter<'a> {
     sheet: &'a Sheet,
-    asked: &'a Asked<'a>,
+    asked: Asked<'a>,
     until: Until<'a>,
     lottery: Lottery<'a>,
     /// The ends that came.
@@ -33,7 +33,7 @@ pub struct Hunter<'a> {
 
 impl<'a> Hunter<'a> {
     /// It has run none yet.
-    pub fn new(sheet: &'a Sheet, asked: &'a Asked<'a>) -> Hunter<'a> {
+    pub fn new(sheet: &'a Sheet, asked: Asked<'a>) -> Hunter<'a> {
         Hunter {
             sheet,
             asked,

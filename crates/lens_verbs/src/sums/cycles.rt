@@ -8,7 +8,7 @@ use std::collections::BTreeSet;
 
 /// Whether a thread waits in a cycle. Who is waited for is followed; a cycle that it isn't in is found by a mark, which is set anew after twice as many
 /// steps each time.
-fn is_in_cycle(known: &Known<'_>, ready: &Ready, who: Who) -> bool {
+fn is_in_cycle(known: &Known<'_, '_, '_>, ready: &Ready, who: Who) -> bool {
     let (mut next, mut mark) = (who, who);
     let (mut steps, mut most) = (0u64, 1u64);
     for _ in 0..u64::MAX {
@@ -39,7 +39,7 @@ fn is_in_cycle(known: &Known<'_>, ready: &Ready, who: Who) -> bool {
 /// waits in one.
 pub fn push_cycle_of(
     sheet: &Sheet,
-    known: &Known<'_>,
+    known: &Known<'_, '_, '_>,
     ready: &Ready,
     told: &mut BTreeSet<Who>,
     who: Who,

@@ -72,7 +72,7 @@ fn note_one(
 }
 
 /// Adds the line of each thread that can't move and hasn't halted, in the order of their paths; one line for those of a cycle.
-fn push_waits(sheet: &Sheet, known: &Known<'_>, ready: &Ready) {
+fn push_waits(sheet: &Sheet, known: &Known<'_, '_, '_>, ready: &Ready) {
     let store = known.scene.store;
     let mut told = BTreeSet::new(sheet.alloc);
     let mut next = store.after(None);

@@ -77,7 +77,7 @@ fn waits_for(other: Option<Who>, cause: Cause) -> Option<Wait> {
 }
 
 /// Whom a thread waits for at a stage.
-fn wait_at(known: &Known<'_>, who: Who, stage: &Stage) -> Option<Wait> {
+fn wait_at(known: &Known<'_, '_, '_>, who: Who, stage: &Stage) -> Option<Wait> {
     let store = known.scene.store;
     match stage {
         Stage::MutexLock { m } => match handled(store, who.space, *m) {
@@ -103,7 +103,7 @@ fn wait_at(known: &Known<'_>, who: Who, stage: &Stage) -> Option<Wait> {
 }
 
 /// Whom a thread waits for that has no ready move, where that is one thread.
-pub fn wait_of(known: &Known<'_>, who: Who) -> Option<Wait> {
+pub fn wait_of(known: &Known<'_, '_, '_>, who: Who) -> Option<Wait> {
     let store = known.scene.store;
     let Some(thread) = store.thread(who) else {
         return None;

@@ -38,7 +38,7 @@ fn awaited(store: &Store, space: u32, stage: &Stage) -> Option<Who> {
 }
 
 /// Adds what a stage waits for by what it names.
-fn push_awaited(sheet: &Sheet, known: &Known<'_>, space: u32, stage: &Stage) {
+fn push_awaited(sheet: &Sheet, known: &Known<'_, '_, '_>, space: u32, stage: &Stage) {
     let scene = known.scene;
     let store = scene.store;
     let Some(named) = awaited(store, space, stage) else {
@@ -76,7 +76,7 @@ fn push_awaited(sheet: &Sheet, known: &Known<'_>, space: u32, stage: &Stage) {
 }
 
 /// Adds why a stage isn't ready, of a thread that is free or of a porter: the hold that is known to bar it, or who is waited for.
-pub fn push_blocked(sheet: &Sheet, known: &Known<'_>, who: Who, stage: &Stage) {
+pub fn push_blocked(sheet: &Sheet, known: &Known<'_, '_, '_>, who: Who, stage: &Stage) {
     let scene = known.scene;
     let store = scene.store;
     if let Some(object) = barred_of(store, who, stage) {

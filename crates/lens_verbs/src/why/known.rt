@@ -11,14 +11,18 @@ pub type Lockers = BTreeMap<Who, Who>;
 
 /// What is known where it is asked why somebody can't move.
 #[derive(Clone, Copy)]
-pub struct Known<'a> {
-    pub seen: &'a Seen<'a>,
-    pub scene: Scene<'a>,
-    pub lockers: &'a Lockers,
+pub struct Known<'s, 'c, 'l> {
+    pub seen: &'s Seen<'s>,
+    pub scene: Scene<'c>,
+    pub lockers: &'l Lockers,
 }
 
 /// What is known there, beside who has locked a mutex last.
-pub fn known_of<'a>(seen: &'a Seen<'a>, scene: Scene<'a>, lockers: &'a Lockers) -> Known<'a> {
+pub fn known_of<'s, 'c, 'l>(
+    seen: &'s Seen<'s>,
+    scene: Scene<'c>,
+    lockers: &'l Lockers,
+) -> Known<'s, 'c, 'l> {
     Known {
         seen,
         scene,

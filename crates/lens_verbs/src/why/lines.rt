@@ -11,7 +11,7 @@ use fk_porters::Porter;
 use lens_text::{Scene, Sheet, next_in_tree, push_asked, push_at, push_between};
 
 /// Adds the line of a thread that isn't ready; of a porter, where its job is the one whose turn it is.
-pub fn push_thread(sheet: &Sheet, known: &Known<'_>, who: &Who) {
+pub fn push_thread(sheet: &Sheet, known: &Known<'_, '_, '_>, who: &Who) {
     let store = known.scene.store;
     if let Some(thread) = store.thread(*who) {
         match thread.mode {
@@ -56,7 +56,7 @@ impl Why {
 }
 
 /// Says where a run stops why threads aren't ready, in the order of their paths.
-fn push_why(sheet: &Sheet, known: &Known<'_>, ready: &Ready, stop: Stop) {
+fn push_why(sheet: &Sheet, known: &Known<'_, '_, '_>, ready: &Ready, stop: Stop) {
     if let Stop::Unready { one, .. } = stop {
         push_move(sheet, known, ready, &one);
     }

@@ -7,7 +7,7 @@ use fk_model::{Body, Move};
 use lens_text::{Sheet, push_between, push_path};
 
 /// Adds the line that says why a move isn't ready.
-pub fn push_move(sheet: &Sheet, known: &Known<'_>, ready: &Ready, one: &Move) {
+pub fn push_move(sheet: &Sheet, known: &Known<'_, '_, '_>, ready: &Ready, one: &Move) {
     let seen = known.seen;
     let store = seen.store;
     sheet.fill(b"move @ of ", seen.events, 0, 0);
