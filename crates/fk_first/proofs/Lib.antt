@@ -5,3 +5,4 @@ pub mod Grounds
 pub mod Places
 pub mod Planned
 pub mod Beginnings
+pub mod Lent

@@ -4,3 +4,4 @@ pub use Rattle.fk_core.specs.Cores.Cores
 pub use Rattle.laws_first.specs.Entries
 pub use Rattle.fk_boot.specs.Services
 pub mod First
+pub mod Lent

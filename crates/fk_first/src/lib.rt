@@ -5,10 +5,12 @@
 //! all jobs of the file, none of which has begun (`specs/First.antt`), and that a run may begin there.
 //!
 //! `watch` makes the moves of a trace from there on, each of which was ready, and shows a watcher what stands before and after each. It promises
-//! no more than that it ends.
+//! no more than that it ends. `lend_cores` lends such cores to a player, each of which it lets go itself; what was made of the player by that are its own calls,
+//! each by a core with which the scenario begins (`specs/Lent.antt`).
 #![tactic(auto)]
 
 mod first;
+mod lending;
 mod plans;
 mod posts;
 mod ready;
@@ -16,7 +18,8 @@ mod seen;
 mod watching;
 
 pub use first::{first_core, first_jobs};
+pub use lending::lend_cores;
 pub use plans::maker_of;
 pub use posts::{replaying_core, tapped_core};
-pub use seen::{Images, Job, Ready, Seen, Stop, Trace, Watcher};
-pub use watching::{images_for, watch};
+pub use seen::{Images, Job, Player, Ready, Seen, Stop, Trace, Watcher};
+pub use watching::watch;

@@ -1,9 +1,18 @@
-//! What is seen of a run, who watches it, and who has images for it.
+//! What is seen of a run, who watches it, who plays it, and who has images for it.
+ghost use Rattle.std.specs.Prelude.{Bool, map};
+ghost use Rattle.fk_core.specs.Cores.Cores.{RunCore, run_core};
+ghost use Rattle.fk_core.specs.Cores.Goings.{IsGoing};
+ghost use Rattle.fk_core.specs.Cores.Served.{AllFit};
+ghost use Rattle.fk_first.specs.First.{IsFirst};
+
+use fk_core::Core;
 use fk_finish::ValidImage;
 use fk_jobs::Jobs;
 use fk_model::{Move, NoMemory, Stage, Who};
 use fk_natives::Native;
 use fk_porters::Porter;
+use fk_responders::Table;
+use fk_scenario::Scenario;
 use fk_store::Store;
 use std::collections::BTreeMap;
 
@@ -24,9 +33,7 @@ pub struct Seen<'a> {
     pub store: &'a Store,
     /// The native servers with their ports, in the order of the file.
     pub services: &'a [(Who, Native)],
-    pub job: Option<Job>,
-    /// All jobs: what is planned of each, and how those have ended that have.
-    pub jobs: &'a Jobs<Porter>,
+    pub job: Option<&'a Job>,
     /// How many moves were made.
     pub events: u64,
 }
@@ -63,25 +70,26 @@ pub struct Trace<'a> {
 /// Who watches a run.
 pub trait Watcher {
     /// It sees what stands before a move, of which it isn't known yet whether it is ready.
-    ///
-    /// # Errors
-    ///
-    /// It has no memory.
-    fn before(&mut self, seen: Seen<'_>, one: &Move) -> Result<(), NoMemory>;
+    fn before(&mut self, seen: &Seen<'_>, one: &Move);
 
-    /// It sees what stands after that move, which was made.
-    ///
-    /// # Errors
-    ///
-    /// It has no memory.
-    fn after(&mut self, seen: Seen<'_>, one: &Move) -> Result<(), NoMemory>;
+    /// It sees what stands after that move, which was made; and all jobs: what is planned of each, and how those have ended that have.
+    fn after(&mut self, seen: &Seen<'_>, jobs: &Jobs<Porter>, one: &Move);
 
-    /// It sees what stands where the run stops, and who could go on.
-    ///
-    /// # Errors
-    ///
-    /// It has no memory.
-    fn stops(&mut self, seen: Seen<'_>, ready: &Ready, stop: Stop) -> Result<(), NoMemory>;
+    /// It sees what stands where the run stops, all jobs, and who could go on.
+    fn stops(&mut self, seen: &Seen<'_>, jobs: &Jobs<Porter>, ready: &Ready, stop: Stop);
+}
+
+/// Who plays from the core with which a scenario begins. What a call may make of it, from the player before to the player after, its member says: by the
+/// core that was lent, and by the answer. Who lends knows no more of that, so a clause by it says that the call was made.
+pub trait Player {
+    ghost plays: { Self → RunCore → Bool → Self → Type 0 };
+
+    /// It is lent such a core, of a scenario that was read by the rules of the table, and answers whether it wants another.
+    fn play(&mut self, table: &Table, scenario: &Scenario, core: &mut Core<Native, Porter>) -> bool
+        requires first { IsFirst scenario.now (run_core core.old) }
+        requires come { IsGoing core.old }
+        requires fits { AllFit (map (λ r. r.rule) table.now.list.items) core.old.services.list }
+        ensures { plays self.old (run_core core.old) result self.new };
 }
 
 /// Who has the images of a run's jobs.

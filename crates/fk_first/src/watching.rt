@@ -1,17 +1,15 @@
 //! A run by a trace, watched.
-ghost use Rattle.std.specs.Prelude.{map};
+ghost use Rattle.std.specs.Prelude.{⊤, map};
 ghost use Rattle.fk_core.specs.Cores.Goings.{IsGoing};
 ghost use Rattle.fk_scenario.specs.Scenario.Kept.{KeepsScenario, HasRules};
 ghost use Rattle.fk_core.specs.Cores.Served.{AllFit};
 
-use crate::first::first_core;
-use crate::plans::maker_of;
+use crate::lending::lend_cores;
 use crate::ready::ready_threads;
-use crate::seen::{Images, Job, Seen, Stop, Trace, Watcher};
+use crate::seen::{Images, Job, Player, Seen, Stop, Trace, Watcher};
 use fk_core::Core;
-use fk_finish::ValidImage;
 use fk_model::limits::LAST_PORTER_SLOT;
-use fk_model::{JobSpec, NoMemory, Who};
+use fk_model::{NoMemory, Who};
 use fk_natives::Native;
 use fk_porters::Porter;
 use fk_responders::Table;
@@ -37,12 +35,11 @@ fn job_of(core: &Core<Native, Porter>) -> Option<Job> {
 }
 
 /// What is seen of a core, and of its job.
-fn seen<'a>(core: &'a Core<Native, Porter>, job: Option<Job>) -> Seen<'a> {
+fn seen<'a>(core: &'a Core<Native, Porter>, job: Option<&'a Job>) -> Seen<'a> {
     Seen {
         store: core.kernel().store(),
         services: core.services(),
         job,
-        jobs: core.jobs(),
         events: core.events(),
     }
 }
@@ -79,11 +76,11 @@ fn play<V: Watcher>(
             return Ok(Stop::Budget { index });
         }
         let job = job_of(core);
-        watcher.before(seen(core, job), &one)?;
+        watcher.before(&seen(core, job.as_ref()), &one);
         if !core.go(table, &one)? {
             return Ok(Stop::Unready { index, one });
         }
-        watcher.after(seen(core, None), &one)?;
+        watcher.after(&seen(core, None), core.jobs(), &one);
         rest = after;
     }
     if trace.looks_ahead {
@@ -92,81 +89,49 @@ fn play<V: Watcher>(
     Ok(Stop::Enough)
 }
 
-/// Makes the moves of a trace, if there is one, and shows the watcher where that stops.
+/// Makes the moves of a trace, and shows the watcher where that stops.
 fn play_to_stop<V: Watcher>(
     alloc: Global,
     core: &mut Core<Native, Porter>,
     table: &Table,
-    trace: Option<Trace<'_>>,
+    trace: Trace<'_>,
     watcher: &mut V,
 ) -> Result<Stop, NoMemory>
     requires fits { AllFit (map (λ r. r.rule) table.now.list.items) core.old.services.list }
     requires come { IsGoing core.old }
 {
-    let stop = match trace {
-        Some(trace) => play(core, table, trace, watcher)?,
-        None => Stop::Ended,
-    };
+    let stop = play(core, table, trace, watcher)?;
     let job = job_of(core);
     let ready = ready_threads(alloc, core, job)?;
-    watcher.stops(seen(core, job), &ready, stop)?;
+    watcher.stops(&seen(core, job.as_ref()), core.jobs(), &ready, stop);
     Ok(stop)
 }
 
-/// The image that a job behind others needs of who has images: that of a restore which none of them makes.
-fn image_for<I: Images>(
-    before: &[JobSpec],
-    job: &JobSpec,
-    images: &mut I,
-) -> Result<Option<ValidImage>, I::Fault> {
-    let JobSpec::Restore { image, .. } = job else {
-        return Ok(None);
-    };
-    let name = image.as_str();
-    match maker_of(before, name) {
-        Some(_) => Ok(None),
-        None => Ok(Some(images.image(name)?)),
-    }
+/// A watcher of the run by a trace, and where that has stopped.
+#[derive(Drop)]
+struct Viewing<'t, 'w, V: Watcher> {
+    alloc: Global,
+    trace: Trace<'t>,
+    watcher: &'w mut V,
+    stop: Result<Stop, NoMemory>,
 }
 
-/// The images that jobs need of who has them, in their order: one for each, or none.
-///
-/// # Errors
-///
-/// There is no memory, or an image can't be had.
-pub fn images_for<I: Images>(
-    alloc: Global,
-    jobs: &[JobSpec],
-    images: &mut I,
-) -> Result<Vec<Option<ValidImage>>, I::Fault> {
-    let mut list = Vec::new(alloc);
-    while let Some(job) = jobs.get(list.len()) {
-        let image = image_for(&jobs[..list.len()], job, images)?;
-        if list.push(image).is_err() {
-            return Err(I::Fault::from(NoMemory));
-        }
-    }
-    Ok(list)
-}
+impl<V: Watcher> Player for Viewing<'_, '_, V> {
+    ghost plays = { λ _ _ _ _. ⊤ };
 
-/// Makes the moves of a trace from the first core of a scenario with these images, shows them to the watcher, and answers where that stops.
-fn watch_with<V: Watcher>(
-    alloc: Global,
-    table: &Table,
-    scenario: &Scenario,
-    images: &[Option<ValidImage>],
-    trace: Option<Trace<'_>>,
-    watcher: &mut V,
-) -> Result<Stop, NoMemory>
-    requires keeps { KeepsScenario scenario.now }
-    requires rules { HasRules (map (λ r. r.rule) table.now.list.items) scenario.now }
-{
-    let mut core = first_core(alloc, scenario, images)?;
-    play_to_stop(alloc, &mut core, table, trace, watcher)
+    fn play(
+        &mut self,
+        table: &Table,
+        _scenario: &Scenario,
+        core: &mut Core<Native, Porter>,
+    ) -> bool {
+        self.stop = play_to_stop(self.alloc, core, table, self.trace, self.watcher);
+        false
+    }
 }
 
 /// Makes the moves of a trace from the first core of a scenario that was read by the rules of a table, with the images that its jobs need; shows
-/// them to a watcher, and answers where that stops. With no trace the watcher sees the first core alone. The core is let go here, and so are the
+/// them to a watcher, and answers where that stops. Of what is no trace the watcher sees the first core alone. The core is let go here, and so are the
 /// images, so that who watches proves nothing of them.
 ///
 /// # Errors
@@ -177,14 +142,20 @@ pub fn watch<I: Images, V: Watcher>(
     table: &Table,
     scenario: &Scenario,
     images: &mut I,
-    trace: Option<Trace<'_>>,
+    trace: Trace<'_>,
     watcher: &mut V,
 ) -> Result<Stop, I::Fault>
     requires keeps { KeepsScenario scenario.now }
     requires rules { HasRules (map (λ r. r.rule) table.now.list.items) scenario.now }
 {
-    let images = images_for(alloc, scenario.jobs.as_slice(), images)?;
-    match watch_with(alloc, table, scenario, &images, trace, watcher) {
+    let mut viewing = Viewing {
+        alloc,
+        trace,
+        watcher,
+        stop: Ok(Stop::Ended),
+    };
+    lend_cores(alloc, table, scenario, images, &mut viewing)?;
+    match viewing.stop {
         Ok(stop) => Ok(stop),
         Err(NoMemory) => Err(I::Fault::from(NoMemory)),
     }

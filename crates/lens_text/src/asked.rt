@@ -1,6 +1,6 @@
 //! What the words of the command line ask for.
 use crate::hunted::hunt_asked;
-use crate::sheet::{Sheet, line_at, text_at};
+use crate::sheet::{Sheet, line_at, number_of, text_at};
 use fk_model::{is_name, plain_number_up_to};
 
 /// What is asked for.
@@ -58,21 +58,19 @@ const VERBS: &str =
 const MOST: u64 = 1_000_000;
 
 /// The words of the verbs.
-const WORDS: [&str; 13] = [
-    "tree",
-    "steps",
-    "why",
-    "image",
-    "words",
-    "page",
-    "--help",
-    "--version",
-    "sums",
-    "plain",
-    "hunt",
-    "diff",
-    "record",
-];
+const WORDS: &str = "tree
+steps
+why
+image
+words
+page
+--help
+--version
+sums
+plain
+hunt
+diff
+record";
 
 /// What is expected behind each.
 const BEHIND: &str = "no word, or a name and a number of moves
@@ -92,24 +90,6 @@ a name";
 /// What is expected of a word behind a verb: a number of moves, or a name.
 const EXPECTED: &str = "a number of moves, 0 to 1000000
 a name, 1 to 32 of a to z, 0 to 9 and _";
-
-/// The place of a word among those of the verbs.
-fn place_of(word: &str) -> Option<usize> {
-    for (place, one) in WORDS.iter().enumerate() {
-        if *one == word {
-            return Some(place);
-        }
-    }
-    None
-}
-
-/// Before which move a run is to stop whose steps are shown: behind the last that is asked for, or nowhere.
-fn end_of(words: &[String]) -> u64 {
-    match plain_number_up_to(MOST, text_at(words, 2).as_bytes()) {
-        Some(last) => last.saturating_add(1),
-        None => u64::MAX,
-    }
-}
 
 /// What a verb with these words behind it asks for: so many names at most, and then numbers of moves. Of the first that isn't what is wanted
 /// there the line says so.
@@ -134,7 +114,10 @@ fn asked_of<'a>(line: &Sheet, verb: Verb, words: &'a [String]) -> Option<Asked<'
     let one = plain_number_up_to(MOST, other.as_bytes()).unwrap_or(0);
     let (first, end) = match verb {
         Verb::Tree | Verb::Why => (0, one),
-        Verb::Steps => (one, end_of(words)),
+        Verb::Steps => match plain_number_up_to(MOST, text_at(words, 2).as_bytes()) {
+            Some(last) => (one, last.saturating_add(1)),
+            None => (one, u64::MAX),
+        },
         _ => (0, u64::MAX),
     };
     if let Some(word) = words.get(2) {
@@ -158,7 +141,7 @@ pub fn asked_in<'a>(line: &Sheet, words: &'a [String]) -> Option<Asked<'a>> {
         line.put_around(b"expected ", VERBS, b"");
         return None;
     };
-    let Some(place) = place_of(word.as_str()) else {
+    let Some(place) = number_of(WORDS, word.as_str()) else {
         line.put_wrong(word, VERBS);
         return None;
     };
@@ -180,7 +163,7 @@ pub fn asked_in<'a>(line: &Sheet, words: &'a [String]) -> Option<Asked<'a>> {
         (12, 1) => Verb::Record,
         _ => {
             line.put_around(b"after ", word.as_str(), b": expected ");
-            line.add(line_at(BEHIND, place as u64));
+            line.add(line_at(BEHIND, place));
             return None;
         }
     };

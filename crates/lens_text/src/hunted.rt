@@ -17,11 +17,12 @@ const UNTIL: &str = "--until";
 
 /// Whether a word may be sought in a line.
 fn is_line(word: &str) -> bool {
+    for byte in word.as_bytes() {
+        if *byte < 32 || *byte == 127 {
+            return false;
+        }
+    }
     !word.is_empty()
-        && word
-            .as_bytes()
-            .iter()
-            .all(|byte| *byte >= 32 && *byte != 127)
 }
 
 /// The number in a word, from a least to a most; where it is none, the line says so.
@@ -33,25 +34,6 @@ fn number_in(line: &Sheet, word: &String, least: u64, most: u64, expected: &str)
             None
         }
     }
-}
-
-/// The numbers before the word that is sought: how many schedules, and the number of the first.
-fn numbers_of(line: &Sheet, words: &[String]) -> Option<(u64, u64)> {
-    let count = number_in(
-        line,
-        words.first()?,
-        1,
-        MOST,
-        "a number of schedules, 1 to 1000000",
-    )?;
-    let first = match words.get(1) {
-        Some(word) => {
-            let expected = "the seed of the first schedule, 0 to 4294967295, or --until";
-            number_in(line, word, 0, LAST, expected)?
-        }
-        None => FIRST,
-    };
-    Some((count, first))
 }
 
 /// The word that is sought: behind `--until`, at this place of the words; none where there are no more words.
@@ -74,15 +56,33 @@ fn sought_in<'a>(line: &Sheet, words: &'a [String], place: usize) -> Option<&'a 
 /// What the words behind `hunt` ask for: the name is what is sought, an empty one where nothing is. Of the first that isn't what is wanted there
 /// the line says so.
 pub fn hunt_asked<'a>(line: &Sheet, words: &'a [String]) -> Option<Asked<'a>> {
-    let has_first = words.len() == 2 || words.len() == 4;
-    let place = if has_first { 2 } else { 1 };
-    let (count, first) = numbers_of(line, words.get(..place)?)?;
-    let name = sought_in(line, words, place)?;
+    let Some(word) = words.first() else {
+        return None;
+    };
+    let expected = "a number of schedules, 1 to 1000000";
+    let Some(end) = number_in(line, word, 1, MOST, expected) else {
+        return None;
+    };
+    let (mut first, mut place) = (FIRST, 1);
+    if words.len() == 2 || words.len() == 4 {
+        let Some(word) = words.get(1) else {
+            return None;
+        };
+        let expected = "the seed of the first schedule, 0 to 4294967295, or --until";
+        let Some(number) = number_in(line, word, 0, LAST, expected) else {
+            return None;
+        };
+        first = number;
+        place = 2;
+    }
+    let Some(name) = sought_in(line, words, place) else {
+        return None;
+    };
     Some(Asked {
         verb: Verb::Hunt,
         name,
         other: "",
         first,
-        end: count,
+        end,
     })
 }

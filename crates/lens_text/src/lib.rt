@@ -44,8 +44,8 @@ pub use sheet::{Sheet, line_at, parted};
 pub use shown::Shown;
 pub use statuses::{HALTS, STATUSES};
 pub use store::{
-    handled, kind_word, led_from, next_in_tree, next_stage, object_named, push_at, push_between,
-    push_held_there, push_home, push_named, push_object, push_path, push_pointer, push_refused,
+    handled, kind_word, led_from, next_in_tree, next_stage, object_named, place_named, push_at,
+    push_between, push_held_there, push_home, push_named, push_object, push_path, push_refused,
     push_thread, push_tree, word_at,
 };
 pub use words::push_words;

@@ -16,3 +16,4 @@ mod programs;
 mod strings;
 
 pub use document::push_plain;
+pub use programs::{Said, said_by};

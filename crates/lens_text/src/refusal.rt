@@ -101,19 +101,6 @@ fn keys_of(heading: &str, kind: &str) -> &'static str {
     ""
 }
 
-/// The kind of an entry of a section with this heading, of a server its rule; an empty one where it has none.
-fn kind_of<'a>(entry: &'a Table, heading: &str) -> &'a str {
-    let key = if heading == "[[server]]" {
-        "rule"
-    } else {
-        "kind"
-    };
-    match entry.get(key) {
-        Some(value) => value.as_str().unwrap_or(""),
-        None => "",
-    }
-}
-
 /// Adds which key of an entry is none of these, has a value of another type, or is missing; where none is, its array has such a value.
 fn push_wrong_key(sheet: &Sheet, entry: &Table, keys: &'static str) {
     for (key, value) in entry {
@@ -136,7 +123,17 @@ fn push_wrong_key(sheet: &Sheet, entry: &Table, keys: &'static str) {
 
 /// Adds what was expected of an entry of a section with this heading, which is refused by a rule.
 fn push_expected(sheet: &Sheet, entry: &Table, heading: &str, rule: u8) {
-    let keys = keys_of(heading, kind_of(entry, heading));
+    // The kind of a server is its rule.
+    let key = if heading == "[[server]]" {
+        "rule"
+    } else {
+        "kind"
+    };
+    let kind = match entry.get(key) {
+        Some(value) => value.as_str().unwrap_or(""),
+        None => "",
+    };
+    let keys = keys_of(heading, kind);
     if rule == 2 {
         return push_wrong_key(sheet, entry, keys);
     }

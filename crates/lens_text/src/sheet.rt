@@ -30,6 +30,18 @@ pub fn line_at(list: &'static str, number: u64) -> &'static str {
     parted(later, '\n').0
 }
 
+/// The number of the first line of a list of lines that is this text, if one is.
+pub fn number_of(list: &'static str, text: &str) -> Option<u64> {
+    let mut number = 0u64;
+    for line in list.lines() {
+        if line == text {
+            return Some(number);
+        }
+        number = number.saturating_add(1);
+    }
+    None
+}
+
 /// A text that is written piece by piece. Who writes shares it, and has no answer to look at after each piece: where there is no memory for
 /// one, that shows when the whole is asked for.
 #[derive(Drop)]

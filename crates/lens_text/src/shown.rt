@@ -13,14 +13,6 @@ pub struct Shown {
 }
 
 impl Shown {
-    /// The status with which the process exits: 0 where what was asked for is shown.
-    pub fn status(&self) -> u8 {
-        match self.problem {
-            Some(problem) => problem.status(),
-            None => 0,
-        }
-    }
-
     /// What is said of a problem.
     pub fn line(&self) -> &str {
         match self.problem {

@@ -13,8 +13,8 @@ mod tree;
 pub use addresses::push_refused;
 pub use kinds::{kind_word, push_held_there};
 pub use names::{
-    handled, led_from, next_in_tree, object_named, path_from, push_between, push_named, push_path,
-    push_pointer,
+    handled, led_from, next_in_tree, object_named, path_from, place_named, push_between,
+    push_named, push_path, push_pointer,
 };
 pub use objects::{push_home, push_object, push_pages};
 pub use threads::{next_stage, push_at, push_thread, word_at};

@@ -2,7 +2,7 @@
 //!
 //! A `Lottery` draws the next move, uniformly among those that may be ready or by priorities that change at random moments (`lottery`). `run_by`
 //! makes the moves of one schedule from a scenario's first core on (`runs`), `push_ending` tells in a line how that run has ended (`ends`), and
-//! `hunt_all` counts the kinds that come (`many`). A schedule is known by its number alone: from the same number the same moves are drawn, so
+//! a `Hunter` counts the kinds that come (`many`). A schedule is known by its number alone: from the same number the same moves are drawn, so
 //! nothing of a run is kept but its line.
 
 mod drawing;
@@ -12,6 +12,5 @@ mod lottery;
 mod many;
 mod random;
 mod runs;
-mod shown;
 
-pub use shown::show_hunt;
+pub use many::Hunter;

@@ -10,4 +10,5 @@ mod noport;
 mod resting;
 mod watch;
 
+pub use names::{Ending, ending_word, fate_of};
 pub use watch::JobWatch;

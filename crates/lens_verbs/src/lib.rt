@@ -17,7 +17,6 @@ mod hunt;
 mod images;
 mod jobs;
 mod page;
-mod plain;
 mod records;
 mod runs;
 mod shows;

@@ -1,10 +1,8 @@
-//! A record beside the moves that made it.
+//! What a run makes its native servers note.
 //!
-//! `Noting` watches a run and keeps what each move makes native servers note (`notes`), beside the line of `steps` of that move. `show_record` plays the
-//! trace, and holds the record against what was noted.
+//! `Noting` watches a run and keeps what each move makes native servers note (`notes`), beside the line of `steps` of that move.
 
 mod notes;
 mod noting;
-mod shown;
 
-pub use shown::show_record;
+pub use noting::Noting;

@@ -1,127 +1,95 @@
-//! What is shown of a run, by what is asked for.
-use crate::page::Page;
-use crate::steps::Steps;
-use crate::sums::Sums;
-use crate::why::{Known, Lockers, Why};
+//! Who shows a run.
 use fk_first::{Ready, Seen, Stop, Watcher};
-use fk_model::{Move, NoMemory};
-use fk_scenario::entries::SpaceEntry;
-use lens_text::{Asked, Programs, Scene, Sheet, Verb, push_tree};
+use fk_jobs::Jobs;
+use fk_model::Move;
+use fk_porters::Porter;
+use lens_text::{Programs, Scene, Sheet, push_tree};
 
-/// How a run is shown.
-#[derive(Drop)]
-enum How {
-    /// What stands where it stops.
-    Tree,
-    Steps(Steps),
-    Why(Why),
-    Sums(Sums),
-    Page(Page),
+/// Who shows a run on a sheet.
+pub trait Shows {
+    /// It sees what stands before a move, of which it isn't known yet whether it is ready.
+    fn before(&mut self, sheet: &Sheet, seen: &Seen<'_>, scene: Scene<'_>, one: &Move);
+
+    /// It sees what stands after that move.
+    fn after(
+        &mut self,
+        sheet: &Sheet,
+        seen: &Seen<'_>,
+        jobs: &Jobs<Porter>,
+        scene: Scene<'_>,
+        one: &Move,
+    );
+
+    /// It sees what stands where the run stops.
+    fn stops(
+        &mut self,
+        sheet: &Sheet,
+        seen: &Seen<'_>,
+        jobs: &Jobs<Porter>,
+        scene: Scene<'_>,
+        ready: &Ready,
+        stop: Stop,
+    );
 }
 
-/// What is shown of a run, and how.
+/// A watcher of the run of a scenario with these programs, who shows it. Its methods know nothing of who that is, so that they are proved once.
 #[derive(Drop)]
-pub struct Show<'a> {
-    sheet: &'a Sheet,
-    /// The programs of the scenario.
-    programs: Programs,
-    how: How,
+pub struct Show<'s, 'p, T> {
+    pub sheet: &'s Sheet,
+    pub programs: &'p Programs,
+    pub by: T,
 }
 
 /// What stands there, beside the programs.
-pub fn scene_of<'a>(programs: &'a Programs, seen: Seen<'a>) -> Scene<'a> {
+fn scene_of<'a>(programs: &'a Programs, seen: &'a Seen<'a>) -> Scene<'a> {
     Scene {
         store: seen.store,
         programs,
     }
 }
 
-/// What is known there, beside who has locked a mutex last.
-fn known_of<'a, 'l>(programs: &'a Programs, seen: Seen<'a>, lockers: &'l Lockers) -> Known<'a, 'l> {
-    Known {
-        seen,
-        scene: scene_of(programs, seen),
-        lockers,
+impl<T: Shows + Drop> Watcher for Show<'_, '_, T> {
+    fn before(&mut self, seen: &Seen<'_>, one: &Move) {
+        let scene = scene_of(self.programs, seen);
+        self.by.before(self.sheet, seen, scene, one);
+    }
+
+    fn after(&mut self, seen: &Seen<'_>, jobs: &Jobs<Porter>, one: &Move) {
+        let scene = scene_of(self.programs, seen);
+        self.by.after(self.sheet, seen, jobs, scene, one);
+    }
+
+    fn stops(&mut self, seen: &Seen<'_>, jobs: &Jobs<Porter>, ready: &Ready, stop: Stop) {
+        let scene = scene_of(self.programs, seen);
+        self.by.stops(self.sheet, seen, jobs, scene, ready, stop);
     }
 }
 
-/// Notes with which programs the spaces of these entries begin. The root's birth number is 0, those of the others follow from 1 on.
-pub fn note_spaces(sheet: &Sheet, programs: &mut Programs, entries: &[SpaceEntry]) {
-    let mut birth = 0u32;
-    for entry in entries {
-        if entry.path.len() > 0 {
-            birth = birth.saturating_add(1);
-        }
-        let space = if entry.path.len() > 0 { birth } else { 0 };
-        if let Some(program) = entry.program {
-            programs.stands_in(sheet, space, program as usize);
-        }
-    }
-}
+/// Shows what stands where the run stops.
+#[derive(Drop)]
+pub struct Tree;
 
-impl Show<'_> {
-    /// Notes with which programs the spaces of these entries begin.
-    pub fn note_spaces(&mut self, entries: &[SpaceEntry]) {
-        note_spaces(self.sheet, &mut self.programs, entries);
-    }
-}
+impl Shows for Tree {
+    fn before(&mut self, _sheet: &Sheet, _seen: &Seen<'_>, _scene: Scene<'_>, _one: &Move) {}
 
-impl Watcher for Show<'_> {
-    fn before(&mut self, seen: Seen<'_>, one: &Move) -> Result<(), NoMemory> {
-        let scene = scene_of(&self.programs, seen);
-        match &mut self.how {
-            How::Tree => {}
-            How::Steps(steps) => steps.before(self.sheet, seen, scene, one),
-            How::Why(why) => why.before(seen.store, one.who),
-            How::Sums(sums) => sums.before(self.sheet, seen.store, one),
-            How::Page(page) => page.before(self.sheet, seen, scene, one),
-        }
-        Ok(())
-    }
+    fn after(
+        &mut self,
+        _sheet: &Sheet,
+        _seen: &Seen<'_>,
+        _jobs: &Jobs<Porter>,
+        _scene: Scene<'_>,
+        _one: &Move,
+    ) {}
 
-    fn after(&mut self, seen: Seen<'_>, one: &Move) -> Result<(), NoMemory> {
-        let scene = scene_of(&self.programs, seen);
-        match &mut self.how {
-            How::Tree => {}
-            How::Steps(steps) => steps.after(self.sheet, seen, one),
-            How::Why(why) => why.after(self.sheet, seen, one.who),
-            How::Sums(sums) => sums.after(self.sheet, seen, scene, one),
-            How::Page(page) => page.steps.after(self.sheet, seen, one),
-        }
-        Ok(())
-    }
-
-    fn stops(&mut self, seen: Seen<'_>, ready: &Ready, stop: Stop) -> Result<(), NoMemory> {
-        let programs = &self.programs;
-        match &mut self.how {
-            How::Tree => push_tree(self.sheet, scene_of(programs, seen)),
-            How::Steps(_) => {}
-            How::Why(why) => {
-                let known = known_of(programs, seen, &why.locking.lockers);
-                why.stops(self.sheet, known, ready, stop);
-            }
-            How::Sums(sums) => {
-                let known = known_of(programs, seen, &sums.locking.lockers);
-                sums.stops(self.sheet, known, ready);
-            }
-            How::Page(page) => page.stops(self.sheet, scene_of(programs, seen), stop),
-        }
-        Ok(())
-    }
-}
-
-/// What is asked for of a scenario with these programs, of which nothing of the run is shown yet.
-pub fn show_of<'a>(sheet: &'a Sheet, asked: &Asked<'_>, programs: Programs) -> Show<'a> {
-    let how = match asked.verb {
-        Verb::Steps => How::Steps(Steps::new(sheet, asked.first)),
-        Verb::Why => How::Why(Why::new(sheet)),
-        Verb::Sums => How::Sums(Sums::new(sheet)),
-        Verb::Page => How::Page(Page::new(sheet, asked.name)),
-        _ => How::Tree,
-    };
-    Show {
-        sheet,
-        programs,
-        how,
+    fn stops(
+        &mut self,
+        sheet: &Sheet,
+        _seen: &Seen<'_>,
+        _jobs: &Jobs<Porter>,
+        scene: Scene<'_>,
+        _ready: &Ready,
+        _stop: Stop,
+    ) {
+        push_tree(sheet, scene);
     }
 }

@@ -11,8 +11,10 @@ mod kept;
 mod lines;
 mod servers;
 mod sides;
+mod stepwise;
 
 pub use acts::push_act;
 pub use kept::Kept;
 pub use lines::Steps;
-pub use sides::{ended_port, other_side};
+pub use sides::{ended_port, other_side, talk_of};
+pub use stepwise::{Keeps, Lines, Stepwise};

@@ -1,11 +1,7 @@
 //! The top call: the words of the command line, over the source and the shelf.
-use crate::apart::show_apart;
 use crate::help::{HELP, VERSION};
-use crate::hunt::show_hunt;
 use crate::images::{show_differences, show_image};
-use crate::plain::show_plain;
-use crate::records::show_record;
-use crate::runs::show_run;
+use crate::runs::{show_plain, show_scenario};
 use fk_causes::{Shelf, Source};
 use lens_text::{Problem, Sheet, Shown, Verb, asked_in, push_words, source_text};
 use std::alloc::Global;
@@ -24,11 +20,8 @@ fn show<R: Source, H: Shelf>(sheet: &Sheet, words: &[String], source: &mut R, sh
             if let Some(text) = source_text(sheet, source) {
                 match asked.verb {
                     Verb::Words => push_words(sheet, &text),
-                    Verb::Plain => show_plain(sheet, &text),
-                    Verb::Hunt => show_hunt(sheet, &asked, &text, shelf),
-                    Verb::Apart => show_apart(sheet, &asked, &text, shelf),
-                    Verb::Record => show_record(sheet, &asked, &text, shelf),
-                    _ => show_run(sheet, &asked, &text, shelf),
+                    Verb::Plain => show_plain(sheet, &asked, &text, shelf),
+                    _ => show_scenario(sheet, &asked, &text, shelf),
                 }
             }
         }

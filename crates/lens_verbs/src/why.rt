@@ -14,8 +14,7 @@ mod places;
 mod reasons;
 mod talks;
 
-pub use blocked::awaited;
 pub use holds::push_hold;
-pub use known::{Known, Lockers, Locking};
+pub use known::{Known, Locking, known_of};
 pub use lines::{Why, push_thread};
 pub use places::push_place;

@@ -49,25 +49,19 @@ fn is_register(token: &str) -> bool {
     }
 }
 
-/// Whether a token begins as a name does.
-fn begins_as_name(token: &str) -> bool {
-    matches!(token.as_bytes(), [b'a'..=b'z' | b'A'..=b'Z' | b'_', ..])
-}
-
-/// Whether a text is a number that some place may have.
-fn is_number(text: &str) -> bool {
-    match text.strip_prefix('-') {
+/// What a constant's value is, where it is one: a number that some place may have, or one that has a name.
+fn value_of(text: &str) -> Option<New<'_>> {
+    let is_number = match text.strip_prefix('-') {
         Some(digits) => number_up_to(2_147_483_648, digits.as_bytes()).is_some(),
         None => number_up_to(u64::MAX, text.as_bytes()).is_some(),
-    }
-}
-
-/// What a constant's value is, where it is one.
-fn value_of(text: &str) -> Option<New<'_>> {
-    if is_number(text) {
+    };
+    if is_number {
         return Some(New::Text(text));
     }
-    Some(New::Number(number_named(text)?))
+    match number_named(text) {
+        Some(number) => Some(New::Number(number)),
+        None => None,
+    }
 }
 
 impl<'a> Finding<'_, 'a> {
@@ -92,20 +86,15 @@ impl<'a> Finding<'_, 'a> {
         sheet.fails(Problem::Given);
     }
 
-    /// Whether a constant that the line gives may have this name.
-    fn is_new(&self, name: &str) -> bool {
+    /// Makes a comment of a line that gives a constant, whose first token is at this offset.
+    fn constant(&mut self, at: usize, name: &str, value: &str) {
         let is_first = match self.program.constant(name) {
             Some(constant) => constant.line == self.line,
             None => false,
         };
         let is_free = self.program.address_of(name).is_none() && number_named(name).is_none();
         let is_formed = is_name(name.as_bytes()) && matches!(name.as_bytes(), [b'a'..=b'z', ..]);
-        is_first && is_free && is_formed && !is_register(name)
-    }
-
-    /// Makes a comment of a line that gives a constant, whose first token is at this offset.
-    fn constant(&mut self, at: usize, name: &str, value: &str) {
-        if !self.is_new(name) {
+        if !is_first || !is_free || !is_formed || is_register(name) {
             self.refuse(name, NEW);
         } else if value_of(value).is_none() {
             self.refuse(value, VALUE);
@@ -113,12 +102,10 @@ impl<'a> Finding<'_, 'a> {
         self.push(at, at, New::Text("; "));
     }
 
-    /// What stands for a token, where it is a name. Registers, numbers and labels stay.
+    /// What stands for a token, where it is a name. Registers, labels and what doesn't begin as a name does stay.
     fn new_for(&self, token: &str) -> Option<New<'a>> {
-        if is_register(token) || !begins_as_name(token) {
-            return None;
-        }
-        if self.program.address_of(token).is_some() {
+        let may_be = matches!(token.as_bytes(), [b'a'..=b'z' | b'A'..=b'Z' | b'_', ..]);
+        if !may_be || is_register(token) || self.program.address_of(token).is_some() {
             return None;
         }
         if let Some(constant) = self.program.constant(token) {

@@ -35,14 +35,6 @@ fn items_of<'a>(document: &'a Table, section: &str) -> &'a [Value] {
     }
 }
 
-/// The path of the space in which something with this path lies.
-fn home_of(path: &str) -> &str {
-    match path.rsplit_once('/') {
-        Some(("", _)) | None => "/",
-        Some((home, _)) => home,
-    }
-}
-
 /// The name of the program that stands in the space with this path.
 fn program_name<'a>(document: &'a Table, space: &str) -> Option<&'a str> {
     for item in items_of(document, "space") {
@@ -59,7 +51,16 @@ fn program_of<'p, 'a>(
     programs: &'p [Program<'a>],
     object: &Value,
 ) -> Option<&'p Program<'a>> {
-    let name = program_name(document, home_of(text_of(object, "at")?))?;
+    let Some(at) = text_of(object, "at") else {
+        return None;
+    };
+    let home = match at.rsplit_once('/') {
+        Some(("", _)) | None => "/",
+        Some((home, _)) => home,
+    };
+    let Some(name) = program_name(document, home) else {
+        return None;
+    };
     for program in programs {
         if program.name == name {
             return Some(program);

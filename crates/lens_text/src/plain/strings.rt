@@ -29,16 +29,6 @@ fn opened(raw: &str) -> (&str, &str) {
     ("", raw)
 }
 
-/// How many characters spell one behind a backslash that stands before this text.
-fn escape_len(behind: &str) -> usize {
-    match behind.as_bytes() {
-        [b'x', ..] => 4,
-        [b'u', ..] => 6,
-        [b'U', ..] => 10,
-        _ => 2,
-    }
-}
-
 /// Behind an escape that says nothing, with which a text may begin: a backslash at a line's end, and all blanks that follow.
 fn without_joint(body: &str) -> &str {
     let Some(behind) = body.strip_prefix('\\') else {
@@ -67,20 +57,17 @@ fn first_spelled(body: &str, is_escaping: bool, length: usize) -> (&str, &str) {
         }
     }
     let own = match from.strip_prefix('\\') {
-        Some(behind) if is_escaping => escape_len(behind),
+        Some(behind) if is_escaping => match behind.as_bytes() {
+            [b'x', ..] => 4,
+            [b'u', ..] => 6,
+            [b'U', ..] => 10,
+            _ => 2,
+        },
         _ => length,
     };
     let joints = body.len().saturating_sub(from.len());
     body.split_at_checked(joints.saturating_add(own))
         .unwrap_or((body, ""))
-}
-
-/// Adds what is put into a text.
-fn push_new(sheet: &Sheet, new: New<'_>) {
-    match new {
-        New::Number(number) => sheet.add_number(number),
-        New::Text(text) => sheet.add(text),
-    }
 }
 
 /// What stands in a text from a byte on; nothing where no character begins there.
@@ -104,7 +91,10 @@ pub fn push_changed(sheet: &Sheet, raw: &str, said: &str, edits: &[Edit<'_>]) {
         from = from.saturating_add(spelled.len());
         if let [edit, rest @ ..] = later {
             if edit.from == at {
-                push_new(sheet, edit.new);
+                match edit.new {
+                    New::Number(number) => sheet.add_number(number),
+                    New::Text(text) => sheet.add(text),
+                }
                 end = edit.to;
                 later = rest;
             }

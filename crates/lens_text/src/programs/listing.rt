@@ -1,9 +1,7 @@
 //! A program's text, read for where its words stand.
+use crate::plain::{Said, said_by};
 use crate::sheet::{Sheet, parted};
 use fk_asm::assemble;
-
-/// What stands between the tokens of a line.
-const SEPARATORS: [char; 4] = [' ', '\t', '\r', ','];
 
 /// A label and the address of the word behind it.
 #[derive(Drop)]
@@ -24,21 +22,6 @@ pub struct Listing {
     pub lines: Vec<u64>,
     /// Its labels, in the order of their lines.
     pub labels: Vec<Label>,
-}
-
-/// The label that a line defines, and what it says behind that.
-fn label_and_rest(line: &str) -> (Option<&str>, &str) {
-    let said = parted(line, ';').0.trim_start_matches(&SEPARATORS);
-    let (first, rest) = said.split_once(&SEPARATORS).unwrap_or((said, ""));
-    match first.strip_suffix(':') {
-        Some(label) => (Some(label), rest),
-        None => (None, said),
-    }
-}
-
-/// Whether a text has more than separators.
-fn says_something(text: &str) -> bool {
-    !text.trim_start_matches(&SEPARATORS).is_empty()
 }
 
 /// What stands behind the mark with which a string of the document begins, and how many lines that mark takes.
@@ -96,7 +79,9 @@ impl Listing {
 
     /// Adds what a line gives: a label, a word, both or nothing.
     fn add_line(&mut self, sheet: &Sheet, number: u64, line: &str) {
-        let (label, rest) = label_and_rest(line);
+        let Said::Other(label, said) = said_by(line) else {
+            return;
+        };
         if let Some(name) = label {
             let label = Label {
                 name: sheet.copied(name),
@@ -106,7 +91,7 @@ impl Listing {
                 sheet.lacks();
             }
         }
-        if says_something(rest) {
+        if !said.is_empty() {
             if self.lines.push(number).is_err() {
                 sheet.lacks();
             }

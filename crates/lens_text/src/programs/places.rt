@@ -23,7 +23,9 @@ fn program_in<'a>(scene: Scene<'a>, space: u32, page: u8) -> Option<&'a Listing>
     if let Some(listing) = scene.programs.of_space(space) {
         return Some(listing);
     }
-    let words = scene.store.page(space, page)?;
+    let Some(words) = scene.store.page(space, page) else {
+        return None;
+    };
     for listing in &scene.programs.listings {
         if is_page_of(words, listing, page) {
             return Some(listing);
@@ -37,15 +39,19 @@ fn word_of<'a>(scene: Scene<'a>, space: u32, address: u64) -> Option<(&'a Listin
     let Reach::Home { space, page } = scene.store.reach_word(space, address, false) else {
         return None;
     };
-    let listing = program_in(scene, space, page)?;
+    let Some(listing) = program_in(scene, space, page) else {
+        return None;
+    };
     let at = address % 64;
     let number = page as u64 * 64 + at;
-    let word = scene.store.page(space, page)?[at as usize];
-    if *listing.words.get(number as usize)? == word {
-        Some((listing, number))
-    } else {
-        None
+    if let Some(words) = scene.store.page(space, page) {
+        if let Some(word) = listing.words.get(number as usize) {
+            if words[at as usize] == *word {
+                return Some((listing, number));
+            }
+        }
     }
+    None
 }
 
 /// Adds the label at or before a word of a program, where there is one, and the word's line: the scenario's, or the program's own.

@@ -1,8 +1,8 @@
 //! The programs of a scenario, and in which spaces they stand.
 use crate::programs::listing::Listing;
 use crate::sheet::Sheet;
-use std::alloc::Global;
 use std::collections::BTreeMap;
+use toml::Table;
 
 /// The programs of a scenario, and in which spaces they stand.
 #[derive(Drop)]
@@ -14,14 +14,6 @@ pub struct Programs {
 }
 
 impl Programs {
-    /// No programs.
-    pub fn new(alloc: Global) -> Programs {
-        Programs {
-            listings: Vec::new(alloc),
-            homes: BTreeMap::new(alloc),
-        }
-    }
-
     /// Notes that a space begins with the program with this index.
     pub fn stands_in(&mut self, sheet: &Sheet, space: u32, program: usize) {
         if self.homes.insert(space, program).is_err() {
@@ -38,17 +30,10 @@ impl Programs {
     }
 }
 
-/// The programs of a scenario's text, of which it isn't noted yet where they stand. A text that is no scenario has none.
-pub fn programs_of(sheet: &Sheet, text: &[u8]) -> Programs {
-    let mut programs = Programs::new(sheet.alloc);
-    let Ok(scenario) = str::from_utf8(text) else {
-        return programs;
-    };
-    let Ok(document) = toml::table_from_slice(sheet.alloc, text) else {
-        return programs;
-    };
+/// Reads the programs of a document, which is this scenario.
+fn read_all(sheet: &Sheet, programs: &mut Programs, scenario: &str, document: &Table) {
     let Some(value) = document.get("programs") else {
-        return programs;
+        return;
     };
     if let Some(table) = value.as_table() {
         for (name, program) in table {
@@ -57,6 +42,19 @@ pub fn programs_of(sheet: &Sheet, text: &[u8]) -> Programs {
             if programs.listings.push(listing).is_err() {
                 sheet.lacks();
             }
+        }
+    }
+}
+
+/// The programs of a scenario's text, of which it isn't noted yet where they stand. A text that is no scenario has none.
+pub fn programs_of(sheet: &Sheet, text: &[u8]) -> Programs {
+    let mut programs = Programs {
+        listings: Vec::new(sheet.alloc),
+        homes: BTreeMap::new(sheet.alloc),
+    };
+    if let Ok(scenario) = str::from_utf8(text) {
+        if let Ok(document) = toml::table_from_slice(sheet.alloc, text) {
+            read_all(sheet, &mut programs, scenario, &document);
         }
     }
     programs

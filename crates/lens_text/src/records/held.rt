@@ -96,14 +96,19 @@ impl<'a> Holding<'a> {
 /// Whose notes a record has, by the first of them: one that all are seen by begins with no reply and with no words. Where it has none, of an observer who
 /// sees none of what was noted, if there is one.
 fn watch_of(noted: &[Noted], notes: &str) -> Watch {
-    let word = word_of(parted(notes, '\n').0);
+    let mut has_replies = false;
+    let mut has_words = false;
+    for one in noted {
+        has_replies = has_replies | one.has_replies;
+        has_words = has_words | one.has_words;
+    }
     let is_empty = notes.is_empty();
-    if word == "reply" || (is_empty && !noted.iter().any(|one| one.has_replies)) {
-        Watch::Replies
-    } else if word == "said" || (is_empty && !noted.iter().any(|one| one.has_words)) {
-        Watch::Said
-    } else {
-        Watch::All
+    match word_of(parted(notes, '\n').0) {
+        "reply" => Watch::Replies,
+        "said" => Watch::Said,
+        _ if is_empty & !has_replies => Watch::Replies,
+        _ if is_empty & !has_words => Watch::Said,
+        _ => Watch::All,
     }
 }
 
@@ -130,20 +135,6 @@ fn hold<'a>(sheet: &'a Sheet, noted: &'a [Noted], notes: &'a str) -> Option<Apar
     })
 }
 
-/// The notes of a record, if its bytes are a text that begins with the first line of one.
-fn notes_in(bytes: &[u8]) -> Option<&str> {
-    match str::from_utf8(bytes) {
-        Ok(text) => text.strip_prefix(FIRST),
-        Err(_) => None,
-    }
-}
-
-/// Says that a line of a record is bad by itself.
-fn refuse(sheet: &Sheet, name: &str, line: u64) {
-    let form = if line == 1 { HEAD } else { NOTE };
-    given(sheet, name, form, line, 0, "");
-}
-
 /// Says that a line of a record isn't what was noted.
 fn tell_apart(sheet: &Sheet, name: &str, apart: Apart<'_>) {
     if apart.note.is_empty() {
@@ -162,7 +153,11 @@ fn tell_apart(sheet: &Sheet, name: &str, apart: Apart<'_>) {
 /// Adds the record with this name and these bytes, each line with the move that made it. Where the record isn't that of what was noted, says which line is
 /// the first that is bad by itself, or else the first that differs.
 pub fn push_record<'x>(sheet: &'x Sheet, name: &str, noted: &'x [Noted], bytes: &'x [u8]) {
-    let apart = match notes_in(bytes) {
+    let notes = match str::from_utf8(bytes) {
+        Ok(text) => text.strip_prefix(FIRST),
+        Err(_) => None,
+    };
+    let apart = match notes {
         Some(notes) => {
             sheet.add(FIRST);
             hold(sheet, noted, notes)
@@ -177,7 +172,8 @@ pub fn push_record<'x>(sheet: &'x Sheet, name: &str, noted: &'x [Noted], bytes: 
         return;
     };
     match bad_line(sheet.alloc, noted, bytes) {
-        Ok(Some(line)) => refuse(sheet, name, line),
+        Ok(Some(1)) => given(sheet, name, HEAD, 1, 0, ""),
+        Ok(Some(line)) => given(sheet, name, NOTE, line, 0, ""),
         Ok(None) => tell_apart(sheet, name, apart),
         Err(_) => sheet.lacks(),
     }

@@ -1,5 +1,5 @@
 //! What a run made a native server note.
-use fk_model::NoMemory;
+use crate::sheet::Sheet;
 use fk_record_text::push_lines;
 use fk_responders::Note;
 
@@ -15,15 +15,17 @@ pub struct Noted {
 }
 
 impl Noted {
-    /// Adds a note that a move has made. The line says which move: its number, a tab, who made it, a tab, and whatever else.
-    pub fn add(&mut self, note: &Note, line: &str) -> Result<(), NoMemory> {
+    /// Adds a note that a move has made. The line says which move: its number, a tab, who made it, a tab, and whatever else. Where there is no memory for
+    /// that, the sheet notes it.
+    pub fn add(&mut self, sheet: &Sheet, note: &Note, line: &str) {
         match note {
             Note::Reply(_) => self.has_replies = true,
             Note::Said(_) => self.has_words = true,
             _ => {}
         }
-        push_lines(&mut self.lines, self.port.as_str(), &[*note])?;
-        self.lines.push_str(line)?;
-        Ok(())
+        let is_noted = push_lines(&mut self.lines, self.port.as_str(), &[*note]).is_ok();
+        if self.lines.push_str(line).is_err() | !is_noted {
+            sheet.lacks();
+        }
     }
 }

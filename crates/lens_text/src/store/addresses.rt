@@ -17,15 +17,6 @@ fn covers(first: u8, count: u16, page: u8) -> bool {
     (first <= page) & (page as u64 <= (first as u64 + count as u64).saturating_sub(1))
 }
 
-/// Whether an object is a mapping that covers a page, or a region that does, as is asked for.
-fn is_at(body: &Body, page: u8, is_mapping: bool) -> bool {
-    match *body {
-        Body::Mapping { first, count, .. } => is_mapping & covers(first, count, page),
-        Body::Region { first, count, .. } => !is_mapping & covers(first, count, page),
-        _ => false,
-    }
-}
-
 /// The mapping or the region in the lowest slot that covers a page of a space.
 fn covering(store: &Store, at: Page, is_mapping: bool) -> Option<Who> {
     for slot in 0..=255u8 {
@@ -33,10 +24,17 @@ fn covering(store: &Store, at: Page, is_mapping: bool) -> Option<Who> {
             space: at.space,
             slot,
         };
-        if let Some(body) = store.at(who) {
-            if is_at(body, at.number, is_mapping) {
-                return Some(who);
+        let is_found = match store.at(who) {
+            Some(&Body::Mapping { first, count, .. }) => {
+                is_mapping & covers(first, count, at.number)
             }
+            Some(&Body::Region { first, count, .. }) => {
+                !is_mapping & covers(first, count, at.number)
+            }
+            _ => false,
+        };
+        if is_found {
+            return Some(who);
         }
     }
     None

@@ -80,7 +80,9 @@ fn in_slot(space: u32, slot: u64) -> Option<Who> {
 
 /// The object that a slot of a space holds, or to which the reference there leads.
 pub fn handled(store: &Store, space: u32, slot: u64) -> Option<Who> {
-    let who = in_slot(space, slot)?;
+    let Some(who) = in_slot(space, slot) else {
+        return None;
+    };
     match store.at(who) {
         Some(&Body::Reference { to: Ptr::At(to) }) => Some(to),
         Some(Body::Reference { .. }) | None => None,
@@ -89,11 +91,14 @@ pub fn handled(store: &Store, space: u32, slot: u64) -> Option<Who> {
 }
 
 /// The space that is named as a place in another: 256 is that one itself.
-fn place_named(store: &Store, space: u32, place: u64) -> Option<u32> {
+pub fn place_named(store: &Store, space: u32, place: u64) -> Option<u32> {
     if place == OWN_SPACE {
         return Some(space);
     }
-    match store.at(handled(store, space, place)?) {
+    let Some(who) = handled(store, space, place) else {
+        return None;
+    };
+    match store.at(who) {
         Some(&Body::Space { birth, .. }) => Some(birth),
         _ => None,
     }
@@ -101,12 +106,20 @@ fn place_named(store: &Store, space: u32, place: u64) -> Option<u32> {
 
 /// The object in a slot of a place that is named in a space, or to which the reference there leads.
 pub fn object_named(store: &Store, space: u32, place: u64, slot: u64) -> Option<Who> {
-    handled(store, place_named(store, space, place)?, slot)
+    match place_named(store, space, place) {
+        Some(space) => handled(store, space, slot),
+        None => None,
+    }
 }
 
 /// Where the pointer of the mapping, the region or the reference in a slot of a place leads.
 pub fn led_from(store: &Store, space: u32, place: u64, slot: u64) -> Option<Who> {
-    let who = in_slot(place_named(store, space, place)?, slot)?;
+    let Some(space) = place_named(store, space, place) else {
+        return None;
+    };
+    let Some(who) = in_slot(space, slot) else {
+        return None;
+    };
     match store.at(who) {
         Some(
             &Body::Mapping {

@@ -1,20 +1,11 @@
 //! The first move in which two traces differ.
-use crate::apart::taken::{Deed, Deeds};
-use fk_model::NoMemory;
-use std::alloc::Global;
-
-/// The places in both traces of a mover's move.
-#[derive(Clone, Copy)]
-pub struct Both {
-    pub first: usize,
-    pub second: usize,
-}
+use crate::apart::taken::Deeds;
 
 /// How two traces differ.
 #[derive(Clone, Copy)]
 pub enum Apart {
-    /// In what a mover does or is told by this move.
-    Does(Both),
+    /// In what a mover does or is told by its move at these places of both.
+    Does { first: usize, second: usize },
     /// The first makes a move at this place that its mover makes no more in the second.
     FirstAlone(usize),
     SecondAlone(usize),
@@ -22,30 +13,10 @@ pub enum Apart {
     Nowhere { is_same_order: bool },
 }
 
-/// The places of each mover's moves in a trace, one list a mover.
-fn places_of(alloc: Global, deeds: &Deeds, movers: usize) -> Result<Vec<Vec<usize>>, NoMemory> {
-    let mut places = Vec::new(alloc);
-    for _ in 0..movers {
-        places.push(Vec::new(alloc))?;
-    }
-    for (place, deed) in deeds.list.iter().enumerate() {
-        if let Some(list) = places.get_mut(deed.mover) {
-            list.push(place)?;
-        }
-    }
-    Ok(places)
-}
-
-/// The place of the same mover's move of the same turn.
-fn partner(places: &[Vec<usize>], deed: Deed) -> Option<usize> {
-    let list = places.get(deed.mover)?;
-    Some(*list.get(deed.turn as usize)?)
-}
-
 /// The first place in a trace whose mover makes no such move in the other.
 fn alone(deeds: &Deeds, other: &Deeds) -> Option<usize> {
-    for (place, deed) in deeds.list.iter().enumerate() {
-        if deed.turn >= other.turns_of(deed.mover) {
+    for place in 0..deeds.list.len() {
+        if other.place_of(deeds.list[place]).is_none() {
             return Some(place);
         }
     }
@@ -53,16 +24,18 @@ fn alone(deeds: &Deeds, other: &Deeds) -> Option<usize> {
 }
 
 /// The first move, in the order of the first trace, that does something else in the second.
-fn first_other(first: &Deeds, second: &Deeds, places: &[Vec<usize>]) -> Option<Both> {
-    for (place, deed) in first.list.iter().enumerate() {
-        if let Some(at) = partner(places, *deed) {
-            if let Some(other) = second.list.get(at) {
-                if first.text_of(*deed) != second.text_of(*other) {
-                    return Some(Both {
+fn first_other(first: &Deeds, second: &Deeds) -> Option<Apart> {
+    for place in 0..first.list.len() {
+        let deed = first.list[place];
+        if let Some(at) = second.place_of(deed) {
+            match second.list.get(at) {
+                Some(other) if first.text_of(deed) != second.text_of(*other) => {
+                    return Some(Apart::Does {
                         first: place,
                         second: at,
                     });
                 }
+                _ => {}
             }
         }
     }
@@ -71,83 +44,43 @@ fn first_other(first: &Deeds, second: &Deeds, places: &[Vec<usize>]) -> Option<B
 
 /// Whether two traces have the same movers one after the other.
 fn is_same_order(first: &Deeds, second: &Deeds) -> bool {
-    for (place, deed) in first.list.iter().enumerate() {
+    for place in 0..first.list.len() {
         match second.list.get(place) {
-            Some(other) if other.mover == deed.mover => {}
+            Some(other) if other.mover == first.list[place].mover => {}
             _ => return false,
         }
     }
     true
 }
 
-/// How two traces differ that have so many movers.
-///
-/// # Errors
-///
-/// There is no memory for the places of the second trace.
-pub fn first_apart(
-    alloc: Global,
-    first: &Deeds,
-    second: &Deeds,
-    movers: usize,
-) -> Result<Apart, NoMemory> {
-    let places = places_of(alloc, second, movers)?;
-    if let Some(both) = first_other(first, second, &places) {
-        return Ok(Apart::Does(both));
+/// How two traces differ.
+pub fn first_apart(first: &Deeds, second: &Deeds) -> Apart {
+    if let Some(apart) = first_other(first, second) {
+        return apart;
     }
     if let Some(place) = alone(first, second) {
-        return Ok(Apart::FirstAlone(place));
+        return Apart::FirstAlone(place);
     }
-    Ok(match alone(second, first) {
+    match alone(second, first) {
         Some(place) => Apart::SecondAlone(place),
         None => Apart::Nowhere {
             is_same_order: is_same_order(first, second),
         },
-    })
+    }
 }
 
-/// How many moves each mover makes before a place.
-fn turns_before(
-    alloc: Global,
-    deeds: &Deeds,
-    movers: usize,
-    place: usize,
-) -> Result<Vec<u64>, NoMemory> {
-    let mut turns = Vec::new(alloc);
-    for _ in 0..movers {
-        turns.push(0)?;
-    }
-    for deed in deeds.list.iter().take(place) {
-        if let Some(turn) = turns.get_mut(deed.mover) {
-            *turn = deed.turn.saturating_add(1);
-        }
-    }
-    Ok(turns)
-}
-
-/// The last move before a place in one trace that may do something to others and comes only behind a place in the other.
-///
-/// # Errors
-///
-/// There is no memory for the counts of turns.
-pub fn last_before(
-    alloc: Global,
-    deeds: &Deeds,
-    place: usize,
-    other: &Deeds,
-    there: usize,
-    movers: usize,
-) -> Result<Option<usize>, NoMemory> {
-    let turns = turns_before(alloc, other, movers, there)?;
+/// The last move before a place in one trace that may do something to others and doesn't come before a place in the other.
+pub fn last_before(deeds: &Deeds, place: usize, other: &Deeds, there: usize) -> Option<usize> {
     let mut found = None;
-    for (at, deed) in deeds.list.iter().take(place).enumerate() {
-        let were = match turns.get(deed.mover) {
-            Some(turns) => *turns,
-            None => 0,
+    for at in 0..place.min(deeds.list.len()) {
+        let deed = deeds.list[at];
+        let is_before = match other.place_of(deed) {
+            Some(at) => at < there,
+            None => false,
         };
-        if deed.reaches && deed.turn >= were {
+        if deed.reaches && !is_before {
             found = Some(at);
         }
     }
-    Ok(found)
+    found
 }

@@ -1,10 +1,11 @@
 //! What each move of a trace does.
-use crate::shows::scene_of;
-use crate::steps::Steps;
-use fk_first::{Ready, Seen, Stop, Watcher};
-use fk_model::{Mode, Move, NoMemory};
-use lens_text::{Programs, Sheet};
+use crate::steps::{Keeps, Steps};
+use fk_first::Seen;
+use fk_model::{Mode, Move};
+use lens_text::{Sheet, parted};
+use std::alloc::Global;
 use std::collections::BTreeMap;
+use std::mem;
 
 /// The movers of two traces by their paths, each with a number.
 pub type Movers = BTreeMap<String, usize>;
@@ -15,7 +16,7 @@ pub struct Deed {
     /// The number of its mover.
     pub mover: usize,
     /// How many moves the mover has made before.
-    pub turn: u64,
+    turn: usize,
     /// Where what it does stands in the text, and where that ends.
     start: usize,
     end: usize,
@@ -29,17 +30,17 @@ pub struct Deeds {
     pub list: Vec<Deed>,
     /// Behind the path of each mover what it does.
     text: String,
-    /// How many moves each mover has made.
-    turns: Vec<u64>,
+    /// Of each mover the places of its moves.
+    places: Vec<Vec<usize>>,
 }
 
 impl Deeds {
     /// None yet.
-    fn new(sheet: &Sheet) -> Deeds {
+    fn new(alloc: Global) -> Deeds {
         Deeds {
-            list: Vec::new(sheet.alloc),
-            text: String::new(sheet.alloc),
-            turns: Vec::new(sheet.alloc),
+            list: Vec::new(alloc),
+            text: String::new(alloc),
+            places: Vec::new(alloc),
         }
     }
 
@@ -48,115 +49,96 @@ impl Deeds {
         self.text.as_str().get(deed.start..deed.end).unwrap_or("")
     }
 
-    /// How many moves a mover has made.
-    pub fn turns_of(&self, mover: usize) -> u64 {
-        match self.turns.get(mover) {
-            Some(turns) => *turns,
-            None => 0,
+    /// The place of the same mover's move of the same turn, if it makes as many.
+    pub fn place_of(&self, deed: Deed) -> Option<usize> {
+        match self.places.get(deed.mover) {
+            Some(places) => places.get(deed.turn).copied(),
+            None => None,
         }
-    }
-
-    /// Counts a move of a mover, and answers how many it has made before.
-    fn turn(&mut self, mover: usize) -> Result<u64, NoMemory> {
-        for _ in self.turns.len()..mover.saturating_add(1) {
-            self.turns.push(0)?;
-        }
-        let Some(turns) = self.turns.get_mut(mover) else {
-            return Ok(0);
-        };
-        let turn = *turns;
-        *turns = turn.saturating_add(1);
-        Ok(turn)
     }
 
     /// Adds what a mover does.
-    fn add(&mut self, mover: usize, does: &str, reaches: bool) -> Result<(), NoMemory> {
-        let turn = self.turn(mover)?;
+    fn add(&mut self, sheet: &Sheet, mover: usize, does: &str, reaches: bool) {
+        for _ in self.places.len()..mover.saturating_add(1) {
+            if self.places.push(Vec::new(sheet.alloc)).is_err() {
+                sheet.lacks();
+            }
+        }
+        let mut turn = 0;
+        if let Some(places) = self.places.get_mut(mover) {
+            turn = places.len();
+            if places.push(self.list.len()).is_err() {
+                sheet.lacks();
+            }
+        }
         let start = self.text.len();
-        self.text.push_str(does)?;
-        self.list.push(Deed {
+        let is_written = self.text.push_str(does).is_ok();
+        let deed = Deed {
             mover,
             turn,
             start,
             end: self.text.len(),
             reaches,
-        })?;
-        Ok(())
+        };
+        if self.list.push(deed).is_err() | !is_written {
+            sheet.lacks();
+        }
     }
 }
 
-/// Keeps what the moves of a run do.
+/// Keeps what the moves of two runs do.
 #[derive(Drop)]
-pub struct Taker<'a> {
-    sheet: &'a Sheet,
-    movers: &'a mut Movers,
-    programs: Programs,
-    steps: Steps,
-    is_call: bool,
+pub struct Taker {
+    pub movers: Movers,
+    /// What those of the first run do, while the second is watched.
+    pub first: Deeds,
+    /// What those of the run do that is watched.
     pub deeds: Deeds,
 }
 
-impl<'a> Taker<'a> {
-    /// It has seen no move yet of a scenario with these programs.
-    pub fn new(sheet: &'a Sheet, movers: &'a mut Movers, programs: Programs) -> Taker<'a> {
+impl Taker {
+    /// It has seen no move yet.
+    pub fn new(alloc: Global) -> Taker {
         Taker {
-            sheet,
-            movers,
-            programs,
-            steps: Steps::new(&Sheet::new(sheet.alloc), 0),
-            is_call: false,
-            deeds: Deeds::new(sheet),
+            movers: Movers::new(alloc),
+            first: Deeds::new(alloc),
+            deeds: Deeds::new(alloc),
         }
     }
 
-    /// The number of the mover with this path.
-    fn mover(&mut self, path: &str) -> Result<usize, NoMemory> {
-        let path = String::from_str(self.sheet.alloc, path)?;
-        if let Some(number) = self.movers.get(&path) {
-            return Ok(*number);
-        }
-        let number = self.movers.len();
-        self.movers.insert(path, number)?;
-        Ok(number)
+    /// The first run is over.
+    pub fn turn_over(&mut self, alloc: Global) {
+        self.first = mem::replace(&mut self.deeds, Deeds::new(alloc));
     }
 }
 
-/// What stands behind so many tabs.
-fn behind_tabs(line: &str, count: u32) -> &str {
-    let mut later = line;
-    for _ in 0..count {
-        let Some((_, behind)) = later.split_once('\t') else {
-            break;
-        };
-        later = behind;
+/// The number of the mover with this path.
+fn number_of(sheet: &Sheet, movers: &mut Movers, path: &str) -> usize {
+    let path = sheet.copied(path);
+    if let Some(number) = movers.get(&path) {
+        return *number;
     }
-    later
+    let number = movers.len();
+    if movers.insert(path, number).is_err() {
+        sheet.lacks();
+    }
+    number
 }
 
-impl Watcher for Taker<'_> {
-    fn before(&mut self, seen: Seen<'_>, one: &Move) -> Result<(), NoMemory> {
-        self.is_call = match seen.store.thread(one.who) {
-            Some(thread) => !matches!(thread.mode, Mode::Running),
-            None => true,
+impl Keeps for Taker {
+    fn keep(&mut self, sheet: &Sheet, steps: &Steps, seen: &Seen<'_>, one: &Move) {
+        let line = Sheet::new(sheet.alloc);
+        steps.after(&line, seen, one);
+        let line = sheet.taken(line);
+        // Before the path stand the trace's own line and the move's number.
+        let behind = parted(parted(line.as_str(), '\t').1, '\t').1;
+        let (path, does) = parted(behind, '\t');
+        let is_call = match steps.kept.threads.first() {
+            Some((who, before)) if *who == one.who => !matches!(before.mode, Mode::Running),
+            _ => true,
         };
-        let scene = scene_of(&self.programs, seen);
-        self.steps.before(self.sheet, seen, scene, one);
-        Ok(())
-    }
-
-    fn after(&mut self, seen: Seen<'_>, one: &Move) -> Result<(), NoMemory> {
-        let sheet = Sheet::new(self.sheet.alloc);
-        self.steps.after(&sheet, seen, one);
-        let line = self.sheet.taken(sheet);
-        let Some((path, does)) = behind_tabs(line.as_str(), 2).split_once('\t') else {
-            return Ok(());
-        };
-        let mover = self.mover(path)?;
-        let reaches = self.is_call || does.starts_with("store");
-        self.deeds.add(mover, does, reaches)
-    }
-
-    fn stops(&mut self, _seen: Seen<'_>, _ready: &Ready, _stop: Stop) -> Result<(), NoMemory> {
-        Ok(())
+        let mover = number_of(sheet, &mut self.movers, path);
+        let reaches = is_call || does.starts_with("store");
+        self.deeds.add(sheet, mover, does, reaches);
     }
 }

@@ -1,7 +1,6 @@
 //! The move of one that was drawn.
 use crate::hunt::random::Random;
-use fk_core::{Core, Kernel};
-use fk_model::limits::LAST_PORTER_SLOT;
+use fk_core::Core;
 use fk_model::{Ask, Mode, Move, Stage, Who};
 use fk_natives::{Native, Service};
 use fk_porters::Porter;
@@ -21,19 +20,6 @@ pub enum Entrant {
     Server(usize),
     /// The porter of the job whose turn it is.
     Job(Who),
-}
-
-/// The porter of the job whose turn it is, where its time has come.
-pub fn timely_porter(core: &Run) -> Option<Who> {
-    let jobs = core.jobs();
-    let plan = jobs.current()?;
-    if core.events() < plan.at && !jobs.is_at_work() {
-        return None;
-    }
-    Some(Who {
-        space: plan.nester,
-        slot: LAST_PORTER_SLOT as u8,
-    })
 }
 
 /// The object before another in the order of spaces and slots, whether there is one or not.
@@ -73,48 +59,45 @@ fn varied(core: &Run, random: &mut Random, found: Move) -> Move {
     one
 }
 
-/// A move of a thread that picks somebody, or of the first behind it that can move.
-fn picking(core: &Run, random: &mut Random, who: Who) -> Option<Move> {
-    let found = core.kernel().next_after(before(who))?;
-    Some(varied(core, random, found))
-}
-
 /// A thread's move, which may turn out not to be ready.
-fn thread_move(core: &Run, random: &mut Random, who: Who) -> Option<Move> {
+pub fn thread_move(core: &Run, random: &mut Random, who: Who) -> Option<Move> {
     let store = core.kernel().store();
-    match store.thread(who)?.mode {
-        Mode::Running => Some(Move { who, pick: None }),
-        Mode::Calling => match next_stage(store, who)? {
-            Stage::Wait { .. } | Stage::CondSignal { .. } => picking(core, random, who),
-            _ => Some(Move { who, pick: None }),
+    let own = Some(Move { who, pick: None });
+    let Some(thread) = store.thread(who) else {
+        return None;
+    };
+    match thread.mode {
+        Mode::Running => own,
+        Mode::Calling => match next_stage(store, who) {
+            // Its own move, or that of the first behind it that can move.
+            Some(Stage::Wait { .. } | Stage::CondSignal { .. }) => {
+                match core.kernel().next_after(before(who)) {
+                    Some(found) => Some(varied(core, random, found)),
+                    None => None,
+                }
+            }
+            Some(_) => own,
+            None => None,
         },
         _ => None,
     }
 }
 
-/// Whom the native server of a port accepts.
-fn accepting(core: &Run, random: &mut Random, kernel: &Kernel, who: Who) -> Option<Move> {
-    let pick = Some(kernel.ready_accept(who)?);
-    Some(varied(core, random, Move { who, pick }))
-}
-
 /// The act of the native server at a place.
-fn server_move(core: &Run, random: &mut Random, place: usize) -> Option<Move> {
-    let (port, native) = core.services().get(place)?;
-    match native.ask()? {
-        Ask::Accept => accepting(core, random, core.kernel(), *port),
-        _ => Some(Move {
-            who: *port,
-            pick: None,
-        }),
-    }
-}
-
-/// The move of one that was drawn, which may turn out not to be ready; none where it surely has none.
-pub fn move_of(core: &Run, random: &mut Random, entrant: Entrant) -> Option<Move> {
-    match entrant {
-        Entrant::Thread(who) => thread_move(core, random, who),
-        Entrant::Server(place) => server_move(core, random, place),
-        Entrant::Job(who) => Some(Move { who, pick: None }),
+pub fn server_move(core: &Run, random: &mut Random, place: usize) -> Option<Move> {
+    let Some((port, native)) = core.services().get(place) else {
+        return None;
+    };
+    let who = *port;
+    match native.ask() {
+        Some(Ask::Accept) => {
+            let pick = core.kernel().ready_accept(who);
+            match pick {
+                Some(_) => Some(varied(core, random, Move { who, pick })),
+                None => None,
+            }
+        }
+        Some(_) => Some(Move { who, pick: None }),
+        None => None,
     }
 }

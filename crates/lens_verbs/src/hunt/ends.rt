@@ -1,39 +1,42 @@
 //! How a run has ended, in a line.
 use crate::hunt::drawing::Run;
-use fk_finish::Finish;
-use fk_jobs::{Ended, Task};
-use fk_model::{Mode, NoMemory};
-use fk_natives::Service;
+use crate::jobs::{Ending, ending_word, fate_of};
+use fk_jobs::{Jobs, Task};
+use fk_model::Mode;
+use fk_natives::{Native, Service};
 use fk_porters::Porter;
-use fk_report::{End, ThreadState, end_word, threads_of};
-use lens_text::Sheet;
+use fk_report::{End, end_word};
+use fk_store::Store;
+use lens_text::{Sheet, next_in_tree, push_between};
 
-/// Adds the path of a thread, whose slots go outwards.
-fn push_outwards(sheet: &Sheet, path: &[u8]) {
-    for slot in path.iter().rev() {
-        sheet.fill(b"/@", u64::from(*slot), 0, 0);
-    }
-}
-
-/// Adds a thread that hasn't halted as it should; where the budget ended the run, a fault alone.
-fn push_thread(sheet: &Sheet, thread: &ThreadState, end: End) {
-    let is_cut = matches!(end, End::Budget);
-    let code = match thread.mode {
-        Mode::Halted(code) if code > 0 => Some(code),
-        Mode::Running | Mode::Calling if !is_cut => None,
-        _ => return,
-    };
-    sheet.put(b"; thread ");
-    push_outwards(sheet, thread.path.as_slice());
-    match (code, thread.mode) {
-        (Some(code), _) => sheet.fill(b" halted @", u64::from(code), 0, 0),
-        (_, Mode::Calling) => sheet.put(b" calling"),
-        _ => sheet.put(b" running"),
+/// Adds the user threads that haven't halted as they should, in the order of their paths; where the budget ended the run, faults alone.
+fn push_threads(sheet: &Sheet, store: &Store, is_cut: bool) {
+    let mut next = store.after(None);
+    for _ in 0..u64::MAX {
+        let Some(who) = next else {
+            break;
+        };
+        if let Some(thread) = store.thread(who) {
+            let is_told = match thread.mode {
+                Mode::Halted(code) => code > 0,
+                Mode::Native => false,
+                _ => !is_cut,
+            };
+            if is_told {
+                push_between(sheet, store, b"; thread ", who, b"");
+                match thread.mode {
+                    Mode::Halted(code) => sheet.fill(b" halted @", u64::from(code), 0, 0),
+                    Mode::Calling => sheet.put(b" calling"),
+                    _ => sheet.put(b" running"),
+                }
+            }
+        }
+        next = next_in_tree(store, who);
     }
 }
 
 /// Adds what a console was sent.
-fn push_out<S: Service>(sheet: &Sheet, service: &S) {
+fn push_out(sheet: &Sheet, service: &Native) {
     if let Some(alias) = service.alias() {
         sheet.put(b"; out ");
         sheet.add(alias);
@@ -43,69 +46,49 @@ fn push_out<S: Service>(sheet: &Sheet, service: &S) {
     }
 }
 
-/// Adds how a job has ended by its own moves.
-fn push_finish(sheet: &Sheet, finish: &Finish) {
-    match finish {
-        Finish::Image(_) | Finish::Restored => sheet.put(b" done"),
-        Finish::Foreign(place) => {
-            sheet.put(b" foreign ");
+/// Adds what has become of the job with a number.
+fn push_fate(sheet: &Sheet, jobs: &Jobs<Porter>, number: usize) {
+    let ending = fate_of(jobs, number).ending;
+    sheet.put_around(b" ", ending_word(ending), b"");
+    match ending {
+        Ending::Foreign(place) => {
+            sheet.put(b" ");
             for slot in place.path.as_slice() {
                 sheet.fill(b"/@", u64::from(*slot), 0, 0);
             }
             sheet.fill(b" @", u64::from(place.field), 0, 0);
         }
-        Finish::Dead => sheet.put(b" dead"),
-        Finish::Occupied => sheet.put(b" occupied"),
-        Finish::NoPort(port) => sheet.fill(b" noport @", u64::from(*port), 0, 0),
-    }
-}
-
-/// Adds what has become of a job that has ended, or of one that hasn't.
-fn push_fate(sheet: &Sheet, ended: Option<&Ended<Porter>>) {
-    match ended {
-        Some(Ended::Worked { worker, .. }) => {
-            if let Some(finish) = worker.end() {
-                push_finish(sheet, finish);
-            }
-        }
-        Some(Ended::NoImage) => sheet.put(b" noimage"),
-        Some(Ended::Dead) => sheet.put(b" dead"),
-        None => sheet.put(b" waiting"),
+        Ending::NoPort(port) => sheet.fill(b" @", u64::from(port), 0, 0),
+        _ => {}
     }
 }
 
 /// Adds what has become of jobs.
-fn push_jobs(sheet: &Sheet, core: &Run) {
-    let jobs = core.jobs();
-    for (place, plan) in jobs.plans().iter().enumerate() {
-        sheet.fill(b"; job @", place as u64, 0, 0);
-        match &plan.task {
-            Task::Checkpoint { .. } => sheet.put(b" checkpoint"),
-            Task::Restore { .. } => sheet.put(b" restore"),
+fn push_jobs(sheet: &Sheet, jobs: &Jobs<Porter>) {
+    for place in 0..jobs.plans().len() {
+        if let Some(plan) = jobs.plans().get(place) {
+            sheet.fill(b"; job @", place as u64, 0, 0);
+            match &plan.task {
+                Task::Checkpoint { .. } => sheet.put(b" checkpoint"),
+                Task::Restore { .. } => sheet.put(b" restore"),
+            }
+            push_fate(sheet, jobs, place);
         }
-        push_fate(sheet, jobs.ends().get(place));
     }
 }
 
 /// Adds how a run has ended: what its report has, in a line, but for the numbers of moves and the threads that have halted 0. Of a run that the
 /// budget ended nothing is told of threads and consoles but faults, since these are at another place in each.
-///
-/// # Errors
-///
-/// There is no memory.
-pub fn push_ending(sheet: &Sheet, core: &Run) -> Result<(), NoMemory> {
+pub fn push_ending(sheet: &Sheet, core: &Run) {
     let end = core.ended().unwrap_or(End::Listed);
     sheet.put(b"end ");
     sheet.add(end_word(end));
-    let threads = threads_of(sheet.alloc, core.kernel().store())?;
-    for thread in threads.as_slice() {
-        push_thread(sheet, thread, end);
-    }
-    if !matches!(end, End::Budget) {
+    let is_cut = matches!(end, End::Budget);
+    push_threads(sheet, core.kernel().store(), is_cut);
+    if !is_cut {
         for (_, service) in core.services() {
             push_out(sheet, service);
         }
     }
-    push_jobs(sheet, core);
-    Ok(())
+    push_jobs(sheet, core.jobs());
 }

@@ -1,5 +1,4 @@
 //! The kinds of ends that came, and which of them is sought.
-use fk_model::NoMemory;
 use lens_text::Sheet;
 use std::alloc::Global;
 
@@ -22,9 +21,10 @@ pub enum Until<'a> {
     Text(&'a str),
 }
 
-/// What a word says of when a hunt stops.
+/// What a word says of when a hunt stops, an empty one where none was given.
 pub fn until_of(word: &str) -> Until<'_> {
     match word {
+        "" => Until::Never,
         "quiet" => Until::Quiet,
         "fault" => Until::Fault,
         _ => Until::Text(word),
@@ -97,28 +97,26 @@ impl Kinds {
         }
     }
 
-    /// Counts the end of the schedule with this number.
-    ///
-    /// # Errors
-    ///
-    /// There is no memory.
-    pub fn count(&mut self, line: String, number: u64) -> Result<(), NoMemory> {
+    /// Counts the end of the schedule with this number. Where there is no memory for that, the sheet notes it.
+    pub fn count(&mut self, sheet: &Sheet, line: String, number: u64) {
         for kind in &mut self.list {
             if kind.line.as_str() == line.as_str() {
                 kind.count = kind.count.saturating_add(1);
-                return Ok(());
+                return;
             }
         }
         if self.list.len() >= MOST {
             self.further = self.further.saturating_add(1);
-            return Ok(());
+            return;
         }
-        self.list.push(Kind {
+        let kind = Kind {
             line,
             count: 1,
             first: number,
-        })?;
-        Ok(())
+        };
+        if self.list.push(kind).is_err() {
+            sheet.lacks();
+        }
     }
 
     /// The number of the first schedule of the kind that came least often, the first of these; 0 where none came.

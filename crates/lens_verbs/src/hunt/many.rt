@@ -1,154 +1,103 @@
 //! Many schedules of one scenario.
-ghost use Rattle.std.specs.Prelude.{map};
-ghost use Rattle.fk_core.specs.Cores.Goings.{IsGoing};
-ghost use Rattle.fk_core.specs.Cores.Served.{AllFit};
-ghost use Rattle.fk_scenario.specs.Scenario.Kept.{KeepsScenario, HasRules};
+ghost use Rattle.std.specs.Prelude.{⊤};
 
 use crate::hunt::drawing::Run;
 use crate::hunt::ends::push_ending;
-use crate::hunt::kinds::{Kinds, Until};
+use crate::hunt::kinds::{Kinds, Until, until_of};
 use crate::hunt::lottery::Lottery;
 use crate::hunt::runs::run_by;
-use fk_finish::ValidImage;
-use fk_first::first_core;
-use fk_model::{Move, NoMemory};
+use fk_first::Player;
+use fk_model::Move;
 use fk_responders::Table;
 use fk_scenario::Scenario;
 use fk_trace_text::trace_text;
-use lens_text::Sheet;
-use std::alloc::Global;
+use lens_text::{Asked, Problem, Sheet};
 
-/// What is hunted for: in how many schedules, the number of the first of them, and with which end the hunt stops.
-#[derive(Clone, Copy)]
-pub struct Hunt<'a> {
-    pub count: u64,
-    pub first: u64,
-    pub until: Until<'a>,
-}
-
-/// What was found: the trace of a schedule, if any, and the lines of the ends that came.
+/// Runs a scenario by many schedules, one from each core that it is lent, up to the first one with the end that is sought. Where none is sought, the
+/// trace of the kind of ends that came least often is wanted: its first schedule is made again for that, so that no other has to be kept.
 #[derive(Drop)]
-pub struct Found {
-    pub trace: Option<String>,
-    pub lines: String,
+pub struct Hunter<'a> {
+    sheet: &'a Sheet,
+    asked: Asked<'a>,
+    until: Until<'a>,
+    lottery: Lottery<'a>,
+    /// The ends that came.
+    kinds: Kinds,
+    /// How many schedules were run.
+    done: u64,
+    /// The number of the schedule whose trace is wanted, once that is known.
+    found: Option<u64>,
+    /// The moves of the last schedule.
+    moves: Vec<Move>,
 }
 
-/// How a run has ended, in a line.
-fn ending_of(alloc: Global, core: &Run) -> Result<String, NoMemory> {
-    let sheet = Sheet::new(alloc);
-    push_ending(&sheet, core)?;
-    if sheet.problem().is_some() {
-        return Err(NoMemory);
-    }
-    let whole = Sheet::new(alloc);
-    Ok(whole.taken(sheet))
-}
-
-/// Makes the moves of the schedule with a number from a core on, and adds them to the list.
-fn draw_all(
-    alloc: Global,
-    core: &mut Run,
-    table: &Table,
-    number: u64,
-    moves: &mut Vec<Move>,
-) -> Result<(), NoMemory>
-    requires fits { AllFit (map (λ r. r.rule) table.now.list.items) core.old.services.list }
-    requires come { IsGoing core.old }
-{
-    let mut lottery = Lottery::new(alloc, number);
-    run_by(core, table, &mut lottery, moves)
-}
-
-/// Makes these moves, and gives how that ends, in a line.
-fn end_from(
-    alloc: Global,
-    core: &mut Run,
-    table: &Table,
-    number: u64,
-    moves: &mut Vec<Move>,
-) -> Result<String, NoMemory>
-    requires fits { AllFit (map (λ r. r.rule) table.now.list.items) core.old.services.list }
-    requires come { IsGoing core.old }
-{
-    draw_all(alloc, core, table, number, moves)?;
-    ending_of(alloc, core)
-}
-
-/// Runs a scenario by the schedule with a number, and gives how that ends, in a line; the moves that it made are added to the list.
-fn end_by(
-    alloc: Global,
-    table: &Table,
-    scenario: &Scenario,
-    images: &[Option<ValidImage>],
-    number: u64,
-    moves: &mut Vec<Move>,
-) -> Result<String, NoMemory>
-    requires keeps { KeepsScenario scenario.now }
-    requires rules { HasRules (map (λ r. r.rule) table.now.list.items) scenario.now }
-{
-    let mut core = first_core(alloc, scenario, images)?;
-    end_from(alloc, &mut core, table, number, moves)
-}
-
-/// Runs the schedules of a hunt, counts their ends, and gives the number of the one that was sought, if it came.
-fn sought(
-    alloc: Global,
-    table: &Table,
-    scenario: &Scenario,
-    images: &[Option<ValidImage>],
-    hunt: Hunt<'_>,
-    kinds: &mut Kinds,
-) -> Result<Option<u64>, NoMemory>
-    requires keeps { KeepsScenario scenario.now }
-    requires rules { HasRules (map (λ r. r.rule) table.now.list.items) scenario.now }
-{
-    let mut moves = Vec::new(alloc);
-    for place in 0..hunt.count {
-        let number = hunt.first.wrapping_add(place);
-        moves.clear();
-        let line = end_by(alloc, table, scenario, images, number, &mut moves)?;
-        let is_met = hunt.until.is_met(line.as_str());
-        kinds.count(line, number)?;
-        if is_met {
-            return Ok(Some(number));
+impl<'a> Hunter<'a> {
+    /// It has run none yet.
+    pub fn new(sheet: &'a Sheet, asked: Asked<'a>) -> Hunter<'a> {
+        Hunter {
+            sheet,
+            asked,
+            until: until_of(asked.name),
+            lottery: Lottery::new(sheet),
+            kinds: Kinds::new(sheet.alloc),
+            done: 0,
+            found: None,
+            moves: Vec::new(sheet.alloc),
         }
     }
-    match hunt.until {
-        Until::Never => Ok(Some(kinds.rarest())),
-        _ => Ok(None),
+
+    /// Counts how the schedule with a number has ended, and answers whether another is to be run.
+    fn count_end(&mut self, core: &Run, number: u64) -> bool {
+        let line = Sheet::new(self.sheet.alloc);
+        push_ending(&line, core);
+        let line = self.sheet.taken(line);
+        let is_met = self.until.is_met(line.as_str());
+        self.kinds.count(self.sheet, line, number);
+        self.done = self.done.saturating_add(1);
+        let is_last = self.done >= self.asked.end;
+        if is_met {
+            self.found = Some(number);
+        } else if is_last && matches!(self.until, Until::Never) {
+            self.found = Some(self.kinds.rarest());
+        }
+        !is_met && (!is_last || self.found.is_some())
+    }
+
+    /// Shows the trace that was found, and says which ends came; or says that it wasn't found.
+    pub fn show(&self) {
+        let sheet = self.sheet;
+        let Some(number) = self.found else {
+            sheet.fill(b"none of @ schedules ends ", self.asked.end, 0, 0);
+            self.until.push(sheet);
+            return sheet.fails(Problem::Given);
+        };
+        if self.moves.is_empty() {
+            sheet.put(b"standard input: expected a thread or a job that can move");
+            return sheet.fails(Problem::Given);
+        }
+        match trace_text(sheet.alloc, &self.moves) {
+            Ok(trace) => sheet.add(trace.as_str()),
+            Err(_) => sheet.lacks(),
+        }
+        let lines = Sheet::new(sheet.alloc);
+        self.kinds.push(&lines);
+        lines.fill(b"the trace is that by seed @\n", number, 0, 0);
+        sheet.say_beside(sheet.taken(lines));
     }
 }
 
-/// Runs a scenario by many schedules, and gives the trace of the first one with the end that is sought, or, where none is sought, of the kind of ends
-/// that came least often; and the ends that came, a line each. A schedule is made again for its trace, so that none has to be kept.
-///
-/// # Errors
-///
-/// There is no memory.
-pub fn hunt_all(
-    alloc: Global,
-    table: &Table,
-    scenario: &Scenario,
-    images: &[Option<ValidImage>],
-    hunt: Hunt<'_>,
-) -> Result<Found, NoMemory>
-    requires keeps { KeepsScenario scenario.now }
-    requires rules { HasRules (map (λ r. r.rule) table.now.list.items) scenario.now }
-{
-    let mut kinds = Kinds::new(alloc);
-    let mut trace = None;
-    let found = sought(alloc, table, scenario, images, hunt, &mut kinds)?;
-    let sheet = Sheet::new(alloc);
-    kinds.push(&sheet);
-    if let Some(number) = found {
-        let mut moves = Vec::new(alloc);
-        end_by(alloc, table, scenario, images, number, &mut moves)?;
-        trace = Some(trace_text(alloc, &moves)?);
-        sheet.fill(b"the trace is that by seed @\n", number, 0, 0);
+impl Player for Hunter<'_> {
+    ghost plays = { λ _ _ _ _. ⊤ };
+
+    fn play(&mut self, table: &Table, _scenario: &Scenario, core: &mut Run) -> bool {
+        let number = match self.found {
+            Some(number) => number,
+            None => self.asked.first.wrapping_add(self.done),
+        };
+        self.moves.clear();
+        self.lottery.begin(number);
+        run_by(core, table, &mut self.lottery, &mut self.moves);
+        let is_more = self.found.is_none() && self.count_end(core, number);
+        is_more && self.sheet.problem().is_none()
     }
-    let lines = Sheet::new(alloc);
-    Ok(Found {
-        trace,
-        lines: lines.taken(sheet),
-    })
 }

@@ -1,5 +1,5 @@
 //! Why a job is dead, finds its slot taken, or has no image.
-use crate::jobs::names::{end_at, push_space, site_of, slot_of};
+use crate::jobs::names::{ending_word, fate_of, push_space, site_of, slot_of};
 use fk_jobs::{Jobs, Plan, Source, Task};
 use fk_porters::Porter;
 use fk_store::Store;
@@ -39,7 +39,7 @@ pub fn push_noimage(sheet: &Sheet, jobs: &Jobs<Porter>, plan: &Plan) {
                 0,
                 0,
             );
-            sheet.add(end_at(jobs, *maker));
+            sheet.add(ending_word(fate_of(jobs, *maker).ending));
         }
         _ => sheet.put(b"there is no image"),
     }

@@ -1,72 +1,39 @@
 //! The lines of jobs that have failed.
 use crate::jobs::dead::{push_dead, push_noimage, push_slot};
 use crate::jobs::foreign::push_foreign;
-use crate::jobs::names::{end_word, push_job};
+use crate::jobs::names::{Ending, ending_word, fate_of, push_job};
 use crate::jobs::noport::push_noport;
-use fk_finish::Finish;
-use fk_jobs::{Ended, Jobs, Plan};
+use fk_jobs::Jobs;
 use fk_porters::Porter;
 use fk_store::Store;
 use lens_text::Sheet;
-
-/// Adds why a job has ended as it has by its own moves.
-fn push_finish(sheet: &Sheet, store: &Store, jobs: &Jobs<Porter>, plan: &Plan, finish: &Finish) {
-    match finish {
-        Finish::Image(_) | Finish::Restored => {}
-        Finish::Foreign(place) => push_foreign(sheet, store, plan, place),
-        Finish::Dead => push_dead(sheet, store, plan, true),
-        Finish::Occupied => {
-            push_slot(sheet, store, plan);
-            sheet.put(b", where the new space was to be made");
-        }
-        Finish::NoPort(port) => push_noport(sheet, store, jobs, plan, *port),
-    }
-}
-
-/// Adds why a job has failed.
-fn push_cause(
-    sheet: &Sheet,
-    store: &Store,
-    jobs: &Jobs<Porter>,
-    plan: &Plan,
-    ended: &Ended<Porter>,
-) {
-    match ended {
-        Ended::Worked {
-            worker,
-            begun,
-            last,
-        } => {
-            sheet.fill(b", moves @ to @: ", *begun, *last, 0);
-            if let Some(finish) = worker.end() {
-                push_finish(sheet, store, jobs, plan, finish);
-            }
-        }
-        Ended::NoImage => {
-            sheet.put(b": ");
-            push_noimage(sheet, jobs, plan);
-        }
-        Ended::Dead => {
-            sheet.put(b": ");
-            push_dead(sheet, store, plan, false);
-        }
-    }
-}
 
 /// Adds the line of the job with a number, where it has failed: how, by which moves, and why, by what stands there as its last move was made.
 pub fn push_failed(sheet: &Sheet, store: &Store, jobs: &Jobs<Porter>, number: usize) {
     let Some(plan) = jobs.plans().get(number) else {
         return;
     };
-    let Some(ended) = jobs.ends().get(number) else {
-        return;
-    };
-    let word = end_word(ended);
-    if word == "done" {
-        return;
+    let fate = fate_of(jobs, number);
+    match fate.ending {
+        Ending::Waiting | Ending::Done => return,
+        _ => {}
     }
     push_job(sheet, store, number, plan);
-    sheet.put_around(b": ", word, b"");
-    push_cause(sheet, store, jobs, plan, ended);
+    sheet.put_around(b": ", ending_word(fate.ending), b"");
+    match fate.moves {
+        Some((begun, last)) => sheet.fill(b", moves @ to @: ", begun, last, 0),
+        None => sheet.put(b": "),
+    }
+    match fate.ending {
+        Ending::Foreign(place) => push_foreign(sheet, store, plan, place),
+        Ending::Dead => push_dead(sheet, store, plan, fate.moves.is_some()),
+        Ending::Occupied => {
+            push_slot(sheet, store, plan);
+            sheet.put(b", where the new space was to be made");
+        }
+        Ending::NoPort(port) => push_noport(sheet, store, jobs, plan, port),
+        Ending::NoImage => push_noimage(sheet, jobs, plan),
+        _ => {}
+    }
     sheet.put(b"\n");
 }

@@ -36,19 +36,6 @@ fn lies_in(store: &Store, top: Who, who: Who) -> bool {
     false
 }
 
-/// By what a thread leads to an object, if it does.
-fn thread_leads(thread: &Thread, who: Who) -> Option<&'static str> {
-    if let Some(talk) = &thread.talk {
-        if talk.port == who {
-            return Some("the talk of ");
-        }
-    }
-    match &thread.fault {
-        Some(fault) if fault.port == who => Some("the fault of "),
-        _ => None,
-    }
-}
-
 /// By what an object leads to another, if it does.
 fn leads(body: &Body, who: Who) -> Option<&'static str> {
     let (to, word) = match *body {
@@ -59,7 +46,14 @@ fn leads(body: &Body, who: Who) -> Option<&'static str> {
             holder: Some(holder),
             ..
         } => (Ptr::At(holder), "the hold of its thread on "),
-        Body::Thread(ref thread) => return thread_leads(thread, who),
+        Body::Thread(Thread {
+            talk: Some(ref talk),
+            ..
+        }) if talk.port == who => (Ptr::At(who), "the talk of "),
+        Body::Thread(Thread {
+            fault: Some(ref fault),
+            ..
+        }) => (Ptr::At(fault.port), "the fault of "),
         _ => return None,
     };
     match to {
@@ -106,21 +100,15 @@ fn led_by(body: &Body, field: u8) -> Option<Who> {
         } => Some(to),
         Body::Reference { to: Ptr::At(to) } => Some(to),
         Body::Space { holder, .. } => holder,
-        Body::Thread(ref thread) if field == 0 => Some(thread.talk?.port),
-        Body::Thread(ref thread) => Some(thread.fault?.port),
+        Body::Thread(Thread {
+            talk: Some(ref talk),
+            ..
+        }) if field == 0 => Some(talk.port),
+        Body::Thread(Thread {
+            fault: Some(ref fault),
+            ..
+        }) if field > 0 => Some(fault.port),
         _ => None,
-    }
-}
-
-/// Adds by which of its pointers an object leads, by its field.
-fn push_field(sheet: &Sheet, body: &Body, field: u8) {
-    sheet.put_around(b", ", kind_word(body), b", ");
-    match body {
-        Body::Region { .. } => sheet.put(b"has its keeper at "),
-        Body::Space { .. } => sheet.put(b"is held by "),
-        Body::Thread(_) if field == 0 => sheet.put(b"has its talk at "),
-        Body::Thread(_) => sheet.put(b"has its fault at "),
-        _ => sheet.put(b"leads to "),
     }
 }
 
@@ -130,7 +118,14 @@ fn push_led(sheet: &Sheet, store: &Store, plan: &Plan, who: Who, field: u8) {
     let Some(body) = store.at(who) else {
         return;
     };
-    push_field(sheet, body, field);
+    sheet.put_around(b", ", kind_word(body), b", ");
+    match body {
+        Body::Region { .. } => sheet.put(b"has its keeper at "),
+        Body::Space { .. } => sheet.put(b"is held by "),
+        Body::Thread(_) if field == 0 => sheet.put(b"has its talk at "),
+        Body::Thread(_) => sheet.put(b"has its fault at "),
+        _ => sheet.put(b"leads to "),
+    }
     if let Some(to) = led_by(body, field) {
         push_path(sheet, store, to);
     }

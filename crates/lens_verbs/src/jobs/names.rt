@@ -1,5 +1,5 @@
 //! Jobs, nesters and how jobs have ended, by words.
-use fk_finish::Finish;
+use fk_finish::{Finish, Place};
 use fk_jobs::{Ended, Jobs, Plan, Task};
 use fk_model::Who;
 use fk_porters::Porter;
@@ -43,30 +43,66 @@ pub fn push_job(sheet: &Sheet, store: &Store, number: usize, plan: &Plan) {
     push_space(sheet, store, plan.nester);
 }
 
-/// How a job has ended by its own moves, by the report's word.
-fn finish_word(finish: Option<&Finish>) -> &'static str {
-    match finish {
-        Some(Finish::Image(_) | Finish::Restored) => "done",
-        Some(Finish::Foreign(_)) => "foreign",
-        Some(Finish::Occupied) => "occupied",
-        Some(Finish::NoPort(_)) => "noport",
-        Some(Finish::Dead) | None => "dead",
+/// How a job has ended, if it has.
+#[derive(Clone, Copy)]
+pub enum Ending<'a> {
+    Waiting,
+    Done,
+    Foreign(&'a Place),
+    Dead,
+    Occupied,
+    NoPort(u8),
+    NoImage,
+}
+
+/// What has become of a job: how it has ended, and its first and its last move, where it has made any and has ended.
+#[derive(Clone, Copy)]
+pub struct Fate<'a> {
+    pub ending: Ending<'a>,
+    pub moves: Option<(u64, u64)>,
+}
+
+/// What has become of the job with this number. Who only asks this needs to know nothing of how jobs work.
+pub fn fate_of<'a>(jobs: &'a Jobs<Porter>, number: usize) -> Fate<'a> {
+    match jobs.ends().get(number) {
+        Some(Ended::Worked {
+            worker,
+            begun,
+            last,
+        }) => Fate {
+            ending: match worker.end() {
+                Some(Finish::Image(_) | Finish::Restored) => Ending::Done,
+                Some(Finish::Foreign(place)) => Ending::Foreign(place),
+                Some(Finish::Occupied) => Ending::Occupied,
+                Some(Finish::NoPort(port)) => Ending::NoPort(*port),
+                Some(Finish::Dead) | None => Ending::Dead,
+            },
+            moves: Some((*begun, *last)),
+        },
+        Some(Ended::NoImage) => Fate {
+            ending: Ending::NoImage,
+            moves: None,
+        },
+        Some(Ended::Dead) => Fate {
+            ending: Ending::Dead,
+            moves: None,
+        },
+        None => Fate {
+            ending: Ending::Waiting,
+            moves: None,
+        },
     }
 }
 
 /// How a job has ended, by the report's word.
-pub fn end_word(ended: &Ended<Porter>) -> &'static str {
-    match ended {
-        Ended::Worked { worker, .. } => finish_word(worker.end()),
-        Ended::NoImage => "noimage",
-        Ended::Dead => "dead",
-    }
-}
-
-/// How the job with this number has ended, by the report's word, if it has ended.
-pub fn end_at(jobs: &Jobs<Porter>, number: usize) -> &'static str {
-    match jobs.ends().get(number) {
-        Some(ended) => end_word(ended),
-        None => "waiting",
+pub fn ending_word(ending: Ending<'_>) -> &'static str {
+    match ending {
+        Ending::Waiting => "waiting",
+        Ending::Done => "done",
+        Ending::Foreign(_) => "foreign",
+        Ending::Dead => "dead",
+        Ending::Occupied => "occupied",
+        Ending::NoPort(_) => "noport",
+        Ending::NoImage => "noimage",
     }
 }

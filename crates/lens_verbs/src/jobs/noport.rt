@@ -67,26 +67,21 @@ fn bound(pairs: &[(u8, u8)], slot: u8) -> u8 {
     slot
 }
 
-/// Adds what a slot of the image is bound to, and what stands there.
-fn push_bound(sheet: &Sheet, store: &Store, plan: &Plan, pairs: &[(u8, u8)], slot: u8) {
-    let stands = bound(pairs, slot);
-    let who = Who {
-        space: plan.nester,
-        slot: stands,
-    };
-    sheet.fill(b", for which slot @ of ", stands as u64, 0, 0);
-    push_space(sheet, store, plan.nester);
-    sheet.put(b" stands, which is ");
-    push_held_there(sheet, store, store.at(who));
-}
-
-/// Adds the slots of the nester to which an image leads out, each with the first object that does.
+/// Adds the slots of the nester to which an image leads out, each with the first object that does, and with what it is bound to and what stands there.
 fn push_outs(sheet: &Sheet, store: &Store, plan: &Plan, pairs: &[(u8, u8)], spaces: &[SpaceRec]) {
     for slot in 0..240u8 {
         if let Some(path) = first_out(sheet, spaces, slot) {
             sheet.fill(b"; it leads out to slot @ by ", slot as u64, 0, 0);
             sheet.add(path.as_str());
-            push_bound(sheet, store, plan, pairs, slot);
+            let stands = bound(pairs, slot);
+            sheet.fill(b", for which slot @ of ", stands as u64, 0, 0);
+            push_space(sheet, store, plan.nester);
+            sheet.put(b" stands, which is ");
+            let who = Who {
+                space: plan.nester,
+                slot: stands,
+            };
+            push_held_there(sheet, store, store.at(who));
         }
     }
 }
@@ -111,8 +106,8 @@ fn image_of<'a>(jobs: &'a Jobs<Porter>, source: &'a Source) -> Option<&'a ValidI
     match source {
         Source::Given(Some(image)) => Some(image),
         Source::Given(None) => None,
-        Source::MadeBy(maker) => match jobs.ends().get(*maker)? {
-            Ended::Worked { worker, .. } => worker.image(),
+        Source::MadeBy(maker) => match jobs.ends().get(*maker) {
+            Some(Ended::Worked { worker, .. }) => worker.image(),
             _ => None,
         },
     }

@@ -1,8 +1,9 @@
 //! The line of the job whose turn it is.
 use crate::jobs::names::push_job;
 use fk_first::Seen;
-use fk_jobs::Plan;
+use fk_jobs::Jobs;
 use fk_model::{Body, Who};
+use fk_porters::Porter;
 use fk_store::Store;
 use lens_text::{Sheet, push_asked, push_between};
 
@@ -34,8 +35,19 @@ fn push_held(sheet: &Sheet, store: &Store, porter: Who) {
     }
 }
 
-/// Adds since when the job whose turn it is has been at work, what it holds, and which call comes next; or when it begins.
-fn push_turn(sheet: &Sheet, seen: &Seen<'_>, plan: &Plan, begun: Option<u64>) {
+/// Adds the line of the job whose turn it is: since when it has been at work, or when it begins, what it holds, which call comes next, and how many come
+/// behind it.
+pub fn push_resting(
+    sheet: &Sheet,
+    seen: &Seen<'_>,
+    jobs: &Jobs<Porter>,
+    begun: Option<u64>,
+) {
+    let number = jobs.ends().len();
+    let Some(plan) = jobs.plans().get(number) else {
+        return;
+    };
+    push_job(sheet, seen.store, number, plan);
     match begun {
         Some(begun) => sheet.fill(b": at work since move @", begun, 0, 0),
         None => {
@@ -43,27 +55,13 @@ fn push_turn(sheet: &Sheet, seen: &Seen<'_>, plan: &Plan, begun: Option<u64>) {
             sheet.fill(form, plan.at, 0, 0);
         }
     }
-    if let Some(job) = &seen.job {
+    if let Some(job) = seen.job {
         push_held(sheet, seen.store, job.porter);
         sheet.put(b"; its next call is ");
         push_asked(sheet, &job.stage);
     }
-}
-
-/// Adds the line of the job whose turn it is, which has been at work since a move or hasn't begun, and how many come behind it.
-pub fn push_resting(sheet: &Sheet, seen: &Seen<'_>, begun: Option<u64>) {
-    let number = seen.jobs.ends().len();
-    let Some(plan) = seen.jobs.plans().get(number) else {
-        return;
-    };
-    push_job(sheet, seen.store, number, plan);
-    push_turn(sheet, seen, plan, begun);
-    let behind = seen
-        .jobs
-        .plans()
-        .len()
-        .saturating_sub(number)
-        .saturating_sub(1);
+    let count = jobs.plans().len();
+    let behind = count.saturating_sub(number).saturating_sub(1);
     if behind > 0 {
         sheet.fill(b"; jobs behind it that wait for it: @", behind as u64, 0, 0);
     }

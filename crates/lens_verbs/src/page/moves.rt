@@ -1,9 +1,12 @@
 //! The page's data, move by move.
 use crate::page::changes::{Known, push_objects};
 use crate::page::template::{HEAD, SCRIPT};
+use crate::shows::Shows;
 use crate::steps::Steps;
-use fk_first::{Seen, Stop};
+use fk_first::{Ready, Seen, Stop};
+use fk_jobs::Jobs;
 use fk_model::{Move, Who};
+use fk_porters::Porter;
 use lens_text::{Scene, Sheet, push_home};
 use std::collections::BTreeMap;
 
@@ -11,7 +14,7 @@ use std::collections::BTreeMap;
 #[derive(Drop)]
 pub struct Page {
     /// A line a move.
-    pub steps: Steps,
+    steps: Steps,
     known: Known,
     /// The names of all that is known, in the order in which it was found.
     names: Vec<Who>,
@@ -22,9 +25,9 @@ impl Page {
     pub fn new(sheet: &Sheet, name: &str) -> Page {
         sheet.put_bytes(HEAD);
         sheet.add(name);
-        sheet.put(b"\n");
+        sheet.put(b"\nfluke-trace 1\n");
         Page {
-            steps: Steps::new(sheet, 0),
+            steps: Steps::new(sheet.alloc, 0),
             known: BTreeMap::new(sheet.alloc),
             names: Vec::new(sheet.alloc),
         }
@@ -53,15 +56,36 @@ impl Page {
         }
         push_objects(sheet, &mut self.known, scene, &self.names);
     }
+}
 
-    /// It sees what stands before a move, and adds what the one before has changed.
-    pub fn before(&mut self, sheet: &Sheet, seen: Seen<'_>, scene: Scene<'_>, one: &Move) {
+impl Shows for Page {
+    /// It adds what the move before has changed.
+    fn before(&mut self, sheet: &Sheet, seen: &Seen<'_>, scene: Scene<'_>, one: &Move) {
         self.push_changes(sheet, scene);
         self.steps.before(sheet, seen, scene, one);
     }
 
-    /// It sees what stands where the run stops, adds what the last move has changed, and says why no further one was made.
-    pub fn stops(&mut self, sheet: &Sheet, scene: Scene<'_>, stop: Stop) {
+    fn after(
+        &mut self,
+        sheet: &Sheet,
+        seen: &Seen<'_>,
+        _jobs: &Jobs<Porter>,
+        _scene: Scene<'_>,
+        one: &Move,
+    ) {
+        self.steps.after(sheet, seen, one);
+    }
+
+    /// It adds what the last move has changed, and says why no further one was made.
+    fn stops(
+        &mut self,
+        sheet: &Sheet,
+        _seen: &Seen<'_>,
+        _jobs: &Jobs<Porter>,
+        scene: Scene<'_>,
+        _ready: &Ready,
+        stop: Stop,
+    ) {
         self.push_changes(sheet, scene);
         match stop {
             Stop::Unready { .. } => sheet.put(b"the trace goes on with a move that isn't ready"),

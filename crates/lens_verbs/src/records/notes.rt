@@ -7,11 +7,15 @@ use lens_text::word_at;
 
 /// That the server of a port has a client now: whose turn it is, and how many words have moved in that.
 fn taken(store: &Store, port: Who) -> Option<Note> {
-    let talk = store.thread(store.client_at(port)?)?.talk?;
-    Some(Note::Taken {
-        turn: talk.turn,
-        moved: talk.moved,
-    })
+    if let Some(client) = store.client_at(port) {
+        if let Some(Thread { talk: Some(talk), .. }) = store.thread(client) {
+            return Some(Note::Taken {
+                turn: talk.turn,
+                moved: talk.moved,
+            });
+        }
+    }
+    None
 }
 
 /// What the server of a port notes where it stands on another side of a talk than before: a client that it takes, one that hands over, the end of the
@@ -34,14 +38,13 @@ pub fn turned(store: &Store, port: Who, was: Side, is: Side) -> Option<Note> {
     }
 }
 
-/// Whether a server has computed a reply: its own turn has begun.
-pub fn has_replied(was: Side, is: Side) -> bool {
-    matches!(is, Side::Own) && !matches!(was, Side::Own)
-}
-
 /// The words that a thread has sent by a move, which was at this before; none where it has sent none.
 pub fn said(store: &Store, who: Who, before: &Thread) -> Option<Note> {
-    let count = before.regs[3].saturating_sub(store.thread(who)?.regs[3]);
+    let left = match store.thread(who) {
+        Some(thread) => thread.regs[3],
+        None => return None,
+    };
+    let count = before.regs[3].saturating_sub(left);
     if count == 0 {
         return None;
     }
@@ -51,7 +54,10 @@ pub fn said(store: &Store, who: Who, before: &Thread) -> Option<Note> {
     };
     for place in 0..count.min(64) {
         let address = before.regs[2].saturating_add(place);
-        append(&mut words, &[word_at(store, who.space, address)?]);
+        let Some(word) = word_at(store, who.space, address) else {
+            return None;
+        };
+        append(&mut words, &[word]);
     }
     Some(Note::Said(words))
 }

@@ -1,18 +1,16 @@
 //! What a run makes its native servers note.
-use crate::records::notes::{has_replied, said, turned};
-use crate::shows::scene_of;
-use crate::steps::Steps;
-use fk_first::{Ready, Seen, Stop, Watcher};
-use fk_model::{Move, NoMemory, Who};
+use crate::records::notes::{said, turned};
+use crate::steps::{Keeps, Steps};
+use fk_first::Seen;
+use fk_model::{Move, Who};
 use fk_natives::{Native, Server, Side};
 use fk_responders::Note;
 use fk_scenario::entries::{ServerEntry, ServiceSpec};
-use lens_text::{Noted, Programs, Sheet, parted};
+use lens_text::{Noted, Sheet, parted};
 
-/// A native server behind a move: its place among those that are no consoles, its port, and whose turn it was before the move.
+/// A native server behind a move: its port, and whose turn it was before the move.
 #[derive(Clone, Copy)]
 struct At<'a> {
-    place: usize,
     port: Who,
     was: Side,
     server: &'a Server,
@@ -20,10 +18,7 @@ struct At<'a> {
 
 /// Keeps what a run makes its native servers note, each note with the move that made it.
 #[derive(Drop)]
-pub struct Noting<'a> {
-    sheet: &'a Sheet,
-    programs: Programs,
-    steps: Steps,
+pub struct Noting {
     /// Of each server that is no console, in the order of the file.
     pub noted: Vec<Noted>,
 }
@@ -37,111 +32,83 @@ fn path_of(sheet: &Sheet, slots: &[u8]) -> String {
     sheet.taken(path)
 }
 
-/// What is noted of servers that are no consoles, before anything is. Where there is no memory for it, the sheet notes that.
-fn noted_of(sheet: &Sheet, servers: &[ServerEntry]) -> Vec<Noted> {
-    let mut noted = Vec::new(sheet.alloc);
-    for server in servers {
-        if let ServiceSpec::Listed { .. } = server.service {
-            let one = Noted {
-                port: path_of(sheet, server.port.as_slice()),
-                lines: String::new(sheet.alloc),
-                has_replies: false,
-                has_words: false,
-            };
-            if noted.push(one).is_err() {
-                sheet.lacks();
+impl Noting {
+    /// It has seen no move yet of a scenario with these servers. Where there is no memory for what is noted of them, the sheet notes that.
+    pub fn new(sheet: &Sheet, servers: &[ServerEntry]) -> Noting {
+        let mut noted = Vec::new(sheet.alloc);
+        for server in servers {
+            if let ServiceSpec::Listed { .. } = server.service {
+                let one = Noted {
+                    port: path_of(sheet, server.port.as_slice()),
+                    lines: String::new(sheet.alloc),
+                    has_replies: false,
+                    has_words: false,
+                };
+                if noted.push(one).is_err() {
+                    sheet.lacks();
+                }
             }
         }
-    }
-    noted
-}
-
-impl<'a> Noting<'a> {
-    /// It has seen no move yet of a scenario with these programs and these servers.
-    pub fn new(sheet: &'a Sheet, programs: Programs, servers: &[ServerEntry]) -> Noting<'a> {
-        Noting {
-            sheet,
-            programs,
-            steps: Steps::new(&Sheet::new(sheet.alloc), 0),
-            noted: noted_of(sheet, servers),
-        }
-    }
-
-    /// Whose turn it was before the move for the native server with this index.
-    fn side_before(&self, index: usize) -> Side {
-        match self.steps.servers.get(index) {
-            Some(state) => state.side,
-            None => Side::Idle,
-        }
-    }
-
-    /// The words that the mover has sent to a port, if it has.
-    fn said_to(&self, seen: Seen<'_>, port: Who) -> Option<Note> {
-        if !self.steps.sends || self.steps.other != Some(port) {
-            return None;
-        }
-        let (who, before) = self.steps.kept.threads.first()?;
-        said(seen.store, *who, before)
-    }
-
-    /// Keeps a note that a move has made at a place, with the line of that move.
-    fn keep(
-        &mut self,
-        place: usize,
-        seen: Seen<'_>,
-        one: &Move,
-        note: &Note,
-    ) -> Result<(), NoMemory> {
-        let line = Sheet::new(self.sheet.alloc);
-        self.steps.after(&line, seen, one);
-        let line = self.sheet.taken(line);
-        match self.noted.get_mut(place) {
-            Some(noted) => noted.add(note, parted(line.as_str(), '\t').1),
-            None => Ok(()),
-        }
-    }
-
-    /// Keeps what a move has made a server note.
-    fn keep_all(&mut self, seen: Seen<'_>, one: &Move, at: At<'_>) -> Result<(), NoMemory> {
-        let is = at.server.side;
-        if let Some(note) = turned(seen.store, at.port, at.was, is) {
-            self.keep(at.place, seen, one, &note)?;
-        }
-        if let Some(note) = self.said_to(seen, at.port) {
-            self.keep(at.place, seen, one, &note)?;
-        }
-        if has_replied(at.was, is) {
-            self.keep(at.place, seen, one, &Note::Reply(at.server.left))?;
-        }
-        Ok(())
+        Noting { noted }
     }
 }
 
-impl Watcher for Noting<'_> {
-    fn before(&mut self, seen: Seen<'_>, one: &Move) -> Result<(), NoMemory> {
-        let scene = scene_of(&self.programs, seen);
-        self.steps.before(self.sheet, seen, scene, one);
-        Ok(())
+/// Keeps all that a move has made a server note: that it stands on another side than before, the words that the mover has sent there, the reply that it has
+/// computed where its own turn has begun.
+fn keep_all(
+    sheet: &Sheet,
+    noted: &mut Noted,
+    steps: &Steps,
+    seen: &Seen<'_>,
+    one: &Move,
+    at: At<'_>,
+) {
+    let is = at.server.side;
+    let turn = turned(seen.store, at.port, at.was, is);
+    let sent = match steps.kept.threads.first() {
+        Some((who, before)) if steps.sends && steps.other == Some(at.port) => {
+            said(seen.store, *who, before)
+        }
+        _ => None,
+    };
+    let has_replied = matches!(is, Side::Own) && !matches!(at.was, Side::Own);
+    if turn.is_none() && sent.is_none() && !has_replied {
+        return;
     }
+    let line = Sheet::new(sheet.alloc);
+    steps.after(&line, seen, one);
+    let line = sheet.taken(line);
+    let by = parted(line.as_str(), '\t').1;
+    if let Some(note) = turn {
+        noted.add(sheet, &note, by);
+    }
+    if let Some(note) = sent {
+        noted.add(sheet, &note, by);
+    }
+    if has_replied {
+        noted.add(sheet, &Note::Reply(at.server.left), by);
+    }
+}
 
-    fn after(&mut self, seen: Seen<'_>, one: &Move) -> Result<(), NoMemory> {
+impl Keeps for Noting {
+    fn keep(&mut self, sheet: &Sheet, steps: &Steps, seen: &Seen<'_>, one: &Move) {
         let mut place = 0usize;
-        for (index, (port, native)) in seen.services.iter().enumerate() {
-            if let Native::Server(server) = native {
-                let at = At {
-                    place,
-                    port: *port,
-                    was: self.side_before(index),
-                    server,
+        for index in 0..seen.services.len() {
+            if let Some((port, Native::Server(server))) = seen.services.get(index) {
+                let was = match steps.servers.get(index) {
+                    Some(state) => state.side,
+                    None => Side::Idle,
                 };
-                self.keep_all(seen, one, at)?;
+                if let Some(noted) = self.noted.get_mut(place) {
+                    let at = At {
+                        port: *port,
+                        was,
+                        server,
+                    };
+                    keep_all(sheet, noted, steps, seen, one, at);
+                }
                 place = place.saturating_add(1);
             }
         }
-        Ok(())
-    }
-
-    fn stops(&mut self, _seen: Seen<'_>, _ready: &Ready, _stop: Stop) -> Result<(), NoMemory> {
-        Ok(())
     }
 }

@@ -55,7 +55,7 @@ pub fn push_act(sheet: &Sheet, seen: &Seen<'_>, one: &Move) {
             },
             Mode::Calling => push_stage(sheet, seen.store, one, thread),
             Mode::Halted(_) => sheet.put(b"nothing, it has halted"),
-            Mode::Native => match &seen.job {
+            Mode::Native => match seen.job {
                 Some(job) if job.porter == one.who => push_asked(sheet, &job.stage),
                 _ => sheet.put(b"nothing, it isn't the turn of a job of it"),
             },

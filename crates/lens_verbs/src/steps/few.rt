@@ -7,10 +7,13 @@ use lens_text::{handled, next_stage};
 /// Whom a move may change, where these are few: the mover, its pick, another.
 pub type Few = [Who; 3];
 
-/// Whom a stage may change besides its pick and who makes it: the other side of a talk, the mutex that it names, or nobody else. None where it
-/// may change more.
-fn changed_by(store: &Store, who: Who, stage: &Stage) -> Option<Who> {
-    match *stage {
+/// Whom the stage that a thread makes next may change besides its pick and that thread: the other side of a talk, the mutex that it names, or nobody else.
+/// None where it may change more.
+fn changed_at(store: &Store, who: Who) -> Option<Who> {
+    let Some(stage) = next_stage(store, who) else {
+        return None;
+    };
+    match stage {
         // What is looked up or read changes the caller alone.
         Stage::Search { .. }
         | Stage::Locate { .. }
@@ -25,7 +28,7 @@ fn changed_by(store: &Store, who: Who, stage: &Stage) -> Option<Who> {
         | Stage::ClientOver
         | Stage::ServerReceive { .. }
         | Stage::ServerSend { .. }
-        | Stage::ServerOver => Some(other_side(store, who, stage).unwrap_or(who)),
+        | Stage::ServerOver => Some(other_side(store, who, &stage).unwrap_or(who)),
         Stage::MutexLock { m } | Stage::MutexTrylock { m } | Stage::MutexUnlock { m } => {
             Some(handled(store, who.space, m).unwrap_or(who))
         }
@@ -39,7 +42,10 @@ pub fn few_changed(store: &Store, one: &Move) -> Option<Few> {
     let other = match store.thread(who) {
         Some(thread) => match thread.mode {
             Mode::Running => who,
-            Mode::Calling => changed_by(store, who, &next_stage(store, who)?)?,
+            Mode::Calling => match changed_at(store, who) {
+                Some(other) => other,
+                None => return None,
+            },
             _ => return None,
         },
         // A native server acts.

@@ -3,6 +3,7 @@ use crate::steps::few::{Few, few_changed};
 use fk_model::{Move, Thread, Who};
 use fk_store::Store;
 use lens_text::Sheet;
+use std::alloc::Global;
 
 /// Threads as they were before a move.
 #[derive(Drop)]
@@ -15,10 +16,10 @@ pub struct Kept {
 
 impl Kept {
     /// Nothing is known yet.
-    pub fn new(sheet: &Sheet) -> Kept {
+    pub fn new(alloc: Global) -> Kept {
         Kept {
             few: None,
-            threads: Vec::new(sheet.alloc),
+            threads: Vec::new(alloc),
         }
     }
 

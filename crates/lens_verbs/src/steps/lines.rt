@@ -7,6 +7,7 @@ use crate::steps::sides::other_side;
 use fk_first::Seen;
 use fk_model::{Mode, Move, Stage, Who};
 use lens_text::{Scene, Sheet, next_stage, push_between, push_place};
+use std::alloc::Global;
 
 /// The label and the line at which a user thread is; nothing of anybody else.
 fn place_of(sheet: &Sheet, scene: Scene<'_>, who: Who) -> String {
@@ -40,22 +41,21 @@ pub struct Steps {
 }
 
 impl Steps {
-    /// It writes the first line of a trace, and then the moves from one on.
-    pub fn new(sheet: &Sheet, first: u64) -> Steps {
-        sheet.put(b"fluke-trace 1\n");
+    /// It knows of no move yet.
+    pub fn new(alloc: Global, first: u64) -> Steps {
         Steps {
             first,
-            head: String::new(sheet.alloc),
+            head: String::new(alloc),
             sends: false,
             other: None,
-            place: String::new(sheet.alloc),
-            kept: Kept::new(sheet),
-            servers: Vec::new(sheet.alloc),
+            place: String::new(alloc),
+            kept: Kept::new(alloc),
+            servers: Vec::new(alloc),
         }
     }
 
     /// It sees what stands before a move.
-    pub fn before(&mut self, sheet: &Sheet, seen: Seen<'_>, scene: Scene<'_>, one: &Move) {
+    pub fn before(&mut self, sheet: &Sheet, seen: &Seen<'_>, scene: Scene<'_>, one: &Move) {
         if seen.events < self.first {
             return;
         }
@@ -74,7 +74,7 @@ impl Steps {
             self.other = other_side(store, who, &stage);
         }
         if !self.sends {
-            push_act(&head, &seen, one);
+            push_act(&head, seen, one);
         }
         self.head = sheet.taken(head);
         self.kept.keep(sheet, store, one);
@@ -89,7 +89,7 @@ impl Steps {
 
     /// It sees what stands after that move, and writes its line where that is asked for: what was known before it, of a sender how many of
     /// its words went, how it ended, the registers that changed, the mover's first, what native servers were told, and at which label and line the mover was.
-    pub fn after(&self, sheet: &Sheet, seen: Seen<'_>, one: &Move) {
+    pub fn after(&self, sheet: &Sheet, seen: &Seen<'_>, one: &Move) {
         if seen.events <= self.first {
             return;
         }
@@ -109,9 +109,9 @@ impl Steps {
         }
         sheet.put(b"\t");
         let start = sheet.len();
-        for (place, (port, native)) in seen.services.iter().enumerate() {
-            if let Some(was) = self.servers.get(place) {
-                push_news(sheet, start, store, *port, native, was);
+        for place in 0..self.servers.len() {
+            if let Some((port, native)) = seen.services.get(place) {
+                push_news(sheet, start, store, *port, native, &self.servers[place]);
             }
         }
         sheet.put_around(b"\t", self.place.as_str(), b"\n");

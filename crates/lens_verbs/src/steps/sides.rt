@@ -3,17 +3,22 @@ use fk_model::{Peer, Stage, Talk, Thread, Who};
 use fk_store::Store;
 
 /// The talk that a thread has as a client.
-fn talk_of(store: &Store, client: Who) -> Option<Talk> {
-    store.thread(client)?.talk
+pub fn talk_of(store: &Store, client: Who) -> Option<Talk> {
+    match store.thread(client) {
+        Some(thread) => thread.talk,
+        None => None,
+    }
 }
 
 /// Who serves a thread's talk: a thread, or the port of a native server.
 fn server_of(store: &Store, client: Who) -> Option<Who> {
-    let talk = talk_of(store, client)?;
-    match talk.peer {
-        Peer::Thread(server) => Some(server),
-        Peer::Service => Some(talk.port),
-        Peer::Parked => None,
+    match talk_of(store, client) {
+        Some(talk) => match talk.peer {
+            Peer::Thread(server) => Some(server),
+            Peer::Service => Some(talk.port),
+            Peer::Parked => None,
+        },
+        None => None,
     }
 }
 
@@ -40,10 +45,26 @@ pub fn other_side(store: &Store, who: Who, stage: &Stage) -> Option<Who> {
 
 /// The port of what a stage ends: a talk, or a fault.
 pub fn ended_port(store: &Store, who: Who, stage: &Stage) -> Option<Who> {
-    match stage {
-        Stage::Disconnect => Some(talk_of(store, who)?.port),
-        Stage::ServerEnd => Some(talk_of(store, store.client_of(who)?)?.port),
-        Stage::FaultDone => Some(store.thread(store.faulter_of(who)?)?.fault?.port),
+    let ended = match stage {
+        Stage::Disconnect => Some(who),
+        Stage::ServerEnd => store.client_of(who),
+        Stage::FaultDone => store.faulter_of(who),
         _ => None,
+    };
+    let Some(one) = ended else {
+        return None;
+    };
+    let Some(thread) = store.thread(one) else {
+        return None;
+    };
+    match stage {
+        Stage::FaultDone => match &thread.fault {
+            Some(fault) => Some(fault.port),
+            None => None,
+        },
+        _ => match &thread.talk {
+            Some(talk) => Some(talk.port),
+            None => None,
+        },
     }
 }

@@ -1,64 +1,45 @@
 //! Threads that wait for each other in a ring.
-use crate::sums::waits::{push_before, push_behind, wait_of};
+use crate::sums::waits::{Cause, push_before, wait_of};
 use crate::why::{Known, push_place};
 use fk_first::Ready;
 use fk_model::Who;
 use lens_text::{Sheet, push_path};
 use std::collections::BTreeSet;
 
-/// The threads of the cycle in which a thread waits, that one first; none where it waits in none. Where there is no memory for them, the sheet
-/// notes that.
-fn cycle_of(sheet: &Sheet, known: Known<'_, '_>, ready: &Ready, who: Who) -> Vec<Who> {
-    let mut members = Vec::new(sheet.alloc);
-    let mut met = BTreeSet::new(sheet.alloc);
-    let mut next = who;
+/// Whether a thread waits in a cycle. Who is waited for is followed; a cycle that it isn't in is found by a mark, which is set anew after twice as many
+/// steps each time.
+fn is_in_cycle(known: &Known<'_, '_, '_>, ready: &Ready, who: Who) -> bool {
+    let (mut next, mut mark) = (who, who);
+    let (mut steps, mut most) = (0u64, 1u64);
     for _ in 0..u64::MAX {
-        if ready.contains_key(&next) | met.contains(&next) {
+        if ready.contains_key(&next) {
             break;
         }
-        if met.insert(next).is_err() | members.push(next).is_err() {
-            sheet.lacks();
+        let Some(wait) = wait_of(known, next) else {
+            break;
+        };
+        next = wait.other;
+        if next == who {
+            return true;
+        }
+        if next == mark {
             break;
         }
-        match wait_of(known, next) {
-            Some(wait) if wait.other == who => return members,
-            Some(wait) => next = wait.other,
-            None => break,
+        steps = steps.saturating_add(1);
+        if steps >= most {
+            mark = next;
+            steps = 0;
+            most = most.saturating_mul(2);
         }
     }
-    Vec::new(sheet.alloc)
+    false
 }
 
-/// Adds the line of a cycle: who waits for whom, and why.
-fn push_cycle(sheet: &Sheet, known: Known<'_, '_>, members: &[Who]) {
-    sheet.put(b"a cycle: ");
-    let mut is_first = true;
-    for member in members {
-        if is_first {
-            push_place(sheet, known.scene, b"", *member);
-            sheet.put(b" ");
-        }
-        if let Some(wait) = wait_of(known, *member) {
-            if !is_first {
-                sheet.put(b", which ");
-            }
-            push_before(sheet, known.scene.store, wait.cause);
-            if Some(wait.other) == members.first().copied() {
-                push_path(sheet, known.scene.store, wait.other);
-            } else {
-                push_place(sheet, known.scene, b"", wait.other);
-            }
-            push_behind(sheet, wait.cause);
-        }
-        is_first = false;
-    }
-    sheet.put(b"\n");
-}
-
-/// Adds the line of the cycle in which a thread waits, where it waits in one and that isn't told yet. Whether the thread waits in one.
+/// Adds the line of the cycle in which a thread waits, where it waits in one and that isn't told yet: who waits for whom, and why. Whether the thread
+/// waits in one.
 pub fn push_cycle_of(
     sheet: &Sheet,
-    known: Known<'_, '_>,
+    known: &Known<'_, '_, '_>,
     ready: &Ready,
     told: &mut BTreeSet<Who>,
     who: Who,
@@ -66,15 +47,34 @@ pub fn push_cycle_of(
     if told.contains(&who) {
         return true;
     }
-    let members = cycle_of(sheet, known, ready, who);
-    for member in &members {
-        if told.insert(*member).is_err() {
-            sheet.lacks();
-        }
-    }
-    if members.is_empty() {
+    if !is_in_cycle(known, ready, who) {
         return false;
     }
-    push_cycle(sheet, known, &members);
+    push_place(sheet, known.scene, b"a cycle: ", who);
+    sheet.put(b" ");
+    let mut next = who;
+    for _ in 0..u64::MAX {
+        if told.insert(next).is_err() {
+            sheet.lacks();
+        }
+        let Some(wait) = wait_of(known, next) else {
+            break;
+        };
+        push_before(sheet, known.scene.store, wait.cause);
+        next = wait.other;
+        if next == who {
+            push_path(sheet, known.scene.store, who);
+        } else {
+            push_place(sheet, known.scene, b"", next);
+        }
+        if let Cause::Mutex(_) = wait.cause {
+            sheet.put(b" has locked");
+        }
+        if next == who {
+            break;
+        }
+        sheet.put(b", which ");
+    }
+    sheet.put(b"\n");
     true
 }

@@ -4,16 +4,8 @@ use fk_model::{Thread, Who};
 use fk_store::Store;
 use lens_text::{HALTS, Scene, Sheet, line_at, push_at, push_between, push_refused, word_at};
 
-/// Adds which rule refused what an instruction does by memory: the word that it would read or write.
-fn push_act(sheet: &Sheet, store: &Store, space: u32, act: Act) {
-    match act {
-        Act::Load { address, .. } => push_refused(sheet, store, space, address, false),
-        Act::Store { address, .. } => push_refused(sheet, store, space, address, true),
-        _ => {}
-    }
-}
-
-/// Adds why the instruction at a thread's counter makes it halt, by what the thread was at before.
+/// Adds why the instruction at a thread's counter makes it halt, by what the thread was at before: a zero divisor, or the rule that refuses the word that it
+/// would read or write.
 fn push_cause(sheet: &Sheet, store: &Store, who: Who, before: &Thread) {
     let Some(word) = word_at(store, who.space, before.pc) else {
         sheet.put(b"its next instruction: ");
@@ -27,7 +19,9 @@ fn push_cause(sheet: &Sheet, store: &Store, who: Who, before: &Thread) {
                 0,
                 0,
             ),
-            act => push_act(sheet, store, who.space, act),
+            Act::Load { address, .. } => push_refused(sheet, store, who.space, address, false),
+            Act::Store { address, .. } => push_refused(sheet, store, who.space, address, true),
+            _ => {}
         },
         None => sheet.fill(b"the word @ is no instruction", word, 0, 0),
     }

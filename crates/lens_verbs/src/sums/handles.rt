@@ -1,148 +1,127 @@
 //! What stands where a call names something.
 use fk_model::limits::{LAST_USER_SLOT, OWN_SPACE};
-use fk_model::{Body, Stage, Who};
+use fk_model::{Stage, Who};
 use fk_store::Store;
-use lens_text::{Sheet, handled, push_held_there, push_named};
+use lens_text::{Sheet, place_named, push_between, push_held_there};
 
-/// A slot that a call names: of the caller's space, or of the place that another argument names.
+/// The space of a thread that makes a call, and where it is told what that names.
 #[derive(Clone, Copy)]
-struct Named {
-    name: &'static str,
-    slot: u64,
-    /// The place's argument.
-    place: Option<u64>,
+pub struct Caller<'a> {
+    pub sheet: &'a Sheet,
+    pub store: &'a Store,
+    pub space: u32,
 }
 
-/// A slot of the caller's space.
-fn own(name: &'static str, slot: u64) -> Option<Named> {
-    Some(Named {
-        name,
-        slot,
-        place: None,
-    })
-}
-
-/// A slot of a place.
-fn within(name: &'static str, place: u64, slot: u64) -> Option<Named> {
-    Some(Named {
-        name,
-        slot,
-        place: Some(place),
-    })
-}
-
-/// The slots that a stage names, in the order of its arguments.
-fn named_by(stage: &Stage) -> [Option<Named>; 4] {
-    match *stage {
-        Stage::Create { s, x, .. }
-        | Stage::Destroy { s, x }
-        | Stage::Clear { s, x }
-        | Stage::GetState { s, x, .. }
-        | Stage::SetState { s, x, .. }
-        | Stage::SpaceHold { s, x }
-        | Stage::SpaceRelease { s, x } => [own("s", s), within("x", s, x), None, None],
-        Stage::Rename { s, x, y } => [own("s", s), within("x", s, x), within("y", s, y), None],
-        Stage::Point { s, x, s2, x2 } => {
-            [
-                own("s", s),
-                within("x", s, x),
-                own("s2", s2),
-                within("x2", s2, x2),
-            ]
+impl Caller<'_> {
+    /// Adds what stands in a slot of a space that an argument names.
+    fn push<const N: usize>(self, name: &[u8; N], space: u32, slot: u64) {
+        let (sheet, store) = (self.sheet, self.store);
+        sheet.put(b"; ");
+        sheet.put(name);
+        sheet.fill(b"=@", slot, 0, 0);
+        if slot > LAST_USER_SLOT {
+            return sheet.put(b" is no slot that a thread names");
         }
-        Stage::GetPtr {
-            s,
-            x,
-            reference,
-            ..
-        }
-        | Stage::SetPtr {
-            s,
-            x,
-            reference,
-            ..
-        } => [
-            own("s", s),
-            within("x", s, x),
-            own("reference", reference),
-            None,
-        ],
-        Stage::Locate { reference, s } => [own("reference", reference), own("s", s), None, None],
-        Stage::Search { s, .. }
-        | Stage::PageGive { s, .. }
-        | Stage::PageTake { s, .. }
-        | Stage::PageRead { s, .. }
-        | Stage::PageNext { s, .. } => [own("s", s), None, None, None],
-        _ => named_alone(stage),
+        let who = Who {
+            space,
+            slot: slot as u8,
+        };
+        push_between(sheet, store, b", ", who, b", is ");
+        push_held_there(sheet, store, store.at(who));
     }
-}
 
-/// The same of a stage that names slots of the caller's space alone.
-fn named_alone(stage: &Stage) -> [Option<Named>; 4] {
-    match *stage {
-        Stage::ThreadStop { h } | Stage::ThreadGo { h } | Stage::Connect { h } => {
-            [own("h", h), None, None, None]
+    /// Adds what stands where an argument leads that names a slot of the caller's space, or that space itself.
+    fn own<const N: usize>(self, name: &[u8; N], slot: u64) {
+        if slot == OWN_SPACE {
+            self.sheet.put(b"; ");
+            self.sheet.put(name);
+            self.sheet
+                .fill(b"=@ is the caller's own space", slot, 0, 0);
+        } else {
+            self.push(name, self.space, slot);
         }
-        Stage::MutexLock { m } | Stage::MutexTrylock { m } | Stage::MutexUnlock { m } => {
-            [own("m", m), None, None, None]
-        }
-        Stage::CondWait { c, m } | Stage::CondAsleep { c, m } => {
-            [own("c", c), own("m", m), None, None]
-        }
-        Stage::CondSignal { c } | Stage::CondBroadcast { c } => [own("c", c), None, None, None],
-        Stage::Wait { set } => [own("set", set), None, None, None],
-        Stage::ClientOverRef { reference }
-        | Stage::ServerOverRef { reference }
-        | Stage::ClientReceiveRef { reference, .. }
-        | Stage::ServerReceiveRef { reference, .. } => {
-            [own("reference", reference), None, None, None]
-        }
-        _ => [None, None, None, None],
     }
-}
 
-/// The space that a call of a space's thread names as its place.
-fn place_of(store: &Store, space: u32, place: u64) -> Option<u32> {
-    if place == OWN_SPACE {
-        return Some(space);
+    /// Adds what stands where an argument leads that names a slot of a place, which another argument names.
+    fn within<const N: usize>(self, name: &[u8; N], place: u64, slot: u64) {
+        if let Some(space) = place_named(self.store, self.space, place) {
+            self.push(name, space, slot);
+        }
     }
-    match store.at(handled(store, space, place)?) {
-        Some(Body::Space { birth, .. }) => Some(*birth),
-        _ => None,
-    }
-}
 
-/// Adds what stands where an argument of a call of a space's thread leads.
-fn push_one(sheet: &Sheet, store: &Store, space: u32, named: Named) {
-    let home = match named.place {
-        Some(place) => place_of(store, space, place),
-        None => Some(space),
-    };
-    let Some(home) = home else {
-        return;
-    };
-    sheet.put_around(b"; ", named.name, b"=");
-    sheet.add_number(named.slot);
-    if named.place.is_none() & (named.slot == OWN_SPACE) {
-        return sheet.put(b" is the caller's own space");
+    /// Adds what stands where each argument of a stage leads that names a slot, in their order.
+    pub fn push_all(self, stage: &Stage) {
+        match *stage {
+            Stage::Create { s, x, .. }
+            | Stage::Destroy { s, x }
+            | Stage::Clear { s, x }
+            | Stage::GetState { s, x, .. }
+            | Stage::SetState { s, x, .. }
+            | Stage::SpaceHold { s, x }
+            | Stage::SpaceRelease { s, x } => {
+                self.own(b"s", s);
+                self.within(b"x", s, x);
+            }
+            Stage::Rename { s, x, y } => {
+                self.own(b"s", s);
+                self.within(b"x", s, x);
+                self.within(b"y", s, y);
+            }
+            Stage::Point { s, x, s2, x2 } => {
+                self.own(b"s", s);
+                self.within(b"x", s, x);
+                self.own(b"s2", s2);
+                self.within(b"x2", s2, x2);
+            }
+            Stage::GetPtr {
+                s,
+                x,
+                reference,
+                ..
+            }
+            | Stage::SetPtr {
+                s,
+                x,
+                reference,
+                ..
+            } => {
+                self.own(b"s", s);
+                self.within(b"x", s, x);
+                self.own(b"reference", reference);
+            }
+            _ => self.push_alone(stage),
+        }
     }
-    if named.slot > LAST_USER_SLOT {
-        return sheet.put(b" is no slot that a thread names");
-    }
-    let who = Who {
-        space: home,
-        slot: named.slot as u8,
-    };
-    push_named(sheet, store, b", ", Some(who));
-    sheet.put(b", is ");
-    push_held_there(sheet, store, store.at(who));
-}
 
-/// Adds what stands where each argument of a stage leads that names a slot.
-pub fn push_handles(sheet: &Sheet, store: &Store, space: u32, stage: &Stage) {
-    for named in &named_by(stage) {
-        if let Some(named) = *named {
-            push_one(sheet, store, space, named);
+    /// The same of a stage that names slots of the caller's space alone.
+    fn push_alone(self, stage: &Stage) {
+        match *stage {
+            Stage::Locate { reference, s } => {
+                self.own(b"reference", reference);
+                self.own(b"s", s);
+            }
+            Stage::Search { s, .. }
+            | Stage::PageGive { s, .. }
+            | Stage::PageTake { s, .. }
+            | Stage::PageRead { s, .. }
+            | Stage::PageNext { s, .. } => self.own(b"s", s),
+            Stage::ThreadStop { h } | Stage::ThreadGo { h } | Stage::Connect { h } => {
+                self.own(b"h", h);
+            }
+            Stage::MutexLock { m } | Stage::MutexTrylock { m } | Stage::MutexUnlock { m } => {
+                self.own(b"m", m);
+            }
+            Stage::CondWait { c, m } | Stage::CondAsleep { c, m } => {
+                self.own(b"c", c);
+                self.own(b"m", m);
+            }
+            Stage::CondSignal { c } | Stage::CondBroadcast { c } => self.own(b"c", c),
+            Stage::Wait { set } => self.own(b"set", set),
+            Stage::ClientOverRef { reference }
+            | Stage::ServerOverRef { reference }
+            | Stage::ClientReceiveRef { reference, .. }
+            | Stage::ServerReceiveRef { reference, .. } => self.own(b"reference", reference),
+            _ => {}
         }
     }
 }

@@ -1,5 +1,5 @@
 //! Calls that were refused.
-use crate::sums::handles::push_handles;
+use crate::sums::handles::Caller;
 use crate::sums::statuses::MEANINGS;
 use crate::why::push_hold;
 use fk_model::{Stage, Thread, Who};
@@ -18,18 +18,18 @@ pub struct Refusals {
     firsts: BTreeMap<u64, String>,
 }
 
-/// The address that a stage names, how many words of it are wanted, and whether they are written.
-fn memory_of(stage: &Stage) -> Option<(u64, u64, bool)> {
+/// The address that a stage names, of what it has to be a multiple, how many words of it are wanted, and whether they are written.
+fn memory_of(stage: &Stage) -> Option<(u64, u64, u64, bool)> {
     match *stage {
-        Stage::GetState { addr, .. } => Some((addr, 32, true)),
-        Stage::SetState { addr, .. } => Some((addr, 32, false)),
-        Stage::PageGive { addr, .. } => Some((addr, 64, false)),
-        Stage::PageTake { addr, .. } | Stage::PageRead { addr, .. } => Some((addr, 64, true)),
+        Stage::GetState { addr, .. } => Some((addr, 32, 32, true)),
+        Stage::SetState { addr, .. } => Some((addr, 32, 32, false)),
+        Stage::PageGive { addr, .. } => Some((addr, 64, 64, false)),
+        Stage::PageTake { addr, .. } | Stage::PageRead { addr, .. } => Some((addr, 64, 64, true)),
         Stage::ClientSend { addr, count } | Stage::ServerSend { addr, count } => {
-            Some((addr, count.min(64), false))
+            Some((addr, 1, count.min(64), false))
         }
         Stage::ClientReceive { addr, room } | Stage::ServerReceive { addr, room } => {
-            Some((addr, room.min(64), true))
+            Some((addr, 1, room.min(64), true))
         }
         _ => None,
     }
@@ -37,15 +37,10 @@ fn memory_of(stage: &Stage) -> Option<(u64, u64, bool)> {
 
 /// Adds the first word that a stage can't reach, and which rule refuses that.
 fn push_address(sheet: &Sheet, store: &Store, space: u32, stage: &Stage) {
-    let Some((address, count, writes)) = memory_of(stage) else {
+    let Some((address, whole, count, writes)) = memory_of(stage) else {
         return;
     };
-    let whole = match stage {
-        Stage::GetState { .. } | Stage::SetState { .. } => 32,
-        Stage::PageGive { .. } | Stage::PageTake { .. } | Stage::PageRead { .. } => 64,
-        _ => 1,
-    };
-    if address % whole > 0 {
+    if whole > 1 && address % whole > 0 {
         return sheet.fill(b"; address @ is no multiple of @", address, whole, 0);
     }
     for word in 0..count {
@@ -85,7 +80,12 @@ fn push_why(sheet: &Sheet, scene: Scene<'_>, who: Who, before: &Thread, status: 
     let Some(stage) = first_stage(&before.regs) else {
         return sheet.fill(b", but @", before.regs[0], 0, 0);
     };
-    push_handles(sheet, scene.store, who.space, &stage);
+    let caller = Caller {
+        sheet,
+        store: scene.store,
+        space: who.space,
+    };
+    caller.push_all(&stage);
     match status {
         9 => push_holder(sheet, scene, who.space, &stage),
         12 => push_address(sheet, scene.store, who.space, &stage),

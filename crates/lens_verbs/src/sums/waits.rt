@@ -1,8 +1,9 @@
 //! Whom a thread waits for, where that is one thread.
-use crate::why::{Known, awaited};
-use fk_model::{Body, Fault, Mode, Peer, Stage, Who};
+use crate::steps::talk_of;
+use crate::why::Known;
+use fk_model::{Body, Mode, Peer, Stage, Who};
 use fk_store::Store;
-use lens_text::{Sheet, next_stage, push_between, push_path};
+use lens_text::{Sheet, handled, next_stage, push_between, push_path};
 
 /// Why a thread waits for another.
 #[derive(Clone, Copy)]
@@ -55,17 +56,11 @@ fn only_server(store: &Store, port: Who) -> Option<Who> {
     }
 }
 
-/// Whom a thread with a fault waits for.
-fn taker_of(store: &Store, fault: &Fault) -> Option<Who> {
-    match fault.taker {
-        Some(Peer::Thread(taker)) => Some(taker),
-        _ => only_server(store, fault.port),
-    }
-}
-
 /// Whom a client waits for in its talk.
 fn server_of(store: &Store, client: Who) -> Option<Who> {
-    let talk = store.thread(client)?.talk?;
+    let Some(talk) = talk_of(store, client) else {
+        return None;
+    };
     match talk.peer {
         Peer::Thread(server) => Some(server),
         Peer::Service => None,
@@ -75,24 +70,24 @@ fn server_of(store: &Store, client: Who) -> Option<Who> {
 
 /// A thread that is waited for by a cause, if there is one.
 fn waits_for(other: Option<Who>, cause: Cause) -> Option<Wait> {
-    Some(Wait {
-        other: other?,
-        cause,
-    })
+    match other {
+        Some(other) => Some(Wait { other, cause }),
+        None => None,
+    }
 }
 
 /// Whom a thread waits for at a stage.
-fn wait_at(known: Known<'_, '_>, who: Who, stage: &Stage) -> Option<Wait> {
+fn wait_at(known: &Known<'_, '_, '_>, who: Who, stage: &Stage) -> Option<Wait> {
     let store = known.scene.store;
     match stage {
-        Stage::MutexLock { .. } => {
-            let mutex = awaited(store, who.space, stage)?;
-            waits_for(known.lockers.get(&mutex).copied(), Cause::Mutex(mutex))
-        }
-        Stage::Connect { .. } => {
-            let port = awaited(store, who.space, stage)?;
-            waits_for(only_server(store, port), Cause::Connect(port))
-        }
+        Stage::MutexLock { m } => match handled(store, who.space, *m) {
+            Some(mutex) => waits_for(known.lockers.get(&mutex).copied(), Cause::Mutex(mutex)),
+            None => None,
+        },
+        Stage::Connect { h } => match handled(store, who.space, *h) {
+            Some(port) => waits_for(only_server(store, port), Cause::Connect(port)),
+            None => None,
+        },
         Stage::ClientReceive { .. }
         | Stage::ClientSend { .. }
         | Stage::ClientOver
@@ -108,24 +103,30 @@ fn wait_at(known: Known<'_, '_>, who: Who, stage: &Stage) -> Option<Wait> {
 }
 
 /// Whom a thread waits for that has no ready move, where that is one thread.
-pub fn wait_of(known: Known<'_, '_>, who: Who) -> Option<Wait> {
+pub fn wait_of(known: &Known<'_, '_, '_>, who: Who) -> Option<Wait> {
     let store = known.scene.store;
-    let thread = store.thread(who)?;
+    let Some(thread) = store.thread(who) else {
+        return None;
+    };
     match thread.mode {
         Mode::Halted(_) | Mode::Native => return None,
+        _ if thread.stops > 0 => return None,
         _ => {}
     }
-    if thread.stops > 0 {
-        return None;
-    }
     if let Some(fault) = &thread.fault {
-        return waits_for(taker_of(store, fault), Cause::Fault);
+        let other = match fault.taker {
+            Some(Peer::Thread(taker)) => Some(taker),
+            _ => only_server(store, fault.port),
+        };
+        return waits_for(other, Cause::Fault);
     }
     if store.is_frozen(who.space) {
         return waits_for(store.decider(who), Cause::Hold);
     }
-    let stage = next_stage(store, who)?;
-    wait_at(known, who, &stage)
+    match next_stage(store, who) {
+        Some(stage) => wait_at(known, who, &stage),
+        None => None,
+    }
 }
 
 /// Adds why a thread waits for another, up to that one's path.
@@ -147,13 +148,5 @@ pub fn push_before(sheet: &Sheet, store: &Store, cause: Cause) {
             push_path(sheet, store, port);
             sheet.put(b" is accepted by ");
         }
-    }
-}
-
-/// Adds what follows that one's path.
-pub fn push_behind(sheet: &Sheet, cause: Cause) {
-    match cause {
-        Cause::Mutex(_) => sheet.put(b" has locked"),
-        _ => {}
     }
 }

@@ -25,19 +25,8 @@ fn push_held(sheet: &Sheet, scene: Scene<'_>, space: Who) {
     push_path(sheet, store, space);
 }
 
-/// Adds that a mutex is locked, and who has locked it.
-fn push_locked(sheet: &Sheet, known: Known<'_, '_>, mutex: Who) {
-    let scene = known.scene;
-    push_between(sheet, scene.store, b"waits until the mutex ", mutex, b" is");
-    match known.lockers.get(&mutex) {
-        Some(locker) => push_whereabouts(sheet, scene, b" unlocked, which ", *locker),
-        None => sheet.put(b" unlocked, which no move so far"),
-    }
-    sheet.put(b" locked");
-}
-
 /// The object that a stage names and waits for.
-pub fn awaited(store: &Store, space: u32, stage: &Stage) -> Option<Who> {
+fn awaited(store: &Store, space: u32, stage: &Stage) -> Option<Who> {
     match *stage {
         Stage::SpaceHold { s, x } => object_named(store, space, s, x),
         Stage::MutexLock { m: handle }
@@ -49,7 +38,7 @@ pub fn awaited(store: &Store, space: u32, stage: &Stage) -> Option<Who> {
 }
 
 /// Adds what a stage waits for by what it names.
-fn push_awaited(sheet: &Sheet, known: Known<'_, '_>, space: u32, stage: &Stage) {
+fn push_awaited(sheet: &Sheet, known: &Known<'_, '_, '_>, space: u32, stage: &Stage) {
     let scene = known.scene;
     let store = scene.store;
     let Some(named) = awaited(store, space, stage) else {
@@ -57,7 +46,14 @@ fn push_awaited(sheet: &Sheet, known: Known<'_, '_>, space: u32, stage: &Stage) 
     };
     match stage {
         Stage::SpaceHold { .. } => push_held(sheet, scene, named),
-        Stage::MutexLock { .. } => push_locked(sheet, known, named),
+        Stage::MutexLock { .. } => {
+            push_between(sheet, store, b"waits until the mutex ", named, b" is");
+            match known.lockers.get(&named) {
+                Some(locker) => push_whereabouts(sheet, scene, b" unlocked, which ", *locker),
+                None => sheet.put(b" unlocked, which no move so far"),
+            }
+            sheet.put(b" locked");
+        }
         Stage::CondAsleep { .. } => push_between(
             sheet,
             store,
@@ -80,7 +76,7 @@ fn push_awaited(sheet: &Sheet, known: Known<'_, '_>, space: u32, stage: &Stage) 
 }
 
 /// Adds why a stage isn't ready, of a thread that is free or of a porter: the hold that is known to bar it, or who is waited for.
-pub fn push_blocked(sheet: &Sheet, known: Known<'_, '_>, who: Who, stage: &Stage) {
+pub fn push_blocked(sheet: &Sheet, known: &Known<'_, '_, '_>, who: Who, stage: &Stage) {
     let scene = known.scene;
     let store = scene.store;
     if let Some(object) = barred_of(store, who, stage) {

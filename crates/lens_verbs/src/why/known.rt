@@ -11,10 +11,23 @@ pub type Lockers = BTreeMap<Who, Who>;
 
 /// What is known where it is asked why somebody can't move.
 #[derive(Clone, Copy)]
-pub struct Known<'a, 'l> {
-    pub seen: Seen<'a>,
-    pub scene: Scene<'a>,
+pub struct Known<'s, 'c, 'l> {
+    pub seen: &'s Seen<'s>,
+    pub scene: Scene<'c>,
     pub lockers: &'l Lockers,
+}
+
+/// What is known there, beside who has locked a mutex last.
+pub fn known_of<'s, 'c, 'l>(
+    seen: &'s Seen<'s>,
+    scene: Scene<'c>,
+    lockers: &'l Lockers,
+) -> Known<'s, 'c, 'l> {
+    Known {
+        seen,
+        scene,
+        lockers,
+    }
 }
 
 /// Watches who locks mutexes.
@@ -23,15 +36,6 @@ pub struct Locking {
     pub lockers: Lockers,
     /// The mutex that the mover is to lock, where it isn't locked. Where it is after the move, that has locked it.
     mutex: Option<Who>,
-}
-
-/// The mutex that a handle names in a space, where it isn't locked.
-fn unlocked(store: &Store, space: u32, handle: u64) -> Option<Who> {
-    let mutex = handled(store, space, handle)?;
-    match store.mutex(mutex) {
-        Some(false) => Some(mutex),
-        _ => None,
-    }
 }
 
 impl Locking {
@@ -45,12 +49,15 @@ impl Locking {
 
     /// It sees what stands before a move of somebody.
     pub fn before(&mut self, store: &Store, mover: Who) {
-        self.mutex = match next_stage(store, mover) {
-            Some(Stage::MutexLock { m } | Stage::MutexTrylock { m }) => {
-                unlocked(store, mover.space, m)
-            }
-            _ => None,
+        self.mutex = None;
+        let Some(Stage::MutexLock { m } | Stage::MutexTrylock { m }) = next_stage(store, mover) else {
+            return;
         };
+        if let Some(mutex) = handled(store, mover.space, m) {
+            if let Some(false) = store.mutex(mutex) {
+                self.mutex = Some(mutex);
+            }
+        }
     }
 
     /// It sees what stands after that move, and notes who has locked a mutex.

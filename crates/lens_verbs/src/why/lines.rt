@@ -1,19 +1,21 @@
 //! Of each thread that isn't ready, why.
 use crate::jobs::JobWatch;
-use crate::why::known::{Known, Locking};
+use crate::shows::Shows;
+use crate::why::known::{Known, Locking, known_of};
 use crate::why::moves::push_move;
 use crate::why::reasons::push_reason;
 use fk_first::{Ready, Seen, Stop};
-use fk_model::{Mode, Who};
-use fk_store::Store;
-use lens_text::{Sheet, next_in_tree, push_asked, push_at, push_between};
+use fk_jobs::Jobs;
+use fk_model::{Mode, Move, Who};
+use fk_porters::Porter;
+use lens_text::{Scene, Sheet, next_in_tree, push_asked, push_at, push_between};
 
 /// Adds the line of a thread that isn't ready; of a porter, where its job is the one whose turn it is.
-pub fn push_thread(sheet: &Sheet, known: Known<'_, '_>, who: &Who) {
+pub fn push_thread(sheet: &Sheet, known: &Known<'_, '_, '_>, who: &Who) {
     let store = known.scene.store;
     if let Some(thread) = store.thread(*who) {
         match thread.mode {
-            Mode::Native => match &known.seen.job {
+            Mode::Native => match known.seen.job {
                 Some(job) if job.porter == *who => {
                     push_between(sheet, store, b"", *who, b" a porter, ");
                     push_asked(sheet, &job.stage);
@@ -39,7 +41,7 @@ pub fn push_thread(sheet: &Sheet, known: Known<'_, '_>, who: &Who) {
 /// Watches a run up to where it stops, and says there why threads aren't ready.
 #[derive(Drop)]
 pub struct Why {
-    pub locking: Locking,
+    locking: Locking,
     jobs: JobWatch,
 }
 
@@ -51,27 +53,10 @@ impl Why {
             jobs: JobWatch::new(sheet),
         }
     }
-
-    /// It sees what stands before a move of somebody.
-    pub fn before(&mut self, store: &Store, mover: Who) {
-        self.locking.before(store, mover);
-    }
-
-    /// It sees what stands after that move.
-    pub fn after(&mut self, sheet: &Sheet, seen: Seen<'_>, mover: Who) {
-        self.locking.after(sheet, seen.store, mover);
-        self.jobs.after(sheet, &seen);
-    }
-
-    /// It sees what stands where the run stops, and says why threads aren't ready, and why jobs have failed.
-    pub fn stops(&self, sheet: &Sheet, known: Known<'_, '_>, ready: &Ready, stop: Stop) {
-        push_why(sheet, known, ready, stop);
-        self.jobs.push_lines(sheet, &known.seen, false);
-    }
 }
 
 /// Says where a run stops why threads aren't ready, in the order of their paths.
-fn push_why(sheet: &Sheet, known: Known<'_, '_>, ready: &Ready, stop: Stop) {
+fn push_why(sheet: &Sheet, known: &Known<'_, '_, '_>, ready: &Ready, stop: Stop) {
     if let Stop::Unready { one, .. } = stop {
         push_move(sheet, known, ready, &one);
     }
@@ -85,5 +70,38 @@ fn push_why(sheet: &Sheet, known: Known<'_, '_>, ready: &Ready, stop: Stop) {
             push_thread(sheet, known, &who);
         }
         next = next_in_tree(store, who);
+    }
+}
+
+impl Shows for Why {
+    fn before(&mut self, _sheet: &Sheet, seen: &Seen<'_>, _scene: Scene<'_>, one: &Move) {
+        self.locking.before(seen.store, one.who);
+    }
+
+    fn after(
+        &mut self,
+        sheet: &Sheet,
+        seen: &Seen<'_>,
+        jobs: &Jobs<Porter>,
+        _scene: Scene<'_>,
+        one: &Move,
+    ) {
+        self.locking.after(sheet, seen.store, one.who);
+        self.jobs.after(sheet, seen, jobs);
+    }
+
+    /// It says why threads aren't ready, and why jobs have failed.
+    fn stops(
+        &mut self,
+        sheet: &Sheet,
+        seen: &Seen<'_>,
+        jobs: &Jobs<Porter>,
+        scene: Scene<'_>,
+        ready: &Ready,
+        stop: Stop,
+    ) {
+        let known = known_of(seen, scene, &self.locking.lockers);
+        push_why(sheet, &known, ready, stop);
+        self.jobs.push_lines(sheet, seen, jobs, false);
     }
 }

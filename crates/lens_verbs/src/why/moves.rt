@@ -7,12 +7,12 @@ use fk_model::{Body, Move};
 use lens_text::{Sheet, push_between, push_path};
 
 /// Adds the line that says why a move isn't ready.
-pub fn push_move(sheet: &Sheet, known: Known<'_, '_>, ready: &Ready, one: &Move) {
+pub fn push_move(sheet: &Sheet, known: &Known<'_, '_, '_>, ready: &Ready, one: &Move) {
     let seen = known.seen;
     let store = seen.store;
     sheet.fill(b"move @ of ", seen.events, 0, 0);
     push_between(sheet, store, b"", one.who, b", ");
-    push_act(sheet, &seen, one);
+    push_act(sheet, seen, one);
     match one.pick {
         Some(pick) => push_between(sheet, store, b", with the pick ", pick, b", isn't ready: "),
         None => sheet.put(b", without a pick, isn't ready: "),

@@ -8,9 +8,9 @@ use fk_model::{Fault, Mode, Peer, Thread, Who};
 use lens_text::{HALTS, Scene, Sheet, line_at, next_stage};
 
 /// Adds why the job of a porter doesn't go on, where it is its turn.
-fn push_job(sheet: &Sheet, known: Known<'_, '_>, porter: &Who) {
+fn push_job(sheet: &Sheet, known: &Known<'_, '_, '_>, porter: &Who) {
     let seen = known.seen;
-    match &seen.job {
+    match seen.job {
         Some(job) if job.porter == *porter => {
             if !job.is_at_work & (job.at > seen.events) {
                 let form = b"its job begins after @ moves, or where nobody else can move";
@@ -55,7 +55,7 @@ fn push_fault(sheet: &Sheet, scene: Scene<'_>, fault: &Fault) {
 }
 
 /// Adds why a thread has no ready move, and who could end that.
-pub fn push_reason(sheet: &Sheet, known: Known<'_, '_>, who: &Who, thread: &Thread) {
+pub fn push_reason(sheet: &Sheet, known: &Known<'_, '_, '_>, who: &Who, thread: &Thread) {
     let scene = known.scene;
     let store = scene.store;
     match thread.mode {

@@ -1,5 +1,5 @@
 use Rattle.std.proofs.Common.{◌≤◌, ◌-◌, length}
-use Rattle.fk_first.proofs.watching.images_for.Given as goal
+use Rattle.fk_first.proofs.lending.images_for.Given as goal
 
 abbrev pub invariant-loop-job : goal.invariant-loop-job
 invariant-loop-job g l = length l.list.items ≤ length l.jobs
