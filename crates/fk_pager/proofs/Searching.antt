@@ -43,23 +43,31 @@ who_same a b = by (nat_cmp a.space b.space) refl
         let slots = exact_unsigned a.slot b.slot is in λ i. record { space = spaces i; slot = slots i }
 
 pub ahead_first : (m : Contents) (P : Who → Type 0) (first : Option Who) → IsFirstAfter who_cmp (IsLive m) None first → IsAhead m P first
-ahead_first m P None first other live is = first other live refl
-ahead_first m P (Some at) first other live is = first.2 other live refl
+ahead_first m P None first = λ other live is. first other live refl
+ahead_first m P (Some at) first = λ other live is. first.2 other live refl
 
-pub ahead_next : (m : Contents) (P : Who → Type 0) (who : Who) (next : Option Who) → IsAhead m P (Some who) → (P who → ⊥) →
-    IsFirstAfter who_cmp (IsLive m) (Some who) next → IsAhead m P next
-ahead_next m P who None ahead here first other live is = by (who_cmp who other) refl (ahead other live is)
+none_ahead : (m : Contents) (P : Who → Type 0) (who : Who) → IsAhead m P (Some who) → (P who → ⊥) →
+    IsFirstAfter who_cmp (IsLive m) (Some who) None → (other : Who) → IsLive m other → P other → ⊥
+none_ahead m P who ahead here first other live is = by (who_cmp who other) refl (ahead other live is)
   where
     by : (r : Ordering) → who_cmp who other ≡ r → IsTrue (is_le r) → ⊥
     by Less e le = first other live (rw e refl)
     by Equal e le = here (subst P (sym (who_same who other e)) is)
     by Greater e le = absurd (cc)
-ahead_next m P who (Some at) ahead here first other live is = by (who_cmp who other) refl (ahead other live is)
+
+some_ahead : (m : Contents) (P : Who → Type 0) (who at : Who) → IsAhead m P (Some who) → (P who → ⊥) →
+    IsFirstAfter who_cmp (IsLive m) (Some who) (Some at) → (other : Who) → IsLive m other → P other → IsTrue (is_le (who_cmp at other))
+some_ahead m P who at ahead here first other live is = by (who_cmp who other) refl (ahead other live is)
   where
     by : (r : Ordering) → who_cmp who other ≡ r → IsTrue (is_le r) → IsTrue (is_le (who_cmp at other))
     by Less e le = first.2 other live (rw e refl)
     by Equal e le = absurd (here (subst P (sym (who_same who other e)) is))
     by Greater e le = absurd (cc)
+
+pub ahead_next : (m : Contents) (P : Who → Type 0) (who : Who) (next : Option Who) → IsAhead m P (Some who) → (P who → ⊥) →
+    IsFirstAfter who_cmp (IsLive m) (Some who) next → IsAhead m P next
+ahead_next m P who None ahead here first = none_ahead m P who ahead here first
+ahead_next m P who (Some at) ahead here first = some_ahead m P who at ahead here first
 
 -- how many names are left to look at
 abbrev pub left_from : Contents → Option Who → ℕ
