@@ -11,3 +11,4 @@ pub mod Desked
 pub mod Left
 pub mod Hearing
 pub mod Phases
+pub mod Rooted
