@@ -1,1 +1,4 @@
+pub use Rattle.fk_served.specs.Acts
+pub use Rattle.fk_served.specs.Kernels
+pub use Rattle.fk_served.specs.Served
 pub mod Hosts

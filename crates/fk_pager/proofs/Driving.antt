@@ -1,0 +1,243 @@
+-- A driver's turns are those of a run.
+use Rattle.std.proofs.Common.{◌≡◌, ℕ, ◌+◌, ◌≤◌, Bool, true, false, not, is_some, if◌then◌else◌, List, [], ◌∷◌, ◌++◌, length, Option, Some, None, option_map, refl, sym, ap, subst, ◌∙◌, arith}
+use Rattle.std.proofs.lemmas.Bool.{le-leb}
+use Rattle.std.proofs.lemmas.Option.{slice_get_within}
+use Rattle.std.specs.List.{slice_get}
+use Rattle.fk_model.specs.declared.limits.TheConstants.{LAST_PORTER_SLOT, LAST_USER_SLOT}
+use Rattle.fk_model.specs.declared.moves.Ask.{Ask}
+use Rattle.fk_model.specs.declared.moves.Ask.TheVariants as asks
+use Rattle.fk_model.specs.declared.moves.Move.{Move}
+use Rattle.fk_model.specs.declared.moves.Said as says_of
+use Rattle.fk_model.specs.declared.names.Who.{Who}
+use Rattle.fk_model.specs.Objects.{and_then}
+use Rattle.fk_model.specs.Places.{Path}
+use Rattle.fk_model.specs.World.{World}
+use Rattle.fk_model.specs.Searches.{depth}
+use Rattle.fk_model.specs.Holds.{decider, is_unheld}
+use Rattle.fk_model.specs.Moves.{Step, IsReady, step}
+use Rattle.fk_model.specs.Runs.{Event, after}
+use Rattle.fk_model.specs.Valid.{IsValid, is_fit}
+use Rattle.fk_model.specs.Who.{named, event_of, space_born}
+use Rattle.fk_store.specs.Store.Contents.{Contents}
+use Rattle.fk_store.specs.Store.Moves.{said_by}
+use Rattle.fk_store.specs.Store.Paths.{path}
+use Rattle.fk_store.specs.Store.World as worlds
+use Rattle.fk_store.proofs.InStore.finding.Walks.{path-root}
+use Rattle.fk_host.specs.Kernels.{Kept, path_of}
+use Rattle.fk_host.specs.Kernels.{world_of as world}
+use Rattle.fk_host.specs.Hosts.{IsStepped, IsTurn, IsTurnFor, asked_with}
+use Rattle.fk_host.specs.Served.{Services, asked}
+use Rattle.fk_host.specs.Acts.{IsReadyFor, IsReadyAsked}
+use Rattle.fk_host.proofs.Acts.{fit-asked}
+use Rattle.fk_paging.specs.declared.pager.Page.{Page}
+use Rattle.fk_model.specs.declared.moves.Said.TheVariants as says
+use Rattle.fk_model.specs.Objects.{holds}
+use Rattle.fk_model.specs.StateRows.{is_native}
+use Rattle.laws_moves.specs.Whole.Runnable.{IsRunnable}
+use Rattle.laws_migrate.specs.Porters.{HasPorter}
+use Rattle.fk_paging.specs.declared.pager.Pager.{Pager}
+use Rattle.fk_paging.specs.Pagers.{answered, page_words, backing_of, state_of}
+use Rattle.laws_filled.specs.Pager.{Desk, Phase, State, paging, is_opening, stage_of, words_of, call_of, said_of, hears, IsPick, IsOwn}
+use Rattle.laws_filled.specs.Pager.Phase.{Seeking, Taking, Waiting, Looking, Evicting, Giving, Ending}
+use Rattle.fk_pager.specs.Desks.{root}
+use Rattle.fk_pager.specs.Driven.{is_waiting, HearsWell}
+use Rattle.fk_pager.proofs.Phases.{stays-done}
+use Rattle.fk_pager.proofs.Rows.{opening-ready, opening-keeps, good-answers}
+use Rattle.fk_pager.specs.Runs.{Moment, heard_by, IsOthersMove, by_others, IsPagersMove, pagers_event, by_pager, IsRun, GoesOn}
+use Rattle.fk_pager.specs.Runs.IsRun.{Others, Own}
+
+-- ---- names
+
+-- an object of the root, by its name
+pub named-root : (k : Kept) → path_of k ≡ space_born (world k) → (slot : ℕ) → named (world k) (record { space = 0; slot = slot }) ≡ slot ∷ root
+named-root k born slot = ap (λ (p : ℕ → Path). slot ∷ p 0) (sym born) ∙ ap (λ (s : Path). slot ∷ s) (path-root k.store)
+
+-- nobody holds the root
+pub root-unheld : (k : Kept) → is_unheld (world k) root ≡ true
+unfolding worlds.world decider
+root-unheld k = refl
+
+-- ---- picks
+
+pub no-pick : (d : Desk) (s : State) (w : World) (phase : Phase) → is_waiting phase ≡ false → IsPick d s w phase None
+no-pick d s w (Seeking from) other = refl
+no-pick d s w (Taking page) other = refl
+no-pick d s w Waiting other = cc
+no-pick d s w (Looking page) other = refl
+no-pick d s w (Evicting old page) other = refl
+no-pick d s w (Giving page) other = refl
+no-pick d s w (Ending page) other = refl
+
+pub picks-none : (d : Desk) (s : State) (w : World) (phase : Phase) (pick : Option Path) → is_waiting phase ≡ false → IsPick d s w phase pick → pick ≡ None
+picks-none d s w (Seeking from) pick other picks = picks
+picks-none d s w (Taking page) pick other picks = picks
+picks-none d s w Waiting pick other picks = cc
+picks-none d s w (Looking page) pick other picks = picks
+picks-none d s w (Evicting old page) pick other picks = picks
+picks-none d s w (Giving page) pick other picks = picks
+picks-none d s w (Ending page) pick other picks = picks
+
+pub waits-for : (phase : Phase) → is_waiting phase ≡ true → phase ≡ Waiting
+waits-for (Seeking from) is = cc
+waits-for (Taking page) is = cc
+waits-for Waiting is = refl
+waits-for (Looking page) is = cc
+waits-for (Evicting old page) is = cc
+waits-for (Giving page) is = cc
+waits-for (Ending page) is = cc
+
+pub none-other : (d : Desk) (s : State) (w : World) → is_waiting s.phase ≡ false → (IsOwn d w s None → ⊥) → (pick : Option Path) → IsOwn d w s pick → ⊥
+none-other d s w other none pick own = none (subst (IsOwn d w s) (picks-none d s w s.phase pick other own.picks) own)
+
+-- ---- what it asks is fit
+
+pub fit-call : (d : Desk) (s : State) (w : World) (x : Path) (phase : Phase) → is_fit w x (asks.Call (stage_of d phase) (words_of s phase)) ≡ true
+unfolding is_fit
+fit-call d s w x (Seeking from) = refl
+fit-call d s w x (Taking page) = refl
+fit-call d s w x Waiting = refl
+fit-call d s w x (Looking page) = refl
+fit-call d s w x (Evicting old page) = refl
+fit-call d s w x (Giving page) = refl
+fit-call d s w x (Ending page) = refl
+
+-- pages of its list are pages of a space
+pub listed-few : (pages : List Page) → length pages ≡ 256 → (page : ℕ) → is_some (backing_of pages page) ≡ true → page < 256
+listed-few pages whole page listed = by (slice_get pages page) refl listed
+  where
+    by : (o : Option Page) → slice_get pages page ≡ o → is_some (and_then page_words o) ≡ true → page < 256
+    by None e is = cc
+    by (Some there) e is = let within = slice_get_within pages page there e in omega (arith, within, whole)
+
+-- ---- turns
+
+module _ (d : Desk) (m n : Kept) (services new : Services) (s t : State) (opened : ℕ) where
+  abbrev at : Moment
+  at = record { world = world m; services = services; state = s; opened = opened }
+
+  -- its porter's call is the pager's event
+  pub own-event : (move : Move) (ask : Ask) → IsPagersMove d at move → ask ≡ asks.Call (stage_of d s.phase) (words_of s s.phase) →
+      event_of (world m) ask move ≡ pagers_event d at move
+  own-event move ask is asks_it = λ i. record { mover = is.porter i; pick = option_map (named (world m)) move.pick; ask = asks_it i }
+
+  module _ (move : Move) (is : IsPagersMove d at move) (said : says_of.Said)
+      (turn : IsStepped m services (event_of (world m) (asks.Call (stage_of d s.phase) (words_of s s.phase)) move) said n new) where
+    abbrev e : Event
+    e = pagers_event d at move
+
+    same-event : event_of (world m) (asks.Call (stage_of d s.phase) (words_of s s.phase)) move ≡ e
+    same-event = own-event move _ is refl
+
+    stepped : step (world m) e.mover e.pick e.ask ≡ record { world = world n; said = said_by (path_of n) said }
+    stepped = ap (λ (x : Event). step (world m) x.mover x.pick x.ask) (sym same-event) ∙ turn.step
+
+    pub own-said : said_of (world m) e ≡ said_by (path_of n) said
+    own-said = ap (λ (x : Step). x.said) stepped
+
+    own-heard : new ≡ heard_by (world m) e services
+    own-heard = turn.hears ∙ ap (λ x. heard_by (world m) x services) same-event
+
+    pub own-goes : (past : List Move) → t ≡ hears d s (said_by (path_of n) said) →
+        GoesOn d past at (past ++ move ∷ [])
+        (record { world = world n; services = new; state = t; opened = opened + (if is_opening s.phase then 1 else 0) })
+    own-goes past hears_it first run =
+        subst (IsRun d first (past ++ move ∷ [])) (λ i. record {
+          world = ap (λ (x : Step). x.world) stepped i;
+          services = sym own-heard i;
+          state = (ap (hears d s) own-said ∙ sym hears_it) i;
+          opened = opened + (if is_opening s.phase then 1 else 0);
+        }) (Own past at move run is)
+
+  pub others-goes : (move : Move) (ask : Ask) (is : IsOthersMove at move ask) (said : says_of.Said) →
+      IsStepped m services (event_of (world m) ask move) said n new → (past : List Move) →
+      GoesOn d past at (past ++ move ∷ []) (record { world = world n; services = new; state = s; opened = opened })
+  others-goes move ask is said turn past first run =
+      subst (IsRun d first (past ++ move ∷ [])) (λ i. record {
+        world = ap (λ (x : Step). x.world) turn.step i;
+        services = sym turn.hears i;
+        state = s;
+        opened = opened;
+      }) (Others past at move ask run is)
+
+-- a move that a user or a server asks for
+pub others-ready : (services : Services) (w : World) (s : State) (opened : ℕ) (move : Move) → is_opening s.phase ≡ false → IsValid w → w.next ≤ depth →
+    IsReadyAsked services w move →
+    (ask : Ask) × IsOthersMove (record { world = w; services = services; state = s; opened = opened }) move ask
+others-ready services w s opened move open valid few ready = by (asked services w move.who) refl ready
+  where
+    by : (o : Option Ask) → asked services w move.who ≡ o → IsReadyFor w move o →
+        (ask : Ask) × IsOthersMove (record { world = w; services = services; state = s; opened = opened }) move ask
+    by None e r = absurd r
+    by (Some ask) e r = (ask, record { opened = open; asks = e; valid = valid; few = few; ready = r })
+
+-- and its turn is its event's
+pub others-turn : (m n : Kept) (services new : Services) (move : Move) (ask : Ask) (said : says_of.Said) → asked services (world m) move.who ≡ Some ask →
+    IsTurn m services move asks.Run said n new → IsStepped m services (event_of (world m) ask move) said n new
+others-turn m n services new move ask said asks_it turn = subst (λ o. IsTurnFor m services move o said n new) asks_it turn
+
+-- ---- what a driver keeps by its pager's turn
+
+-- what is told is good
+pub hears-well : (d : Desk) (k n : Kept) (p : Pager) (pick : Option Path) → d.nester ≡ root → d.slot ≤ LAST_USER_SLOT → IsRunnable (world k) →
+    length p.pages.items ≡ 256 → IsOwn d (world k) (state_of p) pick → (said : says_of.Said) →
+    said_of (world k) (call_of d (state_of p) pick) ≡ said_by (path_of n) said → HearsWell p said
+hears-well d k n p pick nester low runnable whole own (says.Answer answer) is =
+    good-answers d (world k) (state_of p) pick nester low runnable.whole.full (listed-few p.pages.items whole) own answer.status (answered answer) is
+hears-well d k n p pick nester low runnable whole own says.Nothing is = tt
+hears-well d k n p pick nester low runnable whole own (says.Taken port client resumed turn moved) is = tt
+hears-well d k n p pick nester low runnable whole own (says.Words port words len) is = tt
+hears-well d k n p pick nester low runnable whole own (says.Given port len) is = tt
+hears-well d k n p pick nester low runnable whole own (says.Full port) is = tt
+hears-well d k n p pick nester low runnable whole own (says.Over port) is = tt
+hears-well d k n p pick nester low runnable whole own (says.Ended port) is = tt
+
+-- while it opens its porter stands
+pub porter-stands : (d : Desk) (k n : Kept) (s t : State) (pick : Option Path) (said : says_of.Said) → d.nester ≡ root →
+    (is_opening s.phase ≡ true → HasPorter (world k)) → IsOwn d (world k) s pick → after (world k) (call_of d s pick) ≡ world n →
+    t ≡ hears d s (said_by (path_of n) said) → is_opening t.phase ≡ true → HasPorter (world n)
+porter-stands d k n s t pick said nester stood own same heard opening = by (is_opening s.phase) refl
+  where
+    none : (phase : Phase) → is_opening phase ≡ true → IsPick d s (world k) phase pick → pick ≡ None
+    none (Seeking from) is picks = picks
+    none (Taking page) is picks = picks
+    none Waiting is picks = cc
+    none (Looking page) is picks = cc
+    none (Evicting old page) is picks = cc
+    none (Giving page) is picks = cc
+    none (Ending page) is picks = cc
+
+    by : (b : Bool) → is_opening s.phase ≡ b → HasPorter (world n)
+    by true e =
+        let native = stood e in
+        let no : pick ≡ None = none s.phase e own.picks in
+        let event : call_of d s pick ≡ record { mover = LAST_PORTER_SLOT ∷ root; pick = None; ask = asks.Call (stage_of d s.phase) (words_of s s.phase) } =
+        λ i. record { mover = LAST_PORTER_SLOT ∷ nester i; pick = no i; ask = asks.Call (stage_of d s.phase) (words_of s s.phase) } in
+        ap (λ (w : World). holds is_native (w.body (LAST_PORTER_SLOT ∷ root))) (sym same ∙ ap (after (world k)) event)
+        ∙ ap (holds is_native) (opening-keeps d nester (world k) s native (root-unheld k) s.phase e (LAST_PORTER_SLOT ∷ root)) ∙ native
+    by false e =
+        let done = stays-done d s e (said_by (path_of n) said) in
+        absurd (both (is_opening t.phase) opening (ap (λ (x : State). is_opening x.phase) heard ∙ done))
+      where
+        both : (b : Bool) → b ≡ true → b ≡ false → ⊥
+        both b f g = cc
+
+-- its opening's call is ready
+pub opens-ready : (d : Desk) (k : Kept) (s : State) → d.nester ≡ root → IsValid (world k) → (world k).next ≤ depth → HasPorter (world k) →
+    is_opening s.phase ≡ true → (pick : Option Path) × IsOwn d (world k) s pick
+opens-ready d k s nester valid few native opening =
+    (None, record {
+      valid = valid;
+      few = few;
+      picks = picks s.phase opening;
+      ready = subst (λ x. IsReady (world k) (LAST_PORTER_SLOT ∷ x) None (asks.Call (stage_of d s.phase) (words_of s s.phase))) (sym nester)
+          (opening-ready d nester (world k) s native (root-unheld k) s.phase opening);
+    })
+  where
+    picks : (phase : Phase) → is_opening phase ≡ true → IsPick d s (world k) phase None
+    picks (Seeking from) is = refl
+    picks (Taking page) is = refl
+    picks Waiting is = cc
+    picks (Looking page) is = cc
+    picks (Evicting old page) is = cc
+    picks (Giving page) is = cc
+    picks (Ending page) is = cc

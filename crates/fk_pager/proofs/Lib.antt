@@ -1,0 +1,14 @@
+pub mod Begins
+pub mod Unseen
+pub mod Opened
+pub mod Sane
+pub mod Rows
+pub mod Searching
+pub mod Driving
+pub mod Barred
+pub mod Counted
+pub mod Desked
+pub mod Left
+pub mod Hearing
+pub mod Phases
+pub mod Rooted

@@ -1,0 +1,10 @@
+pub mod Desks
+pub mod Seen
+pub mod Runs
+pub mod Sane
+pub mod Ends
+pub mod Faults
+pub mod Driven
+pub mod Unseen
+pub mod Counted
+pub mod Left
