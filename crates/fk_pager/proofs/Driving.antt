@@ -1,5 +1,5 @@
 -- A driver's turns are those of a run.
-use Rattle.std.proofs.Common.{◌≡◌, ℕ, ◌+◌, ◌≤◌, Bool, true, false, not, is_some, if◌then◌else◌, List, [], ◌∷◌, ◌++◌, length, Option, Some, None, option_map, refl, sym, ap, subst, ◌∙◌, arith}
+use Rattle.std.proofs.Common.{◌≡◌, ℕ, ◌+◌, ◌≤◌, Bool, true, false, not, is_some, if◌then◌else◌, List, [], ◌∷◌, ◌++◌, length, length-append, Option, Some, None, option_map, refl, sym, ap, subst, ◌∙◌, arith}
 use Rattle.std.proofs.lemmas.Bool.{le-leb}
 use Rattle.std.proofs.lemmas.Option.{slice_get_within}
 use Rattle.std.specs.List.{slice_get}
@@ -25,7 +25,7 @@ use Rattle.fk_store.specs.Store.World as worlds
 use Rattle.fk_store.proofs.InStore.finding.Walks.{path-root}
 use Rattle.fk_host.specs.Kernels.{Kept, path_of}
 use Rattle.fk_host.specs.Kernels.{world_of as world}
-use Rattle.fk_host.specs.Hosts.{IsStepped, IsTurn, IsTurnFor, asked_with}
+use Rattle.fk_host.specs.Hosts.{IsFitFor, IsFitWith, IsReadyWith, IsStepped, IsTurn, IsTurnFor}
 use Rattle.fk_host.specs.Served.{Services, asked}
 use Rattle.fk_host.specs.Acts.{IsReadyFor, IsReadyAsked}
 use Rattle.fk_host.proofs.Acts.{fit-asked}
@@ -36,11 +36,16 @@ use Rattle.fk_model.specs.StateRows.{is_native}
 use Rattle.laws_moves.specs.Whole.Runnable.{IsRunnable}
 use Rattle.laws_migrate.specs.Porters.{HasPorter}
 use Rattle.fk_paging.specs.declared.pager.Pager.{Pager}
-use Rattle.fk_paging.specs.Pagers.{answered, page_words, backing_of, state_of}
+use Rattle.fk_paging.specs.Pagers.{answered, page_words, backing_of, desk_of, state_of}
+use Rattle.fk_model.specs.Searches.{fault_at}
+use Rattle.laws_filled.specs.Filled.{is_paged}
 use Rattle.laws_filled.specs.Pager.{Desk, Phase, State, paging, is_opening, stage_of, words_of, call_of, said_of, hears, IsPick, IsOwn}
 use Rattle.laws_filled.specs.Pager.Phase.{Seeking, Taking, Waiting, Looking, Evicting, Giving, Ending}
 use Rattle.fk_pager.specs.Desks.{root}
-use Rattle.fk_pager.specs.Driven.{is_waiting, HearsWell}
+use Rattle.fk_pager.specs.Driven.{moment, desk, is_waiting, HearsWell, Drives}
+use Rattle.fk_pager.specs.Faults.{is_fault_of}
+use Rattle.fk_pager.specs.declared.driver.PagedRun as driver
+use Rattle.fk_pager.proofs.Searching.{root-place}
 use Rattle.fk_pager.proofs.Phases.{stays-done}
 use Rattle.fk_pager.proofs.Rows.{opening-ready, opening-keeps, good-answers}
 use Rattle.fk_pager.specs.Runs.{Moment, heard_by, IsOthersMove, by_others, IsPagersMove, pagers_event, by_pager, IsRun, GoesOn}
@@ -51,6 +56,10 @@ use Rattle.fk_pager.specs.Runs.IsRun.{Others, Own}
 -- an object of the root, by its name
 pub named-root : (k : Kept) → path_of k ≡ space_born (world k) → (slot : ℕ) → named (world k) (record { space = 0; slot = slot }) ≡ slot ∷ root
 named-root k born slot = ap (λ (p : ℕ → Path). slot ∷ p 0) (sym born) ∙ ap (λ (s : Path). slot ∷ s) (path-root k.store)
+
+-- an object has the path of its name
+pub named-place : (k : Kept) → path_of k ≡ space_born (world k) → (who : Who) → named (world k) who ≡ worlds.place_of k.store who
+named-place k born who = ap (λ (p : ℕ → Path). who.slot ∷ p who.space) (sym born)
 
 -- nobody holds the root
 pub root-unheld : (k : Kept) → is_unheld (world k) root ≡ true
@@ -89,7 +98,79 @@ waits-for (Ending page) is = cc
 pub none-other : (d : Desk) (s : State) (w : World) → is_waiting s.phase ≡ false → (IsOwn d w s None → ⊥) → (pick : Option Path) → IsOwn d w s pick → ⊥
 none-other d s w other none pick own = none (subst (IsOwn d w s) (picks-none d s w s.phase pick other own.picks) own)
 
+-- ---- its call is ready, or isn't
+
+module _ (d : Desk) (k : Kept) (services : Services) (s : State) (who : Who) (pick : Option Who) (ask : Ask) (nester : d.nester ≡ root)
+    (valid : IsValid (world k)) (few : (world k).next ≤ depth) (born : path_of k ≡ space_born (world k))
+    (porter : who ≡ record { space = 0; slot = LAST_PORTER_SLOT }) (asks_it : ask ≡ asks.Call (stage_of d s.phase) (words_of s s.phase)) where
+  abbrev move : Move
+  move = record { who = who; pick = pick }
+
+  abbrev picked : Option Path
+  picked = option_map (named (world k)) pick
+
+  pub placed : named (world k) who ≡ LAST_PORTER_SLOT ∷ d.nester
+  placed = ap (named (world k)) porter ∙ named-root k born LAST_PORTER_SLOT ∙ ap (λ (x : Path). LAST_PORTER_SLOT ∷ x) (sym nester)
+
+  pub call-ready : IsPick d s (world k) s.phase picked → IsReadyWith services (world k) move ask → IsOwn d (world k) s picked
+  call-ready picks ready = record {
+    valid = valid;
+    few = few;
+    picks = picks;
+    ready = subst (λ (x : Path). IsReady (world k) x picked (asks.Call (stage_of d s.phase) (words_of s s.phase))) placed
+        (subst (λ (a : Ask). IsReadyWith services (world k) move a) asks_it ready);
+  }
+
+  pub call-unready : (IsReadyWith services (world k) move ask → ⊥) → IsOwn d (world k) s picked → ⊥
+  call-unready none own =
+      none (subst (λ (a : Ask). IsReadyWith services (world k) move a) (sym asks_it)
+      (subst (λ (x : Path). IsReady (world k) x picked (asks.Call (stage_of d s.phase) (words_of s s.phase))) (sym placed) own.ready))
+
+-- a test that is never met
+pub unmet : (b : Bool) (P : Type 0) → (P → b ≡ true) → b ≡ false → P → ⊥
+unmet b P meets none p = let is = meets p in cc
+
+-- ---- whose fault it takes
+
+pub fault-there : (m n : Contents) (port who : Who) (pages list : List Page) (b : Bool) → n ≡ m → list ≡ pages →
+    b ≡ holds (is_fault_of (worlds.place_of n port) (backing_of list)) (fault_at (worlds.world n) (worlds.place_of n who)) →
+    b ≡ holds (is_fault_of (worlds.place_of m port) (backing_of pages)) (fault_at (worlds.world m) (worlds.place_of m who))
+fault-there m n port who pages list b same all is =
+    is ∙ ap (λ (x : Contents). holds (is_fault_of (worlds.place_of x port) (backing_of list)) (fault_at (worlds.world x) (worlds.place_of x who))) same
+    ∙ ap (λ (x : List Page). holds (is_fault_of (worlds.place_of m port) (backing_of x)) (fault_at (worlds.world m) (worlds.place_of m who))) all
+
+module _ (d : Desk) (k : Kept) (s : State) (who port : Who) (nester : d.nester ≡ root) (waits : s.phase ≡ Waiting)
+    (is_port : port ≡ record { space = 0; slot = d.port }) where
+  abbrev place : Path
+  place = worlds.place_of k.store who
+
+  same-fault : holds (is_fault_of (worlds.place_of k.store port) s.backing) (fault_at (world k) place) ≡ holds (is_paged (paging d s)) (fault_at (world k) place)
+  same-fault =
+      ap (λ (x : Path). holds (is_fault_of x s.backing) (fault_at (world k) place))
+      (ap (worlds.place_of k.store) is_port ∙ root-place k.store d.port ∙ ap (λ (x : Path). d.port ∷ x) (sym nester))
+
+  pub takes : path_of k ≡ space_born (world k) → holds (is_fault_of (worlds.place_of k.store port) s.backing) (fault_at (world k) place) ≡ true →
+      IsPick d s (world k) s.phase (Some (named (world k) who))
+  takes born is =
+      subst (λ (phase : Phase). IsPick d s (world k) phase (Some (named (world k) who))) (sym waits)
+      (subst (λ (y : Path). holds (is_paged (paging d s)) (fault_at (world k) y) ≡ true) (sym (named-place k born who)) (sym same-fault ∙ is))
+
+  pub takes-none : holds (is_fault_of (worlds.place_of k.store port) s.backing) (fault_at (world k) place) ≡ false →
+      IsOwn d (world k) s (Some place) → ⊥
+  takes-none none own =
+      let is : holds (is_paged (paging d s)) (fault_at (world k) place) ≡ true = subst (λ (phase : Phase). IsPick d s (world k) phase (Some place)) waits own.picks in
+      let other : holds (is_paged (paging d s)) (fault_at (world k) place) ≡ false = sym same-fault ∙ none in
+      cc
+
 -- ---- what it asks is fit
+
+-- so is what others ask
+pub fit-others : (services : Services) (w : World) (m : Move) → IsFitFor w m (asked services w m.who)
+fit-others services w m = by (asked services w m.who) refl
+  where
+    by : (o : Option Ask) → asked services w m.who ≡ o → IsFitFor w m o
+    by None e = tt
+    by (Some ask) e = fit-asked services w m.who ask (named w m.who) e
 
 pub fit-call : (d : Desk) (s : State) (w : World) (x : Path) (phase : Phase) → is_fit w x (asks.Call (stage_of d phase) (words_of s phase)) ≡ true
 unfolding is_fit
@@ -100,6 +181,11 @@ fit-call d s w x (Looking page) = refl
 fit-call d s w x (Evicting old page) = refl
 fit-call d s w x (Giving page) = refl
 fit-call d s w x (Ending page) = refl
+
+pub fit-own : (d : Desk) (s : State) (services : Services) (w : World) (move : Move) (ask : Ask) →
+    ask ≡ asks.Call (stage_of d s.phase) (words_of s s.phase) → IsFitWith services w move ask
+fit-own d s services w move ask is =
+    subst (λ (a : Ask). IsFitWith services w move a) (sym is) (fit-call d s w (named w move.who) s.phase)
 
 -- pages of its list are pages of a space
 pub listed-few : (pages : List Page) → length pages ≡ 256 → (page : ℕ) → is_some (backing_of pages page) ≡ true → page < 256
@@ -131,6 +217,9 @@ module _ (d : Desk) (m n : Kept) (services new : Services) (s t : State) (opened
     stepped : step (world m) e.mover e.pick e.ask ≡ record { world = world n; said = said_by (path_of n) said }
     stepped = ap (λ (x : Event). step (world m) x.mover x.pick x.ask) (sym same-event) ∙ turn.step
 
+    pub own-world : after (world m) e ≡ world n
+    own-world = ap (λ (x : Step). x.world) stepped
+
     pub own-said : said_of (world m) e ≡ said_by (path_of n) said
     own-said = ap (λ (x : Step). x.said) stepped
 
@@ -148,6 +237,16 @@ module _ (d : Desk) (m n : Kept) (services new : Services) (s t : State) (opened
           opened = opened + (if is_opening s.phase then 1 else 0);
         }) (Own past at move run is)
 
+    -- the same where the list and the number are known by equations
+    pub own-drives : (past moves : List Move) → moves ≡ past ++ move ∷ [] → t ≡ hears d s (said_by (path_of n) said) → (later : ℕ) →
+        later ≡ opened + (if is_opening s.phase then 1 else 0) →
+        GoesOn d past at moves (record { world = world n; services = new; state = t; opened = later })
+    own-drives past moves longer hears_it later counts first run =
+        subst (λ (l : ℕ). IsRun d first moves (record { world = world n; services = new; state = t; opened = l })) (sym counts)
+        (subst (λ (ms : List Move). IsRun d first ms
+        (record { world = world n; services = new; state = t; opened = opened + (if is_opening s.phase then 1 else 0) })) (sym longer)
+        (own-goes past hears_it first run))
+
   pub others-goes : (move : Move) (ask : Ask) (is : IsOthersMove at move ask) (said : says_of.Said) →
       IsStepped m services (event_of (world m) ask move) said n new → (past : List Move) →
       GoesOn d past at (past ++ move ∷ []) (record { world = world n; services = new; state = s; opened = opened })
@@ -158,6 +257,32 @@ module _ (d : Desk) (m n : Kept) (services new : Services) (s t : State) (opened
         state = s;
         opened = opened;
       }) (Others past at move ask run is)
+
+  pub others-drive : (move : Move) (ask : Ask) (is : IsOthersMove at move ask) (said : says_of.Said) →
+      IsStepped m services (event_of (world m) ask move) said n new → (past moves : List Move) → moves ≡ past ++ move ∷ [] →
+      GoesOn d past at moves (record { world = world n; services = new; state = s; opened = opened })
+  others-drive move ask is said turn past moves longer first run =
+      subst (λ (ms : List Move). IsRun d first ms (record { world = world n; services = new; state = s; opened = opened })) (sym longer)
+      (others-goes move ask is said turn past first run)
+
+-- its turn is its call's
+pub own-stepped : (d : Desk) (m n : Kept) (services new : Services) (s : State) (move : Move) (ask : Ask) (said : says_of.Said) →
+    ask ≡ asks.Call (stage_of d s.phase) (words_of s s.phase) → IsTurn m services move ask said n new →
+    IsStepped m services (event_of (world m) (asks.Call (stage_of d s.phase) (words_of s s.phase)) move) said n new
+own-stepped d m n services new s move ask said is turn = subst (λ (a : Ask). IsTurn m services move a said n new) is turn
+
+-- a move of the opening counts, any other doesn't
+pub counts-one : (opened : ℕ) (phase : Phase) → is_opening phase ≡ true → opened + 1 ≡ opened + (if is_opening phase then 1 else 0)
+counts-one opened phase is = let count : (if is_opening phase then 1 else 0) ≡ 1 = ap (λ (b : Bool). if b then 1 else 0) is in omega (arith, count)
+
+pub counts-none : (opened : ℕ) (phase : Phase) → is_opening phase ≡ false → opened ≡ opened + (if is_opening phase then 1 else 0)
+counts-none opened phase is = let count : (if is_opening phase then 1 else 0) ≡ 0 = ap (λ (b : Bool). if b then 1 else 0) is in omega (arith, count)
+
+pub few-more : (opened later : ℕ) (past moves : List Move) (move : Move) → moves ≡ past ++ move ∷ [] → opened ≤ length past → later ≤ opened + 1 →
+    later ≤ length moves
+few-more opened later past moves move longer few more =
+    let long : length moves ≡ length past + 1 = ap length longer ∙ length-append past (move ∷ []) in
+    omega (arith, long, few, more)
 
 -- a move that a user or a server asks for
 pub others-ready : (services : Services) (w : World) (s : State) (opened : ℕ) (move : Move) → is_opening s.phase ≡ false → IsValid w → w.next ≤ depth →
@@ -241,3 +366,35 @@ opens-ready d k s nester valid few native opening =
     picks (Evicting old page) is = cc
     picks (Giving page) is = cc
     picks (Ending page) is = cc
+
+-- so where none is it doesn't open
+pub not-opening : (d : Desk) (k : Kept) (s : State) → d.nester ≡ root → IsValid (world k) → (world k).next ≤ depth →
+    (is_opening s.phase ≡ true → HasPorter (world k)) → ((pick : Option Path) × IsOwn d (world k) s pick → ⊥) → is_opening s.phase ≡ false
+not-opening d k s nester valid few stood none = by (is_opening s.phase) refl
+  where
+    by : (b : Bool) → is_opening s.phase ≡ b → b ≡ false
+    by false e = refl
+    by true e = absurd (none (opens-ready d k s nester valid few (stood e) e))
+
+-- ---- a run that goes on
+
+pub drives-none : {S : Type 0} (a : driver.PagedRun S) → Drives a a
+drives-none a = record { same = refl; run = λ first run. run }
+
+pub drives-then : {S : Type 0} (a b c : driver.PagedRun S) → Drives a b → Drives b c → Drives a c
+drives-then a b c one two = record {
+  same = two.same ∙ one.same;
+  run = λ first run.
+      subst (λ (d : Desk). IsRun d first c.history.items (moment c)) one.same
+      (two.run first (subst (λ (d : Desk). IsRun d first b.history.items (moment b)) (sym one.same) (one.run first run)));
+}
+
+-- with the same moment, pager, port and moves it is the same run
+pub drives-alike : {S : Type 0} (a b : driver.PagedRun S) → moment b ≡ moment a → b.pager ≡ a.pager → b.port ≡ a.port → b.history ≡ a.history → Drives a b
+drives-alike a b at pager port history = record {
+  same = λ i. desk_of root (port i) (pager i);
+  run = λ first run.
+      let items : b.history.items ≡ a.history.items = λ i. (history i).items in
+      subst (λ (x : Moment). IsRun (desk a) first b.history.items x) (sym at)
+      (subst (λ (ms : List Move). IsRun (desk a) first ms (moment a)) (sym items) run);
+}

@@ -12,3 +12,5 @@ pub mod Left
 pub mod Hearing
 pub mod Phases
 pub mod Rooted
+pub mod Hindering
+pub mod Desking

@@ -2,7 +2,7 @@
 use Rattle.std.proofs.Common.{◌≡◌, ℕ, ◌+◌, ◌<◌, ◌≤◌, Bool, true, false, ◌&&◌, ◌==◌, nat_le, if◌then◌else◌, List, [], ◌∷◌, ◌++◌, drop, length, length-append, slice_index, refl, sym, ap, subst, ◌∙◌, arith, eqb-true}
 use Rattle.std.proofs.lemmas.Bool.{leb-false}
 use Rattle.fk_model.specs.declared.statuses.status.TheConstants.{OK, HELD}
-use Rattle.laws_filled.specs.Pager.{Desk, Phase, State, at_phase, makes_room, looked, put, counted, next}
+use Rattle.laws_filled.specs.Pager.{Desk, Phase, State, at_phase, makes_room, looked, put, counted, next, first}
 use Rattle.laws_filled.specs.Pager.Phase.{Seeking, Taking, Waiting, Looking, Evicting, Giving, Ending}
 use Rattle.fk_pager.specs.Sane.{ArePages, HasNumbers, IsSaneState, IsGoodAnswer}
 
@@ -97,3 +97,8 @@ module _ (d : Desk) (s : State) (some : 1 ≤ d.room) (sane : IsSaneState d.room
 
   pub sane-next : IsGoodAnswer s.phase status words → IsSaneState d.room (next d s s.phase status words)
   sane-next good = by_phase s.phase sane.phase good
+
+-- one that hasn't begun
+pub sane-first : (room : ℕ) → IsSaneState room first
+unfolding first
+sane-first room = record { few = omega arith; pages = tt; phase = tt }

@@ -141,6 +141,10 @@ come-next d m s who whos come none y own = let found = come y own in by found.0 
     by from at (inl same) = absurd (none (subst (λ x. IsOwn d (world m) s (Some x)) (sym (ap (place_of m) same ∙ at)) own))
     by from at (inr later) = (from, at, later)
 
+pub more-come : (d : Desk) (m : Contents) (s : State) (who : Who) (whos more : List Who) → whos ≡ who ∷ more → AreToCome d m s whos →
+    (IsOwn d (world m) s (Some (place_of m who)) → ⊥) → AreToCome d m s more
+more-come d m s who whos more is come none = come-next d m s who more (subst (AreToCome d m s) is come) none
+
 module _ (d : Desk) (m : Contents) (s : State) (waits : s.phase ≡ Waiting) where
   picks-paged : (pick : Option Path) → IsOwn d (world m) s pick → (y : Path) × (pick ≡ Some y) × (holds (is_paged (paging d s)) (fault_at (world m) y) ≡ true)
   picks-paged pick own = by pick refl (subst (λ phase. IsPick d s (world m) phase pick) waits own.picks)
@@ -174,3 +178,10 @@ module _ (d : Desk) (m : Contents) (s : State) (waits : s.phase ≡ Waiting) whe
       let found = picks-paged ready.0 ready.1 in
       let among = come found.0 (subst (IsOwn d (world m) s) found.1 ready.1) in
       among.2
+
+-- the same where the store and the port are known by equations
+pub leaders-come : (d : Desk) (m n : Contents) (s : State) → s.phase ≡ Waiting → d.nester ≡ root → (port : Who) (whos : List Who) → n ≡ m →
+    port ≡ record { space = 0; slot = d.port } → AreLeaders n (place_of n port) whos → AreToCome d m s whos
+leaders-come d m n s waits nester port whos same is leads =
+    come-first d m s waits nester whos
+    (subst (λ (q : Who). AreLeaders m (place_of m q) whos) is (subst (λ (k : Contents). AreLeaders k (place_of k port) whos) same leads))

@@ -1,13 +1,15 @@
 //! Which subtrees of the root may be paged.
-ghost use Rattle.std.specs.Prelude.{◌≡◌, ◌↔◌, ℕ, ◌∷◌, [], true, false, None, Some, IsTrue, IfSome, IfNone, option_map, is_some};
+ghost use Rattle.std.specs.Option.{option_copied};
+ghost use Rattle.std.specs.Prelude.{◌≡◌, ◌↔◌, ℕ, ◌∷◌, ◌&&◌, ◌==◌, [], true, false, None, Some, IsTrue, IsSome, IfSome, IfNone, option_map, is_some};
 ghost use Rattle.fk_model.specs.declared.limits.TheConstants.{LAST_PORTER_SLOT};
 ghost use Rattle.fk_model.specs.LinkRows as rows;
-ghost use Rattle.fk_model.specs.Objects.{and_then, holds, region_of, space_of};
+ghost use Rattle.fk_model.specs.Objects.{holds, region_of};
 ghost use Rattle.fk_model.specs.Places.{Path};
 ghost use Rattle.fk_model.specs.StateRows as states;
+ghost use Rattle.fk_model.specs.Valid.{birth_of, birth_at};
 ghost use Rattle.fk_store.specs.Store.Bodies.{body_by};
-ghost use Rattle.fk_store.specs.Store.Paths.{path};
-ghost use Rattle.fk_store.specs.Store.World.{world, place_of, IsSpace};
+ghost use Rattle.fk_store.specs.Store.Paths.{path, place, IsAtHome};
+ghost use Rattle.fk_store.specs.Store.World.{world, body_of, place_of, IsSpace};
 ghost use Rattle.fk_pager.specs.Desks as desks;
 ghost use Rattle.fk_pager.specs.Desks.{root, keeps_all, HasDesk, IsPageable};
 ghost use Rattle.fk_pager.specs.Seen.{extent_by, is_set, leads_some, is_hindrance};
@@ -97,7 +99,8 @@ fn keeper_of_all(store: &Store, space: u32) -> Option<Who>
 
 /// The set of a port.
 fn set_of(store: &Store, port: Who) -> Option<u8>
-    ensures { (set : ℕ) → rows.is_member set ((world store.now).body (place_of store.now port)) ≡ is_set set result }
+    ensures set { (set : ℕ) → rows.is_member set ((world store.now).body (place_of store.now port)) ≡ is_set set result }
+    ensures there { IsSome result → IsSpace store.now port.space }
 {
     match store.at(port)? {
         Body::Port { set, .. } => *set,
@@ -105,15 +108,42 @@ fn set_of(store: &Store, port: Who) -> Option<u8>
     }
 }
 
+/// The root's object in a slot, if one is there.
+fn at_root(store: &Store, slot: u8) -> Option<&Body>
+    ensures body { (world store.now).body (slot ∷ root) ≡ option_map (body_of store.now) (option_copied result) }
+    ensures home { IfSome result (λ body. IsAtHome (path store.now) (record { space = 0; slot = slot }) body.now) }
+{
+    store.at(in_root(slot))
+}
+
+/// The birth number of a space, if the object is one. It has the path at which it stands.
+fn birth_in(body: &Body) -> Option<u32>
+    ensures birth { (path : ℕ → Path) → birth_of (body_by path body.now) ≡ result }
+    ensures home { (path : ℕ → Path) (who : _) → IsAtHome path who body.now → IfSome result (λ birth. path birth ≡ place path who) }
+{
+    match *body {
+        Body::Space { birth, .. } => Some(birth),
+        _ => None,
+    }
+}
+
 /// The birth number of the space in a slot of the root.
 fn space_in(store: &Store, slot: u8) -> Option<u32>
+    ensures birth { birth_at (world store.now) (slot ∷ root) ≡ result }
     ensures path { IfSome result (λ birth. path store.now birth ≡ slot ∷ root) }
     ensures space { IfSome result (IsSpace store.now) }
-    ensures some { is_some (and_then space_of ((world store.now).body (slot ∷ root))) ≡ is_some result }
 {
-    match store.at(in_root(slot))? {
-        Body::Space { birth, .. } => Some(*birth),
-        _ => None,
+    let body = at_root(store, slot)?;
+    birth_in(body)
+}
+
+/// A porter's thread.
+fn is_native(body: &Body) -> bool
+    ensures { (path : ℕ → Path) → result ≡ states.is_native (body_by path body.now) }
+{
+    match body {
+        Body::Thread(thread) => matches!(thread.mode, Mode::Native),
+        _ => false,
     }
 }
 
@@ -121,10 +151,41 @@ fn space_in(store: &Store, slot: u8) -> Option<u32>
 fn is_nester(store: &Store) -> bool
     ensures { result ≡ holds states.is_native ((world store.now).body (LAST_PORTER_SLOT ∷ root)) }
 {
-    match store.thread(in_root(LAST_PORTER_SLOT as u8)) {
-        Some(thread) => thread.mode == Mode::Native,
+    match at_root(store, LAST_PORTER_SLOT as u8) {
+        Some(body) => is_native(body),
         None => false,
     }
+}
+
+/// Both of two facts.
+fn both(first: bool, second: bool) -> bool
+    ensures { result ≡ (first && second) }
+{
+    first && second
+}
+
+/// All of three.
+fn all_three(first: bool, second: bool, third: bool) -> bool
+    ensures { result ≡ (first && second && third) }
+{
+    first && second && third
+}
+
+/// There is a set, and it is the one in this slot.
+fn is_in(set: Option<u8>, slot: u8) -> bool
+    ensures { result ≡ is_set slot set }
+{
+    match set {
+        Some(its) => its == slot,
+        None => false,
+    }
+}
+
+/// It is the root's object in a slot.
+fn is_in_root(who: Who, slot: u8) -> bool
+    ensures { result ≡ (who.space == 0 && who.slot == slot) }
+{
+    who.space == 0 && who.slot == slot
 }
 
 /// An object bars a pager: a mapping in its space, another port in its set, a region of another space that its port keeps.
@@ -135,7 +196,8 @@ fn hinders(store: &Store, space: u32, desk: Desk, who: Who) -> bool
     match store.at(who) {
         Some(Body::Mapping { .. }) => who.space == space,
         Some(Body::Port { set, .. }) => {
-            who.space == 0 && *set == Some(desk.set) && who.slot != desk.port
+            let member = is_in(*set, desk.set);
+            all_three(who.space == 0, member, who.slot != desk.port)
         }
         Some(
             Body::Region {
@@ -145,7 +207,8 @@ fn hinders(store: &Store, space: u32, desk: Desk, who: Who) -> bool
         ) => {
             // Tells that no other object has the path of this port.
             let _there = store.at(*keeper);
-            who.space != space && *keeper == in_root(desk.port)
+            let ours = is_in_root(*keeper, desk.port);
+            both(who.space != space, ours)
         }
         _ => false,
     }
@@ -175,15 +238,18 @@ pub fn desk_at(store: &Store, slot: u8) -> Option<Desk>
 {
     let space = space_in(store, slot)?;
     let port = keeper_of_all(store, space)?;
+    let set = set_of(store, port)?;
     if port.space != 0 {
         return None;
     }
-    let set = set_of(store, port)?;
     let desk = Desk {
         port: port.slot,
         set,
     };
-    if !is_nester(store) || is_hindered(store, space, desk) {
+    if !is_nester(store) {
+        return None;
+    }
+    if is_hindered(store, space, desk) {
         return None;
     }
     Some(desk)

@@ -1,6 +1,7 @@
 //! A host driven with its pager.
 ghost use Rattle.std.specs.Prelude.{◌≡◌, ◌∷◌, ◌++◌, ◌+◌, ◌≤◌, [], IfOk, IfSome, IfNone, OnOk, length, map, false, true, None, Some, option_map};
 ghost use Rattle.fk_model.specs.Who.{named};
+ghost use Rattle.fk_store.specs.Store.World.{place_of};
 ghost use Rattle.fk_host.specs.Kernels.{world_of as world};
 ghost use Rattle.fk_host.specs.Served.{AllFit};
 ghost use Rattle.fk_paging.specs.Pagers.{state_of, IsStill};
@@ -151,11 +152,12 @@ impl<S: Service + Drop> PagedRun<S> {
     fn take(&self, who: Who) -> Option<Move>
         requires waits { (moment self.now).state.phase ≡ pagers.Waiting }
         ensures ready { IfSome result (λ m. IsPagersMove (desk self.now) (moment self.now) m) }
-        ensures none { IfNone result (IsOwn (desk self.now) (moment self.now).world (moment self.now).state (Some (named (moment self.now).world who)) → ⊥) }
+        ensures none { IfNone result (IsOwn (desk self.now) (moment self.now).world (moment self.now).state (Some (place_of self.now.host.kernel.store who)) → ⊥) }
     {
-        self.host.kernel().names();
-        let store = self.host.kernel().store();
-        if has_fault(store, self.pager.pages.as_slice(), in_root(self.port), who) {
+        let kernel = self.host.kernel();
+        kernel.names();
+        let pages = self.pager.pages.as_slice();
+        if has_fault(kernel.store(), pages, in_root(self.port), who) {
             return self.call(Some(who));
         }
         None
@@ -245,6 +247,7 @@ impl<S: Service + Drop> PagedRun<S> {
         if self.held && !self.is_opening() {
             return self.choose_other();
         }
+        self.host.kernel().names();
         match self.pagers_move() {
             Some(m) => Some(Turn::Pager(m)),
             None => match self.others_move() {
