@@ -16,8 +16,8 @@ use Rattle.fk_model.specs.World.{World}
 use Rattle.fk_model.specs.Valid.{kind_there}
 use Rattle.fk_store.specs.Store.Bodies.{mode_by, thread_by}
 use Rattle.fk_store.specs.Store.Contents.{Contents}
-use Rattle.fk_store.specs.Store.Names.{who_cmp}
-use Rattle.fk_store.specs.Store.Orders.{IsFirstAfter}
+use Rattle.fk_store_graph.specs.Leads.Names.{who_cmp}
+use Rattle.fk_store_graph.specs.Bodies.Orders.{IsFirstAfter}
 use Rattle.fk_store.specs.Store.World.{world, place_of, IsLive}
 use Rattle.fk_report.specs.declared.threads.ThreadState.{ThreadState}
 use Rattle.fk_report.specs.Threads.{state_in, state_at, is_halted, is_over, HasHalted, HaveHalted}
