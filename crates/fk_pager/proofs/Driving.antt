@@ -49,7 +49,10 @@ use Rattle.fk_pager.proofs.Searching.{root-place}
 use Rattle.fk_pager.proofs.Phases.{stays-done}
 use Rattle.fk_pager.proofs.Rows.{opening-ready, opening-keeps, good-answers}
 use Rattle.fk_pager.specs.Runs.{Moment, heard_by, IsOthersMove, by_others, IsPagersMove, pagers_event, by_pager, IsRun, GoesOn}
-use Rattle.fk_pager.specs.Runs.IsRun.{Others, Own}
+use Rattle.fk_pager.specs.Runs.IsRun.{Begins, Others, Own}
+use Rattle.fk_pager.specs.Ends.{IsEnd}
+use Rattle.fk_pager.specs.Paged.{opened_by, IsPaged}
+use Rattle.fk_report.specs.declared.end.End.{End}
 
 -- ---- names
 
@@ -398,3 +401,30 @@ drives-alike a b at pager port history = record {
       subst (λ (x : Moment). IsRun (desk a) first b.history.items x) (sym at)
       (subst (λ (ms : List Move). IsRun (desk a) first ms (moment a)) (sym items) run);
 }
+
+-- ---- a whole run
+
+pub paged-out : {S : Type 0} (old new : driver.PagedRun S) (d : Desk) (first : Moment) (budget : ℕ) (end : End) → desk old ≡ d → moment old ≡ first →
+    old.history.items ≡ [] → Drives old new → (length old.history.items ≤ budget → length new.history.items ≤ budget) →
+    IsEnd (desk old) budget (length new.history.items) (moment new) end →
+    IsPaged d first budget new.host.kernel new.host.services.list (record {
+      history = new.history.items;
+      opened = opened_by (length new.history.items) (moment new);
+      faults = (moment new).state.faults;
+      end = end;
+    })
+paged-out old new d first budget end here begins none drives within ends =
+    let empty : length old.history.items ≡ 0 = ap length none in
+    let run : IsRun (desk old) (moment old) new.history.items (moment new) =
+    drives.run (moment old) (subst (λ (ms : List Move). IsRun (desk old) (moment old) ms (moment old)) (sym none) Begins) in
+    record {
+      at = moment new;
+      there = refl;
+      serve = refl;
+      run = subst (λ (x : Moment). IsRun d x new.history.items (moment new)) begins
+          (subst (λ (x : Desk). IsRun x (moment old) new.history.items (moment new)) here run);
+      within = within (omega (arith, empty));
+      opened = refl;
+      faults = refl;
+      end = subst (λ (x : Desk). IsEnd x budget (length new.history.items) (moment new) end) here ends;
+    }

@@ -4,6 +4,7 @@ pub mod Runs
 pub mod Sane
 pub mod Ends
 pub mod Faults
+pub mod Paged
 pub mod Driven
 pub mod Unseen
 pub mod Counted

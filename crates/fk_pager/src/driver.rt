@@ -8,17 +8,20 @@ ghost use Rattle.fk_paging.specs.Pagers.{state_of, IsStill};
 ghost use Rattle.laws_filled.specs.Pager as pagers;
 ghost use Rattle.laws_filled.specs.Pager.{first, is_opening, IsPick, IsOwn};
 ghost use Rattle.fk_pager.specs.Driven.{moment, desk, is_waiting, Heard, HearsWell, IsDriven, IsTurnReady, Drives};
+ghost use Rattle.fk_pager.specs.Desks.{desk_of_root};
 ghost use Rattle.fk_pager.specs.Ends.{IsAnyReady, IsAtRest, IsEnd, IsOtherReady, IsPagerReady};
+ghost use Rattle.fk_pager.specs.Paged.{opened_by};
 ghost use Rattle.fk_pager.specs.Runs.{IsPagersMove, IsOthersMove};
 ghost use Rattle.fk_pager.specs.Sane.{IsSane};
 ghost use Rattle.laws_migrate.specs.Porters.{HasPorter};
 
 use crate::desks::in_root;
 use crate::faults::has_fault;
+use fk_extras::Paged;
 use fk_host::Host;
 use fk_model::limits::LAST_PORTER_SLOT;
 use fk_model::status::HELD;
-use fk_model::{Ask, Move, NoMemory, Said, Who};
+use fk_model::{Ask, List, Move, NoMemory, Said, Who};
 use fk_natives::Service;
 use fk_paging::{Pager, Phase};
 use fk_report::{End, all_halted};
@@ -84,6 +87,8 @@ impl<S: Service + Drop> PagedRun<S> {
         requires most { room ≤ 256 }
         requires porter { HasPorter (world host.kernel) }
         ensures driven { IfOk result (λ run. IsDriven run) }
+        ensures host { IfOk result (λ run. run.host ≡ host) }
+        ensures here { IfOk result (λ run. desk run ≡ desk_of_root slot port set room) }
         ensures moment { IfOk result (λ run. moment run
             ≡ record { world = world host.kernel; services = host.services.list; state = first; opened = 0 }) }
         ensures history { IfOk result (λ run. run.history.items ≡ []) }
@@ -373,6 +378,7 @@ impl<S: Service + Drop> PagedRun<S> {
         ensures drives { OnOk result (Drives self.old self.new) }
         ensures end { IfOk result (IsEnd (desk self.old) budget (length self.new.history.items) (moment self.new)) }
         ensures fits { OnOk result (AllFit (map (λ r. r.rule) table.now.list.items) self.new.host.services.list) }
+        ensures within { OnOk result (length self.old.history.items ≤ budget → length self.new.history.items ≤ budget) }
     {
         while (self.history.len() as u64) < budget {
             let Some(turn) = self.choose() else {
@@ -381,5 +387,33 @@ impl<S: Service + Drop> PagedRun<S> {
             self.make(table, turn)?;
         }
         Ok(self.end_used())
+    }
+
+    /// The host, and what the run came to that has ended so.
+    pub fn into_parts(self, end: End) -> (Host<S>, Paged)
+        ensures host { result.0 ≡ self.host }
+        ensures paged { result.1 ≡ record {
+            history = self.history.items;
+            opened = opened_by (length self.history.items) (moment self);
+            faults = (moment self).state.faults;
+            end = end
+        } }
+    {
+        // There is room for another, so a number past the last can be told.
+        let _room = self.history.capacity();
+        let opened = if self.is_opening() {
+            self.history.len() as u64 + 1
+        } else {
+            self.opened
+        };
+        let faults = self.faults();
+        let PagedRun { host, history, .. } = self;
+        let paged = Paged {
+            history: List::of(history),
+            opened,
+            faults,
+            end,
+        };
+        (host, paged)
     }
 }

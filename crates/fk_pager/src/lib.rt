@@ -4,7 +4,8 @@
 //! It is generic in its servers.
 //!
 //! It promises that a run of it is one of `specs/Runs.antt`, in which the pager picks faults of its own alone, how the run ends (`specs/Ends.antt`), and that
-//! what users and native servers do up to the first move that peeks is a run of the world in which every page is home (`specs/Unseen.antt`).
+//! what users and native servers do up to the first move that peeks is a run of the world in which every page is home (`specs/Unseen.antt`). `run_paged` is
+//! the whole of it in one call (`specs/Paged.antt`).
 #![tactic(auto)]
 
 ghost use Rattle.fk_pager.specs.Counted.{FaultsAreCounted};
@@ -14,9 +15,11 @@ ghost use Rattle.fk_pager.specs.Left.{RunsLeaveNone};
 mod desks;
 mod driver;
 mod faults;
+mod paged;
 
 pub use desks::{Desk, desk_at, is_pageable};
 pub use driver::{PagedRun, Turn};
+pub use paged::run_paged;
 
 /// Where a subtree may be paged and nobody has a fault, its pager may begin.
 pub fn desks_are_first()

@@ -1,4 +1,5 @@
 use Rattle.std.proofs.Common.{arith}
+use Rattle.fk_pager.specs.Desks.{root}
 use Rattle.fk_pager.proofs.Hearing.{sane-new}
 use Rattle.fk_pager.proofs.driver.PagedRun.new.Goals as goal
 
@@ -11,3 +12,8 @@ returns-clause-driven g c =
       few = omega arith;
       porter = λ opening. c.requires.porter;
     }
+
+pub returns-clause-here : goal.returns-clause-here
+returns-clause-here g c =
+    let made = c.in_ok-pager.ensures in
+    λ i. record { nester = root; slot = made.slot i; port = c.args.port; set = made.set i; room = made.room i }
