@@ -1,0 +1,34 @@
+use Rattle.std.proofs.Common.{refl, sym, ◌∙◌}
+use Rattle.fk_host.specs.Kernels.{world_of as world}
+use Rattle.fk_pages.proofs.Begun.{all-fit, placed-first, with-jobs, not-pageable}
+use Rattle.fk_pages.proofs.page.page.Goals as goal
+
+pub returns-then-len-ne0 : goal.returns-then-len-ne0
+returns-then-len-ne0 c = with-jobs c.args.slot c.args.scenario.now c.if-len-ne0.true
+
+pub returns-in-None : goal.returns-in-None
+returns-in-None c = not-pageable c.args.slot c.args.scenario.now (world c.in_ok-first.first.kernel) c.in_ok-first.ensures.world c.in-None.ensures.none
+
+pub page_at-made-requires-clause-fits : goal.page_at-made-requires-clause-fits
+page_at-made-requires-clause-fits c =
+    all-fit _ (world c.in_ok-first.first.kernel) c.in_ok-first.first.services.items c.args.scenario.now.servers c.in_ok-first.ensures.services c.requires.rules
+
+pub returns-in-Some : goal.returns-in-Some
+returns-in-Some c =
+    let first = c.in_ok-first.first in
+    let w = world first.kernel in
+    record {
+      port = c.in-Some.desk.port;
+      set = c.in-Some.desk.set;
+      first = _;
+      boots = c.in_ok-first.ensures.world;
+      serves = placed-first w first.services.items ∙ c.in_ok-first.ensures.services;
+      begins = record {
+        desk = c.in-Some.ensures.some;
+        valid = c.in_ok-first.ensures.valid;
+        clear = c.in_ok-first.ensures.sound.idle.unfaulted;
+        state = refl;
+        opened = refl;
+      };
+      written = rw c.in_ok-first.ensures.budget at c.in_ok-made.ensures;
+    }
