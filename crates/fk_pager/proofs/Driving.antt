@@ -1,5 +1,5 @@
 -- A driver's turns are those of a run.
-use Rattle.std.proofs.Common.{◌≡◌, ℕ, ◌+◌, ◌≤◌, Bool, true, false, not, is_some, if◌then◌else◌, List, [], ◌∷◌, ◌++◌, length, length-append, Option, Some, None, option_map, refl, sym, ap, subst, ◌∙◌, arith}
+use Rattle.std.proofs.Common.{◌≡◌, ◌⊎◌, inl, inr, IfNone, ℕ, ◌+◌, ◌≤◌, Bool, true, false, not, is_some, if◌then◌else◌, List, [], ◌∷◌, ◌++◌, length, length-append, Option, Some, None, option_map, refl, sym, ap, subst, ◌∙◌, arith}
 use Rattle.std.proofs.lemmas.Bool.{le-leb}
 use Rattle.std.proofs.lemmas.Option.{slice_get_within}
 use Rattle.std.specs.List.{slice_get}
@@ -378,6 +378,16 @@ not-opening d k s nester valid few stood none = by (is_opening s.phase) refl
     by : (b : Bool) → is_opening s.phase ≡ b → b ≡ false
     by false e = refl
     by true e = absurd (none (opens-ready d k s nester valid few (stood e) e))
+
+-- ---- who else is ready
+
+pub both-none : {A : Type 0} (o : Option A) (X Y Z : Type 0) → (X → Y → Z) → IfNone o X → IfNone o Y → IfNone o Z
+both-none None X Y Z f x y = f x y
+both-none (Some a) X Y Z f x y = tt
+
+pub none-of-either : {A B : Type 0} {P : A → Type 0} → ((a : A) → P a → ⊥) → (B → ⊥) → ((a : A) × P a) ⊎ B → ⊥
+none-of-either first second (inl is) = first is.0 is.1
+none-of-either first second (inr is) = second is
 
 -- ---- a run that goes on
 

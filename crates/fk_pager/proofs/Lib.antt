@@ -9,6 +9,7 @@ pub mod Barred
 pub mod Counted
 pub mod Desked
 pub mod Left
+pub mod Alike
 pub mod Hearing
 pub mod Phases
 pub mod Rooted

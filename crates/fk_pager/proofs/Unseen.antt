@@ -21,10 +21,11 @@ use Rattle.fk_model.specs.Outcomes.Said.{Nothing, Answered, Taken, Words, Given,
 use Rattle.fk_model.specs.Outcomes.{when}
 use Rattle.fk_model.specs.Moves.{Step, IsReady, GoesAllowed, outcome, goes_on, step}
 use Rattle.fk_model.specs.Runs.{Event, after, run}
-use Rattle.fk_model.specs.Valid.{is_fit, is_served_port}
+use Rattle.fk_model.specs.Valid.{is_fit, is_served_port, IsValid}
 use Rattle.fk_model.specs.Who.{named, event_of}
 use Rattle.fk_model.proofs.walks.PlaceLaws.{same_path_ne}
 use Rattle.laws_moves.specs.Frozen.Users.{is_users}
+use Rattle.laws_moves.proofs.InMachine.validity.Steps.{step_keeps_valid_lem}
 use Rattle.laws_migrate.specs.Porters.{HasPorter}
 use Rattle.laws_migrate.proofs.Porters.{root_keeps_porter}
 use Rattle.laws_filled.specs.Filled.{Paging, filled, unfaulted, raises}
@@ -127,11 +128,11 @@ module _ (p : Paging) (w : World) where
   names : named F ≡ named w
   names = λ i who. names_lead_alike_lem p w who i
 
-  asked-same : (services : Services) (who : Who) → asked services F who ≡ asked services w who
+  pub asked-same : (services : Services) (who : Who) → asked services F who ≡ asked services w who
   asked-same services who = ap (λ (b : Bool). asked_at b services who)
       (ap (λ x. is_served_port F (At x)) (names_lead_alike_lem p w who) ∙ ports_are_served_alike_lem p w (At (named w who)))
 
-  event-same : (ask : Ask) (m : Move) → event_of F ask m ≡ event_of w ask m
+  pub event-same : (ask : Ask) (m : Move) → event_of F ask m ≡ event_of w ask m
   event-same ask m = λ i. record { mover = names i m.who; pick = option_map (names i) m.pick; ask = ask }
 
   module _ (e : Event) (said : said_of F e ≡ said_of w e) (same : after F e ≡ filled p (after w e)) where
@@ -173,6 +174,7 @@ module _ (slot port set room : ℕ) (low : slot ≤ LAST_USER_SLOT) (some : 1 �
     pub good : IsGood d at.world at.state
     pub porter : HasPorter at.world
     pub run : IsPlainRun (scene_of first) others (filled_scene d at)
+    pub valid : IsValid (filled (paging d at.state) at.world)
 
   -- ---- a move of another
 
@@ -228,9 +230,25 @@ module _ (slot port set room : ℕ) (low : slot ≤ LAST_USER_SLOT) (some : 1 �
         (Goes past (filled_scene d at) m ask so.run (asked-same p w at.services m.who ∙ move.asks)
         (subst (λ (n : Who → Path). IsReady (filled p w) (n m.who) (option_map n m.pick) ask) (sym (names p w)) one.0))
 
+    raised-valid : raises_now d at m ask ≡ true → IsValid (filled p (after w e))
+    raised-valid raising =
+        let unseen = raises_are_unseen_lem p w e.mover e.pick e.ask so.good.paging is-others.other is-others.asks is-others.dark is-others.ready raising in
+        subst IsValid (sym unseen.1) so.valid
+
+    calm-valid : raises_now d at m ask ≡ false → IsValid (filled p (after w e))
+    calm-valid none =
+        let one = filled_moves_alike_lem p w e.mover e.pick e.ask so.good.paging is-others.other is-others.asks is-others.dark is-others.ready none in
+        let same : after (filled p w) e ≡ filled p (after w e) = ap (λ (x : Step). x.world) one.1 in
+        let fit = fit-asked at.services (filled p w) m.who ask (named w m.who) (asked-same p w at.services m.who ∙ move.asks) in
+        subst IsValid same (step_keeps_valid_lem (filled p w) e.mover e.pick e.ask so.valid move.few fit)
+
     by-others : IsStanding first (unless_raised (raises_now d at m ask) past m) (by_others at m ask)
-    by-others = record { good = good-stays; porter = porter-stays; run = by (raises_now d at m ask) refl }
+    by-others = record { good = good-stays; porter = porter-stays; run = by (raises_now d at m ask) refl; valid = stays (raises_now d at m ask) refl }
       where
+        stays : (b : Bool) → raises_now d at m ask ≡ b → IsValid (filled p (after w e))
+        stays true raising = raised-valid raising
+        stays false none = calm-valid none
+
         by : (b : Bool) → raises_now d at m ask ≡ b → IsPlainRun (scene_of first) (unless_raised b past m) (filled_scene d (by_others at m ask))
         by true raising = raised raising
         by false none = calm none
@@ -254,6 +272,7 @@ module _ (slot port set room : ℕ) (low : slot ≤ LAST_USER_SLOT) (some : 1 �
             ∙ native-blind (paging d at.state) (w.body me) ∙ so.porter;
         run = subst (IsPlainRun (scene_of first) past)
             (λ i. record { world = sym comes.0 i; services = sym (still w e at.services silent.said silent.ended) i }) so.run;
+        valid = subst IsValid (sym comes.0) so.valid;
       }
 
   -- ---- a run
@@ -266,12 +285,16 @@ module _ (slot port set room : ℕ) (low : slot ≤ LAST_USER_SLOT) (some : 1 �
     unfolding run struck_events
     same-world = sym (pagers_are_hidden_lem d first.world [] first.world pagers.first is_low some is_first (paged.Here first.world pagers.first)).world
 
+    same-first : filled (paging d first.state) first.world ≡ first.world
+    same-first = ap (λ (s : State). filled (paging d s) first.world) begins.state ∙ same-world
+
     stands-first : IsStanding first [] first
     stands-first = record {
       good = subst (λ (s : State). IsGood d first.world s) (sym begins.state) (first-good d first.world is_first);
       porter = begins.desk.nester;
       run = subst (IsPlainRun (scene_of first) [])
-          (λ i. record { world = sym (ap (λ (s : State). filled (paging d s) first.world) begins.state ∙ same-world) i; services = first.services }) Starts;
+          (λ i. record { world = sym same-first i; services = first.services }) Starts;
+      valid = subst IsValid (sym same-first) begins.valid;
     }
 
     pub stands : (moves : List Move) (at : Moment) (r : IsRun d first moves at) → is_dark r ≡ true → IsStanding first (struck r) at

@@ -4,6 +4,7 @@ use Rattle.fk_model.specs.declared.moves.Move.{Move}
 use Rattle.fk_model.specs.Places.{Path}
 use Rattle.fk_model.specs.World.{World}
 use Rattle.fk_host.specs.Acts.{IsReadyAsked}
+use Rattle.fk_host.specs.Events as events
 use Rattle.fk_report.specs.declared.end.End.{End}
 use Rattle.fk_report.specs.declared.end.End.TheVariants as ends
 use Rattle.fk_report.specs.Threads.{HaveHalted}
@@ -14,9 +15,9 @@ use Rattle.fk_pager.specs.Runs.{Moment}
 abbrev pub IsPagerReady : Desk → Moment → Type 0
 IsPagerReady d at = (pick : Option Path) × IsOwn d at.world at.state pick
 
--- a user's or a native server's move is ready
+-- a user's or a native server's move is ready, by names; or a user's, wherever it stands
 abbrev pub IsOtherReady : Moment → Type 0
-IsOtherReady at = (m : Move) × IsReadyAsked at.services at.world m
+IsOtherReady at = ((m : Move) × IsReadyAsked at.services at.world m) ⊎ events.IsAnyReady at.world
 
 abbrev pub IsAnyReady : Desk → Moment → Type 0
 IsAnyReady d at = IsPagerReady d at ⊎ IsOtherReady at

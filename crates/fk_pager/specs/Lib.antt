@@ -9,3 +9,4 @@ pub mod Driven
 pub mod Unseen
 pub mod Counted
 pub mod Left
+pub mod Alike

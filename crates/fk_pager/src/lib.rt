@@ -8,6 +8,7 @@
 //! the whole of it in one call (`specs/Paged.antt`).
 #![tactic(auto)]
 
+ghost use Rattle.fk_pager.specs.Alike.{RunsEndAlike};
 ghost use Rattle.fk_pager.specs.Counted.{FaultsAreCounted};
 ghost use Rattle.fk_pager.specs.Unseen.{DesksAreFirst, OpeningsTakeAll, PagersAreHidden};
 ghost use Rattle.fk_pager.specs.Left.{RunsLeaveNone};
@@ -44,4 +45,9 @@ pub fn openings_take_all()
 /// Where the pager has no call to make at the end of a run that nobody peeks in, and nothing is held, no fault of its own is left.
 pub fn runs_leave_none()
     ensures { RunsLeaveNone }
+{}
+
+/// Where no move is ready at its end, none of a user and a native server is in the filled world, in which the same threads have halted.
+pub fn runs_end_alike()
+    ensures { RunsEndAlike }
 {}
