@@ -7,9 +7,9 @@ use Rattle.fk_model.specs.declared.moves.Ask.{Ask}
 use Rattle.fk_model.specs.declared.moves.Ask.TheVariants as asks
 use Rattle.fk_model.specs.declared.moves.Move.{Move}
 use Rattle.fk_model.specs.LinkRows.{is_member}
-use Rattle.fk_model.specs.Moves.{Step, IsReady, outcome, call_row, porter_at as caller_at, stepped, step}
-use Rattle.fk_model.specs.Objects.{Fault, Thread, Body, port_of, and_then, holds}
-use Rattle.fk_model.specs.Objects.Body.{Thread_of, Port}
+use Rattle.fk_model.specs.Moves.{outcome, call_row, porter_at as caller_at, stepped, step}
+use Rattle.fk_model.specs.Objects.{Peer, Fault, Body, holds}
+use Rattle.fk_model.specs.Objects.Body.{Thread_of}
 use Rattle.fk_model.specs.Objects.Peer.{Server}
 use Rattle.fk_model.specs.Outcomes.{Outcome, listed}
 use Rattle.fk_model.specs.Outcomes.Outcome.{Refused, Waits, Goes}
@@ -26,13 +26,12 @@ use Rattle.fk_model.specs.World.Edit.{SetTalk, CountMoved, PassTurn, SetPeer, Se
 use Rattle.fk_model.proofs.walks.PlaceLaws.{same_path_sym}
 use Rattle.fk_host.proofs.Acts.{fit-asked, servers_ask_as_users}
 use Rattle.laws_filled.specs.Filled.{is_paged}
-use Rattle.laws_filled.specs.Pager as pagers
-use Rattle.laws_filled.specs.Pager.{Desk, Phase, State, paging, stage_of, words_of, call_of, said_of, hears, spent_by, homes, IsPick, IsOwn}
+use Rattle.laws_filled.specs.Pager.{Desk, Phase, State, paging, stage_of, words_of, call_of, said_of, spent_by, IsPick, IsOwn}
 use Rattle.laws_filled.specs.Pager.Phase.{Seeking, Taking, Waiting, Looking, Evicting, Giving, Ending}
 use Rattle.laws_filled.proofs.Results.{is_call, wait_result, done_result, WaitResult, DoneResult}
 use Rattle.laws_filled.proofs.Results.WaitResult.{Idle, TookFault}
 use Rattle.laws_filled.proofs.Results.DoneResult.{Unlinked, Busy, Freed}
-use Rattle.laws_filled_bounds.specs.Driven.{port_at, porter_at, changes_of, IsDriven}
+use Rattle.laws_filled_bounds.specs.Driven.{port_at, changes_of, IsDriven}
 use Rattle.laws_filled_bounds.specs.Driven.IsDriven.{Here, Another, Own as Calls}
 use Rattle.laws_filled_bounds.specs.Taken.{spares, raised_in, IsAtPort, AreSparing}
 use Rattle.laws_filled_bounds.proofs.Driven.{calls_are_bounded_lem}
@@ -44,7 +43,7 @@ use Rattle.laws_moves.proofs.InFrozen.Users.{users_name_low}
 use Rattle.laws_moves.proofs.InRows.Moves.{moves-listed}
 use Rattle.fk_pager.specs.Bounds.{is_spared, spares_port, calls_in, raised_along, CallsAreBounded}
 use Rattle.fk_pager.specs.Desks.{root, desk_of_root}
-use Rattle.fk_pager.specs.Runs.{Moment, IsOthersMove, by_others, IsPagersMove, pagers_event, by_pager, IsRun}
+use Rattle.fk_pager.specs.Runs.{Moment, IsOthersMove, pagers_event, IsRun}
 use Rattle.fk_pager.specs.Runs.IsRun.{Begins, Others, Own}
 use Rattle.fk_pager.specs.Unseen.{IsBeginning}
 use Rattle.fk_pager.proofs.Begins.{desks_are_first_lem}
@@ -144,13 +143,13 @@ record IsSpared (port : Path) (w : World) (cs : List Change) : Type 0 where
   pub sparing : AreSparing port me w cs
   pub keeps : HasPorter w → HasPorter (apply_all cs w)
 
-page-changes : (port : Path) (w : World) (words cs : _) → IsOfPages w words cs → IsSpared port w cs
+page-changes : (port : Path) (w : World) (words : List ℕ) (cs : List Change) → IsOfPages w words cs → IsSpared port w cs
 unfolding apply_all apply
 page-changes port w words _ Changes_nothing = record { sparing = tt; keeps = λ native. native }
 page-changes port w words _ (Drops_page space page) = record { sparing = (refl, refl, tt, tt); keeps = λ native. native }
 page-changes port w words _ (Puts_page space page its) = record { sparing = (refl, refl, tt, tt); keeps = λ native. native }
 
-taker-blind : (edit : Option _) (o : Option Body) → holds is_native (option_map (edited (SetTaker edit)) o) ≡ holds is_native o
+taker-blind : (taker : Option Peer) (o : Option Body) → holds is_native (option_map (edited (SetTaker taker)) o) ≡ holds is_native o
 unfolding edited
 taker-blind taker None = refl
 taker-blind taker (Some (Thread_of t)) = refl
@@ -198,23 +197,23 @@ module _ (slot port set room : ℕ) (low : slot ≤ LAST_USER_SLOT) (w : World) 
   by_phase : (phase : Phase) (pick : Option Path) → IsPick d s w phase pick → (words : List ℕ) →
       IsSpared (port ∷ root) w (listed (call_row w (caller_at me words) pick (stage_of d phase)))
   by_phase (Seeking from) None is words = page-changes (port ∷ root) w words _ (next-changes w words slot from)
-  by_phase (Seeking from) (Some y) is words = cc
+  by_phase (Seeking from) (Some y) is words = absurd (cc)
   by_phase (Taking page) None is words = page-changes (port ∷ root) w words _ (take-changes w words slot page 0)
-  by_phase (Taking page) (Some y) is words = cc
+  by_phase (Taking page) (Some y) is words = absurd (cc)
   by_phase (Looking page) None is words = page-changes (port ∷ root) w words _ (next-changes w words slot page)
-  by_phase (Looking page) (Some y) is words = cc
+  by_phase (Looking page) (Some y) is words = absurd (cc)
   by_phase (Evicting old page) None is words = page-changes (port ∷ root) w words _ (take-changes w words slot old 0)
-  by_phase (Evicting old page) (Some y) is words = cc
+  by_phase (Evicting old page) (Some y) is words = absurd (cc)
   by_phase (Giving page) None is words = page-changes (port ∷ root) w words _ (give-changes w words slot page 0)
-  by_phase (Giving page) (Some y) is words = cc
+  by_phase (Giving page) (Some y) is words = absurd (cc)
   by_phase (Ending page) None is words = done words _ (done_result root slot is_low w words)
-  by_phase (Ending page) (Some y) is words = cc
+  by_phase (Ending page) (Some y) is words = absurd (cc)
   by_phase Waiting None is words = absurd is
   by_phase Waiting (Some y) is words = picked (fault_at w y) refl is
     where
       picked : (o : Option Fault) → fault_at w y ≡ o → holds (is_paged (paging d s)) o ≡ true →
           IsSpared (port ∷ root) w (listed (call_row w (caller_at me words) (Some y) (stage_of d Waiting)))
-      picked None e h = cc
+      picked None e h = absurd (cc)
       picked (Some fault) e h = waited y fault e (and_parts _ _ h).0 words _ (wait_result root slot is_low w words set y fault e)
 
   pub own-spares : (pick : Option Path) → IsOwn d w s pick → IsSpared (port ∷ root) w (changes_of w (call_of d s pick))
