@@ -4,7 +4,7 @@ use Rattle.fk_model.specs.World.{World}
 use Rattle.fk_store.specs.Store.Contents.{Contents}
 use Rattle.fk_store.specs.Store.World as worlds
 use Rattle.fk_pager.specs.Desks.{HasDesk}
-use Rattle.fk_pages.proofs.Begun.{all-fit, placed-first, with-jobs, not-pageable}
+use Rattle.fk_pages.proofs.Begun.{all-fit, placed-first, with-jobs, not-pageable, set-low}
 use Rattle.fk_pages.proofs.page.page.Goals as goal
 
 pub returns-then-len-ne0 : goal.returns-then-len-ne0
@@ -38,6 +38,11 @@ returns-in-Some c =
         clear = c.in_ok-first.ensures.sound.idle.unfaulted;
         state = refl;
         opened = refl;
+      };
+      quiet = record {
+        low = set-low (world first.kernel) c.in-Some.desk.port c.in-Some.desk.set c.in_ok-first.ensures.valid c.in_ok-first.ensures.savable.slots_kept
+            (subst (λ (m : Contents). HasDesk (worlds.world m) c.args.slot c.in-Some.desk.port c.in-Some.desk.set) c.store.ensures c.in-Some.ensures.some).member;
+        untalked = c.in_ok-first.ensures.sound.idle.untalked;
       };
       written = rw c.in_ok-first.ensures.budget at c.in_ok-made.ensures;
     }
