@@ -279,10 +279,10 @@ own-stepped d m n services new s move ask said is turn = subst (λ (a : Ask). Is
 
 -- a move of the opening counts, any other doesn't
 pub counts-one : (opened : ℕ) (phase : Phase) → is_opening phase ≡ true → opened + 1 ≡ opened + (if is_opening phase then 1 else 0)
-counts-one opened phase is = let count : (if is_opening phase then 1 else 0) ≡ 1 = ap (λ (b : Bool). if b then 1 else 0) is in omega (arith, count)
+counts-one opened phase is = let count : ◌≡◌ {A = ℕ} (if is_opening phase then 1 else 0) 1 = ap (λ (b : Bool). if b then 1 else 0) is in omega (arith, count)
 
 pub counts-none : (opened : ℕ) (phase : Phase) → is_opening phase ≡ false → opened ≡ opened + (if is_opening phase then 1 else 0)
-counts-none opened phase is = let count : (if is_opening phase then 1 else 0) ≡ 0 = ap (λ (b : Bool). if b then 1 else 0) is in omega (arith, count)
+counts-none opened phase is = let count : ◌≡◌ {A = ℕ} (if is_opening phase then 1 else 0) 0 = ap (λ (b : Bool). if b then 1 else 0) is in omega (arith, count)
 
 pub few-more : (opened later : ℕ) (past moves : List Move) (move : Move) → moves ≡ past ++ move ∷ [] → opened ≤ length past → later ≤ opened + 1 →
     later ≤ length moves
@@ -294,12 +294,12 @@ few-more opened later past moves move longer few more =
 pub others-ready : (services : Services) (w : World) (s : State) (opened : ℕ) (move : Move) → is_opening s.phase ≡ false → IsValid w → w.next ≤ depth →
     IsReadyAsked services w move →
     (ask : Ask) × IsOthersMove (record { world = w; services = services; state = s; opened = opened }) move ask
-others-ready services w s opened move open valid few ready = by (asked services w move.who) refl ready
+others-ready services w s opened move closed valid few ready = by (asked services w move.who) refl ready
   where
     by : (o : Option Ask) → asked services w move.who ≡ o → IsReadyFor w move o →
         (ask : Ask) × IsOthersMove (record { world = w; services = services; state = s; opened = opened }) move ask
     by None e r = absurd r
-    by (Some ask) e r = (ask, record { opened = open; asks = e; valid = valid; few = few; ready = r })
+    by (Some ask) e r = (ask, record { opened = closed; asks = e; valid = valid; few = few; ready = r })
 
 -- and its turn is its event's
 pub others-turn : (m n : Kept) (services new : Services) (move : Move) (ask : Ask) (said : says_of.Said) → asked services (world m) move.who ≡ Some ask →
@@ -340,9 +340,9 @@ porter-stands d k n s t pick said nester stood own same heard opening = by (is_o
     by : (b : Bool) → is_opening s.phase ≡ b → HasPorter (world n)
     by true e =
         let native = stood e in
-        let no : pick ≡ None = none s.phase e own.picks in
+        let nobody : pick ≡ None = none s.phase e own.picks in
         let event : call_of d s pick ≡ record { mover = LAST_PORTER_SLOT ∷ root; pick = None; ask = asks.Call (stage_of d s.phase) (words_of s s.phase) } =
-        λ i. record { mover = LAST_PORTER_SLOT ∷ nester i; pick = no i; ask = asks.Call (stage_of d s.phase) (words_of s s.phase) } in
+        λ i. record { mover = LAST_PORTER_SLOT ∷ nester i; pick = nobody i; ask = asks.Call (stage_of d s.phase) (words_of s s.phase) } in
         ap (λ (w : World). holds is_native (w.body (LAST_PORTER_SLOT ∷ root))) (sym same ∙ ap (after (world k)) event)
         ∙ ap (holds is_native) (opening-keeps d nester (world k) s native (root-unheld k) s.phase e (LAST_PORTER_SLOT ∷ root)) ∙ native
     by false e =

@@ -22,7 +22,7 @@ use Rattle.fk_model.specs.Who.{named, event_of}
 use Rattle.laws_filled.specs.Filled.{Paging, filled, unfaulted}
 use Rattle.laws_filled.specs.Pager as pagers
 use Rattle.laws_filled.specs.Pager.{Desk, Phase, State, paging, hears, said_of, HasTaken, IsClear, first}
-use Rattle.laws_filled.specs.Pager.IsPaged as paged
+use Rattle.laws_filled.specs.Pager.IsPaged.{Here as Nobody_moves, Another as Another_moves, Own as Pager_moves}
 use Rattle.laws_filled.proofs.Own.{own}
 use Rattle.laws_filled.proofs.Taken.{pagers_take_one_lem, no_fault_is_left_lem}
 use Rattle.laws_migrate.specs.Porters.{HasPorter}
@@ -163,7 +163,7 @@ module _ (slot port set room : ℕ) (low : slot ≤ LAST_USER_SLOT) (some : 1 �
       let kept = by-leaving w (after w e) leaves rest.there rest.member in
       record {
         taken = pagers_take_one_lem d w at.state (e ∷ []) (after w e) at.state (is_low slot port set room low some) some so.good rest.taken
-            (paged.Another w at.state e [] (after w e) at.state is (paged.Here (after w e) at.state));
+            (Another_moves w at.state e [] (after w e) at.state is (Nobody_moves (after w e) at.state));
         there = kept.0;
         member = kept.1;
         talkless = leaves.talkless rest.talkless;
@@ -180,7 +180,7 @@ module _ (slot port set room : ℕ) (low : slot ≤ LAST_USER_SLOT) (some : 1 �
       let kept = by-leaving w (after w e) leaves rest.there rest.member in
       record {
         taken = pagers_take_one_lem d w at.state (e ∷ []) (after w e) t (is_low slot port set room low some) some so.good rest.taken
-            (paged.Own w at.state pick [] (after w e) t move.own (paged.Here (after w e) t));
+            (Pager_moves w at.state pick [] (after w e) t move.own (Nobody_moves (after w e) t));
         there = kept.0;
         member = kept.1;
         talkless = leaves.talkless rest.talkless;

@@ -137,7 +137,7 @@ module _ (w : World) (words : List ℕ) where
 
   take-keeps : (page : ℕ) (o : Outcome) → TakeRow page o → GoesAllowed w me (ends o) × KeepsBodies (ends o)
   unfolding apply_all apply
-  take-keeps page _ (TakeRefuses status no) = (tt, λ x. refl)
+  take-keeps page _ (TakeRefuses status why) = (tt, λ x. refl)
   take-keeps page _ (Drops space its off home) = ((off, tt), λ x. refl)
 
   next-told : (from : ℕ) (o : Outcome) → NextRow from o → (status : ℕ) (its : List ℕ) → (stepped w (ends o)).said ≡ Answered status its → slice_index its 0 < 256
@@ -150,7 +150,7 @@ module _ (w : World) (words : List ℕ) where
 
   take-told : HasFullPages w → (page : ℕ) (o : Outcome) → TakeRow page o → (status : ℕ) (its : List ℕ) → (stepped w (ends o)).said ≡ Answered status its →
       status ≡ OK → length its ≡ 64
-  take-told full page _ (TakeRefuses refused no) status its said ok = let same : refused ≡ status = cc in absurd (no (same ∙ ok))
+  take-told full page _ (TakeRefuses refused why) status its said ok = let same : refused ≡ status = cc in absurd (why (same ∙ ok))
   take-told full page _ (Drops space words home at) status its said ok =
       let same : words ≡ its = cc in subst (λ xs. length xs ≡ 64) same (full space page words at)
 
@@ -167,7 +167,7 @@ module _ (w : World) (words : List ℕ) where
   next-pages from _ (Tells space page e) = Changes_nothing
 
   take-pages : (page : ℕ) (o : Outcome) → TakeRow page o → IsOfPages (listed (ends o))
-  take-pages page _ (TakeRefuses status no) = Changes_nothing
+  take-pages page _ (TakeRefuses status why) = Changes_nothing
   take-pages page _ (Drops space its off home) = Drops_page space page
 
   data GiveRow (page : ℕ) : Outcome → Type 0 where
@@ -293,19 +293,32 @@ module _ (d : Desk) (w : World) (s : State) (pick : Option Path) (nester : d.nes
       sym (ap (λ (o : Outcome). (stepped w o).said)
       (is_call d.nester d.slot (le-leb d.slot LAST_USER_SLOT low) w (its_words phase) pick (stage_of d phase) ready)) ∙ said
 
+  abbrev Heard : Path → Option Path → Stage → List ℕ → ℕ → List ℕ → Type 0
+  Heard x o stage given status words = (stepped w (call_row w (porter_at (LAST_PORTER_SLOT ∷ x) given) o stage)).said ≡ Answered status words
+
+  -- at the root, with what is asked and given known by equations
+  rooted : (phase : Phase) (stage : Stage) (given : List ℕ) (o : Option Path) → stage_of d phase ≡ stage → its_words phase ≡ given → pick ≡ o →
+      IsReady w mine pick (asks.Call (stage_of d phase) (its_words phase)) → (status : ℕ) (words : List ℕ) →
+      (step w mine pick (asks.Call (stage_of d phase) (its_words phase))).said ≡ Answered status words → Heard root o stage given status words
+  rooted phase stage given o is gives picks ready status words said =
+      subst (λ (x : Path). Heard x o stage given status words) nester
+      (subst (λ (q : Option Path). Heard d.nester q stage given status words) picks
+      (subst (λ (ws : List ℕ). Heard d.nester pick stage ws status words) gives
+      (subst (λ (st : Stage). Heard d.nester pick st (its_words phase) status words) is (called phase ready status words said))))
+
   seeks : (from : ℕ) → pick ≡ None → IsReady w mine pick (asks.Call (stage_of d (Seeking from)) (its_words (Seeking from))) → Told (Seeking from)
   unfolding call_row
   seeks from none ready status words said =
-      let heard = rw (none, nester) at called (Seeking from) ready status words said in
-      λ ok. next-told w no_words from _ (next-row w no_words d.slot from) status words heard
+      λ ok. next-told w no_words from _ (next-row w no_words d.slot from) status words
+      (rooted (Seeking from) (PageNext d.slot from) no_words None refl refl none ready status words said)
 
   takes : (phase : Phase) (page : ℕ) → stage_of d phase ≡ PageTake d.slot page 0 → its_words phase ≡ no_words → pick ≡ None →
       IsReady w mine pick (asks.Call (stage_of d phase) (its_words phase)) → (status : ℕ) (words : List ℕ) →
       (step w mine pick (asks.Call (stage_of d phase) (its_words phase))).said ≡ Answered status words → status ≡ OK → length words ≡ 64
   unfolding call_row
   takes phase page is nothing none ready status words said ok =
-      let heard = rw (none, nester, is, nothing) at called phase ready status words said in
-      take-told w no_words full page _ (take-row w no_words d.slot page 0) status words heard ok
+      take-told w no_words full page _ (take-row w no_words d.slot page 0) status words
+      (rooted phase (PageTake d.slot page 0) no_words None is nothing none ready status words said) ok
 
   waited : (y : Path) (fault : Fault) → fault.page < 256 → (o : Outcome) → WaitResult d.nester d.slot (le-leb d.slot LAST_USER_SLOT low) w no_words y fault o →
       (status : ℕ) (words : List ℕ) → (stepped w o).said ≡ Answered status words → slice_index words 2 < 256
