@@ -1,5 +1,5 @@
 -- A driver's turns are those of a run.
-use Rattle.std.proofs.Common.{◌≡◌, ◌⊎◌, inl, inr, IfNone, ℕ, ◌+◌, ◌≤◌, Bool, true, false, not, is_some, if◌then◌else◌, List, [], ◌∷◌, ◌++◌, length, length-append, Option, Some, None, option_map, refl, sym, ap, subst, ◌∙◌, arith}
+use Rattle.std.proofs.Common.{◌≡◌, ◌⊎◌, inl, inr, IfNone, ℕ, ◌+◌, ◌<◌, ◌≤◌, Bool, true, false, not, is_some, if◌then◌else◌, List, [], ◌∷◌, ◌++◌, length, length-append, Option, Some, None, option_map, refl, sym, ap, subst, ◌∙◌, arith}
 use Rattle.std.proofs.lemmas.Bool.{le-leb}
 use Rattle.std.proofs.lemmas.Option.{slice_get_within}
 use Rattle.std.specs.List.{slice_get}
@@ -418,10 +418,10 @@ drives-alike a b at pager port history = record {
 -- ---- how it ends
 
 rest-ends : (d : Desk) (budget made : ℕ) (at : Moment) (e : End) → (IsAnyReady d at → ⊥) → IsAtRest at.world e → IsEnd d budget made at e
-rest-ends d budget made at ends.Halted none rest = (none, rest)
-rest-ends d budget made at ends.Quiet none rest = (none, rest)
-rest-ends d budget made at ends.Budget none rest = rest
-rest-ends d budget made at ends.Listed none rest = rest
+rest-ends d budget made here ends.Halted none rest = (none, rest)
+rest-ends d budget made here ends.Quiet none rest = (none, rest)
+rest-ends d budget made here ends.Budget none rest = absurd rest
+rest-ends d budget made here ends.Listed none rest = rest
 
 -- where nothing was ready once it was looked for
 pub rest-of : {S : Type 0} (start old chosen : driver.PagedRun S) (budget : ℕ) (e : End) → Drives start old → moment chosen ≡ moment old →

@@ -87,10 +87,10 @@ rests w x pick native ready = by (w.body x) refl native
 
 pub not-porter : (services : Services) (w : World) (who : Who) (pick : Option Path) (ask : Ask) → HasPorter w → asked services w who ≡ Some ask →
     IsReady w (named w who) pick ask → same_path me (named w who) ≡ false
-not-porter services w who pick ask native asks ready = same_path_ne me (named w who) (λ e.
+not-porter services w who pick ask native asks_it ready = same_path_ne me (named w who) (λ e.
     let here : holds is_native (w.body (named w who)) ≡ true = subst (λ y. holds is_native (w.body y) ≡ true) e native in
     let runs : asked services w who ≡ Some asks.Run = ap (λ (b : Bool). asked_at b services who) (no-port (w.body (named w who)) here) in
-    let same : asks.Run ≡ ask = same_Some asks.Run ask (sym runs ∙ asks) in
+    let same : asks.Run ≡ ask = same_Some asks.Run ask (sym runs ∙ asks_it) in
     rests w (named w who) pick here (subst (λ a. IsReady w (named w who) pick a) (sym same) ready))
 
 pub users-others : (ask : Ask) → is_users ask ≡ true → is_others ask ≡ true
