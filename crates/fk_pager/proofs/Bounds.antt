@@ -289,6 +289,6 @@ calls_are_bounded slot port set room first moves at low some begins run spared =
     let all = driven slot port set room low first begins.desk.nester moves at run spared at.world at.state 0 0 (Here at.world at.state) in
     let whole = subst (λ (s : State). IsDriven d first.world s at.world at.state (calls_in run + 0) (raised_along run + 0)) begins.state all in
     let bound = calls_are_bounded_lem d first.world at.world at.state (calls_in run + 0) (raised_along run + 0) (le-leb slot LAST_USER_SLOT low) some
-        (desks_are_first_lem slot port set room first.world begins.desk begins.valid begins.clear) (a-port set (first.world.body (port ∷ root)) begins.desk.member)
-        (a-body (first.world.body me) begins.desk.nester) whole in
+    (desks_are_first_lem slot port set room first.world begins.desk begins.valid begins.clear) (a-port set (first.world.body (port ∷ root)) begins.desk.member)
+    (a-body (first.world.body me) begins.desk.nester) whole in
     omega (arith, bound)

@@ -355,14 +355,16 @@ porter-stands d k n s t pick said nester stood own same heard opening = by (is_o
 -- its opening's call is ready
 pub opens-ready : (d : Desk) (k : Kept) (s : State) → d.nester ≡ root → IsValid (world k) → (world k).next ≤ depth → HasPorter (world k) →
     is_opening s.phase ≡ true → (pick : Option Path) × IsOwn d (world k) s pick
-opens-ready d k s nester valid few native opening =
-    (None, record {
-      valid = valid;
-      few = few;
-      picks = picks s.phase opening;
-      ready = subst (λ x. IsReady (world k) (LAST_PORTER_SLOT ∷ x) None (asks.Call (stage_of d s.phase) (words_of s s.phase))) (sym nester)
-          (opening-ready d nester (world k) s native (root-unheld k) s.phase opening);
-    })
+opens-ready d k s nester valid few native opening = (
+  None,
+  record {
+    valid = valid;
+    few = few;
+    picks = picks s.phase opening;
+    ready = subst (λ x. IsReady (world k) (LAST_PORTER_SLOT ∷ x) None (asks.Call (stage_of d s.phase) (words_of s s.phase))) (sym nester)
+        (opening-ready d nester (world k) s native (root-unheld k) s.phase opening);
+  },
+)
   where
     picks : (phase : Phase) → is_opening phase ≡ true → IsPick d s (world k) phase None
     picks (Seeking from) is = refl

@@ -192,14 +192,14 @@ runs_leave_none slot port set room begun moves at low some begins quiet r dark u
     let so = stands slot port set room low some begun begins moves at r dark in
     let rest = desked slot port set room low some begun begins quiet moves at r dark in
     let ends = no_fault_is_left_lem (desk_of_root slot port set room) at.world at.state (le-leb slot LAST_USER_SLOT low) so.good rest.taken
-        (record {
-          valid = unheld.valid;
-          few = unheld.few;
-          unheld = unheld.none;
-          porter = a-porter (at.world.body me) so.porter;
-          talkless = find-none _ (objects at.world) rest.talkless;
-          low = le-leb set LAST_USER_SLOT quiet.low;
-          set = rest.there;
-          port = rest.member;
-        }) (λ pick own. idle (pick, own)) in
+    (record {
+      valid = unheld.valid;
+      few = unheld.few;
+      unheld = unheld.none;
+      porter = a-porter (at.world.body me) so.porter;
+      talkless = find-none _ (objects at.world) rest.talkless;
+      low = le-leb set LAST_USER_SLOT quiet.low;
+      set = rest.there;
+      port = rest.member;
+    }) (λ pick own. idle (pick, own)) in
     record { waits = ends.0; none = ends.1 }

@@ -22,7 +22,6 @@ use Rattle.fk_model.specs.Outcomes.Outcome.{Refused, Waits, Goes}
 use Rattle.fk_model.specs.Readers.{and_read, is_kind, kind_at, led_to, handled, handle, path_at, space_argument}
 use Rattle.fk_model.specs.SpaceRows.{next_page, page_next, page_take, page_give}
 use Rattle.fk_model.specs.Moves.{with_pick, closed, call_row, porter_at, porter_move, outcome, GoesAllowed, IsReady, stepped, step}
-
 use Rattle.fk_model.specs.Whole.{HasFullPages}
 use Rattle.std.proofs.lemmas.Bool.{and_parts, le-leb}
 use Rattle.laws_filled.specs.Filled.{is_paged}

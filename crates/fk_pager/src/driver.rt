@@ -129,7 +129,10 @@ impl<S: Service + Drop> PagedRun<S> {
     fn is_opening(&self) -> bool
         ensures { result ≡ is_opening (moment self.now).state.phase }
     {
-        matches!(self.pager.phase, Phase::Seeking { .. } | Phase::Taking { .. })
+        matches!(
+            self.pager.phase,
+            Phase::Seeking { .. } | Phase::Taking { .. }
+        )
     }
 
     // ---- whose move comes next
@@ -393,10 +396,10 @@ impl<S: Service + Drop> PagedRun<S> {
     pub fn into_parts(self, end: End) -> (Host<S>, Paged)
         ensures host { result.0 ≡ self.host }
         ensures paged { result.1 ≡ record {
-            history = self.history.items;
-            opened = opened_by (length self.history.items) (moment self);
-            faults = (moment self).state.faults;
-            end = end
+          history = self.history.items;
+          opened = opened_by (length self.history.items) (moment self);
+          faults = (moment self).state.faults;
+          end = end;
         } }
     {
         // There is room for another, so a number past the last can be told.
