@@ -259,7 +259,8 @@ module _ (slot port set room : ℕ) (low : slot ≤ LAST_USER_SLOT) (first : Mom
       let both = and_parts (spares_port run) _ spared in
       let porter = keeps past at run in
       let e = event_of at.world ask m in
-      let one = Another at.world at.state e v t calls raised move.opened (is-other at m ask move porter) (others-spare at m ask move porter (port ∷ root) both.1) rest in
+      let one = Another at.world at.state e v t calls raised move.opened (is-other at m ask move porter)
+      (others-spare at m ask move porter (port ∷ root) both.1) rest in
       let all = driven past at run both.0 v t calls (raised_in (port_at desk) (changes_of at.world e) + raised) one in
       subst (λ (n : ℕ). IsDriven desk first.world first.state v t (calls_in run + calls) n)
       (same-count (raised_along run) (raised_in (port_at desk) (changes_of at.world e)) raised) all

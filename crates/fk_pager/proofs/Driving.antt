@@ -150,7 +150,8 @@ module _ (d : Desk) (k : Kept) (s : State) (who port : Who) (nester : d.nester �
   abbrev place : Path
   place = worlds.place_of k.store who
 
-  same-fault : holds (is_fault_of (worlds.place_of k.store port) s.backing) (fault_at (world k) place) ≡ holds (is_paged (paging d s)) (fault_at (world k) place)
+  same-fault : holds (is_fault_of (worlds.place_of k.store port) s.backing) (fault_at (world k) place)
+      ≡ holds (is_paged (paging d s)) (fault_at (world k) place)
   same-fault =
       ap (λ (x : Path). holds (is_fault_of x s.backing) (fault_at (world k) place))
       (ap (worlds.place_of k.store) is_port ∙ root-place k.store d.port ∙ ap (λ (x : Path). d.port ∷ x) (sym nester))
@@ -164,7 +165,8 @@ module _ (d : Desk) (k : Kept) (s : State) (who port : Who) (nester : d.nester �
   pub takes-none : holds (is_fault_of (worlds.place_of k.store port) s.backing) (fault_at (world k) place) ≡ false →
       IsOwn d (world k) s (Some place) → ⊥
   takes-none none own =
-      let is : holds (is_paged (paging d s)) (fault_at (world k) place) ≡ true = subst (λ (phase : Phase). IsPick d s (world k) phase (Some place)) waits own.picks in
+      let is : holds (is_paged (paging d s)) (fault_at (world k) place) ≡ true =
+      subst (λ (phase : Phase). IsPick d s (world k) phase (Some place)) waits own.picks in
       let other : holds (is_paged (paging d s)) (fault_at (world k) place) ≡ false = sym same-fault ∙ none in
       cc
 

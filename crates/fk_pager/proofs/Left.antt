@@ -59,7 +59,8 @@ talk-blind p (Some b) = refl
 
 -- ---- a port's set is there
 
-pub set-there : (w : World) (port set : ℕ) → IsValid w → is_member set (w.body (port ∷ root)) ≡ true → is_some (and_then portset_of (w.body (set ∷ root))) ≡ true
+pub set-there : (w : World) (port set : ℕ) → IsValid w → is_member set (w.body (port ∷ root)) ≡ true →
+    is_some (and_then portset_of (w.body (set ∷ root))) ≡ true
 unfolding kind_there
 set-there w port set valid member = by (w.body (port ∷ root)) refl member (valid.consistent.good (port ∷ root))
   where
@@ -80,7 +81,8 @@ set-there w port set valid member = by (w.body (port ∷ root)) refl member (val
     its-set None served is good = cc
     its-set (Some k) served is good =
         let same : k ≡ set = eqb-true k set is in
-        a-set (w.body (set ∷ root)) (ap (λ j. is_one_of (kinds.Portset ∷ []) (option_map kind_of (w.body (j ∷ root)))) (sym same) ∙ (and_parts (not served) _ good).1)
+        a-set (w.body (set ∷ root))
+        (ap (λ j. is_one_of (kinds.Portset ∷ []) (option_map kind_of (w.body (j ∷ root)))) (sym same) ∙ (and_parts (not served) _ good).1)
 
     by : (o : Option Body) → w.body (port ∷ root) ≡ o → is_member set o ≡ true → all_in (is_good (kind_there w) (port ∷ root)) o ≡ true →
         is_some (and_then portset_of (w.body (set ∷ root))) ≡ true

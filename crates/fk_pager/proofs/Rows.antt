@@ -118,7 +118,8 @@ module _ (w : World) (words : List ℕ) where
       taken space false e false (Some its) f = Drops space its e f
 
       by : (r : Result Path ℕ) → space_argument w c s ≡ r →
-          TakeRow page (r >>= λ space. (refuse status.HELD (is_frozen_for w me space) >>= λ u. (refuse status.BADADDRESS (not (nat_lt page PAGES) || false) >>= λ v.
+          TakeRow page (r >>= λ space. (refuse status.HELD (is_frozen_for w me space) >>= λ u.
+          (refuse status.BADADDRESS (not (nat_lt page PAGES) || false) >>= λ v.
           (or_refuse status.NONE (w.page space page) >>= λ its. Goes (DropPage space page ∷ []) (Answered OK its)))))
       by (Err status) e = TakeRefuses status (not-ok w c s status e)
       by (Ok space) e = taken space (is_frozen_for w me space) refl (not (nat_lt page PAGES) || false) (w.page space page) refl
@@ -139,7 +140,8 @@ module _ (w : World) (words : List ℕ) where
   take-keeps page _ (TakeRefuses status why) = (tt, λ x. refl)
   take-keeps page _ (Drops space its off home) = ((off, tt), λ x. refl)
 
-  next-told : (from : ℕ) (o : Outcome) → NextRow from o → (status : ℕ) (its : List ℕ) → (stepped w (ends o)).said ≡ Answered status its → slice_index its 0 < 256
+  next-told : (from : ℕ) (o : Outcome) → NextRow from o → (status : ℕ) (its : List ℕ) →
+      (stepped w (ends o)).said ≡ Answered status its → slice_index its 0 < 256
   next-told from _ (NextRefuses refused) status its said =
       let same : [] ≡ its = cc in subst (λ xs. slice_index xs 0 < 256) same (omega arith)
   next-told from _ (Tells space page e) status its said =
@@ -186,7 +188,8 @@ module _ (w : World) (words : List ℕ) where
       given space false false false = Puts space
 
       by : (r : Result Path ℕ) →
-          GiveRow page (r >>= λ space. (refuse status.HELD (is_frozen_for w me space) >>= λ u. (refuse status.BADADDRESS (not (nat_lt page PAGES) || false) >>= λ v.
+          GiveRow page (r >>= λ space. (refuse status.HELD (is_frozen_for w me space) >>= λ u.
+          (refuse status.BADADDRESS (not (nat_lt page PAGES) || false) >>= λ v.
           (refuse status.OCCUPIED (is_some (w.page space page)) >>= λ x. Goes (PutPage space page words ∷ []) (Answered OK [])))))
       by (Err status) = GiveRefuses status
       by (Ok space) = given space (is_frozen_for w me space) (not (nat_lt page PAGES) || false) (is_some (w.page space page))
@@ -261,9 +264,11 @@ module _ (d : Desk) (nester : d.nester ≡ root) (w : World) (s : State) (native
       (step w porter None (asks.Call (stage_of d phase) (words_of s phase))).world.body x ≡ w.body x
   unfolding step
   opening-keeps (Seeking from) is x =
-      ap (λ (o : Outcome). (stepped w o).world.body x) (row-of w no_words (stage_of d (Seeking from)) None native unheld) ∙ (next-call w no_words d.slot from).1 x
+      ap (λ (o : Outcome). (stepped w o).world.body x) (row-of w no_words (stage_of d (Seeking from)) None native unheld)
+      ∙ (next-call w no_words d.slot from).1 x
   opening-keeps (Taking page) is x =
-      ap (λ (o : Outcome). (stepped w o).world.body x) (row-of w no_words (stage_of d (Taking page)) None native unheld) ∙ (take-call w no_words d.slot page 0).1 x
+      ap (λ (o : Outcome). (stepped w o).world.body x) (row-of w no_words (stage_of d (Taking page)) None native unheld)
+      ∙ (take-call w no_words d.slot page 0).1 x
   opening-keeps Waiting is x = cc
   opening-keeps (Looking page) is x = cc
   opening-keeps (Evicting old page) is x = cc

@@ -264,7 +264,8 @@ module _ (slot port set room : ℕ) (low : slot ≤ LAST_USER_SLOT) (some : 1 �
       let e = pagers_event d at m in
       let t = hears d at.state (said_of w e) in
       let comes = own d is_low some w at.state at.state.phase pick so.good move.own.picks move.own.ready in
-      let alike = servers_hear_alike_lem d w at.state (e ∷ []) (after w e) t is_low some so.good (Pager_moves w at.state pick [] (after w e) t move.own (Nobody_moves (after w e) t)) in
+      let alike = servers_hear_alike_lem d w at.state (e ∷ []) (after w e) t is_low some so.good
+      (Pager_moves w at.state pick [] (after w e) t move.own (Nobody_moves (after w e) t)) in
       let silent : IsSilent (heard_of w e) = alone (heard_of w e) alike in
       record {
         good = comes.1;
