@@ -1,1 +1,2 @@
+pub use Rattle.fk_served.proofs.Acts
 pub mod Choosing

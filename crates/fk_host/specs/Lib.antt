@@ -1,1 +1,5 @@
+pub use Rattle.fk_served.specs.Acts
+pub use Rattle.fk_served.specs.Events
+pub use Rattle.fk_served.specs.Kernels
+pub use Rattle.fk_served.specs.Served
 pub mod Hosts

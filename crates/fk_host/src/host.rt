@@ -3,6 +3,7 @@ ghost use Rattle.std.specs.Prelude.{◌≡◌, ◌↔◌, IsTrue, IfNone, IfOk, 
 ghost use Rattle.fk_host.specs.Hosts.{IsFitWith, IsReadyWith, IsTurn, asked_with};
 ghost use Rattle.fk_model.specs.declared.moves.Move as moves;
 ghost use Rattle.fk_served.specs.Acts.{IsReadyAsked};
+ghost use Rattle.fk_served.specs.Events.{IsAnyReady};
 ghost use Rattle.fk_served.specs.Kernels.{world_of as world};
 ghost use Rattle.fk_served.specs.Served.{AllFit, shown};
 
@@ -94,10 +95,11 @@ impl<S: Service + Drop> Host<S> {
         Ok(told.said)
     }
 
-    /// A ready move of a user or a server; none exactly where there is none.
+    /// A ready move of a user or a server; none exactly where there is none, and then no user is ready wherever it stands.
     pub fn choose(&mut self) -> Option<Move>
         ensures ready { IfSome result (λ m. IsReadyAsked self.old.services.list (world self.old.kernel) m) }
         ensures none { IfNone result ((m : moves.Move) → IsReadyAsked self.old.services.list (world self.old.kernel) m → ⊥) }
+        ensures users { IfNone result (IsAnyReady (world self.old.kernel) → ⊥) }
         ensures world { world self.new.kernel ≡ world self.old.kernel }
         ensures services { self.new.services.list ≡ self.old.services.list }
     {

@@ -51,8 +51,8 @@ Hears before phase a after =
 
 -- an answer that a pager may hear: a page that is taken is one of a space, and whole; and there is room for one that is given
 abbrev pub MayHear : Pager → Phase → Answer → Type 0
-MayHear p (phases.Taking page) a = (page < 256) × (a.status ≡ OK → a.len ≡ 64)
-MayHear p (phases.Evicting old page) a = (old < 256) × (a.status ≡ OK → a.len ≡ 64)
+MayHear p (phases.Taking page) a = (page < 256) × (a.status ≡ OK → length (answered a) ≡ 64)
+MayHear p (phases.Evicting old page) a = (old < 256) × (a.status ≡ OK → length (answered a) ≡ 64)
 MayHear p (phases.Giving page) a = vec_len p.inside < vec_capacity p.inside
 MayHear p other a = Unit {0}
 

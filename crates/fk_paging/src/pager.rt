@@ -250,7 +250,7 @@ impl Pager {
     fn took(&mut self, page: u64, answer: &Answer)
         requires number { page < 256 }
         requires whole { length self.old.pages.items ≡ 256 }
-        requires full { answer.now.status ≡ OK → answer.now.len ≡ 64 }
+        requires full { answer.now.status ≡ OK → length (answered answer.now) ≡ 64 }
         ensures next { Hears self.old (pagers.Taking page) answer.now self.new }
         ensures whole { length self.new.pages.items ≡ 256 }
         ensures still { IsStill self.old self.new }
@@ -269,7 +269,7 @@ impl Pager {
     fn evicted(&mut self, old: u64, page: u64, answer: &Answer)
         requires number { old < 256 }
         requires whole { length self.old.pages.items ≡ 256 }
-        requires full { answer.now.status ≡ OK → answer.now.len ≡ 64 }
+        requires full { answer.now.status ≡ OK → length (answered answer.now) ≡ 64 }
         ensures next { Hears self.old (pagers.Evicting old page) answer.now self.new }
         ensures whole { length self.new.pages.items ≡ 256 }
         ensures still { IsStill self.old self.new }

@@ -18,3 +18,6 @@ returns-in-None-clause-none g c =
     (subst (λ n. HaveNoActs self.services.list (world self.kernel) None 0 n) c.len.ensures
     (subst (λ w. HaveNoActs self.services.list w None 0 c.len.result) same acts)))
     c.find_act.ensures.none
+
+pub returns-in-None-clause-users : goal.returns-in-None-clause-users
+returns-in-None-clause-users g c = if-none c.find_act.result _ _ (λ acts. c.in-None.ensures.none) c.find_act.ensures.none

@@ -1,0 +1,13 @@
+pub mod Desks
+pub mod Seen
+pub mod Runs
+pub mod Sane
+pub mod Ends
+pub mod Faults
+pub mod Paged
+pub mod Driven
+pub mod Unseen
+pub mod Counted
+pub mod Left
+pub mod Alike
+pub mod Bounds

@@ -1,0 +1,425 @@
+//! A host driven with its pager.
+ghost use Rattle.std.specs.Prelude.{◌≡◌, ◌∷◌, ◌++◌, ◌+◌, ◌≤◌, [], IfOk, IfSome, IfNone, OnOk, length, map, false, true, None, Some, option_map};
+ghost use Rattle.fk_model.specs.Who.{named};
+ghost use Rattle.fk_store.specs.Store.World.{place_of};
+ghost use Rattle.fk_host.specs.Kernels.{world_of as world};
+ghost use Rattle.fk_host.specs.Served.{AllFit};
+ghost use Rattle.fk_paging.specs.Pagers.{state_of, IsStill};
+ghost use Rattle.laws_filled.specs.Pager as pagers;
+ghost use Rattle.laws_filled.specs.Pager.{first, is_opening, IsPick, IsOwn};
+ghost use Rattle.fk_pager.specs.Driven.{moment, desk, is_waiting, Heard, HearsWell, IsDriven, IsTurnReady, Drives};
+ghost use Rattle.fk_pager.specs.Desks.{desk_of_root};
+ghost use Rattle.fk_pager.specs.Ends.{IsAnyReady, IsAtRest, IsEnd, IsOtherReady, IsPagerReady};
+ghost use Rattle.fk_pager.specs.Paged.{opened_by};
+ghost use Rattle.fk_pager.specs.Runs.{IsPagersMove, IsOthersMove};
+ghost use Rattle.fk_pager.specs.Sane.{IsSane};
+ghost use Rattle.laws_migrate.specs.Porters.{HasPorter};
+
+use crate::desks::in_root;
+use crate::faults::has_fault;
+use fk_extras::Paged;
+use fk_host::Host;
+use fk_model::limits::LAST_PORTER_SLOT;
+use fk_model::status::HELD;
+use fk_model::{Ask, List, Move, NoMemory, Said, Who};
+use fk_natives::Service;
+use fk_paging::{Pager, Phase};
+use fk_report::{End, all_halted};
+use fk_responders::Table;
+use std::alloc::Global;
+
+/// Whose move comes next: the pager's, or that of a user or of a native server.
+#[derive(Clone, Copy)]
+pub enum Turn {
+    Pager(Move),
+    Other(Move),
+}
+
+/// A host whose root has a pager, with the moves that were made so far.
+#[derive(Drop)]
+pub struct PagedRun<S: Service + Drop> {
+    host: Host<S>,
+    pager: Pager,
+    /// The slot of the port at which it takes faults.
+    port: u8,
+    /// Its last call was refused, since the space is held: others go first.
+    held: bool,
+    /// How many moves its opening has made.
+    opened: u64,
+    history: Vec<Move>,
+}
+
+/// A pager hears what its call was answered, and whether that was a refusal since the space is held.
+fn hear(pager: &mut Pager, said: &Said) -> bool
+    requires sane { IsSane pager.old }
+    requires well { HearsWell pager.old said.now }
+    ensures heard { Heard pager.old said.now pager.new }
+    ensures sane { IsSane pager.new }
+    ensures still { IsStill pager.old pager.new }
+{
+    match said {
+        Said::Answer(answer) => {
+            pager.absorb(answer);
+            answer.status == HELD
+        }
+        Said::Nothing
+        | Said::Taken { .. }
+        | Said::Words { .. }
+        | Said::Given { .. }
+        | Said::Full { .. }
+        | Said::Over { .. }
+        | Said::Ended { .. } => false,
+    }
+}
+
+impl<S: Service + Drop> PagedRun<S> {
+    /// A pager that hasn't begun, beside a host. `NoMemory` where there is none for its list.
+    pub fn new(
+        alloc: Global,
+        host: Host<S>,
+        slot: u8,
+        port: u8,
+        set: u8,
+        room: u16,
+    ) -> Result<PagedRun<S>, NoMemory>
+        requires low { slot ≤ 239 }
+        requires some { 1 ≤ room }
+        requires most { room ≤ 256 }
+        requires porter { HasPorter (world host.kernel) }
+        ensures driven { IfOk result (λ run. IsDriven run) }
+        ensures host { IfOk result (λ run. run.host ≡ host) }
+        ensures here { IfOk result (λ run. desk run ≡ desk_of_root slot port set room) }
+        ensures moment { IfOk result (λ run. moment run
+            ≡ record { world = world host.kernel; services = host.services.list; state = first; opened = 0 }) }
+        ensures history { IfOk result (λ run. run.history.items ≡ []) }
+    {
+        let pager = Pager::new(alloc, slot, set, room)?;
+        Ok(PagedRun {
+            host,
+            pager,
+            port,
+            held: false,
+            opened: 0,
+            history: Vec::new(alloc),
+        })
+    }
+
+    /// The host.
+    pub fn host(&self) -> &Host<S>
+        ensures { result.now ≡ self.now.host }
+    {
+        &self.host
+    }
+
+    /// The moves so far.
+    pub fn history(&self) -> &[Move]
+        ensures { result.now ≡ self.now.history.items }
+    {
+        self.history.as_slice()
+    }
+
+    /// How many faults the pager has ended.
+    pub fn faults(&self) -> u64
+        ensures { result ≡ (moment self.now).state.faults }
+    {
+        self.pager.faults()
+    }
+
+    /// Whether the pager takes the pages that were home at first.
+    fn is_opening(&self) -> bool
+        ensures { result ≡ is_opening (moment self.now).state.phase }
+    {
+        matches!(
+            self.pager.phase,
+            Phase::Seeking { .. } | Phase::Taking { .. }
+        )
+    }
+
+    // ---- whose move comes next
+
+    /// The pager's call, with this pick, if it is ready.
+    fn call(&self, pick: Option<Who>) -> Option<Move>
+        requires picks { IsPick (desk self.now) (moment self.now).state (moment self.now).world (moment self.now).state.phase
+            (option_map (named (moment self.now).world) pick) }
+        ensures ready { IfSome result (λ m. IsPagersMove (desk self.now) (moment self.now) m) }
+        ensures none { IfNone result (IsOwn (desk self.now) (moment self.now).world (moment self.now).state
+            (option_map (named (moment self.now).world) pick) → ⊥) }
+    {
+        self.host.kernel().names();
+        let m = Move {
+            who: in_root(LAST_PORTER_SLOT as u8),
+            pick,
+        };
+        if self.host.ready(&m, &self.pager.next()) {
+            Some(m)
+        } else {
+            None
+        }
+    }
+
+    /// The wait that takes the fault of this thread, if that is one of the pager's and may be taken.
+    fn take(&self, who: Who) -> Option<Move>
+        requires waits { (moment self.now).state.phase ≡ pagers.Waiting }
+        ensures ready { IfSome result (λ m. IsPagersMove (desk self.now) (moment self.now) m) }
+        ensures none { IfNone result (IsOwn (desk self.now) (moment self.now).world (moment self.now).state
+            (Some (place_of self.now.host.kernel.store who)) → ⊥) }
+    {
+        let kernel = self.host.kernel();
+        kernel.names();
+        let pages = self.pager.pages.as_slice();
+        if has_fault(kernel.store(), pages, in_root(self.port), who) {
+            return self.call(Some(who));
+        }
+        None
+    }
+
+    /// The wait that takes a fault of the pager's. Those that have one lead to its port.
+    fn wait(&self) -> Option<Move>
+        requires waits { (moment self.now).state.phase ≡ pagers.Waiting }
+        ensures ready { IfSome result (λ m. IsPagersMove (desk self.now) (moment self.now) m) }
+        ensures none { IfNone result (IsPagerReady (desk self.now) (moment self.now) → ⊥) }
+    {
+        let mut leaders = self.host.kernel().store().leaders(in_root(self.port));
+        while let Some(who) = leaders.next() {
+            if let Some(m) = self.take(who) {
+                return Some(m);
+            }
+        }
+        // Rings that were given up, which no well-formed store does, tell nobody: then all objects are looked at.
+        if leaders.are_all() {
+            return None;
+        }
+        self.wait_for_any()
+    }
+
+    /// The same by a look at all objects.
+    fn wait_for_any(&self) -> Option<Move>
+        requires waits { (moment self.now).state.phase ≡ pagers.Waiting }
+        ensures ready { IfSome result (λ m. IsPagersMove (desk self.now) (moment self.now) m) }
+        ensures none { IfNone result (IsPagerReady (desk self.now) (moment self.now) → ⊥) }
+    {
+        let store = self.host.kernel().store();
+        let mut at = store.after(None);
+        while let Some(who) = at {
+            if let Some(m) = self.take(who) {
+                return Some(m);
+            }
+            at = store.after(Some(who));
+        }
+        None
+    }
+
+    /// Whether the pager waits for a fault.
+    fn is_waiting(&self) -> bool
+        ensures { result ≡ is_waiting (moment self.now).state.phase }
+    {
+        matches!(self.pager.phase, Phase::Waiting)
+    }
+
+    /// The pager's move, if one is ready.
+    fn pagers_move(&self) -> Option<Move>
+        ensures ready { IfSome result (λ m. IsPagersMove (desk self.now) (moment self.now) m) }
+        ensures none { IfNone result (IsPagerReady (desk self.now) (moment self.now) → ⊥) }
+    {
+        if self.is_waiting() {
+            self.wait()
+        } else {
+            self.call(None)
+        }
+    }
+
+    /// A user's or a native server's move, if one is ready.
+    fn others_move(&mut self) -> Option<Move>
+        requires opened { is_opening (moment self.old).state.phase ≡ false }
+        ensures ready { IfSome result (λ m. IsTurnReady (desk self.old) (moment self.old) (Turn.Other m)) }
+        ensures none { IfNone result (IsOtherReady (moment self.old) → ⊥) }
+        ensures moment { moment self.new ≡ moment self.old }
+        ensures pager { self.new.pager ≡ self.old.pager }
+        ensures port { self.new.port ≡ self.old.port }
+        ensures history { self.new.history ≡ self.old.history }
+        ensures opened { self.new.opened ≡ self.old.opened }
+    {
+        self.host.kernel().names();
+        self.host.choose()
+    }
+
+    /// Whose move comes next: the pager's where one is ready, but after a refusal HELD another's goes first. While it opens no other moves.
+    fn choose(&mut self) -> Option<Turn>
+        requires driven { IsDriven self.old }
+        ensures ready { IfSome result (λ turn. IsTurnReady (desk self.old) (moment self.old) turn) }
+        ensures none { IfNone result (IsAnyReady (desk self.old) (moment self.old) → ⊥) }
+        ensures driven { IsDriven self.new }
+        ensures moment { moment self.new ≡ moment self.old }
+        ensures pager { self.new.pager ≡ self.old.pager }
+        ensures port { self.new.port ≡ self.old.port }
+        ensures history { self.new.history ≡ self.old.history }
+    {
+        if self.held && !self.is_opening() {
+            return self.choose_other();
+        }
+        self.host.kernel().names();
+        match self.pagers_move() {
+            Some(m) => Some(Turn::Pager(m)),
+            None => match self.others_move() {
+                Some(m) => Some(Turn::Other(m)),
+                None => None,
+            },
+        }
+    }
+
+    /// The same where another's goes first.
+    fn choose_other(&mut self) -> Option<Turn>
+        requires driven { IsDriven self.old }
+        requires opened { is_opening (moment self.old).state.phase ≡ false }
+        ensures ready { IfSome result (λ turn. IsTurnReady (desk self.old) (moment self.old) turn) }
+        ensures none { IfNone result (IsAnyReady (desk self.old) (moment self.old) → ⊥) }
+        ensures driven { IsDriven self.new }
+        ensures moment { moment self.new ≡ moment self.old }
+        ensures pager { self.new.pager ≡ self.old.pager }
+        ensures port { self.new.port ≡ self.old.port }
+        ensures history { self.new.history ≡ self.old.history }
+    {
+        match self.others_move() {
+            Some(m) => Some(Turn::Other(m)),
+            None => match self.pagers_move() {
+                Some(m) => Some(Turn::Pager(m)),
+                None => None,
+            },
+        }
+    }
+
+    // ---- turns
+
+    /// The pager's porter makes the call that it asks for, and the pager hears the answer.
+    fn own_turn(&mut self, table: &Table, m: Move) -> Result<(), NoMemory>
+        requires driven { IsDriven self.old }
+        requires ready { IsPagersMove (desk self.old) (moment self.old) m }
+        requires fits { AllFit (map (λ r. r.rule) table.now.list.items) self.old.host.services.list }
+        ensures drives { OnOk result (Drives self.old self.new) }
+        ensures driven { OnOk result (IsDriven self.new) }
+        ensures fits { OnOk result (AllFit (map (λ r. r.rule) table.now.list.items) self.new.host.services.list) }
+        ensures longer { OnOk result (self.new.history.items ≡ self.old.history.items ++ m ∷ []) }
+    {
+        self.history.reserve(1)?;
+        // There is room for another, so a number of the moves can be told.
+        let _room = self.history.capacity();
+        self.host.kernel().is_runnable();
+        let opening = self.is_opening();
+        let said = self.host.turn(table, &m, &self.pager.next())?;
+        self.history.push_reserved(m);
+        self.held = hear(&mut self.pager, &said);
+        if opening {
+            self.opened += 1;
+        }
+        Ok(())
+    }
+
+    /// A user or a native server makes its move.
+    fn others_turn(&mut self, table: &Table, m: Move) -> Result<(), NoMemory>
+        requires driven { IsDriven self.old }
+        requires ready { IsTurnReady (desk self.old) (moment self.old) (Turn.Other m) }
+        requires fits { AllFit (map (λ r. r.rule) table.now.list.items) self.old.host.services.list }
+        ensures drives { OnOk result (Drives self.old self.new) }
+        ensures driven { OnOk result (IsDriven self.new) }
+        ensures fits { OnOk result (AllFit (map (λ r. r.rule) table.now.list.items) self.new.host.services.list) }
+        ensures longer { OnOk result (self.new.history.items ≡ self.old.history.items ++ m ∷ []) }
+    {
+        self.history.reserve(1)?;
+        self.host.turn(table, &m, &Ask::Run)?;
+        self.history.push_reserved(m);
+        self.held = false;
+        Ok(())
+    }
+
+    /// The turn is made.
+    fn make(&mut self, table: &Table, turn: Turn) -> Result<(), NoMemory>
+        requires driven { IsDriven self.old }
+        requires ready { IsTurnReady (desk self.old) (moment self.old) turn }
+        requires fits { AllFit (map (λ r. r.rule) table.now.list.items) self.old.host.services.list }
+        ensures drives { OnOk result (Drives self.old self.new) }
+        ensures driven { OnOk result (IsDriven self.new) }
+        ensures fits { OnOk result (AllFit (map (λ r. r.rule) table.now.list.items) self.new.host.services.list) }
+        ensures longer { OnOk result (length self.new.history.items ≡ length self.old.history.items + 1) }
+    {
+        match turn {
+            Turn::Pager(m) => self.own_turn(table, m),
+            Turn::Other(m) => self.others_turn(table, m),
+        }
+    }
+
+    // ---- the whole
+
+    /// How a run ends in which no move is ready.
+    fn at_rest(&self) -> End
+        ensures { IsAtRest (moment self.now).world result }
+    {
+        if all_halted(self.host.kernel().store()) {
+            End::Halted
+        } else {
+            End::Quiet
+        }
+    }
+
+    /// How it ends where the budget is used.
+    fn end_used(&mut self) -> End
+        requires driven { IsDriven self.old }
+        ensures end { (budget : _) → budget ≤ length self.old.history.items → IsEnd (desk self.old)
+            budget (length self.old.history.items) (moment self.old) result }
+        ensures driven { IsDriven self.new }
+        ensures moment { moment self.new ≡ moment self.old }
+        ensures pager { self.new.pager ≡ self.old.pager }
+        ensures port { self.new.port ≡ self.old.port }
+        ensures history { self.new.history ≡ self.old.history }
+    {
+        match self.choose() {
+            Some(_) => End::Budget,
+            None => self.at_rest(),
+        }
+    }
+
+    /// Makes moves until so many are made, or none is ready, and answers how the run ends. `NoMemory` where there is none for a move.
+    pub fn drive(&mut self, table: &Table, budget: u64) -> Result<End, NoMemory>
+        requires driven { IsDriven self.old }
+        requires fits { AllFit (map (λ r. r.rule) table.now.list.items) self.old.host.services.list }
+        ensures drives { OnOk result (Drives self.old self.new) }
+        ensures end { IfOk result (IsEnd (desk self.old) budget (length self.new.history.items) (moment self.new)) }
+        ensures fits { OnOk result (AllFit (map (λ r. r.rule) table.now.list.items) self.new.host.services.list) }
+        ensures within { OnOk result (length self.old.history.items ≤ budget → length self.new.history.items ≤ budget) }
+    {
+        while (self.history.len() as u64) < budget {
+            let Some(turn) = self.choose() else {
+                return Ok(self.at_rest());
+            };
+            self.make(table, turn)?;
+        }
+        Ok(self.end_used())
+    }
+
+    /// The host, and what the run came to that has ended so.
+    pub fn into_parts(self, end: End) -> (Host<S>, Paged)
+        ensures host { result.0 ≡ self.host }
+        ensures paged { result.1 ≡ record {
+          history = self.history.items;
+          opened = opened_by (length self.history.items) (moment self);
+          faults = (moment self).state.faults;
+          end = end;
+        } }
+    {
+        // There is room for another, so a number past the last can be told.
+        let _room = self.history.capacity();
+        let opened = if self.is_opening() {
+            self.history.len() as u64 + 1
+        } else {
+            self.opened
+        };
+        let faults = self.faults();
+        let PagedRun { host, history, .. } = self;
+        let paged = Paged {
+            history: List::of(history),
+            opened,
+            faults,
+            end,
+        };
+        (host, paged)
+    }
+}
