@@ -3,10 +3,14 @@ use Rattle.std.proofs.Common.{◌≡◌, ℕ, zero, suc, ◌+◌, ◌<◌, ◌�
 use Rattle.std.proofs.Common.{Option, Some, None, option_map, is_some, ◌⊎◌, inl, inr, refl, sym, ap, subst, ◌∙◌, arith, append-nil, append_assoc, drop, drop-cons, get_or}
 use Rattle.std.specs.List.{slice_get, slice_set}
 use Rattle.laws_handover.specs.Pieces.{Piece, content, found, behind, joined_from, joined, read_from}
-use Rattle.laws_migrate.specs.Images.{read_bytes}
+use Rattle.laws_migrate.specs.Images.{read_bytes, valid_image}
+use Rattle.std.specs.Prelude.{Result, Ok, Err}
+use Rattle.fk_image.specs.Format.Reading.{image_reading}
+use Rattle.fk_image.specs.Format.Spelling.{spelling}
+use Rattle.fk_image.proofs.InFormat.RoundTrip.{reading_takes}
 use Rattle.fk_image.specs.declared.image.image.Image.{Image}
 use Rattle.fk_sides.specs.declared.blocks.Block.{Block}
-use Rattle.fk_sides.specs.Blocks.{bytes_of, bytes_in, bytes_at, spelled, piece_of, IsFilled, IsFilledTo, IsIdle, IsOpen, read_of, Begins, IsIn, Comes}
+use Rattle.fk_sides.specs.Blocks.{bytes_of, bytes_in, bytes_at, shown, spelled, piece_of, IsFilled, IsFilledTo, IsIdle, IsOpen, read_of, Begins, IsIn, Comes}
 
 abbrev no_block : Option Block
 no_block = None
@@ -101,18 +105,18 @@ idle_shows blocks got p shows idle = record {
 
 gap : (count number m : ℕ) (got : List Piece) → number ≤ m → m < number + count → found m got ≡ None → joined_from count number got ≡ None
 gap zero number m got low high none = absurd (omega (arith, low, high))
-gap (suc count) number m got low high none = by (same_or_other number m)
+gap (suc count) number m got low high none =
+    by (same_or_other number m) (λ past. gap count (suc number) m got past (omega (arith, high)) none)
   where
     nothing : (o : Option Piece) → behind o None ≡ None
     nothing None = refl
     nothing (Some p) = refl
 
-    by : (number ≡ m) ⊎ (number ≡ m → ⊥) → behind (found number got) (joined_from count (suc number) got) ≡ None
-    by (inl is) = ap (λ (o : Option Piece). behind o (joined_from count (suc number) got)) (ap (λ (k : ℕ). found k got) is ∙ none)
-    by (inr other) =
-        ap (λ (r : Option (List ℕ)). behind (found number got) r)
-        (gap count (suc number) m got (omega (arith, low, other)) (omega (arith, high)) none)
-        ∙ nothing (found number got)
+    by : (number ≡ m) ⊎ (number ≡ m → ⊥) → (suc number ≤ m → joined_from count (suc number) got ≡ None)
+        → behind (found number got) (joined_from count (suc number) got) ≡ None
+    by (inl is) rest = ap (λ (o : Option Piece). behind o (joined_from count (suc number) got)) (ap (λ (k : ℕ). found k got) is ∙ none)
+    by (inr other) rest =
+        ap (λ (r : Option (List ℕ)). behind (found number got) r) (rest (omega (arith, low, other))) ∙ nothing (found number got)
 
 -- each is there
 whole : (blocks : Blocks) (number : ℕ) (got : List Piece) → ((j : ℕ) → j < length blocks → bytes_at blocks j ≡ option_map content (found (number + j) got))
@@ -160,7 +164,11 @@ joined_whole blocks first p ps shows total filled le =
 
 -- no bytes spell an image
 nothing_read : read_bytes [] ≡ None
-nothing_read = refl
+nothing_read = by (image_reading []) refl
+  where
+    by : (r : Result Image (ℕ × ℕ)) → image_reading [] ≡ r → valid_image r ≡ None
+    by (Err fault) e = refl
+    by (Ok i) e = let both : [] ≡ spelling i = (reading_takes [] i (λ i. omega arith) e).spelled in cc
 
 first_idle : (blocks : Blocks) (first : ℕ) (p : Piece) → Shows blocks [] → IsFilled blocks first → IsIdle blocks p.number → p.total ≡ length blocks
     → read_of (p ∷ []) ≡ None
@@ -339,18 +347,13 @@ empties blocks total is = (
 
 -- ---- all blocks, one after the other
 
-spelled_cons : (b : Option Block) (xs : Blocks) → spelled (b ∷ xs) ≡ spelled (b ∷ []) ++ spelled xs
-spelled_cons None xs = refl
-spelled_cons (Some b) xs = ap (λ (bytes : List ℕ). bytes ++ spelled xs) (sym (append-nil (bytes_of b)))
-
-pub joined_more : (blocks : Blocks) (i : ℕ) (d : Option Block) (before now : List ℕ) → i < length blocks → now ≡ before ++ spelled (get_or blocks i d ∷ [])
+pub joined_more : (blocks : Blocks) (i : ℕ) (d : Option Block) (before now : List ℕ) → i < length blocks → now ≡ before ++ shown (get_or blocks i d)
     → before ++ spelled (drop i blocks) ≡ spelled blocks → now ++ spelled (drop (i + 1) blocks) ≡ spelled blocks
 joined_more blocks i d before now lt is so_far =
     let here : drop i blocks ≡ get_or blocks i d ∷ drop (i + 1) blocks =
     drop-cons blocks i d lt ∙ ap (λ (n : ℕ). get_or blocks i d ∷ drop n blocks) (let one : suc i ≡ i + 1 = omega arith in one) in
     ap (λ (bytes : List ℕ). bytes ++ spelled (drop (i + 1) blocks)) is
-    ∙ append_assoc before (spelled (get_or blocks i d ∷ [])) (spelled (drop (i + 1) blocks))
-    ∙ ap (λ (bytes : List ℕ). before ++ bytes) (sym (spelled_cons (get_or blocks i d) (drop (i + 1) blocks)))
+    ∙ append_assoc before (shown (get_or blocks i d)) (spelled (drop (i + 1) blocks))
     ∙ ap (λ (xs : Blocks). before ++ spelled xs) (sym here) ∙ so_far
 
 pub joined_all : (blocks : Blocks) (i : ℕ) (out : List ℕ) → length blocks ≤ i → out ++ spelled (drop i blocks) ≡ spelled blocks → out ≡ spelled blocks

@@ -1,6 +1,6 @@
 -- The near side: what a checkpoint asks for and comes to, and its image.
 use Rattle.std.proofs.Common.{◌≡◌, ℕ, zero, suc, ◌+◌, ◌-◌, ◌<◌, ◌≤◌, true, false, List, [], ◌∷◌, ◌++◌, length, map, Option, Some, None, option_map, is_some}
-use Rattle.std.proofs.Common.{IfSome, IfNone, refl, sym, ap, ◌∙◌, arith}
+use Rattle.std.proofs.Common.{IfSome, IfNone, refl, sym, ap, subst, ◌∙◌, arith}
 use Rattle.std.specs.List.{slice_get}
 use Rattle.fk_model.specs.declared.moves.Ask.{Ask}
 use Rattle.fk_model.specs.declared.stage.Stage.{Stage}
@@ -26,7 +26,7 @@ use Rattle.fk_sides.specs.declared.near.Since.{Since}
 use Rattle.fk_sides.specs.declared.near.Since.TheVariants as sinces
 use Rattle.fk_sides.specs.declared.near.Saves.{Saves}
 use Rattle.fk_sides.specs.declared.near.Saves.TheVariants as saves
-use Rattle.fk_sides.specs.Nears.{since_of, last_of, saves_of, slot_in}
+use Rattle.fk_sides.specs.Nears.{since_of, last_of, saves_of, slot_in, IsSpelled}
 use Rattle.fk_sides.specs.Sides.{NearSide, bare, both, asks_for, near_at, near_call, near_heard, option_list}
 use Rattle.fk_sides.proofs.Cuts.{packet_is, before, behind}
 
@@ -36,7 +36,7 @@ waiting i = near.Waits i
 abbrev cleared : Image → NearSide
 cleared i = near.Cleared i
 
-abbrev clearing : Image → ℕ → NearSide
+abbrev pub clearing : Image → ℕ → NearSide
 clearing i more = near.Clears i more
 
 abbrev an_image : Image → Option Image
@@ -262,3 +262,20 @@ pub works_next : (slot : ℕ) (s : Saves) (c : Checkpoint) (o : Option Stage) �
 works_next slot s c o is same next =
     let here : c.slot ≡ slot = sym (ap (slot_in slot) is) ∙ same in
     next ∙ ap (λ (k : ℕ). near_call k (near_at (state_of c))) here ∙ sym (ap (λ (x : Saves). near_call slot (saves_of x)) is)
+
+-- ---- the slot of its checkpoint is its own
+
+pub works_slot : (slot : ℕ) (s : Saves) (c : Checkpoint) → s ≡ saves.Works c → slot_in slot s ≡ slot → c.slot ≡ slot
+works_slot slot s c is same = sym (ap (slot_in slot) is) ∙ same
+
+pub works_heard : (slot : ℕ) (s : Saves) (c : Checkpoint) (n : NearSide) (status : ℕ) (words : List ℕ) → s ≡ saves.Works c → slot_in slot s ≡ slot
+    → n ≡ near_heard c.slot (near_at (state_of c)) status words → n ≡ near_heard slot (saves_of s) status words
+works_heard slot s c n status words is same heard =
+    heard ∙ ap (λ (k : ℕ). near_heard k (near_at (state_of c)) status words) (works_slot slot s c is same)
+    ∙ sym (ap (λ (x : Saves). near_heard slot (saves_of x) status words) is)
+
+pub works_told : (slot : ℕ) (s : Saves) (c : Checkpoint) (n : NearSide) (p : Packet Piece Why) → s ≡ saves.Works c → IsSpelled s → n ≡ near_at (state_of c)
+    → saves_of s ≡ n → n ≡ near_told (both slot) (saves_of s) p
+works_told slot s c n p is spelled now same =
+    let none : gathered_in (state_of c) ≡ None = subst IsSpelled is spelled in
+    now ∙ told_nothing slot (state_of c) p none ∙ sym (ap (λ (x : Saves). near_told (both slot) (saves_of x) p) is)

@@ -26,3 +26,26 @@ pub first_comes : (image : Option Image) (t : Table) (got : List Piece) (p : Pie
     → ComesTo image (Some t) (got ++ p ∷ [])
 first_comes image t got p none comes =
     subst (λ (xs : List Piece). ComesTo image (Some t) (xs ++ p ∷ [])) (sym none) (comes_to image t [] p comes)
+
+-- a table that shows the same
+pub same_come : (t u : Table) (got : List Piece) → u.blocks.items ≡ t.blocks.items → HasCome (Some t) got → HasCome (Some u) got
+same_come t u got same come = (subst (λ (blocks : List (Option Block)). IsIn blocks got) (sym same) come.0, come.1)
+
+-- a piece more in a table that is there
+pub more_comes : (image : Option Image) (o : Option Table) (t u : Table) (got : List Piece) (number total : ℕ) (b : Block) → o ≡ Some t
+    → ((xs : List Piece) (many : ℕ) → IsIn t.blocks.items xs → Begins xs many (length t.blocks.items)
+    → Comes image u.blocks.items (xs ++ piece_of number many b ∷ []))
+    → HasCome o got → ComesTo image (Some u) (got ++ piece_of number total b ∷ [])
+more_comes image o t u got number total b is takes come =
+    let here : HasCome (Some t) got = subst (λ (x : Option Table). HasCome x got) is come in
+    comes_to image u got (piece_of number total b) (takes got total here.0 (total_said t got total here))
+
+-- the first piece, in a new table
+pub one_comes : (image : Option Image) (o : Option Table) (t u : Table) (got : List Piece) (number total : ℕ) (b : Block) → o ≡ None → IsIn t.blocks.items []
+    → total ≡ length t.blocks.items
+    → ((xs : List Piece) (many : ℕ) → IsIn t.blocks.items xs → Begins xs many (length t.blocks.items)
+    → Comes image u.blocks.items (xs ++ piece_of number many b ∷ []))
+    → HasCome o got → ComesTo image (Some u) (got ++ piece_of number total b ∷ [])
+one_comes image o t u got number total b is empty many takes come =
+    let none : got ≡ [] = subst (λ (x : Option Table). HasCome x got) is come in
+    first_comes image u got (piece_of number total b) none (takes [] total empty many)

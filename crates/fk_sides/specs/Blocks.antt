@@ -18,11 +18,15 @@ bytes_in (Some block) = option_map bytes_of block
 abbrev pub bytes_at : List (Option Block) → ℕ → Option (List ℕ)
 bytes_at blocks n = bytes_in (slice_get blocks n)
 
+-- what is there of one
+abbrev pub shown : Option Block → List ℕ
+shown None = []
+shown (Some b) = bytes_of b
+
 -- all of them, one after the other
 abbrev pub spelled : List (Option Block) → List ℕ
 spelled [] = []
-spelled (None ∷ blocks) = spelled blocks
-spelled (Some b ∷ blocks) = bytes_of b ++ spelled blocks
+spelled (block ∷ blocks) = shown block ++ spelled blocks
 
 -- those before a place have come
 pub record IsFilledTo (blocks : List (Option Block)) (first : ℕ) : Type 0 where

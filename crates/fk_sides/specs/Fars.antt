@@ -3,6 +3,7 @@ use Rattle.std.specs.Prelude.{◌≡◌, ℕ, List, Option, None, Some, false}
 use Rattle.fk_image.specs.declared.image.image.Image.{Image}
 use Rattle.fk_restore.specs.declared.restore.restore.Restore.{Restore}
 use Rattle.fk_restore.specs.Restore.Restores.{state_of}
+use Rattle.laws_restore.specs.Restore.Restore.{State}
 use Rattle.laws_restore.specs.Restore.Restore.State.{Makes as First}
 use Rattle.laws_handover.specs.FarSide as far
 use Rattle.laws_handover.specs.FarSide.{Made}
@@ -25,6 +26,9 @@ abbrev pub refusal_of : Refusal → Why
 refusal_of refusals.Occupied = Occupied
 refusal_of (refusals.NoPort port) = NoPort port
 refusal_of refusals.Never = GaveUp
+
+abbrev pub fails_so : Refusal → Made State Why
+fails_so refusal = far.Fails (refusal_of refusal)
 
 -- a restore as a job that knows its image
 abbrev pub job_of : Restore → Job

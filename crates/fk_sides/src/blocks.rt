@@ -1,6 +1,6 @@
 //! Blocks of bytes, and the image that they spell together.
-ghost use Rattle.std.specs.Prelude.{◌≡◌, ◌++◌, ◌∷◌, [], is_some, IfOk, OnOk};
-ghost use Rattle.fk_sides.specs.Blocks.{bytes_at, spelled, IsFilled, IsFilledTo, IsIdle, IsOpen};
+ghost use Rattle.std.specs.Prelude.{◌≡◌, ◌++◌, is_some, IfOk, OnOk};
+ghost use Rattle.fk_sides.specs.Blocks.{bytes_at, bytes_of, shown, spelled, IsFilled, IsFilledTo, IsIdle, IsOpen};
 ghost use Rattle.std.specs.Bool.{OnFalse, OnTrue};
 ghost use Rattle.laws_migrate.specs.Images.{read_bytes};
 
@@ -49,14 +49,25 @@ pub(crate) fn first_open(blocks: &[Option<Block>], from: usize) -> usize
     first
 }
 
+/// The bytes of a block that count.
+fn counted(block: &Block) -> &[u8]
+    ensures { result.now ≡ bytes_of block.now }
+{
+    let len = usize::from(block.len).min(block.bytes.len());
+    &block.bytes[..len]
+}
+
 /// Adds the bytes of a block that count.
 fn add_block(out: &mut Vec<u8>, block: &Option<Block>) -> Result<(), NoMemory>
-    ensures { OnOk result (out.new.items ≡ out.old.items ++ spelled (block.now ∷ [])) }
+    ensures { OnOk result (out.new.items ≡ out.old.items ++ shown block.now) }
 {
-    if let Some(block) = block {
-        out.extend_from_slice(&block.bytes[..usize::from(block.len).min(512)])?;
+    match block {
+        Some(block) => {
+            out.extend_from_slice(counted(block))?;
+            Ok(())
+        }
+        None => Ok(()),
     }
-    Ok(())
 }
 
 /// The bytes of all blocks, one after the other.

@@ -58,29 +58,41 @@ impl Table {
         self.first = first_open(self.blocks.as_slice(), self.first);
     }
 
-    /// Takes the block of the piece with a number: gives the image that all spell together, once they do. For want of memory all is as before.
-    fn take(&mut self, alloc: Global, number: u64, block: Block) -> Result<Option<ValidImage>, NoMemory>
+    /// Puts a block in an open place: gives the image that all spell together, once they do. For want of memory all is as before.
+    fn fill(&mut self, alloc: Global, at: usize, block: Block) -> Result<Option<ValidImage>, NoMemory>
+        requires { IsOpen self.old.blocks.items at }
         ensures comes { IfOk result (λ image. (got : List Piece) (total : ℕ) → IsIn self.old.blocks.items got
-            → Begins got total (length self.old.blocks.items) → Comes image self.new.blocks.items (got ++ piece_of number total block ∷ [])) }
-        ensures lacking_blocks { OnErr result (self.new.blocks.items ≡ self.old.blocks.items) }
-        ensures lacking_first { OnErr result (self.new.first ≡ self.old.first) }
+            → Begins got total (length self.old.blocks.items) → Comes image self.new.blocks.items (got ++ piece_of at total block ∷ [])) }
+        ensures lacking { OnErr result (self.new.blocks.items ≡ self.old.blocks.items) }
     {
-        let at = number as usize;
-        if !is_open(self.blocks.as_slice(), at) {
-            return Ok(None);
-        }
-        let first = self.first;
+        let before = self.first;
         self.put(at, block);
-        if self.first < self.blocks.len() {
+        let first = self.first;
+        let many = self.blocks.len();
+        if first < many {
             return Ok(None);
         }
         match read_blocks(alloc, self.blocks.as_slice()) {
             Ok(image) => Ok(image),
             Err(lacking) => {
                 self.blocks[at] = None;
-                self.first = first;
+                self.first = before;
                 Err(lacking)
             }
+        }
+    }
+
+    /// Takes the block of the piece with a number: gives the image that all spell together, once they do. For want of memory all is as before.
+    fn take(&mut self, alloc: Global, number: u64, block: Block) -> Result<Option<ValidImage>, NoMemory>
+        ensures comes { IfOk result (λ image. (got : List Piece) (total : ℕ) → IsIn self.old.blocks.items got
+            → Begins got total (length self.old.blocks.items) → Comes image self.new.blocks.items (got ++ piece_of number total block ∷ [])) }
+        ensures lacking { OnErr result (self.new.blocks.items ≡ self.old.blocks.items) }
+    {
+        let at = number as usize;
+        if is_open(self.blocks.as_slice(), at) {
+            self.fill(alloc, at, block)
+        } else {
+            Ok(None)
         }
     }
 }
@@ -101,7 +113,10 @@ impl Came {
         ensures lacking { OnErr result ((got : List Piece) → IsCome self.old got → IsCome self.new got) }
     {
         match &mut self.table {
-            Some(table) => table.take(self.alloc, number, block),
+            Some(table) => {
+                let image = table.take(self.alloc, number, block)?;
+                Ok(image)
+            }
             None => {
                 let mut table = Table::new(self.alloc, total)?;
                 let image = table.take(self.alloc, number, block)?;

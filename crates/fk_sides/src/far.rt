@@ -3,17 +3,17 @@ ghost use Rattle.std.specs.Prelude.{◌≡◌, ◌≤◌, [], ℕ, List, length,
 ghost use Rattle.std.specs.List.{slice_get};
 ghost use Rattle.fk_model.specs.declared.limits.TheConstants.{LAST_USER_SLOT};
 ghost use Rattle.fk_restore.specs.declared.restore.restore.Restore.{Restore as restores};
-ghost use Rattle.fk_restore.specs.Restore.Restores.{state_of};
+ghost use Rattle.fk_restore.specs.Restore.Restores.{end_of, state_of};
 ghost use Rattle.fk_sides.specs.Cames.{IsCome};
 ghost use Rattle.fk_sides.specs.declared.far.Stand.TheVariants as stands;
-ghost use Rattle.fk_sides.specs.Fars.{gone_on, look_of, refusal_of, slot_in, stand_of, Begins, IsFar};
+ghost use Rattle.fk_sides.specs.Fars.{fails_so, gone_on, look_of, refusal_of, slot_in, stand_of, Begins, IsFar};
 ghost use Rattle.fk_sides.specs.Sides.{FarSide, both, call_with, far_call, far_heard, option_list, packet_of, why_of};
 ghost use Rattle.laws_handover.specs.FarSide.Far.{Listens};
 ghost use Rattle.laws_handover.specs.Handover.{far_told};
 ghost use Rattle.laws_handover.specs.Pieces.{Piece};
 ghost use Rattle.laws_handover.specs.Sent.{sent_far};
 ghost use Rattle.laws_jobs.specs.Machines.{no_words};
-ghost use Rattle.laws_migrate.specs.Migration.{made, of_job};
+ghost use Rattle.laws_migrate.specs.Migration.{made, made_end, of_job};
 
 use crate::blocks::Block;
 use crate::came::Came;
@@ -86,6 +86,17 @@ pub struct Far {
     ghost same: { slot_in slot makes ≡ slot },
 }
 
+/// Why there is no copy, by how a restore has ended.
+fn refusal_in(finish: &Finish) -> Refusal
+    ensures { made_end (end_of finish.now) ≡ fails_so result }
+{
+    match finish {
+        Finish::Occupied => Refusal::Occupied,
+        Finish::NoPort(port) => Refusal::NoPort(*port),
+        Finish::Image(_) | Finish::Foreign(_) | Finish::Dead | Finish::Restored => Refusal::Never,
+    }
+}
+
 /// Where a restore stands.
 fn seen_at(restore: &Restoring) -> Look
     ensures { of_job restore.now.image (made (state_of restore.now)) ≡ look_of restore.now result }
@@ -95,9 +106,7 @@ fn seen_at(restore: &Restoring) -> Look
     }
     match restore.end() {
         None => Look::Goes,
-        Some(Finish::Occupied) => Look::Fails(Refusal::Occupied),
-        Some(Finish::NoPort(port)) => Look::Fails(Refusal::NoPort(*port)),
-        Some(_) => Look::Fails(Refusal::Never),
+        Some(finish) => Look::Fails(refusal_in(finish)),
     }
 }
 

@@ -10,8 +10,8 @@ loop-space-preserved c =
     let here : slice_get c.args.spaces.now c.loop-space.number ≡ Some c.in-Some.space.now = grind (arith, common_steps, gets) in
     let step = room_counted c.args.spaces.now c.loop-space.number c.in-Some.space.now here in
     let within = slice_get_within c.args.spaces.now c.loop-space.number c.in-Some.space.now here in
-    let counted = c.count_room.ensures.count in
-    let small = c.count_room.ensures.small in
+    let counted = c.count_room-count.ensures.count in
+    let small = c.count_room-count.ensures.small in
     let so_far = c.loop-space.invariant.0 in
     let bound = c.loop-space.invariant.1 in
     (omega (arith, step, counted, so_far), omega (arith, small, bound), omega (arith, within))

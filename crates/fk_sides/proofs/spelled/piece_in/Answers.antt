@@ -9,8 +9,8 @@ returns-then-number-total c =
     let past = c.if-number-total.true in
     rw (no_piece c.args.bytes.now c.args.number (omega (arith, total, past))) refl
 
-pub slice_bounds-rest : goal.slice_bounds-rest
-slice_bounds-rest c =
+pub slice_bounds-rest-start : goal.slice_bounds-rest-start
+slice_bounds-rest-start c =
     let total = c.total_of-total.ensures.total in
     let below = c.if-number-total.false in
     let within = within_bytes c.args.bytes.now c.args.number (omega (arith, total, below)) in
@@ -18,5 +18,4 @@ slice_bounds-rest c =
 
 pub returns : goal.returns
 returns c =
-    piece_told c.args.bytes.now c.total_of-total.result c.args.number _ _ c.total_of-total.ensures.total c.if-number-total.false (let same : _ ≡ _ = omega arith in same)
-    c.piece_of.ensures
+    piece_told c.args.bytes.now c.total_of-total.result c.args.number _ _ c.total_of-total.ensures.total c.if-number-total.false refl c.piece_of.ensures

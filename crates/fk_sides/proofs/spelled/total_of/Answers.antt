@@ -6,5 +6,4 @@ pub returns-clause-total : goal.returns-clause-total
 returns-clause-total c =
     let enough = c.count_pieces.ensures.enough in
     let least = c.count_pieces.ensures.least in
-    let long = c.len.ensures in
-    pieces_long c.args.bytes.now c.count_pieces.result (omega (arith, enough, long)) (omega (arith, least, long))
+    pieces_long c.args.bytes.now c.count_pieces.result (omega (arith, enough)) (omega (arith, least))
