@@ -14,3 +14,4 @@ pub mod Bounded
 pub mod Images
 pub mod Places
 pub mod FarBounded
+pub mod Fits

@@ -9,3 +9,4 @@ pub mod Porters
 pub mod Bounded
 pub mod Images
 pub mod Places
+pub mod Fits

@@ -16,6 +16,7 @@ ghost use Rattle.laws_migrate.specs.Images.{ImagesAreRead};
 ghost use Rattle.laws_migrate.specs.Laws.{NeverBothFree, MovedIsSame, KeptIsSame, KeptIsAlone, ForeignIsSame};
 ghost use Rattle.laws_migrate.specs.Laws.{FailedSaysWhy, RefusedSaysWhy, CancelledSaysWhy};
 ghost use Rattle.laws_migrate.specs.Places.{CallsHavePlaces};
+ghost use Rattle.laws_migrate.specs.Fits.{CallsAreFit};
 ghost use Rattle.laws_migrate.specs.Readies.{FirstIsReady, MigrationIsReady};
 ghost use Rattle.laws_migrate.specs.Porters.{RootKeepsPorter, MigrationGoesOn};
 ghost use Rattle.laws_migrate.specs.Bounded.{NearIsBounded, FarIsBounded, BothAreBounded};
@@ -82,6 +83,11 @@ pub fn what_is_moved_is_the_same<P>()
 /// Where the near one is released after it was cancelled its cut is what it was at the hold.
 pub fn what_is_kept_is_the_same<P>()
     ensures { KeptIsSame P }
+{}
+
+/// Each call for which a porter asks is fit.
+pub fn calls_are_fit<P>()
+    ensures { CallsAreFit P }
 {}
 
 /// A restore's first call is ready wherever its porter stands and nothing outside its slot is held.

@@ -1,0 +1,4 @@
+pub mod Turns
+pub mod Runs
+pub mod Pairs
+pub mod Promises
