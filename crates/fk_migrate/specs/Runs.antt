@@ -18,13 +18,20 @@ use Rattle.laws_handover.specs.Pieces.{Piece}
 use Rattle.laws_checkpoint.specs.Checkpoint as checks
 use Rattle.laws_migrate.specs.Images.{image_codec}
 use Rattle.laws_migrate.specs.Migration.{Why, Job, top, IsReadyIn}
-use Rattle.fk_migrate.specs.Turns.{is_porters}
+use Rattle.fk_migrate.specs.Turns.{is_porters, NearPart, FarPart}
 
 -- both kernels and both sides, as the laws see them, and the servers of each kernel
 pub record Run : Type 0 where
   pub pair : Pair World checks.State World Job Image Piece Why
   pub near_servers : Services
   pub far_servers : Services
+
+-- what a run has come to in each kernel
+abbrev pub near_part : Run → NearPart
+near_part r = record { world = r.pair.near_world; servers = r.near_servers; side = r.pair.near }
+
+abbrev pub far_part : Run → FarPart
+far_part r = record { world = r.pair.far_world; servers = r.far_servers }
 
 -- a step of the handover
 abbrev pub Step : Type 0

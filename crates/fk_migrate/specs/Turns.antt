@@ -1,5 +1,5 @@
 -- A turn of a kernel with a side of a migration: the root's porter makes the calls for which the side asks, and the side hears the answers.
-use Rattle.std.specs.Prelude.{◌≡◌, ℕ, [], ◌∷◌, List, Bool, true, false, take, Option, Some, None, if◌then◌else◌}
+use Rattle.std.specs.Prelude.{◌≡◌, ℕ, [], ◌∷◌, List, Bool, true, false, take, Option, Some, None, IfSome, if◌then◌else◌}
 use Rattle.fk_model.specs.declared.limits.TheConstants.{LAST_PORTER_SLOT}
 use Rattle.fk_model.specs.declared.moves.Ask.{Ask}
 use Rattle.fk_model.specs.declared.moves.Ask.TheVariants as asks
@@ -8,16 +8,17 @@ use Rattle.fk_model.specs.declared.moves.Said.{Said}
 use Rattle.fk_model.specs.declared.moves.Said.TheVariants as says
 use Rattle.fk_model.specs.declared.names.Who.{Who}
 use Rattle.fk_model.specs.Places.{same_path}
+use Rattle.fk_model.specs.Valid.{IsValid}
 use Rattle.fk_model.specs.Who.{named}
 use Rattle.fk_model.specs.World.{World}
 use Rattle.fk_host.specs.Hosts.{IsReadyWith, IsFitWith, IsTurn}
 use Rattle.fk_served.specs.Kernels.{Kept}
-use Rattle.fk_served.specs.Kernels.{world_of as world}
-use Rattle.fk_served.specs.Served.{Services}
-use Rattle.laws_migrate.specs.Migration.{top}
+use Rattle.fk_served.specs.Served.{Services, asked}
+use Rattle.laws_moves.specs.Whole.Runnable.{has_all_words}
+use Rattle.laws_migrate.specs.Migration.{top, HasRoom}
 use Rattle.fk_sides.specs.declared.far.Makes.{Makes}
 use Rattle.fk_sides.specs.Fars.{IsFar}
-use Rattle.fk_sides.specs.Sides.{NearSide, FarSide, near_call, near_heard, far_call, far_heard}
+use Rattle.fk_sides.specs.Sides.{NearSide, FarSide, near_call, far_call}
 
 -- its mover is the root's porter
 abbrev pub is_porters : World → Move → Bool
@@ -58,35 +59,43 @@ abbrev pub heard_by : {X : Type 0} → Bool → (ℕ → List ℕ → X) → X �
 heard_by true heard x said = heard (status_in said) (words_in said)
 heard_by false heard x said = x
 
--- ---- a turn of the near kernel
+-- what is known of a kernel with its servers, and of what a mover asks for
+pub record IsKept (services : Services) (w : World) (who : Who) : Type 0 where
+  pub valid : IsValid w
+  -- a birth number is left
+  pub room : HasRoom w
+  -- what a server gives is words
+  pub words : IfSome (asked services w who) (λ ask. has_all_words ask ≡ true)
 
-abbrev pub IsNearMove : Services → World → ℕ → NearSide → Move → Type 0
-IsNearMove services w slot n m = IsReadyGiven services w m (given_in w (near_call slot n) m)
+-- ---- the near kernel
 
-abbrev pub IsNearFit : Services → World → ℕ → NearSide → Move → Type 0
-IsNearFit services w slot n m = IsFitGiven services w m (given_in w (near_call slot n) m)
+-- its world, its servers, and what its side has come to
+pub record NearPart : Type 0 where
+  pub world : World
+  pub servers : Services
+  pub side : NearSide
 
-pub record IsNearTurn (slot : ℕ) (m : Kept) (services : Services) (near : NearSide) (move : Move) (n : Kept) (new : Services) (next : NearSide) : Type 0 where
-  pub said : Said
-  pub turn : IsTurnGiven m services move (given_in (world m) (near_call slot near) move) said n new
-  pub heard : next ≡ heard_by (is_porters (world m) move) (near_heard slot near) near said
+abbrev pub IsNearMove : ℕ → NearPart → Move → Type 0
+IsNearMove slot p m = IsReadyGiven p.servers p.world m (given_in p.world (near_call slot p.side) m)
 
--- ---- and of the far one
+abbrev pub IsNearFit : ℕ → NearPart → Move → Type 0
+IsNearFit slot p m = IsFitGiven p.servers p.world m (given_in p.world (near_call slot p.side) m)
 
-abbrev pub IsFarMove : Services → World → ℕ → FarSide → Move → Type 0
-IsFarMove services w slot f m = IsReadyGiven services w m (given_in w (far_call slot f) m)
+-- ---- the far kernel
 
-abbrev pub IsFarFit : Services → World → ℕ → FarSide → Move → Type 0
-IsFarFit services w slot f m = IsFitGiven services w m (given_in w (far_call slot f) m)
+pub record FarPart : Type 0 where
+  pub world : World
+  pub servers : Services
+
+abbrev pub IsFarMove : ℕ → FarPart → FarSide → Move → Type 0
+IsFarMove slot p f m = IsReadyGiven p.servers p.world m (given_in p.world (far_call slot f) m)
+
+abbrev pub IsFarFit : ℕ → FarPart → FarSide → Move → Type 0
+IsFarFit slot p f m = IsFitGiven p.servers p.world m (given_in p.world (far_call slot f) m)
 
 -- it is ready and fit, whatever the side has come to
-pub record HasFarMove (services : Services) (w : World) (slot : ℕ) (makes : Makes) (m : Move) : Type 0 where
+pub record HasFarMove (slot : ℕ) (p : FarPart) (makes : Makes) (m : Move) : Type 0 where
   pub side : FarSide
   pub is : IsFar makes side
-  pub ready : IsFarMove services w slot side m
-  pub fit : IsFarFit services w slot side m
-
-pub record IsFarTurn (slot : ℕ) (m : Kept) (services : Services) (makes : Makes) (move : Move) (n : Kept) (new : Services) (next : Makes) : Type 0 where
-  pub said : Said
-  pub turn : (f : FarSide) → IsFar makes f → IsTurnGiven m services move (given_in (world m) (far_call slot f) move) said n new
-  pub heard : (f : FarSide) → IsFar makes f → IsFar next (heard_by (is_porters (world m) move) (far_heard slot f) f said)
+  pub ready : IsFarMove slot p side m
+  pub fit : IsFarFit slot p side m

@@ -9,8 +9,10 @@
 #![tactic(auto)]
 
 mod hearing;
+mod pair;
 mod receiver;
 mod sender;
 
+pub use pair::Pair;
 pub use receiver::Receiver;
 pub use sender::Sender;

@@ -1,7 +1,8 @@
 //! The far side over its kernel.
 ghost use Rattle.std.specs.Prelude.{◌≡◌, ◌↔◌, ◌≤◌, [], IsTrue, IfNone, IfSome, OnErr, OnOk, map, option_map};
 ghost use Rattle.std.specs.List.{slice_get};
-ghost use Rattle.fk_migrate.specs.Turns.{given_in, heard_by, HasFarMove, IsFarMove, IsFarTurn};
+ghost use Rattle.fk_migrate.specs.Parts.{far_seen, FarLands};
+ghost use Rattle.fk_migrate.specs.Turns.{given_in, heard_by, HasFarMove, IsFarMove, IsKept};
 ghost use Rattle.fk_model.specs.declared.limits.TheConstants.{LAST_USER_SLOT};
 ghost use Rattle.fk_model.specs.declared.moves.Move as moves;
 ghost use Rattle.fk_served.specs.Acts.{IsReadyAsked};
@@ -13,7 +14,7 @@ ghost use Rattle.laws_handover.specs.FarSide.Far.{Listens};
 ghost use Rattle.laws_handover.specs.Handover.{far_told};
 ghost use Rattle.laws_handover.specs.Sent.{sent_far};
 
-use crate::hearing::{answer_of, is_porters};
+use crate::hearing::{answer_of, is_porters, look};
 use fk_host::Host;
 use fk_model::{Ask, Move, NoMemory, Said};
 use fk_natives::Service;
@@ -62,10 +63,9 @@ impl<S: Service + Drop> Receiver<S> {
 
     /// A ready move of a user or a server; none exactly where there is none.
     pub fn choose(&mut self) -> Option<Move>
-        ensures ready { IfSome result (λ m. IsReadyAsked self.old.host.services.list (world self.old.host.kernel) m) }
-        ensures none { IfNone result ((m : moves.Move) → IsReadyAsked self.old.host.services.list (world self.old.host.kernel) m → ⊥) }
-        ensures world { world self.new.host.kernel ≡ world self.old.host.kernel }
-        ensures services { self.new.host.services.list ≡ self.old.host.services.list }
+        ensures ready { IfSome result (λ m. IsReadyAsked (far_seen self.old).servers (far_seen self.old).world m) }
+        ensures none { IfNone result ((m : moves.Move) → IsReadyAsked (far_seen self.old).servers (far_seen self.old).world m → ⊥) }
+        ensures same { far_seen self.new ≡ far_seen self.old }
         ensures far { self.new.far ≡ self.old.far }
     {
         self.host.choose()
@@ -88,9 +88,10 @@ impl<S: Service + Drop> Receiver<S> {
 
     /// Whether a move is ready: of a user or a server, or the call for which its side asks of the root's porter.
     pub fn ready(&self, m: &Move) -> bool
-        ensures { (f : FarSide) → IsFar self.now.far.makes f
-            → (IsTrue result ↔ IsFarMove self.now.host.services.list (world self.now.host.kernel) self.now.far.slot f m.now) }
+        ensures ready { (f : FarSide) → IsFar self.now.far.makes f → (IsTrue result ↔ IsFarMove self.now.far.slot (far_seen self.now) f m.now) }
+        ensures kept { IsKept (far_seen self.now).servers (far_seen self.now).world m.now.who }
     {
+        look(&self.host, m);
         match self.ask(m) {
             Some(ask) => self.host.ready(m, &ask),
             None => false,
@@ -99,15 +100,13 @@ impl<S: Service + Drop> Receiver<S> {
 
     /// Makes a move, which is ready and fit. A call of the root's porter is answered to its side. For want of memory all is as before.
     pub fn turn(&mut self, table: &Table, m: &Move) -> Result<(), NoMemory>
-        requires ready { HasFarMove self.old.host.services.list (world self.old.host.kernel) self.old.far.slot self.old.far.makes m.now }
+        requires ready { HasFarMove self.old.far.slot (far_seen self.old) self.old.far.makes m.now }
         requires fits { AllFit (map (λ r. r.rule) table.now.list.items) self.old.host.services.list }
-        ensures turned { OnOk result (IsFarTurn self.old.far.slot self.old.host.kernel self.old.host.services.list self.old.far.makes m.now
-            self.new.host.kernel self.new.host.services.list self.new.far.makes) }
+        ensures lands { OnOk result (FarLands self.old.far.slot (far_seen self.old) self.old.far.makes m.now (far_seen self.new) self.new.far.makes) }
         ensures slot { self.new.far.slot ≡ self.old.far.slot }
         ensures fits { AllFit (map (λ r. r.rule) table.now.list.items) self.new.host.services.list }
-        ensures lacking_kernel { OnErr result (self.new.host.kernel ≡ self.old.host.kernel) }
-        ensures lacking_services { OnErr result (self.new.host.services.list ≡ self.old.host.services.list) }
-        ensures lacking_far { OnErr result (self.new.far ≡ self.old.far) }
+        ensures lacking { OnErr result (far_seen self.new ≡ far_seen self.old) }
+        ensures lacking_side { OnErr result (self.new.far ≡ self.old.far) }
     {
         let Some(ask) = self.ask(m) else {
             unreachable!()
@@ -120,8 +119,9 @@ impl<S: Service + Drop> Receiver<S> {
 
     /// Takes a packet, of whatever kind, and however often it has come. Pieces may come in any order. For want of memory all is as before.
     pub fn take(&mut self, packet: &Packet) -> Result<(), NoMemory>
-        ensures host { self.new.host ≡ self.old.host }
+        ensures same { far_seen self.new ≡ far_seen self.old }
         ensures slot { self.new.far.slot ≡ self.old.far.slot }
+        ensures services { self.new.host.services.list ≡ self.old.host.services.list }
         ensures told { OnOk result ((f : FarSide) → IsFar self.old.far.makes f
             → IsFar self.new.far.makes (far_told (both self.old.far.slot) f (packet_of packet.now))) }
         ensures lacking { OnErr result ((f : FarSide) → IsFar self.old.far.makes f → IsFar self.new.far.makes f) }

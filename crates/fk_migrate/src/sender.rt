@@ -1,20 +1,21 @@
 //! The near side over its kernel.
 ghost use Rattle.std.specs.Prelude.{◌≡◌, ◌↔◌, IsTrue, IfNone, IfSome, IfOk, OnErr, OnOk, map, option_map};
 ghost use Rattle.std.specs.List.{slice_get};
-ghost use Rattle.fk_migrate.specs.Turns.{given_in, heard_by, IsNearFit, IsNearMove, IsNearTurn};
+ghost use Rattle.fk_migrate.specs.Parts.{near_seen, told_near, given_up, NearLands};
+ghost use Rattle.fk_migrate.specs.Turns.{given_in, heard_by, IsKept, IsNearFit, IsNearMove};
 ghost use Rattle.fk_model.specs.declared.moves.Move as moves;
 ghost use Rattle.fk_served.specs.Acts.{IsReadyAsked};
 ghost use Rattle.fk_served.specs.Kernels.{world_of as world};
 ghost use Rattle.fk_served.specs.Served.{AllFit};
 ghost use Rattle.fk_sides.specs.Nears.{has_room_in, saves_of};
-ghost use Rattle.fk_sides.specs.Sides.{both, near_call, near_heard, packet_of};
+ghost use Rattle.fk_sides.specs.Sides.{near_call, near_heard, packet_of};
 ghost use Rattle.laws_checkpoint.specs.Checkpoint.State.{Holds};
-ghost use Rattle.laws_handover.specs.Handover.{gives_up, near_told};
 ghost use Rattle.laws_handover.specs.NearSide.Near.{Saves as AtWork};
 ghost use Rattle.laws_handover.specs.Sent.{sent_near};
 ghost use Rattle.laws_migrate.specs.Images.{image_codec};
+ghost use Rattle.laws_migrate.specs.Migration.{may_give_up};
 
-use crate::hearing::{answer_of, is_porters};
+use crate::hearing::{answer_of, is_porters, look};
 use fk_host::Host;
 use fk_model::{Ask, Move, NoMemory, Said};
 use fk_natives::Service;
@@ -63,10 +64,9 @@ impl<S: Service + Drop> Sender<S> {
 
     /// A ready move of a user or a server; none exactly where there is none.
     pub fn choose(&mut self) -> Option<Move>
-        ensures ready { IfSome result (λ m. IsReadyAsked self.old.host.services.list (world self.old.host.kernel) m) }
-        ensures none { IfNone result ((m : moves.Move) → IsReadyAsked self.old.host.services.list (world self.old.host.kernel) m → ⊥) }
-        ensures world { world self.new.host.kernel ≡ world self.old.host.kernel }
-        ensures services { self.new.host.services.list ≡ self.old.host.services.list }
+        ensures ready { IfSome result (λ m. IsReadyAsked (near_seen self.old).servers (near_seen self.old).world m) }
+        ensures none { IfNone result ((m : moves.Move) → IsReadyAsked (near_seen self.old).servers (near_seen self.old).world m → ⊥) }
+        ensures same { near_seen self.new ≡ near_seen self.old }
         ensures near { self.new.near ≡ self.old.near }
     {
         self.host.choose()
@@ -91,8 +91,10 @@ impl<S: Service + Drop> Sender<S> {
 
     /// Whether a move is ready: of a user or a server, or the call for which its side asks of the root's porter.
     pub fn ready(&self, m: &Move) -> bool
-        ensures { IsTrue result ↔ IsNearMove self.now.host.services.list (world self.now.host.kernel) self.now.near.slot (saves_of self.now.near.saves) m.now }
+        ensures ready { IsTrue result ↔ IsNearMove self.now.near.slot (near_seen self.now) m.now }
+        ensures kept { IsKept (near_seen self.now).servers (near_seen self.now).world m.now.who }
     {
+        look(&self.host, m);
         match self.ask(m) {
             Some(ask) => self.host.ready(m, &ask),
             None => false,
@@ -101,16 +103,13 @@ impl<S: Service + Drop> Sender<S> {
 
     /// Makes a move, which is ready and fit. A call of the root's porter is answered to its side. For want of memory all is as before.
     pub fn turn(&mut self, table: &Table, m: &Move) -> Result<(), NoMemory>
-        requires ready { IsNearMove self.old.host.services.list (world self.old.host.kernel) self.old.near.slot (saves_of self.old.near.saves) m.now }
-        requires fit { IsNearFit self.old.host.services.list (world self.old.host.kernel) self.old.near.slot (saves_of self.old.near.saves) m.now }
+        requires ready { IsNearMove self.old.near.slot (near_seen self.old) m.now }
+        requires fit { IsNearFit self.old.near.slot (near_seen self.old) m.now }
         requires fits { AllFit (map (λ r. r.rule) table.now.list.items) self.old.host.services.list }
-        ensures turned { OnOk result (IsNearTurn self.old.near.slot self.old.host.kernel self.old.host.services.list (saves_of self.old.near.saves) m.now
-            self.new.host.kernel self.new.host.services.list (saves_of self.new.near.saves)) }
+        ensures lands { OnOk result (NearLands self.old.near.slot (near_seen self.old) m.now (near_seen self.new)) }
         ensures slot { self.new.near.slot ≡ self.old.near.slot }
         ensures fits { AllFit (map (λ r. r.rule) table.now.list.items) self.new.host.services.list }
-        ensures lacking_kernel { OnErr result (self.new.host.kernel ≡ self.old.host.kernel) }
-        ensures lacking_services { OnErr result (self.new.host.services.list ≡ self.old.host.services.list) }
-        ensures lacking_near { OnErr result (saves_of self.new.near.saves ≡ saves_of self.old.near.saves) }
+        ensures lacking { OnErr result (near_seen self.new ≡ near_seen self.old) }
     {
         let Some(ask) = self.ask(m) else {
             unreachable!()
@@ -124,32 +123,39 @@ impl<S: Service + Drop> Sender<S> {
 
     /// Takes a packet, of whatever kind, and however often it has come. For want of memory all is as before.
     pub fn take(&mut self, packet: Packet) -> Result<(), NoMemory>
-        ensures host { self.new.host ≡ self.old.host }
+        ensures told { OnOk result (near_seen self.new ≡ told_near self.old.near.slot (near_seen self.old) packet) }
         ensures slot { self.new.near.slot ≡ self.old.near.slot }
-        ensures told { OnOk result (saves_of self.new.near.saves
-            ≡ near_told (both self.old.near.slot) (saves_of self.old.near.saves) (packet_of packet)) }
-        ensures lacking { OnErr result (saves_of self.new.near.saves ≡ saves_of self.old.near.saves) }
+        ensures services { self.new.host.services.list ≡ self.old.host.services.list }
+        ensures lacking { OnErr result (near_seen self.new ≡ near_seen self.old) }
     {
-        self.near.take(packet)
+        self.near.take(packet)?;
+        Ok(())
+    }
+
+    /// Whether it waits: its image is gathered, and nothing was decided.
+    pub fn waits(&self) -> bool
+        ensures { IsTrue result ↔ may_give_up (near_seen self.now).side }
+    {
+        self.near.waits()
     }
 
     /// Gives up waiting: the subtree stays. For want of memory all is as before.
     pub fn give_up(&mut self) -> Result<(), NoMemory>
-        ensures host { self.new.host ≡ self.old.host }
+        ensures told { OnOk result (near_seen self.new ≡ given_up self.old.near.slot (near_seen self.old)) }
         ensures slot { self.new.near.slot ≡ self.old.near.slot }
-        ensures told { OnOk result (saves_of self.new.near.saves ≡ gives_up (both self.old.near.slot) (saves_of self.old.near.saves)) }
-        ensures lacking { OnErr result (saves_of self.new.near.saves ≡ saves_of self.old.near.saves) }
+        ensures services { self.new.host.services.list ≡ self.old.host.services.list }
+        ensures lacking { OnErr result (near_seen self.new ≡ near_seen self.old) }
     {
-        self.near.give_up()
+        self.near.give_up()?;
+        Ok(())
     }
 
     /// The packet with a number, counted from 0 in the order of sending. It is made of what the side has come to.
     pub fn packet(&mut self, number: u64) -> Result<Option<Packet>, NoMemory>
-        ensures host { self.new.host ≡ self.old.host }
+        ensures same { near_seen self.new ≡ near_seen self.old }
         ensures slot { self.new.near.slot ≡ self.old.near.slot }
-        ensures same { saves_of self.new.near.saves ≡ saves_of self.old.near.saves }
-        ensures packet { IfOk result (λ packet. option_map packet_of packet
-            ≡ slice_get (sent_near image_codec (saves_of self.old.near.saves)) number) }
+        ensures services { self.new.host.services.list ≡ self.old.host.services.list }
+        ensures packet { IfOk result (λ packet. option_map packet_of packet ≡ slice_get (sent_near image_codec (near_seen self.old).side) number) }
     {
         self.near.packet(number)
     }

@@ -1,6 +1,6 @@
 -- The near side: what a checkpoint asks for and comes to, and its image.
-use Rattle.std.proofs.Common.{◌≡◌, ℕ, zero, suc, ◌+◌, ◌-◌, ◌<◌, ◌≤◌, true, false, List, [], ◌∷◌, ◌++◌, length, map, Option, Some, None, option_map, is_some}
-use Rattle.std.proofs.Common.{IfSome, IfNone, refl, sym, ap, subst, ◌∙◌, arith}
+use Rattle.std.proofs.Common.{◌≡◌, ℕ, zero, suc, ◌+◌, ◌-◌, ◌<◌, ◌≤◌, Bool, true, false, List, [], ◌∷◌, ◌++◌, length, map, Option, Some, None, option_map, is_some}
+use Rattle.std.proofs.Common.{◌↔◌, IsTrue, IfSome, IfNone, refl, sym, ap, subst, ◌∙◌, arith}
 use Rattle.std.specs.List.{slice_get}
 use Rattle.fk_model.specs.declared.moves.Ask.{Ask}
 use Rattle.fk_model.specs.declared.stage.Stage.{Stage}
@@ -21,7 +21,7 @@ use Rattle.laws_handover.specs.Packets.{Packet}
 use Rattle.laws_handover.specs.Pieces.{Piece, pieces}
 use Rattle.laws_handover.specs.Sent.{sent_near}
 use Rattle.laws_migrate.specs.Images.{image_codec}
-use Rattle.laws_migrate.specs.Migration.{Why}
+use Rattle.laws_migrate.specs.Migration.{Why, may_give_up}
 use Rattle.fk_sides.specs.declared.near.Since.{Since}
 use Rattle.fk_sides.specs.declared.near.Since.TheVariants as sinces
 use Rattle.fk_sides.specs.declared.near.Saves.{Saves}
@@ -175,6 +175,33 @@ gives_up_nothing slot (checks.Releases (checks.Done i)) none = absurd (some_none
 gives_up_nothing slot (checks.Over checks.Gone) none = refl
 gives_up_nothing slot (checks.Over (checks.Foreign place)) none = refl
 gives_up_nothing slot (checks.Over (checks.Done i)) none = refl
+
+-- one waits exactly where it has an image
+image_waits : (s : checks.State) → is_some (gathered_in s) ≡ true → may_give_up (near_at s)
+image_waits s there =
+    let its = image_there (gathered_in s) there in
+    subst may_give_up (sym (waits s its.0 its.1)) tt
+
+waits_image : (s : checks.State) → may_give_up (near_at s) → is_some (gathered_in s) ≡ true
+waits_image checks.Holds may = absurd may
+waits_image (checks.Readies r rest) may = absurd may
+waits_image (checks.Walks s) may = absurd may
+waits_image (checks.Seeks mets s) may = absurd may
+waits_image (checks.Reads s) may = absurd may
+waits_image (checks.Gathers contents s) may = absurd may
+waits_image (checks.Drops r rest end) may = absurd may
+waits_image (checks.Releases checks.Gone) may = absurd may
+waits_image (checks.Releases (checks.Foreign place)) may = absurd may
+waits_image (checks.Releases (checks.Done i)) may = refl
+waits_image (checks.Over checks.Gone) may = absurd may
+waits_image (checks.Over (checks.Foreign place)) may = absurd may
+waits_image (checks.Over (checks.Done i)) may = absurd may
+
+pub works_wait : (s : Saves) (c : Checkpoint) (b : Bool) → s ≡ saves.Works c → b ≡ is_some (gathered_in (state_of c)) → IsTrue b ↔ may_give_up (saves_of s)
+works_wait s c b is there = (
+  λ yes. subst (λ (x : Saves). may_give_up (saves_of x)) (sym is) (image_waits (state_of c) (sym there ∙ yes)),
+  λ may. there ∙ waits_image (state_of c) (subst (λ (x : Saves). may_give_up (saves_of x)) is may),
+)
 
 -- and has sent nothing
 pub sent_nothing : (s : checks.State) → gathered_in s ≡ None → sent_near image_codec (near_at s) ≡ []

@@ -1,5 +1,5 @@
 //! The near side.
-ghost use Rattle.std.specs.Prelude.{◌≡◌, ◌≤◌, ℕ, List, IfNone, IfOk, IfSome, OnErr, OnOk, is_some, length, option_map, take};
+ghost use Rattle.std.specs.Prelude.{◌≡◌, ◌↔◌, ◌≤◌, ℕ, List, IsTrue, IfNone, IfOk, IfSome, OnErr, OnOk, is_some, length, option_map, take};
 ghost use Rattle.std.specs.List.{slice_get};
 ghost use Rattle.fk_checkpoint.specs.Checkpoint.Checkpoints.{gathered_in};
 ghost use Rattle.fk_checkpoint.specs.Checkpoint.Phases.{state_of, HasRoom};
@@ -12,6 +12,7 @@ ghost use Rattle.laws_handover.specs.Handover.{gives_up, near_told};
 ghost use Rattle.laws_handover.specs.NearSide.Near.{Saves as AtWork};
 ghost use Rattle.laws_handover.specs.Sent.{sent_near};
 ghost use Rattle.laws_migrate.specs.Images.{image_codec};
+ghost use Rattle.laws_migrate.specs.Migration.{may_give_up};
 
 use crate::counting::count_objects;
 use crate::spelled::Spelled;
@@ -161,6 +162,16 @@ fn given_up(since: Since) -> Since
     }
 }
 
+/// Whether it waits once the image is gathered.
+fn is_waiting(since: &Since) -> bool
+    ensures { (i : images) → (IsTrue result ↔ may_give_up (since_of i since.now)) }
+{
+    match since {
+        Since::Waits => true,
+        Since::Clears { .. } | Since::Cleared | Since::Cancels(_) | Since::Cancelled(_) => false,
+    }
+}
+
 /// What is sent behind the pieces, if anything is.
 fn last_since(since: &Since) -> Option<Packet>
     ensures { option_map packet_of result ≡ last_of since.now }
@@ -307,6 +318,16 @@ impl Near {
                 *since = told_since(spelled, was, packet);
                 Ok(())
             }
+        }
+    }
+
+    /// Whether it waits: its image is gathered, and nothing was decided.
+    pub fn waits(&self) -> bool
+        ensures { IsTrue result ↔ may_give_up (saves_of self.now.saves) }
+    {
+        match &self.saves {
+            Saves::Works(checkpoint) => has_image(checkpoint),
+            Saves::Gathered { since, .. } => is_waiting(since),
         }
     }
 
