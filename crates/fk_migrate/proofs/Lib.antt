@@ -1,3 +1,9 @@
 pub mod Turning
 pub mod Calls
+pub mod Moving
+pub mod Nearing
+pub mod Faring
 pub mod Running
+pub mod Stepping
+pub mod Leading
+pub mod Promised

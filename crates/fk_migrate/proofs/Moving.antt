@@ -45,31 +45,34 @@ porters_event w m ask is none = λ i. record { mover = porters_path w m is i; pi
 
 -- ---- a move that is ready
 
+pub data IsMove (services : Services) (w : World) (o : Option Ask) (m : Move) : Type 0 where
+  Own : (ask : Ask) → is_porters w m ≡ true → m.pick ≡ None → o ≡ Some ask → IsReadyAt w (call ask) → IsMove services w o m
+  Others : (ask : Ask) → is_porters w m ≡ false → asked services w m.who ≡ Some ask → IsReadyAt w (event_of w ask m) → IsMove services w o m
+
 module _ (services : Services) (w : World) (o : Option Ask) (m : Move) where
-  pub data IsMove : Type 0 where
-    Own : (ask : Ask) → is_porters w m ≡ true → m.pick ≡ None → o ≡ Some ask → IsReadyAt w (call ask) → IsMove
-    Others : (ask : Ask) → is_porters w m ≡ false → asked services w m.who ≡ Some ask → IsReadyAt w (event_of w ask m) → IsMove
+  abbrev Moves : Type 0
+  Moves = IsMove services w o m
 
   own_move : (pick : Option Who) (p : Option Ask) → AsksCalls o → is_porters w m ≡ true → m.pick ≡ pick → o ≡ p
-      → IsReadyGiven services w m (unpicking pick p) → IsMove
+      → IsReadyGiven services w m (unpicking pick p) → Moves
   own_move (Some who) p calls is picks e ready = absurd ready
   own_move None None calls is picks e ready = absurd ready
   own_move None (Some ask) calls is picks e ready =
       let so : IsReadyFor w m (Some ask) = subst (λ (a : Option Ask). IsReadyFor w m a) (asked_call services w m.who o ask calls e) ready in
       IsMove.Own ask is picks e (subst (λ (x : Event). IsReadyAt w x) (porters_event w m ask is picks) so)
 
-  others_move : (p : Option Ask) → is_porters w m ≡ false → asked services w m.who ≡ p → IsReadyFor w m p → IsMove
+  others_move : (p : Option Ask) → is_porters w m ≡ false → asked services w m.who ≡ p → IsReadyFor w m p → Moves
   others_move None is e ready = absurd ready
   others_move (Some ask) is e ready = IsMove.Others ask is e ready
 
-  pub moves : AsksCalls o → IsReadyGiven services w m (given_in w o m) → IsMove
+  pub moves : AsksCalls o → IsReadyGiven services w m (given_in w o m) → Moves
   moves calls ready = by (is_porters w m) refl ready
     where
-      by : (b : Bool) → is_porters w m ≡ b → IsReadyGiven services w m (if b then unpicking m.pick o else Some asks.Run) → IsMove
+      by : (b : Bool) → is_porters w m ≡ b → IsReadyGiven services w m (if b then unpicking m.pick o else Some asks.Run) → Moves
       by true is ready = own_move m.pick o calls is refl refl ready
       by false is ready = others_move (asked services w m.who) is refl ready
 
-  pub moves_back : AsksCalls o → IsMove → IsReadyGiven services w m (given_in w o m)
+  pub moves_back : AsksCalls o → Moves → IsReadyGiven services w m (given_in w o m)
   moves_back calls (IsMove.Own ask is picks e ready) =
       let given : given_in w o m ≡ Some ask = λ i. if is i then unpicking (picks i) (e i) else Some asks.Run in
       subst (IsReadyGiven services w m) (sym given)
@@ -80,7 +83,7 @@ module _ (services : Services) (w : World) (o : Option Ask) (m : Move) where
       subst (IsReadyGiven services w m) (sym given) (subst (λ (a : Option Ask). IsReadyFor w m a) (sym e) ready)
 
   -- and it is fit, where the call for which the side asks is
-  pub fits : AsksCalls o → ((ask : Ask) → o ≡ Some ask → is_fit w (LAST_PORTER_SLOT ∷ top) ask ≡ true) → IsMove → IsFitGiven services w m (given_in w o m)
+  pub fits : AsksCalls o → ((ask : Ask) → o ≡ Some ask → is_fit w (LAST_PORTER_SLOT ∷ top) ask ≡ true) → Moves → IsFitGiven services w m (given_in w o m)
   fits calls fit (IsMove.Own ask is picks e ready) =
       let given : given_in w o m ≡ Some ask = λ i. if is i then unpicking (picks i) (e i) else Some asks.Run in
       subst (IsFitGiven services w m) (sym given)
@@ -93,14 +96,18 @@ module _ (services : Services) (w : World) (o : Option Ask) (m : Move) where
 
 -- ---- a turn that was made
 
+pub data IsMade (k : Kept) (services : Services) (o : Option Ask) (m : Move) (said : Said) (n : Kept) (new : Services) : Type 0 where
+  Own : (ask : Ask) → is_porters (world k) m ≡ true → m.pick ≡ None → o ≡ Some ask → IsStepped k services (call ask) said n new
+      → IsMade k services o m said n new
+  Others : (ask : Ask) → is_porters (world k) m ≡ false → asked services (world k) m.who ≡ Some ask
+      → IsStepped k services (event_of (world k) ask m) said n new → IsMade k services o m said n new
+
 module _ (k : Kept) (services : Services) (o : Option Ask) (m : Move) (said : Said) (n : Kept) (new : Services) where
-  pub data IsMade : Type 0 where
-    Own : (ask : Ask) → is_porters (world k) m ≡ true → m.pick ≡ None → o ≡ Some ask → IsStepped k services (call ask) said n new → IsMade
-    Others : (ask : Ask) → is_porters (world k) m ≡ false → asked services (world k) m.who ≡ Some ask
-        → IsStepped k services (event_of (world k) ask m) said n new → IsMade
+  abbrev Made : Type 0
+  Made = IsMade k services o m said n new
 
   own_made : (pick : Option Who) (p : Option Ask) → AsksCalls o → is_porters (world k) m ≡ true → m.pick ≡ pick → o ≡ p
-      → IsTurnGiven k services m (unpicking pick p) said n new → IsMade
+      → IsTurnGiven k services m (unpicking pick p) said n new → Made
   own_made (Some who) p calls is picks e turn = absurd turn
   own_made None None calls is picks e turn = absurd turn
   own_made None (Some ask) calls is picks e turn =
@@ -108,13 +115,13 @@ module _ (k : Kept) (services : Services) (o : Option Ask) (m : Move) (said : Sa
       subst (λ (a : Option Ask). IsTurnFor k services m a said n new) (asked_call services (world k) m.who o ask calls e) turn in
       IsMade.Own ask is picks e (subst (λ (x : Event). IsStepped k services x said n new) (porters_event (world k) m ask is picks) so)
 
-  others_made : (p : Option Ask) → is_porters (world k) m ≡ false → asked services (world k) m.who ≡ p → IsTurnFor k services m p said n new → IsMade
+  others_made : (p : Option Ask) → is_porters (world k) m ≡ false → asked services (world k) m.who ≡ p → IsTurnFor k services m p said n new → Made
   others_made None is e turn = absurd turn
   others_made (Some ask) is e turn = IsMade.Others ask is e turn
 
-  pub made : AsksCalls o → IsTurnGiven k services m (given_in (world k) o m) said n new → IsMade
+  pub made : AsksCalls o → IsTurnGiven k services m (given_in (world k) o m) said n new → Made
   made calls turn = by (is_porters (world k) m) refl turn
     where
-      by : (b : Bool) → is_porters (world k) m ≡ b → IsTurnGiven k services m (if b then unpicking m.pick o else Some asks.Run) said n new → IsMade
+      by : (b : Bool) → is_porters (world k) m ≡ b → IsTurnGiven k services m (if b then unpicking m.pick o else Some asks.Run) said n new → Made
       by true is turn = own_made m.pick o calls is refl refl turn
       by false is turn = others_made (asked services (world k) m.who) is refl turn
