@@ -144,8 +144,8 @@ fn told_since(spelled: &Spelled, since: Since, packet: Packet) -> Since
         Since::Waits => decided(spelled, packet),
         Since::Clears { more } => Since::Clears { more },
         Since::Cleared => Since::Cleared,
-        Since::Cancels(why) => Since::Cancels(why),
-        Since::Cancelled(why) => Since::Cancelled(why),
+        Since::Cancels(kept) => Since::Cancels(kept),
+        Since::Cancelled(kept) => Since::Cancelled(kept),
     }
 }
 
