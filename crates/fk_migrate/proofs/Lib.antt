@@ -7,3 +7,4 @@ pub mod Running
 pub mod Stepping
 pub mod Leading
 pub mod Promised
+pub mod Driving

@@ -1,8 +1,9 @@
 -- A pair of sides as the code has it, and the runs that it may be of.
 use Rattle.std.specs.Prelude.{◌≡◌, ℕ, List, ◌∷◌, ◌++◌, [], Some}
+use Rattle.fk_model.specs.declared.moves.Rule.{Rule}
 use Rattle.fk_model.specs.World.{World}
 use Rattle.fk_packets.specs.declared.events.Event.{Event as PairEvent}
-use Rattle.fk_served.specs.Served.{Services}
+use Rattle.fk_served.specs.Served.{Services, AllFit}
 use Rattle.fk_sides.specs.declared.far.Makes.{Makes}
 use Rattle.fk_sides.specs.Fars.{IsFar}
 use Rattle.fk_sides.specs.Sides.{FarSide}
@@ -119,3 +120,16 @@ pub record IsSame (s t : Shown) : Type 0 where
   pub far : t.far ≡ s.far
   pub makes : (f : FarSide) → IsFar s.makes f → IsFar t.makes f
   pub events : t.events ≡ s.events
+
+-- ---- a pair that is driven
+
+-- it is a run, and the table fits the servers of both kernels
+pub record IsDriven (rules : List Rule) (s : Shown) : Type 0 where
+  pub run : IsSomeRun s
+  pub near : AllFit rules s.near.servers
+  pub far : AllFit rules s.far.servers
+
+-- it is the same run, further on
+pub record Drives (rules : List Rule) (s t : Shown) : Type 0 where
+  pub driven : IsDriven rules t
+  pub run : (from : Start) → IsRunOf s from → IsRunOf t from

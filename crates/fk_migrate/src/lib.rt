@@ -8,11 +8,13 @@
 //! answer and each packet; and that for want of memory all is as before.
 #![tactic(auto)]
 
+mod driver;
 mod hearing;
 mod pair;
 mod receiver;
 mod sender;
 
+pub use driver::Budget;
 pub use pair::Pair;
 pub use receiver::Receiver;
 pub use sender::Sender;

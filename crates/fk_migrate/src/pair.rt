@@ -1,5 +1,5 @@
 //! Two kernels between which a subtree moves.
-ghost use Rattle.std.specs.Prelude.{◌≡◌, ◌↔◌, ◌≤◌, [], IsTrue, IfNone, IfOk, IfSome, OnErr, OnOk, map};
+ghost use Rattle.std.specs.Prelude.{◌≡◌, ◌↔◌, ◌≤◌, [], IsTrue, IfNone, IfOk, IfSome, OnErr, OnOk, length, map};
 ghost use Rattle.fk_model.specs.declared.limits.TheConstants.{LAST_USER_SLOT};
 ghost use Rattle.fk_model.specs.declared.moves.Move as moves;
 ghost use Rattle.fk_packets.specs.declared.events.Event.TheVariants as event;
@@ -8,6 +8,10 @@ ghost use Rattle.fk_migrate.specs.Promises.{IsPromised, KeepsWhole, MovesWhole};
 ghost use Rattle.fk_migrate.specs.Runs.{IsReadyEvent};
 ghost use Rattle.fk_served.specs.Acts.{IsReadyAsked};
 ghost use Rattle.fk_served.specs.Served.{AllFit};
+ghost use Rattle.fk_sides.specs.Fars.{IsFar};
+ghost use Rattle.fk_sides.specs.Sides.{FarSide};
+ghost use Rattle.laws_handover.specs.Sent.{sent_far, sent_near};
+ghost use Rattle.laws_migrate.specs.Images.{image_codec};
 
 use crate::receiver::Receiver;
 use crate::sender::Sender;
@@ -93,6 +97,21 @@ impl<S: Service + Drop> Pair<S> {
             events,
         } = self;
         events
+    }
+
+    /// How many packets the near side has sent. There may be no memory for the bytes of its image; nothing else changes.
+    pub fn sent_near(&mut self) -> Result<u64, NoMemory>
+        ensures same { IsSame (shown self.old) (shown self.new) }
+        ensures sent { IfOk result (λ many. many ≡ length (sent_near image_codec (shown self.old).near.side)) }
+    {
+        self.sender.sent()
+    }
+
+    /// How many the far side has.
+    pub fn sent_far(&self) -> u64
+        ensures { (f : FarSide) → IsFar (shown self.now).makes f → result ≡ length (sent_far f) }
+    {
+        self.receiver.sent()
     }
 
     /// A ready move of a user or a server in the near kernel; none exactly where there is none.

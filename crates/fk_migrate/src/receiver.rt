@@ -1,5 +1,5 @@
 //! The far side over its kernel.
-ghost use Rattle.std.specs.Prelude.{◌≡◌, ◌↔◌, ◌≤◌, [], IsTrue, IfNone, IfSome, OnErr, OnOk, map, option_map};
+ghost use Rattle.std.specs.Prelude.{◌≡◌, ◌↔◌, ◌≤◌, [], IsTrue, IfNone, IfSome, OnErr, OnOk, length, map, option_map};
 ghost use Rattle.std.specs.List.{slice_get};
 ghost use Rattle.fk_migrate.specs.Parts.{far_seen, FarLands};
 ghost use Rattle.fk_migrate.specs.Turns.{given_in, heard_by, HasFarMove, IsFarMove, IsKept};
@@ -134,5 +134,12 @@ impl<S: Service + Drop> Receiver<S> {
         ensures { (f : FarSide) → IsFar self.now.far.makes f → option_map packet_of result ≡ slice_get (sent_far f) number }
     {
         self.far.packet(number)
+    }
+
+    /// How many packets it has sent: one at most.
+    pub fn sent(&self) -> u64
+        ensures { (f : FarSide) → IsFar self.now.far.makes f → result ≡ length (sent_far f) }
+    {
+        if self.far.packet(0).is_some() { 1 } else { 0 }
     }
 }

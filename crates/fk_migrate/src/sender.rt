@@ -1,5 +1,5 @@
 //! The near side over its kernel.
-ghost use Rattle.std.specs.Prelude.{◌≡◌, ◌↔◌, IsTrue, IfNone, IfSome, IfOk, OnErr, OnOk, map, option_map};
+ghost use Rattle.std.specs.Prelude.{◌≡◌, ◌↔◌, IsTrue, IfNone, IfSome, IfOk, OnErr, OnOk, length, map, option_map};
 ghost use Rattle.std.specs.List.{slice_get};
 ghost use Rattle.fk_migrate.specs.Parts.{near_seen, told_near, given_up, NearLands};
 ghost use Rattle.fk_migrate.specs.Turns.{given_in, heard_by, IsKept, IsNearFit, IsNearMove};
@@ -158,5 +158,19 @@ impl<S: Service + Drop> Sender<S> {
         ensures packet { IfOk result (λ packet. option_map packet_of packet ≡ slice_get (sent_near image_codec (near_seen self.old).side) number) }
     {
         self.near.packet(number)
+    }
+
+    /// How many packets it has sent. There may be no memory for the bytes of its image.
+    pub fn sent(&mut self) -> Result<u64, NoMemory>
+        ensures same { near_seen self.new ≡ near_seen self.old }
+        ensures slot { self.new.near.slot ≡ self.old.near.slot }
+        ensures services { self.new.host.services.list ≡ self.old.host.services.list }
+        ensures sent { IfOk result (λ many. many ≡ length (sent_near image_codec (near_seen self.old).side)) }
+    {
+        self.near.spell()?;
+        match self.near.sent() {
+            Some(many) => Ok(many),
+            None => unreachable!(),
+        }
     }
 }
