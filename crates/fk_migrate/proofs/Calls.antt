@@ -29,7 +29,7 @@ abbrev pub call : Ask → Event
 call ask = record { mover = LAST_PORTER_SLOT ∷ top; pick = None; ask = ask }
 
 -- what a side hears of an event
-abbrev Hears : {X : Type 0} → (ℕ → List ℕ → X) → World → Event → X
+abbrev pub Hears : {X : Type 0} → (ℕ → List ℕ → X) → World → Event → X
 Hears hears w e = hears (reply_of (said_of w e)).status (reply_of (said_of w e)).words
 
 -- the world behind it, and what the side has come to

@@ -162,7 +162,6 @@ module _ (slot : ℕ) (k n : Kept) (servers new : Services) (m : Move) (said : S
   by_own : (r : Run) (ask : Ask) → far_call slot r.pair.far ≡ Some ask → IsStepped k servers (call ask) said n new → is_porters (world k) m ≡ true
       → Lands r own
   by_own r ask e stepped porters =
-      let f = r.pair.far in
       let its = far_calls slot (world k) r.pair.far ask e in
       let told : said_of (world k) (call ask) ≡ said_by (path n) said = ap (λ (x : Stepped). x.said) stepped.step in
       let reply : reply_of (said_of (world k) (call ask)) ≡ record { status = status_in said; words = words_in said } = ap reply_of told ∙ replied (path n) said in

@@ -22,7 +22,7 @@ use Rattle.fk_sides.specs.Sides.{NearSide, FarSide, both, packet_of}
 use Rattle.fk_migrate.specs.Turns.{NearPart, FarPart, IsKept, IsNearMove, IsNearFit, IsFarMove, IsFarFit, HasFarMove}
 use Rattle.fk_migrate.specs.Runs.{Run, Step, IsRun, near_part, far_part, step_of, next_run, IsReadyAs, IsReadyEvent}
 use Rattle.fk_migrate.specs.Parts.{NearLands, FarLands, told_near, given_up}
-use Rattle.fk_migrate.specs.Pairs.{Shown, Start, Stands, IsRunOf, IsSomeRun, IsNew, IsBegun, IsReady, Leads, LeadsTo, GoesOn, IsSame, begun}
+use Rattle.fk_migrate.specs.Pairs.{Shown, Start, Stands, IsRunOf, IsSomeRun, IsNew, IsBegun, IsReady, Leads, LeadsTo, GoesOn, IsSame, begun, made_of}
 use Rattle.fk_migrate.proofs.Running.{runs_so, are_ready}
 use Rattle.fk_migrate.proofs.Nearing.{near_ready, near_back, near_fits, near_alone}
 use Rattle.fk_migrate.proofs.Faring.{far_ready, far_back, far_fits, far_alone}
@@ -34,17 +34,14 @@ begins s new may = record {
   slot = refl;
   far_slot = new.slots;
   steps = [];
-  run = begun from;
-  ran = subst (λ (es : List PairEvent). IsRun s.slot (begun from) es [] (begun from)) (sym new.events) IsRun.Before;
+  run = begun (made_of s may);
+  ran = subst (λ (es : List PairEvent). IsRun s.slot (begun (made_of s may)) es [] (begun (made_of s may))) (sym new.events) IsRun.Before;
   stands = record {
     near = λ i. record { world = s.near.world; servers = s.near.servers; side = new.near i };
     far = refl;
     far_side = new.far;
   };
 }
-  where
-    from : Start
-    from = record { slot = s.slot; near = s.near.world; near_servers = s.near.servers; far = s.far.world; far_servers = s.far.servers; may = may }
 
 pub run_on : (s : Shown) (e : PairEvent) (t : Shown) (from : Start) → GoesOn s e t → IsRunOf s from → IsRunOf t from
 run_on s e t from goes its =

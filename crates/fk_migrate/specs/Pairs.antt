@@ -77,16 +77,20 @@ pub record IsNew (s : Shown) : Type 0 where
   pub far : IsFar s.makes (Listens [])
   pub events : s.events ≡ []
 
--- it is a run of the kernels of which it was made, where it may be made of them
-abbrev pub IsBegun : Shown → Type 0
-IsBegun s = (may : MayMigrate s.slot s.near.world s.far.world) → IsRunOf s (record {
+-- the kernels of which it was made
+abbrev pub made_of : (s : Shown) → MayMigrate s.slot s.near.world s.far.world → Start
+made_of s may = record {
   slot = s.slot;
   near = s.near.world;
   near_servers = s.near.servers;
   far = s.far.world;
   far_servers = s.far.servers;
   may = may;
-})
+}
+
+-- it is a run of these, where it may be made of them
+abbrev pub IsBegun : Shown → Type 0
+IsBegun s = (may : MayMigrate s.slot s.near.world s.far.world) → IsRunOf s (made_of s may)
 
 -- ---- events
 
