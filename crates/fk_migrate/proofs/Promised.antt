@@ -13,6 +13,7 @@ use Rattle.laws_handover.specs.Packets.{Packet as Sent}
 use Rattle.laws_handover.specs.Laws.{is_over, why_cancelled}
 use Rattle.laws_handover.specs.Sent.{sent_near, sent_far}
 use Rattle.std.specs.List.{slice_get}
+use Rattle.std.specs.Prelude.{Result, Ok, Err, OnOk}
 use Rattle.laws_migrate.specs.Births.{HasNone}
 use Rattle.laws_migrate.specs.Images.{image_codec}
 use Rattle.laws_migrate.specs.Laws.{Happens, pair_after, SaysWhy}
@@ -28,7 +29,7 @@ use Rattle.fk_sides.specs.Fars.{IsFar}
 use Rattle.fk_sides.specs.Sides.{NearSide, FarSide, both}
 use Rattle.fk_migrate.specs.Turns.{NearPart, FarPart}
 use Rattle.fk_migrate.specs.Runs.{Run, Step, near_part, far_part, next_run}
-use Rattle.fk_migrate.specs.Pairs.{Shown, Start, IsRunOf, Leads, LeadsTo, begun}
+use Rattle.fk_migrate.specs.Pairs.{Shown, Start, IsRunOf, Leads, LeadsTo, GoesOn, begun}
 use Rattle.fk_packets.specs.declared.events.Event.{Event as PairEvent}
 use Rattle.fk_migrate.specs.Promises.{IsHold, IsMake, NeverTwo, MovesWhole, KeepsWhole, FailsSo, CancelsSo, KeepsAlone, KeepsGoing, IsBounded, IsPromised}
 use Rattle.fk_migrate.proofs.Running.{runs_so, are_ready}
@@ -218,3 +219,11 @@ keeps_whole s t e leads_to from its h image why held kept freed =
     ap (λ (p : NearPart). p.world) leads.stands.near ∙ ap (λ (step : Step). (next_run from.slot its.run step).pair.near_world) own
     ∙ ap (λ (p : Both image_codec from.slot). (handover.next (both from.slot) p handover.NearOwn).near_world) back in
     ap (λ (w : World). cut w top from.slot) there ∙ whole
+
+pub moves_on : {E : Type 0} (r : Result (Unit {0}) E) (s t : Shown) (e : PairEvent) → OnOk r (GoesOn s e t) → OnOk r (MovesWhole s t)
+moves_on (Ok x) s t e goes = moves_whole s t e goes.leads
+moves_on (Err x) s t e goes = tt
+
+pub keeps_on : {E : Type 0} (r : Result (Unit {0}) E) (s t : Shown) (e : PairEvent) → OnOk r (GoesOn s e t) → OnOk r (KeepsWhole s t)
+keeps_on (Ok x) s t e goes = keeps_whole s t e goes.leads
+keeps_on (Err x) s t e goes = tt

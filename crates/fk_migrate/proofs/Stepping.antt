@@ -1,5 +1,6 @@
 -- A pair goes on by an event as the handover does.
 use Rattle.std.proofs.Common.{◌≡◌, ◌↔◌, ℕ, zero, suc, ◌<◌, Bool, true, false, IsTrue, List, [], ◌∷◌, ◌++◌, length, Option, Some, None, option_map, is_some, refl, sym, ap, subst, ◌∙◌, arith}
+use Rattle.std.specs.Prelude.{Result, Ok, Err, OnOk, OnErr}
 use Rattle.std.proofs.lemmas.Option.{slice_get_past, slice_get_within}
 use Rattle.std.specs.List.{slice_get}
 use Rattle.fk_model.specs.declared.moves.Move.{Move}
@@ -22,7 +23,7 @@ use Rattle.fk_sides.specs.Sides.{NearSide, FarSide, both, packet_of}
 use Rattle.fk_migrate.specs.Turns.{NearPart, FarPart, IsKept, IsNearMove, IsNearFit, IsFarMove, IsFarFit, HasFarMove}
 use Rattle.fk_migrate.specs.Runs.{Run, Step, IsRun, near_part, far_part, step_of, next_run, IsReadyAs, IsReadyEvent}
 use Rattle.fk_migrate.specs.Parts.{NearLands, FarLands, told_near, given_up}
-use Rattle.fk_migrate.specs.Pairs.{Shown, Start, Stands, IsRunOf, IsSomeRun, IsNew, IsBegun, IsReady, Leads, LeadsTo, GoesOn, IsSame, begun, made_of}
+use Rattle.fk_migrate.specs.Pairs.{Shown, Start, Stands, IsRunOf, IsSomeRun, IsNew, IsBegun, IsReady, Leads, LeadsTo, GoesOn, IsSame, begun, made_of, with_event}
 use Rattle.fk_migrate.proofs.Running.{runs_so, are_ready}
 use Rattle.fk_migrate.proofs.Nearing.{near_ready, near_back, near_fits, near_alone}
 use Rattle.fk_migrate.proofs.Faring.{far_ready, far_back, far_fits, far_alone}
@@ -75,6 +76,44 @@ same_some s t same run = record { from = run.from; its = same_run s t run.from s
 
 pub some_on : (s : Shown) (e : PairEvent) (t : Shown) → GoesOn s e t → IsSomeRun s → IsSomeRun t
 some_on s e t goes run = record { from = run.from; its = run_on s e t run.from goes run.its }
+
+pub same_self : (s : Shown) → IsSame s s
+same_self s = record { slot = refl; far_slot = refl; near = refl; far = refl; makes = λ f is. is; events = refl }
+
+pub same_of : (s t : Shown) → t ≡ s → IsSame s t
+same_of s t same = subst (λ (x : Shown). IsSame s x) (sym same) (same_self s)
+
+pub same_then : (s t u : Shown) → IsSame s t → IsSame t u → IsSame s u
+same_then s t u first second = record {
+  slot = second.slot ∙ first.slot;
+  far_slot = second.far_slot ∙ first.far_slot;
+  near = second.near ∙ first.near;
+  far = second.far ∙ first.far;
+  makes = λ f is. second.makes f (first.makes f is);
+  events = second.events ∙ first.events;
+}
+
+-- what has been led to, with the event noted
+pub goes_so : (s t u : Shown) (e : PairEvent) → t.events ≡ s.events → LeadsTo s e t → u ≡ with_event t e → GoesOn s e u
+goes_so s t u e events leads noted = subst (λ (x : Shown). GoesOn s e x) (sym noted) (record {
+  events = ap (λ (es : List PairEvent). es ++ e ∷ []) events;
+  leads = λ from its. (
+    let there = leads from its in
+    record {
+      slot = there.slot;
+      far_slot = there.far_slot;
+      step = there.step;
+      is = there.is;
+      ready = there.ready;
+      stands = record { near = there.stands.near; far = there.stands.far; far_side = there.stands.far_side };
+    });
+})
+
+-- whether there was memory or not
+pub run_either : {E : Type 0} (r : Result (Unit {0}) E) (s t : Shown) (e : PairEvent) (from : Start) → OnOk r (GoesOn s e t) → OnErr r (IsSame s t)
+    → IsRunOf s from → IsRunOf t from
+run_either (Ok x) s t e from goes same its = run_on s e t from goes its
+run_either (Err x) s t e from goes same its = same_run s t from same its
 
 -- the step that a ready event is
 abbrev pub IsStepped : ℕ → Run → PairEvent → Type 0

@@ -111,6 +111,10 @@ pub record Leads (s : Shown) (e : PairEvent) (t : Shown) (from : Start) (its : I
 abbrev pub LeadsTo : Shown → PairEvent → Shown → Type 0
 LeadsTo s e t = (from : Start) (its : IsRunOf s from) → Leads s e t from its
 
+-- with one event more noted
+abbrev pub with_event : Shown → PairEvent → Shown
+with_event s e = record s { events = s.events ++ e ∷ [] }
+
 -- it is the same run, with one event more
 pub record GoesOn (s : Shown) (e : PairEvent) (t : Shown) : Type 0 where
   pub events : t.events ≡ s.events ++ e ∷ []

@@ -1,9 +1,9 @@
 //! Two kernels between which a subtree moves.
-ghost use Rattle.std.specs.Prelude.{◌≡◌, ◌↔◌, ◌≤◌, [], IsTrue, IfNone, IfOk, IfSome, OnErr, OnOk, length, map};
+ghost use Rattle.std.specs.Prelude.{◌≡◌, ◌↔◌, ◌<◌, ◌≤◌, [], IsTrue, IfNone, IfOk, IfSome, OnErr, OnOk, length, map, vec_capacity};
 ghost use Rattle.fk_model.specs.declared.limits.TheConstants.{LAST_USER_SLOT};
 ghost use Rattle.fk_model.specs.declared.moves.Move as moves;
 ghost use Rattle.fk_packets.specs.declared.events.Event.TheVariants as event;
-ghost use Rattle.fk_migrate.specs.Pairs.{shown, Start, GoesOn, IsBegun, IsNew, IsReady, IsRunOf, IsSame, IsSomeRun, LeadsTo};
+ghost use Rattle.fk_migrate.specs.Pairs.{shown, with_event, Start, GoesOn, IsBegun, IsNew, IsReady, IsRunOf, IsSame, IsSomeRun, LeadsTo};
 ghost use Rattle.fk_migrate.specs.Promises.{IsPromised, KeepsWhole, MovesWhole};
 ghost use Rattle.fk_migrate.specs.Runs.{IsReadyEvent};
 ghost use Rattle.fk_served.specs.Acts.{IsReadyAsked};
@@ -285,6 +285,42 @@ impl<S: Service + Drop> Pair<S> {
         }
     }
 
+    /// Room for one event more. Nothing else changes.
+    fn make_room(&mut self) -> Result<(), NoMemory>
+        ensures same { shown self.new ≡ shown self.old }
+        ensures room { OnOk result (length self.new.events.items < vec_capacity self.new.events) }
+    {
+        self.events.reserve(1)?;
+        // There is room for another, so a number of the events can be told.
+        let _room = self.events.capacity();
+        Ok(())
+    }
+
+    /// An event is noted.
+    fn note(&mut self, e: &Event)
+        requires { length self.old.events.items < vec_capacity self.old.events }
+        ensures { shown self.new ≡ with_event (shown self.old) e.now }
+    {
+        self.events.push_reserved(*e);
+    }
+
+    /// An event is made and noted.
+    fn advance(&mut self, table: &Table, e: &Event) -> Result<(), NoMemory>
+        requires run { IsSomeRun (shown self.old) }
+        requires ready { IsReady (shown self.old) e.now }
+        requires near_fits { AllFit (map (λ r. r.rule) table.now.list.items) (shown self.old).near.servers }
+        requires far_fits { AllFit (map (λ r. r.rule) table.now.list.items) (shown self.old).far.servers }
+        ensures goes { OnOk result (GoesOn (shown self.old) e.now (shown self.new)) }
+        ensures near_fits { AllFit (map (λ r. r.rule) table.now.list.items) (shown self.new).near.servers }
+        ensures far_fits { AllFit (map (λ r. r.rule) table.now.list.items) (shown self.new).far.servers }
+        ensures lacking { OnErr result (IsSame (shown self.old) (shown self.new)) }
+    {
+        self.make_room()?;
+        self.make(table, e)?;
+        self.note(e);
+        Ok(())
+    }
+
     /// Takes an event, which is ready. For want of memory all is as before.
     ///
     /// Over every list of events, with packets lost, repeated and in any order, the subtree and its copy never live both unheld; where the copy
@@ -303,11 +339,6 @@ impl<S: Service + Drop> Pair<S> {
         ensures far_fits { AllFit (map (λ r. r.rule) table.now.list.items) (shown self.new).far.servers }
         ensures lacking { OnErr result (IsSame (shown self.old) (shown self.new)) }
     {
-        self.events.reserve(1)?;
-        // There is room for another, so a number of the events can be told.
-        let _room = self.events.capacity();
-        self.make(table, e)?;
-        self.events.push_reserved(*e);
-        Ok(())
+        self.advance(table, e)
     }
 }
