@@ -100,7 +100,6 @@ pub leads_to_far : (s t : Shown) (number : ℕ) (packet : Option Packet) → t.s
     → ((f : FarSide) → IsFar s.makes f → IsFar t.makes (told_far s.far_slot f (option_map packet_of packet)))
     → IsReady s (events.ToFar number) → LeadsTo s (events.ToFar number) t
 leads_to_far s t number packet slot far_slot near far is tells ready from its =
-    let step = steps_so from.slot its.run (events.ToFar number) (ready from its) in
     let sent : option_map packet_of packet ≡ slice_get (sent_near image_codec its.run.pair.near) number =
     is ∙ ap (λ (p : NearPart). slice_get (sent_near image_codec p.side) number) its.stands.near in
     let stays = far_stays from.slot its.run number (slice_get (sent_near image_codec its.run.pair.near) number) in
