@@ -135,8 +135,8 @@ impl<S: Service + Drop> Pair<S> {
         ensures drives { OnOk result (Drives (map (λ r. r.rule) table.now.list.items) (shown self.old) (shown self.new)) }
     {
         let to = self.sent_near()?;
-        for number in (from..to).rev() {
-            self.deliver(table, &Event::ToFar(number))?;
+        for k in from..to {
+            self.deliver(table, &Event::ToFar(to - 1 - (k - from)))?;
         }
         Ok(to)
     }
@@ -148,8 +148,8 @@ impl<S: Service + Drop> Pair<S> {
         ensures drives { OnOk result (Drives (map (λ r. r.rule) table.now.list.items) (shown self.old) (shown self.new)) }
     {
         let to = self.sent_far();
-        for number in (from..to).rev() {
-            self.deliver(table, &Event::ToNear(number))?;
+        for k in from..to {
+            self.deliver(table, &Event::ToNear(to - 1 - (k - from)))?;
         }
         Ok(to)
     }
