@@ -15,3 +15,4 @@ pub mod Images
 pub mod Places
 pub mod FarBounded
 pub mod Fits
+pub mod Starts

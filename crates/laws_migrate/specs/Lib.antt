@@ -10,3 +10,4 @@ pub mod Bounded
 pub mod Images
 pub mod Places
 pub mod Fits
+pub mod Starts
