@@ -111,14 +111,23 @@ moving i = far.Releases i
 abbrev moved : Image → FarSide
 moved i = far.Moved i
 
+abbrev listening : List Piece → FarSide
+listening got = far.Listens got
+
+not_moving : (i : Image) (got : List Piece) → moving i ≡ listening got → ⊥
+not_moving i got e = cc
+
+not_moved : (i : Image) (got : List Piece) → moved i ≡ listening got → ⊥
+not_moved i got e = cc
+
 -- what a far side shows, it is, unless pieces come
 releases_so : (m : Makes) (i : Image) (f : FarSide) → IsFar m (moving i) → IsFar m f → f ≡ moving i
-releases_so (makes.Listens came) i f is other = cc
+releases_so (makes.Listens came) i f is other = absurd (not_moving i is.0 is.1)
 releases_so makes.Never i f is other = cc
 releases_so (makes.Restores r stand) i f is other = other ∙ sym is
 
 moved_so : (m : Makes) (i : Image) (f : FarSide) → IsFar m (moved i) → IsFar m f → f ≡ moved i
-moved_so (makes.Listens came) i f is other = cc
+moved_so (makes.Listens came) i f is other = absurd (not_moved i is.0 is.1)
 moved_so makes.Never i f is other = cc
 moved_so (makes.Restores r stand) i f is other = other ∙ sym is
 
