@@ -3,3 +3,4 @@ pub mod Coming
 pub mod Tables
 pub mod Nearness
 pub mod Looks
+pub mod Hearing

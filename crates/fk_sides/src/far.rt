@@ -242,7 +242,7 @@ fn listen(alloc: Global, slot: u8, came: &mut Came, packet: &Packet) -> Result<O
             Ok(begin(alloc, slot, image))
         }
         Packet::Cancel => Ok(Some(Makes::Never)),
-        _ => Ok(None),
+        Packet::Ready | Packet::Refused(_) | Packet::Gone => Ok(None),
     }
 }
 
@@ -324,18 +324,23 @@ impl Far {
             → IsFar self.new.makes (far_told (both self.old.slot) f (packet_of packet.now))) }
         ensures lacking { OnErr result ((f : FarSide) → IsFar self.old.makes f → IsFar self.new.makes f) }
     {
-        let next = match &mut self.makes {
-            Makes::Listens(came) => listen(self.alloc, self.slot, came, packet)?,
-            Makes::Never => None,
+        match &mut self.makes {
+            Makes::Listens(came) => {
+                let next = listen(self.alloc, self.slot, came, packet)?;
+                match next {
+                    Some(makes) => {
+                        self.makes = makes;
+                        Ok(())
+                    }
+                    None => Ok(()),
+                }
+            }
+            Makes::Never => Ok(()),
             Makes::Restores { restore, stand } => {
                 *stand = told(restore, *stand, packet);
-                None
+                Ok(())
             }
-        };
-        if let Some(makes) = next {
-            self.makes = makes;
         }
-        Ok(())
     }
 
     /// The packet with a number, counted from 0 in the order in which it has sent them. It is made of what the side has come to.
