@@ -38,12 +38,13 @@ fn porters_move() -> Move {
 
 impl<S: Service + Drop> Pair<S> {
     /// Takes an event where it is ready, and says whether it was.
-    #[tactic(auto, using(crate::proofs::Driving::drives_not, crate::proofs::Driving::drives_step))]
+    #[tactic(auto, using(crate::proofs::Driving::drives_equal, crate::proofs::Driving::drives_step))]
     fn try_event(&mut self, table: &Table, e: &Event) -> Result<bool, NoMemory>
         requires driven { IsDriven (map (λ r. r.rule) table.now.list.items) (shown self.old) }
         ensures drives { OnOk result (Drives (map (λ r. r.rule) table.now.list.items) (shown self.old) (shown self.new)) }
     {
-        if !self.ready(e)? {
+        let is_ready = self.ready(e)?;
+        if !is_ready {
             return Ok(false);
         }
         self.step(table, e)?;
@@ -51,7 +52,7 @@ impl<S: Service + Drop> Pair<S> {
     }
 
     /// The same of a move, which a budget counts.
-    #[tactic(auto, using(crate::proofs::Driving::drives_not))]
+    #[tactic(auto, using(crate::proofs::Driving::drives_equal))]
     fn try_move(&mut self, table: &Table, e: &Event, budget: &mut Budget) -> Result<bool, NoMemory>
         requires driven { IsDriven (map (λ r. r.rule) table.now.list.items) (shown self.old) }
         ensures drives { OnOk result (Drives (map (λ r. r.rule) table.now.list.items) (shown self.old) (shown self.new)) }
@@ -70,7 +71,7 @@ impl<S: Service + Drop> Pair<S> {
     // ---- the near kernel before the migration, and the far one after it
 
     /// Moves of users and servers of the near kernel, at most so many.
-    #[tactic(auto, using(crate::proofs::Driving::drives_on, crate::proofs::Driving::drives_not, crate::proofs::Driving::drives_same))]
+    #[tactic(auto, using(crate::proofs::Driving::drives_on, crate::proofs::Driving::drives_not, crate::proofs::Driving::drives_equal))]
     fn run_near(&mut self, table: &Table, most: u64, budget: &mut Budget) -> Result<(), NoMemory>
         requires driven { IsDriven (map (λ r. r.rule) table.now.list.items) (shown self.old) }
         ensures drives { OnOk result (Drives (map (λ r. r.rule) table.now.list.items) (shown self.old) (shown self.new)) }
@@ -87,7 +88,7 @@ impl<S: Service + Drop> Pair<S> {
     }
 
     /// One move of a user or a server of the far kernel.
-    #[tactic(auto, using(crate::proofs::Driving::drives_on, crate::proofs::Driving::drives_not, crate::proofs::Driving::drives_same))]
+    #[tactic(auto, using(crate::proofs::Driving::drives_on, crate::proofs::Driving::drives_not, crate::proofs::Driving::drives_equal))]
     fn move_far(&mut self, table: &Table, budget: &mut Budget) -> Result<bool, NoMemory>
         requires driven { IsDriven (map (λ r. r.rule) table.now.list.items) (shown self.old) }
         ensures drives { OnOk result (Drives (map (λ r. r.rule) table.now.list.items) (shown self.old) (shown self.new)) }
@@ -129,7 +130,7 @@ impl<S: Service + Drop> Pair<S> {
     }
 
     /// Delivers the packets of the near side that haven't been, the last one first.
-    #[tactic(auto, using(crate::proofs::Driving::drives_on, crate::proofs::Driving::drives_not, crate::proofs::Driving::drives_same))]
+    #[tactic(auto, using(crate::proofs::Driving::drives_on, crate::proofs::Driving::drives_not, crate::proofs::Driving::drives_equal))]
     fn deliver_to_far(&mut self, table: &Table, from: u64) -> Result<u64, NoMemory>
         requires driven { IsDriven (map (λ r. r.rule) table.now.list.items) (shown self.old) }
         ensures drives { OnOk result (Drives (map (λ r. r.rule) table.now.list.items) (shown self.old) (shown self.new)) }

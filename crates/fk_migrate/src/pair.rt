@@ -101,7 +101,7 @@ impl<S: Service + Drop> Pair<S> {
 
     /// How many packets the near side has sent. There may be no memory for the bytes of its image; nothing else changes.
     pub fn sent_near(&mut self) -> Result<u64, NoMemory>
-        ensures same { IsSame (shown self.old) (shown self.new) }
+        ensures same { shown self.new ≡ shown self.old }
         ensures sent { IfOk result (λ many. many ≡ length (sent_near image_codec (shown self.old).near.side)) }
     {
         self.sender.sent()
@@ -118,7 +118,7 @@ impl<S: Service + Drop> Pair<S> {
     pub fn choose_near(&mut self) -> Option<Move>
         ensures ready { IfSome result (λ m. IsReadyAsked (shown self.old).near.servers (shown self.old).near.world m) }
         ensures none { IfNone result ((m : moves.Move) → IsReadyAsked (shown self.old).near.servers (shown self.old).near.world m → ⊥) }
-        ensures same { IsSame (shown self.old) (shown self.new) }
+        ensures same { shown self.new ≡ shown self.old }
     {
         self.sender.choose()
     }
@@ -127,7 +127,7 @@ impl<S: Service + Drop> Pair<S> {
     pub fn choose_far(&mut self) -> Option<Move>
         ensures ready { IfSome result (λ m. IsReadyAsked (shown self.old).far.servers (shown self.old).far.world m) }
         ensures none { IfNone result ((m : moves.Move) → IsReadyAsked (shown self.old).far.servers (shown self.old).far.world m → ⊥) }
-        ensures same { IsSame (shown self.old) (shown self.new) }
+        ensures same { shown self.new ≡ shown self.old }
     {
         self.receiver.choose()
     }
@@ -148,7 +148,7 @@ impl<S: Service + Drop> Pair<S> {
 
     /// Whether the near side has sent a packet with a number.
     fn near_has_sent(&mut self, number: u64) -> Result<bool, NoMemory>
-        ensures same { IsSame (shown self.old) (shown self.new) }
+        ensures same { shown self.new ≡ shown self.old }
         ensures ready { IfOk result (λ ready. (from : Start) (its : IsRunOf (shown self.old) from)
             → (IsTrue ready ↔ IsReadyEvent from.slot its.run (event.ToFar number))) }
     {
@@ -173,7 +173,7 @@ impl<S: Service + Drop> Pair<S> {
     /// Whether an event is ready: a move of a user or a server, a call for which its porter's side asks, a packet that was sent, giving up where
     /// the near side waits. There may be no memory for the bytes of the near image; nothing else changes.
     pub fn ready(&mut self, e: &Event) -> Result<bool, NoMemory>
-        ensures same { IsSame (shown self.old) (shown self.new) }
+        ensures same { shown self.new ≡ shown self.old }
         ensures ready { IfOk result (λ ready. (from : Start) (its : IsRunOf (shown self.old) from)
             → (IsTrue ready ↔ IsReadyEvent from.slot its.run e.now)) }
     {

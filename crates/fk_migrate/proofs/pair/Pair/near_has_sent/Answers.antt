@@ -1,4 +1,3 @@
-use Rattle.std.proofs.Common.{refl}
 use Rattle.fk_migrate.specs.Pairs.{shown}
 use Rattle.fk_migrate.proofs.Leading.{to_far_exact}
 use Rattle.fk_migrate.proofs.pair.Pair.near_has_sent.Goals as goal
@@ -7,4 +6,6 @@ pub returns-clause-ready : goal.returns-clause-ready
 returns-clause-ready g c = λ from its. to_far_exact (shown c.args.self.now) c.args.number c.is_some.result c.in_ok-packet.packet c.is_some.ensures c.in_ok-packet.ensures.packet from its
 
 pub returns-clause-same : goal.returns-clause-same
-returns-clause-same g c = record { slot = c.packet.ensures.slot; far_slot = refl; near = c.packet.ensures.same; far = refl; makes = λ f is. is; events = refl }
+returns-clause-same g c =
+    let self = c.args.self.now in
+    λ i. record (shown self) { slot = c.packet.ensures.slot i; near = c.packet.ensures.same i }
