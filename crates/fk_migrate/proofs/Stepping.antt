@@ -19,6 +19,7 @@ use Rattle.laws_migrate.specs.Migration.{Why, Both, IsReadyIn, may_give_up}
 use Rattle.laws_migrate.proofs.Fits.{calls_are_fit}
 use Rattle.laws_migrate.proofs.Images.{images_are_read}
 use Rattle.fk_sides.specs.Fars.{IsFar}
+use Rattle.fk_sides.specs.declared.far.Far.{Far}
 use Rattle.fk_sides.specs.Sides.{NearSide, FarSide, both, packet_of}
 use Rattle.fk_migrate.specs.Turns.{NearPart, FarPart, IsKept, IsNearMove, IsNearFit, IsFarMove, IsFarFit, HasFarMove}
 use Rattle.fk_migrate.specs.Runs.{Run, Step, IsRun, near_part, far_part, step_of, next_run, IsReadyAs, IsReadyEvent}
@@ -82,6 +83,10 @@ same_self s = record { slot = refl; far_slot = refl; near = refl; far = refl; ma
 
 pub same_of : (s t : Shown) → t ≡ s → IsSame s t
 same_of s t same = subst (λ (x : Shown). IsSame s x) (sym same) (same_self s)
+
+-- a far side that is the same shows the same
+pub same_makes : (one other : Far) → other ≡ one → (f : FarSide) → IsFar one.makes f → IsFar other.makes f
+same_makes one other same f = subst (λ (x : Far). IsFar x.makes f) (sym same)
 
 pub same_then : (s t u : Shown) → IsSame s t → IsSame t u → IsSame s u
 same_then s t u first second = record {

@@ -225,7 +225,8 @@ impl<S: Service + Drop> Pair<S> {
         ensures events { self.new.events ≡ self.old.events }
         ensures lacking { OnErr result (IsSame (shown self.old) (shown self.new)) }
     {
-        match self.sender.packet(number)? {
+        let packet = self.sender.packet(number)?;
+        match packet {
             Some(packet) => {
                 self.receiver.take(&packet)?;
                 Ok(())
