@@ -12,7 +12,9 @@ use Rattle.fk_sides.specs.declared.came.Table.{Table}
 use Rattle.fk_sides.specs.Cames.{HasCome, ComesTo, IsCome}
 use Rattle.fk_sides.specs.declared.far.Makes.{Makes}
 use Rattle.fk_sides.specs.declared.far.Makes.TheVariants as makes
-use Rattle.fk_sides.specs.Fars.{IsFar, Begins, gone_on, slot_in}
+use Rattle.fk_sides.specs.declared.far.Stand.{Stand}
+use Rattle.fk_restore.specs.declared.restore.restore.Restore.{Restore}
+use Rattle.fk_sides.specs.Fars.{IsFar, Begins, gone_on, slot_in, stand_of}
 use Rattle.fk_sides.specs.Sides.{FarSide, both}
 
 abbrev listening : List Piece → FarSide
@@ -51,3 +53,16 @@ pub lacking_so : (old : Makes) (came more : Came) → old ≡ makes.Listens came
 lacking_so old came more is keeps f shows =
     let its : IsFar (makes.Listens came) f = subst (λ (m : Makes). IsFar m f) is shows in
     (its.0, its.1, keeps its.0 its.2)
+
+-- one that never makes a copy
+pub never_so : (slot : ℕ) (old : Makes) (p : Packet Piece Why) → old ≡ makes.Never → (f : FarSide) → IsFar old f → IsFar old (far_told (both slot) f p)
+never_so slot old p is f shows =
+    let its : IsFar makes.Never f = subst (λ (m : Makes). IsFar m f) is shows in
+    subst (λ (m : Makes). IsFar m (far_told (both slot) f p)) (sym is) (ap (λ (x : FarSide). far_told (both slot) x p) its)
+
+-- one whose restore has begun
+pub restores_so : (slot : ℕ) (old : Makes) (r : Restore) (stand new : Stand) (p : Packet Piece Why) → old ≡ makes.Restores r stand
+    → stand_of r new ≡ far_told (both slot) (stand_of r stand) p → (f : FarSide) → IsFar old f → IsFar (makes.Restores r new) (far_told (both slot) f p)
+restores_so slot old r stand new p is told f shows =
+    let its : IsFar (makes.Restores r stand) f = subst (λ (m : Makes). IsFar m f) is shows in
+    ap (λ (x : FarSide). far_told (both slot) x p) its ∙ sym told
