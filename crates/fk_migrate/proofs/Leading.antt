@@ -1,5 +1,5 @@
 -- Where each kind of event leads a pair.
-use Rattle.std.proofs.Common.{◌≡◌, ◌↔◌, ℕ, ◌<◌, Bool, true, IsTrue, List, ◌∷◌, length, Option, Some, None, option_map, is_some, refl, sym, ap, subst, ◌∙◌}
+use Rattle.std.proofs.Common.{◌≡◌, ◌↔◌, ℕ, ◌<◌, ◌≤◌, Bool, true, false, IsTrue, List, [], ◌∷◌, length, Option, Some, None, option_map, is_some, refl, sym, ap, subst, ◌∙◌, arith}
 use Rattle.std.specs.List.{slice_get}
 use Rattle.fk_model.specs.declared.moves.Move.{Move}
 use Rattle.fk_packets.specs.declared.events.Event.{Event as PairEvent}
@@ -7,6 +7,7 @@ use Rattle.fk_packets.specs.declared.events.Event.TheVariants as events
 use Rattle.fk_packets.specs.declared.packet.Packet.{Packet}
 use Rattle.laws_handover.specs.Packets.{Packet as Sent}
 use Rattle.laws_handover.specs.Pieces.{Piece}
+use Rattle.laws_handover.specs.FarSide as far
 use Rattle.laws_handover.specs.Handover as handover
 use Rattle.laws_handover.specs.Handover.{far_told, delivered_far, delivered_near}
 use Rattle.laws_handover.specs.Sent.{sent_near, sent_far}
@@ -182,3 +183,33 @@ give_up_exact s b exact from its = (
   λ yes. subst (λ (p : NearPart). may_give_up p.side) its.stands.near (exact.0 yes),
   λ may. exact.1 (subst (λ (p : NearPart). may_give_up p.side) (sym its.stands.near) may),
 )
+
+-- ---- the far side sends one packet at most
+
+few_sent : (f : FarSide) → length (sent_far f) ≤ 1
+few_sent (far.Listens got) = omega arith
+few_sent (far.Makes i j) = omega arith
+few_sent (far.Built i) = omega arith
+few_sent (far.Releases i) = omega arith
+few_sent (far.Moved i) = omega arith
+few_sent (far.Refuses i why) = omega arith
+few_sent (far.Undoes i j) = omega arith
+few_sent (far.Clears i more true) = omega arith
+few_sent (far.Clears i more false) = omega arith
+few_sent (far.Ended image true) = omega arith
+few_sent (far.Ended image false) = omega arith
+
+one_there : (ps : List Packets) (x : Packets) → length ps ≤ 1 → Some x ≡ slice_get ps 0 → 1 ≡ length ps
+one_there [] x few is = cc
+one_there (p ∷ []) x few is = refl
+one_there (p ∷ (q ∷ ps)) x few is = absurd (omega (arith, few))
+
+none_there : (ps : List Packets) → None ≡ slice_get ps 0 → 0 ≡ length ps
+none_there [] is = refl
+none_there (p ∷ ps) is = cc
+
+pub one_sent : (f : FarSide) (o : Option Packet) (x : Packet) → o ≡ Some x → option_map packet_of o ≡ slice_get (sent_far f) 0 → 1 ≡ length (sent_far f)
+one_sent f o x is sent = one_there (sent_far f) (packet_of x) (few_sent f) (ap (λ (p : Option Packet). option_map packet_of p) (sym is) ∙ sent)
+
+pub none_sent : (f : FarSide) (o : Option Packet) → o ≡ None → option_map packet_of o ≡ slice_get (sent_far f) 0 → 0 ≡ length (sent_far f)
+none_sent f o is sent = none_there (sent_far f) (ap (λ (p : Option Packet). option_map packet_of p) (sym is) ∙ sent)

@@ -140,6 +140,9 @@ impl<S: Service + Drop> Receiver<S> {
     pub fn sent(&self) -> u64
         ensures { (f : FarSide) → IsFar self.now.far.makes f → result ≡ length (sent_far f) }
     {
-        if self.far.packet(0).is_some() { 1 } else { 0 }
+        match self.far.packet(0) {
+            Some(_) => 1,
+            None => 0,
+        }
     }
 }
