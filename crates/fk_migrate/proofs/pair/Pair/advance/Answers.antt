@@ -13,7 +13,7 @@ make-requires-clause-ready g c = subst (λ (s : Shown). IsReady s c.args.e.now) 
 pub returns-clause-goes : goal.returns-clause-goes
 returns-clause-goes g c =
     subst (λ (s : Shown). GoesOn s c.args.e.now (shown c.note.new.self)) c.make_room.ensures.same
-    (goes_so _ _ _ c.args.e.now (ap (λ events. events.items) c.make.ensures.events) c.in_ok-make.ensures.leads c.note.ensures)
+    (goes_so _ _ _ c.args.e.now (λ i. (c.make.ensures.events i).items) c.in_ok-make.ensures.leads c.note.ensures)
 
 pub returns-in_err-make_room-clause-lacking : goal.returns-in_err-make_room-clause-lacking
 returns-in_err-make_room-clause-lacking g c =
