@@ -3,7 +3,7 @@ use Rattle.std.proofs.Common.{◌≡◌, ℕ, zero, suc, ◌+◌, ◌-◌, ◌*�
 use Rattle.std.proofs.Common.{Option, Some, None, option_map, refl, sym, ap, ◌∙◌, arith}
 use Rattle.std.specs.List.{slice_get}
 use Rattle.std.proofs.Common.{replicate}
-use Rattle.std.proofs.lemmas.List.{take_min, length-take, drop-replicate}
+use Rattle.std.proofs.lemmas.List.{take_min, take_all, length-take, drop-replicate}
 use Rattle.std.proofs.lemmas.Option.{slice_get_past}
 use Rattle.laws_handover.specs.Packets.{Packet}
 use Rattle.laws_handover.specs.Packets.Packet.{Piece as PieceOf}
@@ -103,6 +103,14 @@ piece_told bytes t n k p total lt place is =
     let here : k ≡ SIZE * n = omega (arith, place) in
     ap some_packet (is ∙ ap (λ (j : ℕ). packet_is (piece n t (take 512 (drop j bytes)))) here)
     ∙ sym (ap (option_map packet_is) (piece_at bytes t n total (within_bytes bytes n (omega (arith, total, lt)))))
+
+-- all that is left behind a place
+pub rest_is : (bytes : List ℕ) (k : ℕ) → take (length bytes - k) (drop k bytes) ≡ drop k bytes
+rest_is bytes k = let long : length (drop k bytes) ≡ length bytes - k = length-drop k bytes in take_all (length bytes - k) (drop k bytes) (omega (arith, long))
+
+-- so many of them as count, of no more than there are
+pub counted_so : (n k m : ℕ) (xs : List ℕ) → n ≡ m → length xs ≡ k → take (min n k) xs ≡ take m xs
+counted_so n k m xs is long = ap (λ (j : ℕ). take (min j k) xs) is ∙ ap (λ (j : ℕ). take (min m j) xs) (sym long) ∙ take_min m xs
 
 pub taken : (n : ℕ) (xs : List ℕ) → take (min (length xs) n) xs ≡ take n xs
 taken n xs = let back : min (length xs) n ≡ min n (length xs) = omega arith in rw back (take_min n xs)

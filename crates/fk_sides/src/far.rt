@@ -242,7 +242,9 @@ fn listen(alloc: Global, slot: u8, came: &mut Came, packet: &Packet) -> Result<O
             Ok(begin(alloc, slot, image))
         }
         Packet::Cancel => Ok(Some(Makes::Never)),
-        Packet::Ready | Packet::Refused(_) | Packet::Gone => Ok(None),
+        Packet::Ready => Ok(None),
+        Packet::Refused(_) => Ok(None),
+        Packet::Gone => Ok(None),
     }
 }
 
