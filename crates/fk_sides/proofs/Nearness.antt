@@ -310,11 +310,11 @@ works_told slot s c n p is spelled now same =
 -- ---- a packet, and giving up, once what is gathered is spelled
 
 pub told_works : (slot : ℕ) (old s : Saves) (c : Checkpoint) (p : Packet Piece Why) → s ≡ saves.Works c → IsSpelled s → saves_of s ≡ saves_of old
-    → near_at (state_of c) ≡ near_told (both slot) (saves_of old) p
+    → saves_of s ≡ near_told (both slot) (saves_of old) p
 told_works slot old s c p is spelled same =
     let none : gathered_in (state_of c) ≡ None = subst IsSpelled is spelled in
     let here : near_at (state_of c) ≡ saves_of old = sym (ap saves_of is) ∙ same in
-    told_nothing slot (state_of c) p none ∙ ap (λ (n : NearSide). near_told (both slot) n p) here
+    ap saves_of is ∙ told_nothing slot (state_of c) p none ∙ ap (λ (n : NearSide). near_told (both slot) n p) here
 
 pub told_gathered : (slot : ℕ) (old s : Saves) (i : Image) (was new : Since) (p : Packet Piece Why) → s ≡ saves.Gathered i was → saves_of s ≡ saves_of old
     → since_of i new ≡ near_told (both slot) (since_of i was) p → since_of i new ≡ near_told (both slot) (saves_of old) p

@@ -4,10 +4,10 @@ use Rattle.fk_sides.proofs.far.listen.Goals as goal
 
 pub returns-in_ok-image-in-Piece-clause-told : goal.returns-in_ok-image-in-Piece-clause-told
 returns-in_ok-image-in-Piece-clause-told c =
-    λ got come. rw c.in-Piece.is (listened_so c.args.slot _ c.begin.result c.in_ok-image.image _ (c.in_ok-image.ensures.comes got come) c.begin.ensures)
+    λ got come. rw c.in-Piece.is (listened_so c.args.slot _ c.begin.result c.in_ok-image-in-Piece.image _ (c.in_ok-image-in-Piece.ensures.comes got come) c.begin.ensures)
 
 pub returns-in_ok-image-in-Piece-clause-slot : goal.returns-in_ok-image-in-Piece-clause-slot
-returns-in_ok-image-in-Piece-clause-slot c = began_slot c.args.slot _ c.begin.result c.in_ok-image.image c.begin.ensures
+returns-in_ok-image-in-Piece-clause-slot c = began_slot c.args.slot _ c.begin.result c.in_ok-image-in-Piece.image c.begin.ensures
 
 pub returns-in-Ready-clause-told : goal.returns-in-Ready-clause-told
 returns-in-Ready-clause-told c = λ got come. rw c.in-Ready.is (got, refl, come)
