@@ -103,15 +103,15 @@ pub goes_so : (s t u : Shown) (e : PairEvent) → t.events ≡ s.events → Lead
 goes_so s t u e events leads noted = subst (λ (x : Shown). GoesOn s e x) (sym noted) (record {
   events = ap (λ (es : List PairEvent). es ++ e ∷ []) events;
   leads = λ from its. (
-    let there = leads from its in
-    record {
-      slot = there.slot;
-      far_slot = there.far_slot;
-      step = there.step;
-      is = there.is;
-      ready = there.ready;
-      stands = record { near = there.stands.near; far = there.stands.far; far_side = there.stands.far_side };
-    });
+      let there = leads from its in
+      record {
+        slot = there.slot;
+        far_slot = there.far_slot;
+        step = there.step;
+        is = there.is;
+        ready = there.ready;
+        stands = record { near = there.stands.near; far = there.stands.far; far_side = there.stands.far_side };
+      });
 })
 
 -- whether there was memory or not

@@ -169,7 +169,12 @@ impl<S: Service + Drop> Pair<S> {
 
     /// A call of the near root's porter, or else of the far one's; all packets come before it.
     #[tactic(auto, using(crate::proofs::Driving::drives_on))]
-    fn go_on(&mut self, table: &Table, delivered: &mut Delivered, budget: &mut Budget) -> Result<bool, NoMemory>
+    fn go_on(
+        &mut self,
+        table: &Table,
+        delivered: &mut Delivered,
+        budget: &mut Budget,
+    ) -> Result<bool, NoMemory>
         requires driven { IsDriven (map (λ r. r.rule) table.now.list.items) (shown self.old) }
         ensures drives { OnOk result (Drives (map (λ r. r.rule) table.now.list.items) (shown self.old) (shown self.new)) }
     {

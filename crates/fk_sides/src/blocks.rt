@@ -93,7 +93,10 @@ fn read_image(alloc: Global, bytes: &[u8]) -> Result<Option<ValidImage>, NoMemor
 }
 
 /// The image that blocks spell together, if they spell one.
-pub(crate) fn read_blocks(alloc: Global, blocks: &[Option<Block>]) -> Result<Option<ValidImage>, NoMemory>
+pub(crate) fn read_blocks(
+    alloc: Global,
+    blocks: &[Option<Block>],
+) -> Result<Option<ValidImage>, NoMemory>
     ensures { IfOk result (λ image. image ≡ read_bytes (spelled blocks.now)) }
 {
     let bytes = join(alloc, blocks)?;

@@ -59,7 +59,12 @@ impl Table {
     }
 
     /// Puts a block in an open place: gives the image that all spell together, once they do. For want of memory all is as before.
-    fn fill(&mut self, alloc: Global, at: usize, block: Block) -> Result<Option<ValidImage>, NoMemory>
+    fn fill(
+        &mut self,
+        alloc: Global,
+        at: usize,
+        block: Block,
+    ) -> Result<Option<ValidImage>, NoMemory>
         requires { IsOpen self.old.blocks.items at }
         ensures comes { IfOk result (λ image. (got : List Piece) (total : ℕ) → IsIn self.old.blocks.items got
             → Begins got total (length self.old.blocks.items) → Comes image self.new.blocks.items (got ++ piece_of at total block ∷ [])) }
@@ -83,7 +88,12 @@ impl Table {
     }
 
     /// Takes the block of the piece with a number: gives the image that all spell together, once they do. For want of memory all is as before.
-    fn take(&mut self, alloc: Global, number: u64, block: Block) -> Result<Option<ValidImage>, NoMemory>
+    fn take(
+        &mut self,
+        alloc: Global,
+        number: u64,
+        block: Block,
+    ) -> Result<Option<ValidImage>, NoMemory>
         ensures comes { IfOk result (λ image. (got : List Piece) (total : ℕ) → IsIn self.old.blocks.items got
             → Begins got total (length self.old.blocks.items) → Comes image self.new.blocks.items (got ++ piece_of number total block ∷ [])) }
         ensures lacking { OnErr result (self.new.blocks.items ≡ self.old.blocks.items) }
@@ -108,7 +118,12 @@ impl Came {
     }
 
     /// Takes a piece: gives the image that all spell together, once they do. What comes again changes nothing.
-    pub fn take(&mut self, number: u64, total: u64, block: Block) -> Result<Option<ValidImage>, NoMemory>
+    pub fn take(
+        &mut self,
+        number: u64,
+        total: u64,
+        block: Block,
+    ) -> Result<Option<ValidImage>, NoMemory>
         ensures comes { IfOk result (λ image. (got : List Piece) → IsCome self.old got → ComesTo image self.new.table (got ++ piece_of number total block ∷ [])) }
         ensures lacking { OnErr result ((got : List Piece) → IsCome self.old got → IsCome self.new got) }
     {

@@ -220,7 +220,12 @@ fn told_built(restore: &Restoring, packet: &Packet) -> Stand
 }
 
 /// What comes of a packet while pieces come, if it goes on to something else.
-fn listen(alloc: Global, slot: u8, came: &mut Came, packet: &Packet) -> Result<Option<Makes>, NoMemory>
+fn listen(
+    alloc: Global,
+    slot: u8,
+    came: &mut Came,
+    packet: &Packet,
+) -> Result<Option<Makes>, NoMemory>
     requires { slot ≤ LAST_USER_SLOT }
     ensures told { IfOk result (λ next. (got : List Piece) → IsCome came.old got
         → IsFar (gone_on came.new next) (far_told (both slot) (Listens got) (packet_of packet.now))) }
@@ -278,7 +283,11 @@ fn packet_in(stand: Stand) -> Option<Packet>
     match stand {
         Stand::Built | Stand::Releases | Stand::Moved => Some(Packet::Ready),
         Stand::Refuses(refusal) => Some(Packet::Refused(why(refusal))),
-        Stand::Clears { ready, .. } | Stand::Ended { ready } => if ready { Some(Packet::Ready) } else { None },
+        Stand::Clears { ready, .. } | Stand::Ended { ready } => if ready {
+            Some(Packet::Ready)
+        } else {
+            None
+        },
         Stand::Works | Stand::Undoes => None,
     }
 }
