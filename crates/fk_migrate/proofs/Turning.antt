@@ -32,7 +32,6 @@ root_path m zero = refl
 root_path m (suc n) = by (home m (suc n))
   where
     by : (o : Option Who) → false ≡ same_path [] (from_home (path_by n m) o)
-    unfolding same_path
     by None = refl
     by (Some who) = refl
 
