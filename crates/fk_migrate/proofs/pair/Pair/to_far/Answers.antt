@@ -7,7 +7,7 @@ use Rattle.fk_migrate.proofs.pair.Pair.to_far.Goals as goal
 pub returns-in_ok-take-in-Some-clause-leads : goal.returns-in_ok-take-in-Some-clause-leads
 returns-in_ok-take-in-Some-clause-leads g c =
     leads_to_far (shown c.args.self.now) _ c.args.number c.in_ok-packet.packet c.packet.ensures.slot c.take.ensures.slot c.packet.ensures.same
-    c.take.ensures.same c.in_ok-packet.ensures.packet (λ f is. rw c.in-Some.is (c.in_ok-take.ensures.told f is)) c.requires.ready
+    c.take.ensures.same c.in_ok-packet.ensures.packet (λ f is. rw c.in-Some.is (c.in_ok-take-in-Some.ensures.told f is)) c.requires.ready
 
 pub returns-in-None-clause-leads : goal.returns-in-None-clause-leads
 returns-in-None-clause-leads g c =
@@ -27,6 +27,6 @@ returns-in_err-take-in-Some-clause-lacking g c =
       far_slot = c.take.ensures.slot;
       near = c.packet.ensures.same;
       far = c.take.ensures.same;
-      makes = c.in_err-take.ensures.lacking;
+      makes = c.in_err-take-in-Some.ensures.lacking;
       events = refl;
     })
