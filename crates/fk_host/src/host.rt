@@ -49,6 +49,13 @@ impl<S: Service + Drop> Host<S> {
         self.services.as_slice()
     }
 
+    /// The servers, as they are asked.
+    pub fn served(&self) -> &Services<S>
+        ensures { result.now ≡ self.now.services }
+    {
+        &self.services
+    }
+
     /// What a mover asks for: the call that is handed in; else what the server of a port does, or to run.
     fn ask(&self, who: Who, ask: &Ask) -> Option<Ask>
         ensures { result ≡ asked_with self.now.services.list (world self.now.kernel) who ask.now }

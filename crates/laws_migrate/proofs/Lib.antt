@@ -14,3 +14,5 @@ pub mod Bounded
 pub mod Images
 pub mod Places
 pub mod FarBounded
+pub mod Fits
+pub mod Starts

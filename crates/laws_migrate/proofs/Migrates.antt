@@ -248,7 +248,7 @@ module _ {P : Type 0} (codec : Codec Image P) (slot : ℕ) (low : slot ≤ LAST_
       note_both c d h m p (after_step p handover.GiveUp) handover.GiveUp (same_hold h p handover.GiveUp (λ x. cc)) (same_make m p handover.GiveUp (λ x. cc))
       (record { near = near_gives_up c h p.near_world p.near stands.near; far = stands.far })
 
-  run_stands : (c d : ℕ) (h m : Option World) (p : Pairs) (es : List Events) → AreReady codec slot p es → Stands c d h m p
+  pub run_stands : (c d : ℕ) (h m : Option World) (p : Pairs) (es : List Events) → AreReady codec slot p es → Stands c d h m p
       → Stands (counted_from is_near_own c es) (counted_from is_far_own d es) (hold_from codec slot h p es) (make_from codec slot m p es) (run k p es)
   unfolding run
   run_stands c d h m p [] ready stands = stands
@@ -280,7 +280,7 @@ module _ {P : Type 0} (codec : Codec Image P) (slot : ℕ) (low : slot ≤ LAST_
 
   -- ---- never both
 
-  first_stands : (w v : World) → MayMigrate slot w v → Stands 0 0 None None (first k w v)
+  pub first_stands : (w v : World) → MayMigrate slot w v → Stands 0 0 None None (first k w v)
   first_stands w v may = record {
     near = NearAt.Fresh w (record { sound = may.near; clean = may.near_clean; uncut = may.near_uncut; no_porter = may.no_porter; unserved = may.unserved });
     far = FarAt.Listening v [] (record { sound = may.far; clean = may.far_clean; uncut = may.far_uncut });

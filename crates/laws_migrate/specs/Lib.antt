@@ -9,3 +9,5 @@ pub mod Porters
 pub mod Bounded
 pub mod Images
 pub mod Places
+pub mod Fits
+pub mod Starts

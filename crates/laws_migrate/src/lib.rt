@@ -16,6 +16,8 @@ ghost use Rattle.laws_migrate.specs.Images.{ImagesAreRead};
 ghost use Rattle.laws_migrate.specs.Laws.{NeverBothFree, MovedIsSame, KeptIsSame, KeptIsAlone, ForeignIsSame};
 ghost use Rattle.laws_migrate.specs.Laws.{FailedSaysWhy, RefusedSaysWhy, CancelledSaysWhy};
 ghost use Rattle.laws_migrate.specs.Places.{CallsHavePlaces};
+ghost use Rattle.laws_migrate.specs.Starts.{SoundStartsMayMigrate};
+ghost use Rattle.laws_migrate.specs.Fits.{CallsAreFit};
 ghost use Rattle.laws_migrate.specs.Readies.{FirstIsReady, MigrationIsReady};
 ghost use Rattle.laws_migrate.specs.Porters.{RootKeepsPorter, MigrationGoesOn};
 ghost use Rattle.laws_migrate.specs.Bounded.{NearIsBounded, FarIsBounded, BothAreBounded};
@@ -84,6 +86,11 @@ pub fn what_is_kept_is_the_same<P>()
     ensures { KeptIsSame P }
 {}
 
+/// Each call for which a porter asks is fit.
+pub fn calls_are_fit<P>()
+    ensures { CallsAreFit P }
+{}
+
 /// A restore's first call is ready wherever its porter stands and nothing outside its slot is held.
 pub fn a_first_call_is_ready()
     ensures { FirstIsReady }
@@ -149,4 +156,9 @@ pub fn the_far_porter_is_bounded<P>()
 /// Both porters together make at most 142 (n + 1) (d + 1) calls.
 pub fn both_porters_are_bounded<P>()
     ensures { BothAreBounded P }
+{}
+
+/// Between two sound starts a subtree may move in which no nester and no server lies.
+pub fn sound_starts_may_migrate()
+    ensures { SoundStartsMayMigrate }
 {}

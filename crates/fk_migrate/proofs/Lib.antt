@@ -1,0 +1,10 @@
+pub mod Turning
+pub mod Calls
+pub mod Moving
+pub mod Nearing
+pub mod Faring
+pub mod Running
+pub mod Stepping
+pub mod Leading
+pub mod Promised
+pub mod Driving

@@ -1,0 +1,5 @@
+pub mod Turns
+pub mod Runs
+pub mod Parts
+pub mod Pairs
+pub mod Promises

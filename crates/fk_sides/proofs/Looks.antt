@@ -1,0 +1,99 @@
+-- Where a restore stands after an answer.
+use Rattle.std.proofs.Common.{◌≡◌, ℕ, zero, suc, ◌-◌, arith, Bool, true, false, List, [], ◌∷◌, Option, Some, None, refl, sym, ap, ◌∙◌}
+use Rattle.fk_finish.specs.declared.finish.Finish.{Finish}
+use Rattle.fk_finish.specs.declared.finish.Finish.TheVariants as finishes
+use Rattle.fk_image.specs.declared.image.image.Image.{Image}
+use Rattle.fk_restore.specs.declared.restore.restore.Restore.{Restore}
+use Rattle.fk_restore.specs.Restore.Restores.{end_of, is_built, state_of}
+use Rattle.laws_jobs.specs.Machines.{Head, IsAtCall}
+use Rattle.laws_jobs.specs.Machines.Head.{Asks, Stops}
+use Rattle.laws_restore.specs.Restore.Restore as restores
+use Rattle.laws_restore.specs.Rooms.Restoring.{restore_of}
+use Rattle.laws_handover.specs.FarSide as far
+use Rattle.laws_handover.specs.FarSide.{Made}
+use Rattle.laws_migrate.specs.Migration.{Why, Job, made, made_end, of_job}
+use Rattle.fk_sides.specs.declared.far.Look.{Look}
+use Rattle.fk_sides.specs.declared.far.Look.TheVariants as looks
+use Rattle.fk_sides.specs.Fars.{job_of, look_of}
+use Rattle.fk_sides.specs.Sides.{FarSide, made_so, undone_so, restored, far_heard}
+
+abbrev Standing : Type 0
+Standing = Made Job Why
+
+abbrev builds : Standing
+builds = far.Builds
+
+abbrev goes : Image → restores.State → Standing
+goes i s = far.Goes (record { image = i; state = s })
+
+pub is_built_so : (i : Image) (s : restores.State) → is_built s ≡ true → of_job i (made s) ≡ builds
+is_built_so i (restores.Works []) e = refl
+is_built_so i (restores.Works (o ∷ os)) e = cc
+is_built_so i restores.Makes e = cc
+is_built_so i (restores.Clears os more port) e = cc
+is_built_so i (restores.Over end) e = cc
+
+pub goes_so : (slot : ℕ) (i : Image) (s : restores.State) → is_built s ≡ false → IsAtCall (restore_of slot i []) s → of_job i (made s) ≡ goes i s
+goes_so slot i (restores.Works []) e call = cc
+goes_so slot i (restores.Works (o ∷ os)) e call = refl
+goes_so slot i restores.Makes e call = refl
+goes_so slot i (restores.Clears os more port) e call = refl
+goes_so slot i (restores.Over end) e call = let never : restores.head slot (restores.Over end) ≡ Asks call.0 call.1 = call.2 in cc
+
+over_so : (slot : ℕ) (i : Image) (s : restores.State) (end : restores.End) → restores.head slot s ≡ Stops end → of_job i (made s) ≡ of_job i (made_end end)
+over_so slot i restores.Makes end e = cc
+over_so slot i (restores.Works []) end e = cc
+over_so slot i (restores.Works (o ∷ os)) end e = cc
+over_so slot i (restores.Clears [] more port) end e = cc
+over_so slot i (restores.Clears (o ∷ os) more port) end e = cc
+over_so slot i (restores.Over other) end e = let same : other ≡ end = cc in ap (λ (x : restores.End). of_job i (made_end x)) same
+
+-- how a finish is told, where it is neither of those two
+pub ended_so : (slot : ℕ) (i : Image) (s : restores.State) (finish : Finish) → restores.head slot s ≡ Stops (end_of finish)
+    → of_job i (made s) ≡ of_job i (made_end (end_of finish))
+ended_so slot i s finish e = over_so slot i s (end_of finish) e
+
+pub done_so : (finish : Finish) → (finish ≡ finishes.Occupied → ⊥) → ((port : ℕ) → finish ≡ finishes.NoPort port → ⊥) → end_of finish ≡ restores.Done
+done_so (finishes.Image image) taken missing = refl
+done_so (finishes.Foreign place) taken missing = refl
+done_so finishes.Dead taken missing = refl
+done_so finishes.Restored taken missing = refl
+done_so finishes.Occupied taken missing = absurd (taken refl)
+done_so (finishes.NoPort port) taken missing = absurd (missing port refl)
+
+-- ---- what comes of an answer, by where the restore stands then
+
+came_to : (old new : Restore) (look : Look) (slot status : ℕ) (words : List ℕ) → new.image ≡ old.image
+    → state_of new ≡ (restore_of slot old.image []).next (state_of old) status words → of_job new.image (made (state_of new)) ≡ look_of new look
+    → restored slot (job_of old) status words ≡ look_of new look
+came_to old new look slot status words image state is =
+    sym (λ j. of_job (image j) (made (state j))) ∙ is
+
+pub went_on : (old new : Restore) (look : Look) (slot status : ℕ) (words : List ℕ) → new.image ≡ old.image
+    → state_of new ≡ (restore_of slot old.image []).next (state_of old) status words → of_job new.image (made (state_of new)) ≡ look_of new look
+    → made_so new.image (look_of new look) ≡ made_so old.image (restored slot (job_of old) status words)
+went_on old new look slot status words image state is =
+    ap (λ (i : Image). made_so i (look_of new look)) image ∙ ap (made_so old.image) (sym (came_to old new look slot status words image state is))
+
+pub was_undone : (old new : Restore) (look : Look) (slot status : ℕ) (words : List ℕ) → new.image ≡ old.image
+    → state_of new ≡ (restore_of slot old.image []).next (state_of old) status words → of_job new.image (made (state_of new)) ≡ look_of new look
+    → undone_so new.image (look_of new look) ≡ undone_so old.image (restored slot (job_of old) status words)
+was_undone old new look slot status words image state is =
+    ap (λ (i : Image). undone_so i (look_of new look)) image ∙ ap (undone_so old.image) (sym (came_to old new look slot status words image state is))
+
+-- ---- stages of destroying
+
+abbrev ended : Image → Bool → FarSide
+ended i ready = far.Ended (Some i) ready
+
+abbrev clearing : Image → ℕ → Bool → FarSide
+clearing i more ready = far.Clears i more ready
+
+pub clears_done : (slot : ℕ) (i : Image) (more : ℕ) (ready : Bool) (status : ℕ) (words : List ℕ) → more ≡ 0
+    → ended i ready ≡ far_heard slot (clearing i more ready) status words
+clears_done slot i more ready status words e = sym (ap (λ (n : ℕ). far_heard slot (clearing i n ready) status words) e)
+
+pub clears_on : (slot : ℕ) (i : Image) (more : ℕ) (ready : Bool) (status : ℕ) (words : List ℕ) → (more ≡ 0 → ⊥)
+    → clearing i (more - 1) ready ≡ far_heard slot (clearing i more ready) status words
+clears_on slot i zero ready status words e = absurd (e refl)
+clears_on slot i (suc more) ready status words e = ap (λ (n : ℕ). clearing i n ready) (let one : suc more - 1 ≡ more = omega arith in one)

@@ -1,0 +1,5 @@
+pub mod Sides
+pub mod Nears
+pub mod Blocks
+pub mod Cames
+pub mod Fars
