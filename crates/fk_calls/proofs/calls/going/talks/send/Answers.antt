@@ -1,4 +1,4 @@
-use Rattle.std.proofs.Common.{[]}
+use Rattle.std.proofs.Common.{[], refl}
 use Rattle.fk_plans.proofs.InPlans.Moved.{fits_plan}
 use Rattle.fk_plans.specs.Plans.Movings.{plan_of}
 use Rattle.fk_calls.proofs.InCalls.Judged.{user, free_there}
