@@ -11,7 +11,7 @@ use Rattle.fk_model.specs.declared.thread.Turn.TheVariants as turns
 use Rattle.fk_model.specs.Holds.{is_free, is_frozen, is_user}
 use Rattle.fk_model.specs.LinkRows.{connecting_to, is_open, port_named}
 use Rattle.fk_model.specs.Moves.{outcome, step}
-use Rattle.fk_model.specs.Objects.{Body, Fault, Mode, Talk, Thread, and_then, holds, thread_of}
+use Rattle.fk_model.specs.Objects.{Body, Fault, Mode, Peer, Talk, Thread, and_then, holds, thread_of}
 use Rattle.fk_model.specs.Objects.Body.{Cond, Mapping, Mutex, Port, Portset, Reference, Region, Space, Thread_of}
 use Rattle.fk_model.specs.Objects.Mode.{Calling, Halted, Native, Running}
 use Rattle.fk_model.specs.Objects.Peer.{Server}
@@ -29,6 +29,7 @@ use Rattle.fk_store.specs.Store.Paths.{place}
 use Rattle.fk_store.specs.Store.Threads.{is_free_at, todo_at}
 use Rattle.fk_turns.specs.declared.whys.whys.Why.{Why}
 use Rattle.fk_turns.specs.declared.whys.whys.Why.TheVariants as whys
+use Rattle.fk_turns.specs.Steps.Talks.{peer_at, IsAlone}
 use Rattle.fk_turns.specs.Whys.Whys.{IsWhy}
 use Rattle.fk_turns.proofs.InWhys.Apart.{is_barred_why, loud_named, own_named, read_named}
 use Rattle.fk_turns.proofs.InWhys.Talking.{in_call, AreTwo, IsIn}
@@ -41,7 +42,7 @@ use Rattle.laws_waits.specs.Stuck.Reason.{WaitingOut}
 use Rattle.laws_waits.specs.Touching.{IsThreadEdit}
 use Rattle.laws_waits.proofs.Calm.{thread-is}
 use Rattle.laws_waits.proofs.Few.{thread_edits_touch_few_lem}
-use Rattle.laws_waits.proofs.Rows.{client-found}
+use Rattle.laws_waits.proofs.Rows.{client-found, serves-is}
 use Rattle.laws_waits.proofs.Stays.{moves_leave_stuck_lem, stuck_stays_lem}
 
 -- ---- what a stage that is done, and a turn that passes, leave of a thread
@@ -358,6 +359,79 @@ behind turns.Server later is = is
 
 talk_of : (w : World) (z : Path) (t : Thread) (o : Option Talk) → thread_at w z ≡ Some t → talk_at w z ≡ o → t.talk ≡ o
 talk_of w z t o there is = sym (ap (and_then (λ (u : Thread). u.talk)) there) ∙ is
+
+-- who was alone is so before it
+peer_ended : (w : World) (z q : Path) (answers : List ℕ) → peer_at (apply (Alter z (Finish answers)) w) q ≡ peer_at w q
+unfolding apply edited
+peer_ended w z q answers = by (same_path q z) (w.body q)
+  where
+    by : (b : Bool) (o : Option Body) → option_map (λ (talk : Talk). talk.peer) (and_then (λ (t : Thread). t.talk)
+        (and_then thread_of (cond b (option_map (edited (Finish answers)) o) o)))
+        ≡ option_map (λ (talk : Talk). talk.peer) (and_then (λ (t : Thread). t.talk) (and_then thread_of o))
+    by false o = refl
+    by true None = refl
+    by true (Some (Mutex old)) = refl
+    by true (Some Cond) = refl
+    by true (Some (Mapping window)) = refl
+    by true (Some (Region extent)) = refl
+    by true (Some (Port set served)) = refl
+    by true (Some Portset) = refl
+    by true (Some (Space birth holder)) = refl
+    by true (Some (Thread_of t)) = ap (option_map (λ (talk : Talk). talk.peer)) (finished_talk answers t t.mode)
+    by true (Some (Reference old)) = refl
+
+peer_turned : (w : World) (z q : Path) (turn : Turn) → peer_at (apply (Alter z (PassTurn turn)) w) q ≡ peer_at w q
+unfolding apply edited
+peer_turned w z q turn = by (same_path q z) (w.body q)
+  where
+    of : (o : Option Talk) → option_map (λ (talk : Talk). talk.peer) (option_map (λ (talk : Talk). record talk { turn = turn; moved = 0 }) o)
+        ≡ option_map (λ (talk : Talk). talk.peer) o
+    of None = refl
+    of (Some talk) = refl
+
+    by : (b : Bool) (o : Option Body) → option_map (λ (talk : Talk). talk.peer) (and_then (λ (t : Thread). t.talk)
+        (and_then thread_of (cond b (option_map (edited (PassTurn turn)) o) o)))
+        ≡ option_map (λ (talk : Talk). talk.peer) (and_then (λ (t : Thread). t.talk) (and_then thread_of o))
+    by false o = refl
+    by true None = refl
+    by true (Some (Mutex old)) = refl
+    by true (Some Cond) = refl
+    by true (Some (Mapping window)) = refl
+    by true (Some (Region extent)) = refl
+    by true (Some (Port set served)) = refl
+    by true (Some Portset) = refl
+    by true (Some (Space birth holder)) = refl
+    by true (Some (Thread_of t)) = of t.talk
+    by true (Some (Reference old)) = refl
+
+peer_parted : (w : World) (me y client q : Path) (answers : List ℕ) (turn : Turn) → peer_at (parted w me y client answers turn) q ≡ peer_at w q
+peer_parted w me y client q answers turn =
+    peer_ended (turned w y client answers turn) me q [] ∙ peer_turned (ended w y answers) client q turn ∙ peer_ended w y q answers
+
+unserved_parted : (w : World) (me y client q x : Path) (answers : List ℕ) (turn : Turn) →
+    is_peer_of (parted w me y client answers turn) x q ≡ is_peer_of w x q
+unserved_parted w me y client q x answers turn =
+    peer_finished (turned w y client answers turn) me q x [] ∙ peer_passed (ended w y answers) client q x turn ∙ peer_finished w y q x answers
+
+no_peer : (o : Option Talk) → option_map (λ (talk : Talk). talk.peer) o ≡ None → o ≡ None
+no_peer None is = refl
+no_peer (Some talk) is = absurd (cc)
+
+pub alone_before : (w : World) (me y client server : Path) (answers : List ℕ) (turn : Turn) (talk : Talk) → talk_at w client ≡ Some talk →
+    serves server talk.peer ≡ true → IsAlone (parted w me y client answers turn) client → AreAlone w client server
+alone_before w me y client server answers turn talk there serving alone =
+    let peer = serves-is server talk.peer serving in
+    let was : Some (Server (At alone.server)) ≡ Some (Server (At server)) =
+    sym alone.peer ∙ peer_parted w me y client client answers turn ∙ ap (option_map (λ (t : Talk). t.peer)) there ∙ ap (λ (p : Peer). Some p) peer in
+    let same : alone.server ≡ server = cc in
+    record {
+      talk = talk;
+      there = there;
+      peer = peer;
+      idle = no_peer (talk_at w server) (sym (peer_parted w me y client server answers turn)
+          ∙ ap (peer_at (parted w me y client answers turn)) (sym same) ∙ alone.idle);
+      unserved = λ q. sym (unserved_parted w me y client q client answers turn) ∙ alone.unserved q;
+    }
 
 module _ (w : World) (me y client server : Path) (side : Turn) (answers : List ℕ) (at : IsAtOrderly w me (over_on side)) (free : is_free_at w me ≡ true)
     (receives : IsReceiver w y (other_side side)) (alone : AreAlone w client server) (ends : AreTwo side me y client server) where

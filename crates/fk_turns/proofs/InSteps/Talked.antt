@@ -1,0 +1,214 @@
+-- Talked: the lists after a stage in which two threads met.
+use Rattle.std.proofs.Common.{◌≡◌, ◌≤◌, ◌⊎◌, Bool, true, false, [], Option, Some, None, is_none, is_some, inl, inr, refl, sym, ap, subst, ◌∙◌}
+use Rattle.std.proofs.lemmas.Bool.{or_right}
+use Rattle.std.specs.Bool.{OnTrue}
+use Rattle.fk_calls.specs.declared.calls.going.Talked.{Talked}
+use Rattle.fk_calls.specs.declared.calls.going.Talked.TheVariants as talkeds
+use Rattle.fk_calls.specs.declared.calls.going.Went.{Went}
+use Rattle.fk_calls.specs.declared.calls.going.Went.TheVariants as wents
+use Rattle.fk_model.specs.declared.moves.Ask.TheVariants as asks
+use Rattle.fk_model.specs.declared.moves.Said.TheVariants as says
+use Rattle.fk_model.specs.declared.names.Who.{Who}
+use Rattle.fk_model.specs.Holds.{is_free}
+use Rattle.fk_model.specs.Moves.{Step}
+use Rattle.fk_model.specs.Objects.{holds}
+use Rattle.fk_model.specs.Places.{Path, parent}
+use Rattle.fk_model.specs.Searches.{client_of, depth}
+use Rattle.fk_model.specs.Valid.{IsValid}
+use Rattle.fk_model.specs.Who.{space_born}
+use Rattle.fk_model.specs.World.{World}
+use Rattle.fk_model.proofs.walks.WalkLaws.{no_client, none_from}
+use Rattle.fk_plans.specs.Wakes.Touches.{is_making}
+use Rattle.fk_store.specs.Store.Contents.{Contents}
+use Rattle.fk_store.specs.Store.Paths.{path, place}
+use Rattle.fk_store.specs.Store.Threads.{is_free_at}
+use Rattle.fk_store.specs.Store.World.{world, place_of}
+use Rattle.fk_turns.specs.declared.whys.whys.Why.{Why}
+use Rattle.fk_turns.specs.declared.whys.whys.Why.TheVariants as whys
+use Rattle.fk_turns.specs.Moved.Kept.{is_user_at, AreKept, IsFiled, IsFiledAs}
+use Rattle.fk_turns.specs.Moved.Moved.{is_put}
+use Rattle.fk_turns.specs.Moved.Told.{IsMadeTo, IsStored, IsToldOf}
+use Rattle.fk_turns.specs.Next.Goings.{run_of, touched_in, was_made, HasTalkRow, IfTalked}
+use Rattle.fk_turns.specs.Next.Judgements.{IsReadyMove, IsStepTo, TellsTouched}
+use Rattle.fk_turns.specs.Next.Waiting.{standing, IsPlaced}
+use Rattle.fk_turns.specs.Steps.Steps.{IsPut}
+use Rattle.fk_turns.specs.Steps.Talks.{met_by, ComesTalked, IsAlone}
+use Rattle.fk_turns.specs.Whys.Whys.{IsWhy}
+use Rattle.fk_turns.proofs.InMoved.Talking.{left_passed, left_sent, passed_users, sent_users}
+use Rattle.fk_turns.proofs.InMoved.Told.{told_moves_leave}
+use Rattle.fk_turns.proofs.InSteps.Locked.{free_user}
+use Rattle.fk_turns.proofs.InSteps.Stepped.{comes_ran, kept_valid, put_by, run_fit}
+use Rattle.fk_turns.proofs.InSteps.Went.{free_when_ready}
+use Rattle.fk_turns.proofs.InWhys.Apart.{is_barred_why}
+use Rattle.fk_waits.proofs.InCauses.Numbers.{clash}
+use Rattle.fk_waits.proofs.InCauses.Order.{same_who}
+use Rattle.fk_waits.proofs.InTurns.Roused.{met_both, roused_one}
+use Rattle.fk_waits.specs.Causes.Names.{is_same}
+use Rattle.fk_waits.specs.Turns.Turns.{all_marks, loud_cause, waits_at, AreMet, IsRoused, IsSound}
+use Rattle.fk_waits.specs.Waits.Lists.{is_in, is_queued, stands, woken, Lists}
+use Rattle.laws_waits.specs.Few.{is_peer_of}
+use Rattle.laws_waits.proofs.Rows.{goes-on}
+
+-- ---- a stage that was made comes so
+
+put_nothing : (by : Talked) (who : Who) → is_put (touched_in by) who ≡ false
+put_nothing (talkeds.Sends client receiver sender) who = refl
+put_nothing (talkeds.Passes client receiver) who = refl
+
+makes_nothing : (by : Talked) → is_making (touched_in by) ≡ false
+makes_nothing (talkeds.Sends client receiver sender) = refl
+makes_nothing (talkeds.Passes client receiver) = refl
+
+-- whose move is ready is free
+ready_free : (m : Contents) (who : Who) → IsReadyMove m (run_of who) asks.Run → is_free_at (world m) (place (path m) who) ≡ true
+unfolding is_free_at
+ready_free m who ready =
+    let goes = goes-on (world m) (place (path m) who) None ready in
+    ap (holds (is_free (world m) (parent (place (path m) who)))) goes.there ∙ goes.free
+
+module _ (m n : Contents) (who : Who) (by : Talked) (waits marks : Lists) (valid : IsValid (world m)) (few : (world m).next ≤ depth)
+    (born : path m ≡ space_born (world m)) (born_new : path n ≡ space_born (world n)) (few_new : (world n).next ≤ depth) (kept : AreKept m waits marks)
+    (ready : IsReadyMove m (run_of who) asks.Run) (step : IsStepTo m (run_of who) asks.Run n says.Nothing)
+    (tells : TellsTouched m (run_of who) asks.Run (touched_in by)) (row : HasTalkRow m who by) (none : marks.ready ≡ []) where
+  comes_so : ComesTalked n who by waits marks
+  comes_so =
+      let old : IsStored m = record { valid = valid; born = born; few = few } in
+      let new : IsStored n = record {
+        valid = kept_valid m n (run_of who) asks.Run valid few (run_fit m (run_of who)) says.Nothing step;
+        born = born_new;
+        few = few_new;
+      } in
+      let made : IsMadeTo m n who None asks.Run = record { fit = run_fit m (run_of who); ready = ready; step = ap (λ (s : Step). s.world) (sym step) } in
+      let told : IsToldOf m who None asks.Run (touched_in by) = record { names = tells.names; leaves = tells.leaves; moves = tells.moves } in
+      record {
+        before = m;
+        kept = kept;
+        queued = free_when_ready m waits marks who None valid few kept ready;
+        none = none;
+        free = ready_free m who ready;
+        after = comes_ran m n (run_of who) valid few (run_fit m (run_of who)) born born_new few_new (touched_in by) waits marks says.Nothing kept
+            (makes_nothing by) ready step tells;
+        moved = told_moves_leave m n who None asks.Run (touched_in by) old new made told;
+        old = old;
+        new = new;
+        made = made;
+        row = row;
+      }
+
+pub talked_made : (m n : Contents) (who : Who) (went : Went) (by : Talked) (waits marks : Lists) → IsValid (world m) → (world m).next ≤ depth →
+    path m ≡ space_born (world m) → path n ≡ space_born (world n) → (world n).next ≤ depth → AreKept m waits marks → went ≡ wents.Talked by →
+    OnTrue (was_made went) (IsReadyMove m (run_of who) asks.Run × IsStepTo m (run_of who) asks.Run n says.Nothing) →
+    IfTalked went (λ by. TellsTouched m (run_of who) asks.Run (touched_in by)) → IfTalked went (HasTalkRow m who) → marks.ready ≡ [] →
+    ComesTalked n who by waits marks
+talked_made m n who went by waits marks valid few born born_new few_new kept is made tells row none =
+    let both = rw is at made in
+    comes_so m n who by waits marks valid few born born_new few_new kept both.0 both.1 (rw is at tells) (rw is at row) none
+
+-- ---- the other end is woken
+
+module _ (m n : Contents) (mover other : Who) (waits marks : Lists) (kept : AreKept m waits marks) (queued : is_queued mover waits.queued ≡ false)
+    (none : marks.ready ≡ []) (users : (x : Who) → is_user_at n x ≡ is_user_at m x)
+    (left : (x : Who) (why : Why) → is_same mover x ≡ false → is_same other x ≡ false → is_user_at m x ≡ true → is_barred_why why ≡ false →
+    IsWhy (world m) (path m) (place_of m x) why → IsWhy (world n) (path n) (place_of n x) why) (there : is_user_at m other ≡ true)
+    (now then_marks : Lists) (woke : now ≡ woken other waits) (met : AreMet marks then_marks now) (away : is_queued other now.queued ≡ false)
+    (sound : IsSound now then_marks) where
+  stood : stands other waits ≡ true
+  stood = kept.each other ∙ there
+
+  roused : IsRoused waits now
+  roused = subst (IsRoused waits) (sym woke) (roused_one other waits stood)
+
+  both : AreMet (all_marks waits marks) (all_marks now then_marks) now
+  both = met_both waits marks now then_marks met roused.less
+
+  filed_now : (x : Who) → is_queued x now.queued ≡ true → IsFiled n (all_marks now then_marks) x
+  filed_now x here = by was.why was.stuck was.filed
+    where
+      in_waits : is_queued x waits.queued ≡ true
+      in_waits = roused.less.queued x here
+
+      was : IsFiled m (all_marks waits marks) x
+      was = kept.filed x in_waits
+
+      apart : (a : Who) (l : Lists) → is_queued x l.queued ≡ true → is_queued a l.queued ≡ false → is_same a x ≡ false
+      apart a l is off = of (is_same a x) refl
+        where
+          of : (t : Bool) → is_same a x ≡ t → is_same a x ≡ false
+          of true e = clash (is_queued a l.queued) (subst (λ (w : Who). is_queued w l.queued ≡ true) (sym (same_who a x e)) is) off
+          of false e = e
+
+      was_user : is_user_at m x ≡ true
+      was_user = sym (kept.each x) ∙ or_right (is_in x waits.ready) (is_queued x waits.queued) in_waits
+
+      still : (key : Who) → waits_at key x (all_marks waits marks).queued ≡ true → waits_at key x (all_marks now then_marks).queued ≡ true
+      still key is = of (both.keyed key x is)
+        where
+          of : (waits_at key x (all_marks now then_marks).queued ≡ true) ⊎ (is_queued x now.queued ≡ false) →
+              waits_at key x (all_marks now then_marks).queued ≡ true
+          of (inl h) = h
+          of (inr gone) = clash (is_queued x now.queued) here gone
+
+      goes : (y : Why) → is_barred_why y ≡ false → IsWhy (world m) (path m) (place_of m x) y → IsWhy (world n) (path n) (place_of n x) y
+      goes y named s = left x y (apart mover waits in_waits queued) (apart other now here away) was_user named s
+
+      by : (y : Why) → IsWhy (world m) (path m) (place_of m x) y → IsFiledAs (all_marks waits marks) x y → IsFiled n (all_marks now then_marks) x
+      by whys.Still s f = record { why = whys.Still; stuck = goes whys.Still refl s; filed = tt }
+      by (whys.At key) s f = record { why = whys.At key; stuck = goes (whys.At key) refl s; filed = (f.0, still key f.1) }
+      by whys.Loud s f = record { why = whys.Loud; stuck = goes whys.Loud refl s; filed = still loud_cause f }
+      by whys.Barred s f = clash (is_in x marks.ready) f (ap (is_in x) none)
+
+  kept_woken : AreKept n now then_marks
+  kept_woken = record { each = λ x. roused.stays x ∙ kept.each x ∙ sym (users x); sound = sound; filed = filed_now }
+
+-- who receives is a user's thread
+pub receiver_user : (n : Contents) (mover : Who) (by : Talked) (waits marks : Lists) (from : ComesTalked n mover by waits marks) →
+    is_user_at from.before (met_by by) ≡ true
+receiver_user n mover (talkeds.Sends client receiver sender) waits marks from = free_user from.before receiver from.row.receiving.free
+receiver_user n mover (talkeds.Passes client receiver) waits marks from = free_user from.before receiver from.row.receiving.free
+
+pub receiver_stands : (n : Contents) (mover : Who) (by : Talked) (waits marks : Lists) → ComesTalked n mover by waits marks → stands (met_by by) waits ≡ true
+receiver_stands n mover by waits marks from = from.kept.each (met_by by) ∙ receiver_user n mover by waits marks from
+
+pub kept_sent : (n : Contents) (mover client receiver sender : Who) (waits marks now then_marks : Lists) →
+    ComesTalked n mover (talkeds.Sends client receiver sender) waits marks → now ≡ woken receiver waits → AreMet marks then_marks now →
+    is_queued receiver now.queued ≡ false → IsSound now then_marks → AreKept n now then_marks
+kept_sent n mover client receiver sender waits marks now then_marks from woke met away sound =
+    let by = talkeds.Sends client receiver sender in
+    kept_woken from.before n mover receiver waits marks from.kept from.queued from.none
+    (sent_users from.before n mover from.old from.new from.made client receiver from.row (touched_in by) from.moved (put_nothing by))
+    (left_sent from.before n mover from.old from.new from.made client receiver from.row) (receiver_user n mover by waits marks from)
+    now then_marks woke met away sound
+
+pub kept_passed : (n : Contents) (mover client receiver : Who) (waits marks now then_marks : Lists) →
+    ComesTalked n mover (talkeds.Passes client receiver) waits marks → IsAlone (world n) (place_of n client) → now ≡ woken receiver waits →
+    AreMet marks then_marks now → is_queued receiver now.queued ≡ false → IsSound now then_marks → AreKept n now then_marks
+kept_passed n mover client receiver waits marks now then_marks from alone woke met away sound =
+    let by = talkeds.Passes client receiver in
+    kept_woken from.before n mover receiver waits marks from.kept from.queued from.none
+    (passed_users from.before n mover from.old from.new from.made client receiver from.row (touched_in by) from.moved (put_nothing by))
+    (left_passed from.before n mover from.old from.new from.made client receiver from.row from.free alone) (receiver_user n mover by waits marks from)
+    now then_marks woke met away sound
+
+-- ---- who serves nobody
+
+serves_none : (w : World) → IsValid w → w.next ≤ depth → (x : Path) (b : Bool) → b ≡ is_some (client_of w x) → b ≡ false → (q : Path) →
+    is_peer_of w x q ≡ false
+serves_none w valid few x b is off q = no_client w valid.consistent valid.rooted few x (none_from (client_of w x) (sym is ∙ off)) q
+
+pub serves_none_if : (w : World) → IsValid w → w.next ≤ depth → (x : Path) (o : Option Who) → is_some o ≡ is_some (client_of w x) →
+    OnTrue (is_none o) ((q : Path) → is_peer_of w x q ≡ false)
+serves_none_if w valid few x None is = λ q. serves_none w valid few x false is refl q
+serves_none_if w valid few x (Some who) is = tt
+
+-- ---- where its thread stands
+
+pub put_talked : (m n : Contents) (who : Who) (by : Talked) (waits : Lists) → IsValid (world m) → (world m).next ≤ depth →
+    path m ≡ space_born (world m) → path n ≡ space_born (world n) → (world n).next ≤ depth → IsReadyMove m (run_of who) asks.Run →
+    TellsTouched m (run_of who) asks.Run (touched_in by) → (is_user_at n who ≡ true → IsPlaced n (standing waits) who) →
+    IsPut m (run_of who) asks.Run n (standing waits)
+put_talked m n who (talkeds.Sends client receiver sender) waits valid few born born_new few_new ready tells placed =
+    put_by m n (run_of who) asks.Run valid few (run_fit m (run_of who)) born born_new few_new (touched_in (talkeds.Sends client receiver sender)) waits ready tells
+    placed
+put_talked m n who (talkeds.Passes client receiver) waits valid few born born_new few_new ready tells placed =
+    put_by m n (run_of who) asks.Run valid few (run_fit m (run_of who)) born born_new few_new (touched_in (talkeds.Passes client receiver)) waits ready tells
+    placed

@@ -1,0 +1,138 @@
+//! The lists after a stage in which two threads met in their talk: all others wait as before, the other end is looked at again, and the thread goes to its
+//! place.
+ghost use Rattle.std.specs.Prelude.{◌≡◌, true, false, Some, None, IfSome};
+ghost use Rattle.std.specs.Bool.{OnTrue};
+ghost use Rattle.fk_model.specs.Objects.Peer.{Server};
+ghost use Rattle.fk_model.specs.Places.{Path};
+ghost use Rattle.fk_model.specs.Places.Ptr.{At};
+ghost use Rattle.fk_model.specs.Valid.{IsValid};
+ghost use Rattle.fk_store.specs.Store.World.{world, place_of};
+ghost use Rattle.fk_turns.specs.Moved.Kept.{is_user_at, AreKept};
+ghost use Rattle.fk_turns.specs.Next.Waiting.{standing, IsPlaced};
+ghost use Rattle.fk_turns.specs.Steps.Talks.{peer_at, ComesTalked, IsAlone};
+ghost use Rattle.laws_waits.specs.Few.{is_peer_of};
+
+use crate::next::{after, put};
+use fk_calls::Talked;
+use fk_model::{Peer, Who};
+use fk_plans::wakes::Touched;
+use fk_store::Store;
+use fk_waits::turns::Turns;
+
+/// The lists after a stage that did this.
+#[inline(always)]
+pub fn after_talk(turns: &mut Turns, store: &Store, mover: Who, by: Talked)
+    requires valid { IsValid (world store.now) }
+    requires comes { ComesTalked store.now mover by turns.old.waits turns.old.marks }
+    ensures kept { AreKept store.now turns.new.waits turns.new.marks }
+    ensures placed { is_user_at store.now mover ≡ true → IsPlaced store.now (standing turns.new.waits) mover }
+{
+    match by {
+        Talked::Sends {
+            client,
+            receiver,
+            sender,
+        } => after_words(turns, store, mover, client, receiver, sender),
+        Talked::Passes { client, receiver } => after_turn(turns, store, mover, client, receiver),
+    }
+}
+
+/// The lists after words that went to a receiver.
+#[inline(always)]
+fn after_words(
+    turns: &mut Turns,
+    store: &Store,
+    mover: Who,
+    client: Who,
+    receiver: Who,
+    sender: Who,
+)
+    requires valid { IsValid (world store.now) }
+    requires comes { ComesTalked store.now mover (Talked.Sends client receiver sender) turns.old.waits turns.old.marks }
+    ensures kept { AreKept store.now turns.new.waits turns.new.marks }
+    ensures placed { is_user_at store.now mover ≡ true → IsPlaced store.now (standing turns.new.waits) mover }
+{
+    turns.wake(receiver);
+    put(turns, store, mover);
+}
+
+/// The lists after a turn that went to a receiver. Where one of the two is in another talk too, those who wait for it there are looked at as after any move.
+#[inline(always)]
+fn after_turn(turns: &mut Turns, store: &Store, mover: Who, client: Who, receiver: Who)
+    requires valid { IsValid (world store.now) }
+    requires comes { ComesTalked store.now mover (Talked.Passes client receiver) turns.old.waits turns.old.marks }
+    ensures kept { AreKept store.now turns.new.waits turns.new.marks }
+    ensures placed { is_user_at store.now mover ≡ true → IsPlaced store.now (standing turns.new.waits) mover }
+{
+    if !is_alone(store, client) {
+        after_any(turns, store, mover, client, receiver);
+        return;
+    }
+    turns.wake(receiver);
+    put(turns, store, mover);
+}
+
+/// The same as after any move.
+#[inline(never)]
+fn after_any(turns: &mut Turns, store: &Store, mover: Who, client: Who, receiver: Who)
+    requires valid { IsValid (world store.now) }
+    requires comes { ComesTalked store.now mover (Talked.Passes client receiver) turns.old.waits turns.old.marks }
+    ensures kept { AreKept store.now turns.new.waits turns.new.marks }
+    ensures placed { is_user_at store.now mover ≡ true → IsPlaced store.now (standing turns.new.waits) mover }
+{
+    let touched = Touched::Few {
+        first: Some(receiver),
+        second: Some(client),
+        third: None,
+    };
+    after(turns, store, mover, &touched);
+}
+
+/// A client and the thread that serves it are in no other talk.
+#[inline(always)]
+fn is_alone(store: &Store, client: Who) -> bool
+    requires valid { IsValid (world store.now) }
+    ensures { OnTrue result (IsAlone (world store.now) (place_of store.now client)) }
+{
+    match server_of(store, client) {
+        Some(server) => {
+            if !has_no_talk(store, server) {
+                return false;
+            }
+            serves_nobody(store, client)
+        }
+        None => false,
+    }
+}
+
+/// The thread that serves a client.
+#[inline(always)]
+fn server_of(store: &Store, client: Who) -> Option<Who>
+    ensures { IfSome result (λ server. peer_at (world store.now) (place_of store.now client) ≡ Some (Server (At (place_of store.now server)))) }
+{
+    match store.thread(client)?.talk?.peer {
+        Peer::Thread(server) => Some(server),
+        Peer::Service | Peer::Parked => None,
+    }
+}
+
+/// A thread is no client.
+#[inline(always)]
+fn has_no_talk(store: &Store, who: Who) -> bool
+    ensures { OnTrue result (peer_at (world store.now) (place_of store.now who) ≡ None) }
+{
+    match store.thread(who) {
+        Some(thread) => thread.talk.is_none(),
+        None => false,
+    }
+}
+
+/// A thread serves nobody.
+#[inline(always)]
+fn serves_nobody(store: &Store, who: Who) -> bool
+    requires valid { IsValid (world store.now) }
+    ensures { OnTrue result ((q : Path) → is_peer_of (world store.now) (place_of store.now who) q ≡ false) }
+{
+    store.names();
+    store.client_of(who).is_none()
+}
