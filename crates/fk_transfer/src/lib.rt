@@ -11,5 +11,5 @@ mod receiving;
 mod sending;
 
 pub use passing::{Handing, handing, over, over_ref};
-pub use receiving::{receive, receive_ref};
+pub use receiving::{awaits, receive, receive_ref};
 pub use sending::{moved, moving, send};

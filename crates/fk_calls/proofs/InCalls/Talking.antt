@@ -13,16 +13,16 @@ use Rattle.fk_model.specs.Calls.{calls, todo_of}
 use Rattle.fk_model.specs.Freezing.{are_unfrozen, AreAllowed}
 use Rattle.fk_model.specs.Holds.{decider, is_frozen_for}
 use Rattle.fk_model.specs.LinkRows.{user_at}
-use Rattle.fk_model.specs.Moves.{allowed_row, chooses, closed, stepped, GoesAllowed}
+use Rattle.fk_model.specs.Moves.{allowed_row, call_row, chooses, closed, outcome, stepped, GoesAllowed}
 use Rattle.fk_model.specs.Objects.{Body}
 use Rattle.fk_model.specs.Outcomes as outcomes
 use Rattle.fk_model.specs.Outcomes.{Outcome, listed}
-use Rattle.fk_model.specs.Outcomes.Outcome.{Goes}
+use Rattle.fk_model.specs.Outcomes.Outcome.{Goes, Waits}
 use Rattle.fk_model.specs.Outcomes.Said.{Nothing}
 use Rattle.fk_model.specs.Places.{Path}
 use Rattle.fk_model.specs.Searches.{depth, option_list, thread_at}
 use Rattle.fk_model.specs.Talks.{other_side}
-use Rattle.fk_model.specs.TransferRows.{over, send}
+use Rattle.fk_model.specs.TransferRows.{over, receive, send}
 use Rattle.fk_model.specs.Valid.{IsValid}
 use Rattle.fk_model.specs.World.{World, Change, apply, apply_all}
 use Rattle.fk_model.specs.World.Change.{Alter, PutPage}
@@ -48,10 +48,10 @@ use Rattle.fk_calls.specs.Acts.Endings.{IsLeft}
 use Rattle.fk_calls.specs.declared.calls.going.Talked.TheVariants as talkeds
 use Rattle.fk_calls.specs.declared.calls.judging.Judgement.{Judgement}
 use Rattle.fk_calls.specs.Calls.Doings.{first_of, IsAtStage}
-use Rattle.fk_calls.specs.Calls.Goings.{is_lock, is_orderly, run_of, HasPassed, HasSent, HasTalked, IsAtOrderly}
+use Rattle.fk_calls.specs.Calls.Goings.{is_lock, is_orderly, receive_on, run_of, HasPassed, HasSent, HasTalked, IsAnyReady, IsAtOrderly}
 use Rattle.fk_calls.specs.Calls.Judgements.{outcome_of, IsJudged, IsMoving, IsReadyMove, IsStepTo}
 use Rattle.fk_calls.proofs.InCalls.Doings.{does_call}
-use Rattle.fk_calls.proofs.InCalls.Judged.{quiet_judged, stage_judged, step_judged, user}
+use Rattle.fk_calls.proofs.InCalls.Judged.{quiet_judged, stage_judged, staged_user, step_judged, user}
 use Rattle.fk_calls.proofs.InCalls.Locking.{named_alone}
 use Rattle.fk_calls.proofs.InCalls.Touches as touches
 use Rattle.fk_calls.proofs.InCalls.Touches.{touching, touching_by}
@@ -113,6 +113,28 @@ send_row w x turns.Server address count = refl
 over_row : (w : World) (x : Path) (side : Turn) → allowed_row w (user_at x) None (over_on side) ≡ over w (user_at x) side None
 over_row w x turns.Client = refl
 over_row w x turns.Server = refl
+
+receive_row : (w : World) (x : Path) (pick : Option Path) (side : Turn) (into room : ℕ) →
+    allowed_row w (user_at x) pick (receive_on side into room) ≡ receive w (user_at x) side into room
+receive_row w x pick turns.Client into room = refl
+receive_row w x pick turns.Server into room = refl
+
+-- who receives waits, whomever it picks, where its row does
+waits_so : (m : Contents) (who : Who) (side : Turn) (into room : ℕ) → is_free_at (world m) (place (path m) who) ≡ true →
+    IsAtStage (world m) (place (path m) who) (receive_on side into room) → receive (world m) (user_at (place (path m) who)) side into room ≡ Waits →
+    (pick : Option Path) → outcome (world m) (place (path m) who) pick asks.Run ≡ Waits
+unfolding call_row
+waits_so m who side into room free at waits pick =
+    let x = place (path m) who in
+    let row = receive_row (world m) x pick side into room ∙ waits in
+    staged_user (world m) who.slot (path m who.space) pick (receive_on side into room) free at ∙ rw row refl
+
+pub has_waited : (m : Contents) (who : Who) (side : Turn) (into room : ℕ) → is_free_at (world m) (place (path m) who) ≡ true →
+    IsAtOrderly (world m) (place (path m) who) (receive_on side into room) → receive (world m) (user_at (place (path m) who)) side into room ≡ Waits →
+    IsAnyReady (world m) (place (path m) who) → ⊥
+has_waited m who side into room free at waits any =
+    let out = waits_so m who side into room free (at_stage (world m) (place (path m) who) (receive_on side into room) at) waits any.0 in
+    rw out at any.1
 
 -- ---- the moves, where nothing is held
 

@@ -91,6 +91,11 @@ is_over turns.Client ClientOver = true
 is_over turns.Server ServerOver = true
 is_over side other = false
 
+-- the Receive of a side
+abbrev pub receive_on : Turn → ℕ → ℕ → Stage
+receive_on turns.Client into room = ClientReceive into room
+receive_on turns.Server into room = ServerReceive into room
+
 -- behind an Over is nothing, or a Receive; behind a Send nothing, or an Over and what is behind that
 abbrev pub is_behind_over : Turn → List Stage → Bool
 is_behind_over side [] = true

@@ -21,14 +21,14 @@ ghost use Rattle.fk_calls.specs.Calls.Judgements.{IsEnded, IsReadyMove, IsStepTo
 
 mod talks;
 
-use crate::calls::going::talks::{over, send};
+use crate::calls::going::talks::{over, receive, send};
 use crate::calls::judging::free_user;
 use fk_changes::readers::{Caller, mutex_in};
 use fk_changes::threads::{Answers, finish};
 use fk_model::call::{
-    CLIENT_OVER, CLIENT_OVER_RECEIVE, CLIENT_SEND, CLIENT_SEND_OVER_RECEIVE, MUTEX_LOCK,
-    MUTEX_TRYLOCK, MUTEX_UNLOCK, SERVER_OVER, SERVER_OVER_RECEIVE, SERVER_SEND,
-    SERVER_SEND_OVER_RECEIVE,
+    CLIENT_OVER, CLIENT_OVER_RECEIVE, CLIENT_RECEIVE, CLIENT_SEND, CLIENT_SEND_OVER_RECEIVE,
+    MUTEX_LOCK, MUTEX_TRYLOCK, MUTEX_UNLOCK, SERVER_OVER, SERVER_OVER_RECEIVE, SERVER_RECEIVE,
+    SERVER_SEND, SERVER_SEND_OVER_RECEIVE,
 };
 use fk_model::{Mode, Stage, Turn, Who};
 use fk_store::Store;
@@ -107,6 +107,8 @@ fn go_at(store: &mut Store, who: Who) -> Went
         Stage::ServerSend { addr, count } => send(store, who, Turn::Server, addr, count),
         Stage::ClientOver => over(store, who, Turn::Client),
         Stage::ServerOver => over(store, who, Turn::Server),
+        Stage::ClientReceive { addr, room } => receive(store, who, Turn::Client, addr, room),
+        Stage::ServerReceive { addr, room } => receive(store, who, Turn::Server, addr, room),
         _ => Went::Not,
     }
 }
@@ -187,6 +189,14 @@ fn stage_named(registers: &[u64; 16]) -> Option<Stage>
         SERVER_SEND | SERVER_SEND_OVER_RECEIVE => Some(Stage::ServerSend { addr, count }),
         CLIENT_OVER | CLIENT_OVER_RECEIVE => Some(Stage::ClientOver),
         SERVER_OVER | SERVER_OVER_RECEIVE => Some(Stage::ServerOver),
+        CLIENT_RECEIVE => Some(Stage::ClientReceive {
+            addr: registers[4],
+            room: registers[5],
+        }),
+        SERVER_RECEIVE => Some(Stage::ServerReceive {
+            addr: registers[4],
+            room: registers[5],
+        }),
         _ => None,
     }
 }

@@ -10,7 +10,7 @@ ghost use Rattle.fk_changes.specs.Threads.Answers.{came_answers};
 ghost use Rattle.fk_store.specs.Store.Paths.{path, place};
 ghost use Rattle.fk_store.specs.Store.Threads.{is_free_at};
 ghost use Rattle.fk_store.specs.Store.World.{world};
-ghost use Rattle.fk_calls.specs.Calls.Goings.{over_on, sending, IsAtOrderly, WentTo};
+ghost use Rattle.fk_calls.specs.Calls.Goings.{over_on, receive_on, sending, IsAtOrderly, WentTo};
 
 use crate::calls::going::{Talked, Went};
 use fk_changes::readers::Caller;
@@ -18,7 +18,7 @@ use fk_changes::threads::{Answers, answered, finish};
 use fk_model::{Turn, Who};
 use fk_plans::move_words;
 use fk_store::Store;
-use fk_transfer::{Handing, handing, moving};
+use fk_transfer::{Handing, awaits, handing, moving};
 
 /// Sends words to a thread that receives them.
 #[inline(always)]
@@ -83,4 +83,22 @@ fn hands(store: &mut Store, who: Who, handed: &Handing)
     finish(store, handed.receiver, answered(handed.came));
     store.pass_turn(handed.client, handed.turn);
     finish(store, who, Answers::Nothing);
+}
+
+/// Of a Receive the thread makes nothing: it waits for the other end, or the general way tells why it needn't.
+#[inline(always)]
+pub fn receive(store: &Store, who: Who, side: Turn, into: u64, room: u64) -> Went
+    requires valid { IsValid (world store.now) }
+    requires free { is_free_at (world store.now) (place (path store.now) who) ≡ true }
+    requires at { IsAtOrderly (world store.now) (place (path store.now) who) (receive_on side into room) }
+    ensures { WentTo store.now store.now who result }
+{
+    let caller = Caller {
+        who,
+        is_porter: false,
+    };
+    if awaits(store, caller, side, into, room) {
+        return Went::Waits;
+    }
+    Went::Not
 }

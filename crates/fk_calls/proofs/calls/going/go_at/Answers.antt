@@ -21,3 +21,9 @@ over-requires-clause-at c = rw c.in-ClientOver.is at c.in-Some.ensures.at
 
 pub over-requires-in-ServerOver-clause-at : goal.over-requires-in-ServerOver-clause-at
 over-requires-in-ServerOver-clause-at c = rw c.in-ServerOver.is at c.in-Some.ensures.at
+
+pub receive-requires-clause-at : goal.receive-requires-clause-at
+receive-requires-clause-at c = rw c.in-ClientReceive.is at c.in-Some.ensures.at
+
+pub receive-requires-in-ServerReceive-clause-at : goal.receive-requires-in-ServerReceive-clause-at
+receive-requires-in-ServerReceive-clause-at c = rw c.in-ServerReceive.is at c.in-Some.ensures.at
