@@ -6,3 +6,4 @@ pub mod Mildly
 pub mod Locked
 pub mod Talking
 pub mod Passing
+pub mod Hearing

@@ -1,6 +1,7 @@
 -- Talking: a thread's Send to a thread that receives, or its Over to one.
-use Rattle.std.proofs.Common.{◌≡◌, ◌≤◌, ◌++◌, ℕ, Bool, true, false, List, [], ◌∷◌, length, Option, Some, None, IfSome, if◌then◌else◌, unwrap_or}
+use Rattle.std.proofs.Common.{◌≡◌, ◌≤◌, ◌++◌, ℕ, Bool, true, false, List, [], ◌∷◌, length, Option, Some, None, is_some, IfSome, if◌then◌else◌, unwrap_or}
 use Rattle.std.proofs.Common.{refl, sym, ap, subst, ◌∙◌}
+use Rattle.std.specs.Bool.{OnTrue}
 use Rattle.fk_model.specs.declared.moves.Ask.TheVariants as asks
 use Rattle.fk_model.specs.declared.moves.Said.TheVariants as says
 use Rattle.fk_model.specs.declared.names.Who.{Who}
@@ -214,6 +215,9 @@ module _ (m : Contents) (who : Who) (unheld : (q : Path) → decider (world m) q
       };
     }
 
+    sent_ready : IsMoving m (run_of who) asks.Run words → IsReadyMove m (run_of who) asks.Run
+    sent_ready is = subst (λ (o : Outcome). GoesAllowed w me o) (sym (is.outcome ∙ goes)) (allowed words.last)
+
     pub has_sent : (n : Contents) (side : Turn) (address count : ℕ) → IsValid w → w.next ≤ depth → IsAtOrderly w me (sending side address count) →
         outcome_by w (path m) (caller_by (path m) (user who) []) (verdict_of words) ≡ send w (user_at me) side address count →
         IsVerdict m (user who) (verdict_of words) → words.sender ≡ who → Meets w me (place (path m) words.client) (place (path m) words.receiver) side →
@@ -222,8 +226,7 @@ module _ (m : Contents) (who : Who) (unheld : (q : Path) → decider (world m) q
         HasTalked m n who (talkeds.Sends words.client words.receiver words.sender)
     has_sent n side address count valid few at row fits sender meets receives made =
         let is = sent_judged side address count (at_stage w me (sending side address count) at) row fits in
-        let ready : IsReadyMove m (run_of who) asks.Run =
-        subst (λ (o : Outcome). GoesAllowed w me o) (sym (is.outcome ∙ goes)) (allowed words.last) in
+        let ready = sent_ready is in
         let step : IsStepTo m (run_of who) asks.Run n says.Nothing = step_judged m (run_of who) asks.Run sent is ready ∙ made in
         record {
           ready = ready;
@@ -257,6 +260,9 @@ module _ (m : Contents) (who : Who) (unheld : (q : Path) → decider (world m) q
         subst (λ (chosen : Bool). IsJudged m (run_of who) asks.Run (record { caller = user who; chooses = chosen; verdict = passed_of to })) (plain_over side)
         (stage_judged m (run_of who) (over_on side) (passed_of to) free at (row ∙ sym (over_row w me side)) fits (λ none. tt))
 
+    passed_ready : IsJudged m (run_of who) asks.Run passed → IsReadyMove m (run_of who) asks.Run
+    passed_ready is = subst (λ (o : Outcome). GoesAllowed w me o) (sym is.outcome) may_turn
+
     pub has_passed : (n : Contents) (side : Turn) → IsValid w → w.next ≤ depth → IsAtOrderly w me (over_on side) →
         outcome_by w (path m) (caller_by (path m) (user who) []) (passed_of to) ≡ over w (user_at me) side None →
         IsVerdict m (user who) (passed_of to) → to.turn ≡ other_side side → Meets w me (place (path m) to.client) (place (path m) to.receiver) side →
@@ -266,7 +272,7 @@ module _ (m : Contents) (who : Who) (unheld : (q : Path) → decider (world m) q
     unfolding apply_all
     has_passed n side valid few at row fits turn meets receives world_is =
         let is = passed_judged side (at_stage w me (over_on side) at) row fits in
-        let ready : IsReadyMove m (run_of who) asks.Run = subst (λ (o : Outcome). GoesAllowed w me o) (sym is.outcome) may_turn in
+        let ready = passed_ready is in
         let step : IsStepTo m (run_of who) asks.Run n says.Nothing =
         step_judged m (run_of who) asks.Run passed is ready ∙ ap (λ (u : World). record { world = u; said = outcomes.Said.Nothing }) (sym world_is) in
         record {
@@ -285,3 +291,18 @@ module _ (m : Contents) (who : Who) (unheld : (q : Path) → decider (world m) q
                 ∷ Alter me (Finish []) ∷ []) turn;
           };
         }
+
+  -- ---- whether they are ready
+
+  pub may_send : (side : Turn) (address count : ℕ) → IsAtOrderly w me (sending side address count) → (o : Option Moving) →
+      IfSome o (λ words. outcome_by w (path m) (caller_by (path m) (user who) []) (verdict_of words) ≡ send w (user_at me) side address count) →
+      IfSome o (λ words. IsVerdict m (user who) (verdict_of words)) → OnTrue (is_some o) (IsReadyMove m (run_of who) asks.Run)
+  may_send side address count at None row fits = tt
+  may_send side address count at (Some words) row fits =
+      sent_ready words (sent_judged words side address count (at_stage w me (sending side address count) at) row fits)
+
+  pub may_pass : (side : Turn) → IsAtOrderly w me (over_on side) → (o : Option Handing) →
+      IfSome o (λ to. outcome_by w (path m) (caller_by (path m) (user who) []) (passed_of to) ≡ over w (user_at me) side None) →
+      IfSome o (λ to. IsVerdict m (user who) (passed_of to)) → OnTrue (is_some o) (IsReadyMove m (run_of who) asks.Run)
+  may_pass side at None row fits = tt
+  may_pass side at (Some to) row fits = passed_ready to (passed_judged to side (at_stage w me (over_on side) at) row fits)

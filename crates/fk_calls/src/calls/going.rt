@@ -21,7 +21,7 @@ ghost use Rattle.fk_calls.specs.Calls.Judgements.{IsEnded, IsReadyMove, IsStepTo
 
 mod talks;
 
-use crate::calls::going::talks::{over, receive, send};
+use crate::calls::going::talks::{may_pass, may_send, over, receive, send};
 use crate::calls::judging::free_user;
 use fk_changes::readers::{Caller, mutex_in};
 use fk_changes::threads::{Answers, finish};
@@ -122,6 +122,36 @@ pub fn may_lock(store: &Store, who: Who) -> bool
     match stage_of(store, who) {
         Some(stage) => is_unlocked(store, who, stage),
         None => false,
+    }
+}
+
+/// Whether the user in a slot is at a Send or an Over that meets a thread: then it can move. Nothing is held.
+pub fn may_talk(store: &Store, who: Who) -> bool
+    requires valid { IsValid (world store.now) }
+    requires unheld { (q : Path) → decider (world store.now) q ≡ None }
+    ensures { OnTrue result (IsReadyMove store.now (run_of who) asks.Run) }
+{
+    match stage_of(store, who) {
+        Some(stage) => meets(store, who, stage),
+        None => false,
+    }
+}
+
+/// The same at this stage of it.
+#[inline(always)]
+fn meets(store: &Store, who: Who, stage: Stage) -> bool
+    requires valid { IsValid (world store.now) }
+    requires unheld { (q : Path) → decider (world store.now) q ≡ None }
+    requires free { is_free_at (world store.now) (place (path store.now) who) ≡ true }
+    requires at { IsAtOrderly (world store.now) (place (path store.now) who) stage }
+    ensures { OnTrue result (IsReadyMove store.now (run_of who) asks.Run) }
+{
+    match stage {
+        Stage::ClientSend { addr, count } => may_send(store, who, Turn::Client, addr, count),
+        Stage::ServerSend { addr, count } => may_send(store, who, Turn::Server, addr, count),
+        Stage::ClientOver => may_pass(store, who, Turn::Client),
+        Stage::ServerOver => may_pass(store, who, Turn::Server),
+        _ => false,
     }
 }
 

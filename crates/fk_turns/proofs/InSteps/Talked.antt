@@ -23,6 +23,7 @@ use Rattle.fk_store.specs.Store.Contents.{Contents}
 use Rattle.fk_store.specs.Store.Paths.{path, place}
 use Rattle.fk_store.specs.Store.Threads.{is_free_at}
 use Rattle.fk_store.specs.Store.World.{world, place_of}
+use Rattle.fk_turns.specs.declared.steps.talking.Place.{Place}
 use Rattle.fk_turns.specs.declared.whys.whys.Why.{Why}
 use Rattle.fk_turns.specs.declared.whys.whys.Why.TheVariants as whys
 use Rattle.fk_turns.specs.Moved.Kept.{is_user_at, AreKept, IsFiled, IsFiledAs}
@@ -30,9 +31,9 @@ use Rattle.fk_turns.specs.Moved.Moved.{is_put}
 use Rattle.fk_turns.specs.Moved.Told.{IsMadeTo, IsStored, IsToldOf}
 use Rattle.fk_turns.specs.Next.Goings.{run_of, touched_in, was_made, HasTalkRow, IfTalked}
 use Rattle.fk_turns.specs.Next.Judgements.{IsReadyMove, IsStepTo, TellsTouched}
-use Rattle.fk_turns.specs.Next.Waiting.{standing, IsPlaced}
+use Rattle.fk_turns.specs.Next.Waiting.{standing, IsMoveReady, IsPlaced}
 use Rattle.fk_turns.specs.Steps.Steps.{IsPut}
-use Rattle.fk_turns.specs.Steps.Talks.{met_by, ComesTalked, IsAlone}
+use Rattle.fk_turns.specs.Steps.Talks.{met_by, place_by, ComesTalked, IsAlone, IsThere}
 use Rattle.fk_turns.specs.Whys.Whys.{IsWhy}
 use Rattle.fk_turns.proofs.InMoved.Talking.{left_passed, left_sent, passed_users, sent_users}
 use Rattle.fk_turns.proofs.InMoved.Told.{told_moves_leave}
@@ -212,3 +213,17 @@ put_talked m n who (talkeds.Sends client receiver sender) waits valid few born b
 put_talked m n who (talkeds.Passes client receiver) waits valid few born born_new few_new ready tells placed =
     put_by m n (run_of who) asks.Run valid few (run_fit m (run_of who)) born born_new few_new (touched_in (talkeds.Passes client receiver)) waits ready tells
     placed
+
+-- ---- where it belongs
+
+-- who can move is a user's thread
+pub ready_user : (m : Contents) (who : Who) → IsMoveReady (world m) (place_of m who) → is_user_at m who ≡ true
+unfolding is_free_at
+ready_user m who any =
+    let goes = goes-on (world m) (place_of m who) any.0 any.1 in
+    free_user m who (ap (holds (is_free (world m) (parent (place_of m who)))) goes.there ∙ goes.free)
+
+pub there_by : (m : Contents) (who : Who) (can : Bool) (place : Place) → place ≡ place_by can → OnTrue can (IsMoveReady (world m) (place_of m who)) →
+    IsThere m who place
+there_by m who true place is up = rw is up
+there_by m who false place is up = rw is tt

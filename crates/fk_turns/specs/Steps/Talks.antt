@@ -1,5 +1,5 @@
 -- Talks: what a stage in which two threads meet leaves of where threads stand.
-use Rattle.std.specs.Prelude.{◌≡◌, false, [], Option, Some, None, option_map}
+use Rattle.std.specs.Prelude.{◌≡◌, Bool, true, false, [], Option, Some, None, option_map, ⊤}
 use Rattle.fk_calls.specs.declared.calls.going.Talked.{Talked}
 use Rattle.fk_calls.specs.declared.calls.going.Talked.TheVariants as talkeds
 use Rattle.fk_model.specs.declared.moves.Ask.TheVariants as asks
@@ -13,12 +13,16 @@ use Rattle.fk_model.specs.World.{World}
 use Rattle.fk_store.specs.Store.Contents.{Contents}
 use Rattle.fk_store.specs.Store.Paths.{path, place}
 use Rattle.fk_store.specs.Store.Threads.{is_free_at}
-use Rattle.fk_store.specs.Store.World.{world}
-use Rattle.fk_turns.specs.Moved.Kept.{AreKept}
+use Rattle.fk_store.specs.Store.World.{world, place_of}
+use Rattle.fk_turns.specs.declared.steps.talking.Place.{Place}
+use Rattle.fk_turns.specs.declared.steps.talking.Place.TheVariants as places
+use Rattle.fk_turns.specs.Moved.Kept.{is_user_at, AreKept}
 use Rattle.fk_turns.specs.Moved.Moved.{IsMoved}
 use Rattle.fk_turns.specs.Moved.Told.{IsMadeTo, IsStored}
 use Rattle.fk_turns.specs.Next.Goings.{touched_in, HasTalkRow}
-use Rattle.fk_turns.specs.Next.Waiting.{ComesAfter}
+use Rattle.fk_turns.specs.Next.Waiting.{ComesAfter, IsMoveReady}
+use Rattle.fk_turns.specs.Whys.Causes.{cause_at}
+use Rattle.fk_turns.specs.Whys.Whys.{IsLoudly}
 use Rattle.fk_waits.specs.Waits.Lists.{is_queued, Lists}
 use Rattle.laws_waits.specs.Few.{is_peer_of}
 
@@ -52,3 +56,19 @@ pub record ComesTalked (n : Contents) (mover : Who) (by : Talked) (waits marks :
   pub new : IsStored n
   pub made : IsMadeTo before n mover None asks.Run
   pub row : HasTalkRow before mover by
+
+-- ---- where a thread belongs
+
+pub record IsHearing (m : Contents) (who port : Who) : Type 0 where
+  pub why : IsLoudly (world m) (place_of m who)
+  pub cause : place_of m port ≡ cause_at (world m) (place_of m who)
+  pub user : is_user_at m who ≡ true
+
+abbrev pub IsThere : Contents → Who → Place → Type 0
+IsThere m who places.Goes = IsMoveReady (world m) (place_of m who)
+IsThere m who (places.Hears port) = IsHearing m who port
+IsThere m who places.Unsaid = ⊤
+
+abbrev pub place_by : Bool → Place
+place_by true = places.Goes
+place_by false = places.Unsaid

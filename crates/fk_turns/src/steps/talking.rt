@@ -8,11 +8,15 @@ ghost use Rattle.fk_model.specs.Places.Ptr.{At};
 ghost use Rattle.fk_model.specs.Valid.{IsValid};
 ghost use Rattle.fk_store.specs.Store.World.{world, place_of};
 ghost use Rattle.fk_turns.specs.Moved.Kept.{is_user_at, AreKept};
-ghost use Rattle.fk_turns.specs.Next.Waiting.{standing, IsPlaced};
-ghost use Rattle.fk_turns.specs.Steps.Talks.{peer_at, ComesTalked, IsAlone};
+ghost use Rattle.fk_turns.specs.Next.Waiting.{standing, IsMoveReady, IsPlaced};
+ghost use Rattle.fk_turns.specs.Steps.Talks as talks_of;
+ghost use Rattle.fk_turns.specs.Steps.Talks.{peer_at, ComesTalked, IsAlone, IsThere};
 ghost use Rattle.laws_waits.specs.Few.{is_peer_of};
 
+use crate::moved::settle_loud;
 use crate::next::{after, put};
+use crate::steps::plain::is_going;
+use crate::whys::heard_at;
 use fk_calls::Talked;
 use fk_model::{Peer, Who};
 use fk_plans::wakes::Touched;
@@ -53,7 +57,7 @@ fn after_words(
     ensures placed { is_user_at store.now mover ≡ true → IsPlaced store.now (standing turns.new.waits) mover }
 {
     turns.wake(receiver);
-    put(turns, store, mover);
+    settle_talker(turns, store, mover);
 }
 
 /// The lists after a turn that went to a receiver. Where one of the two is in another talk too, those who wait for it there are looked at as after any move.
@@ -69,7 +73,7 @@ fn after_turn(turns: &mut Turns, store: &Store, mover: Who, client: Who, receive
         return;
     }
     turns.wake(receiver);
-    put(turns, store, mover);
+    settle_talker(turns, store, mover);
 }
 
 /// The same as after any move.
@@ -86,6 +90,66 @@ fn after_any(turns: &mut Turns, store: &Store, mover: Who, client: Who, receiver
         third: None,
     };
     after(turns, store, mover, &touched);
+}
+
+/// Where a thread belongs that was in a talk, as far as is seen at once.
+#[derive(Clone, Copy)]
+pub enum Place {
+    /// A move of it is ready.
+    Goes,
+    /// It waits for the other end, at this port.
+    Hears { port: Who },
+    /// That is for a judgement to tell.
+    Unsaid,
+}
+
+/// A thread that was in a talk goes to its place.
+#[inline(always)]
+fn settle_talker(turns: &mut Turns, store: &Store, mover: Who)
+    requires valid { IsValid (world store.now) }
+    requires kept { AreKept store.now turns.old.waits turns.old.marks }
+    ensures kept { AreKept store.now turns.new.waits turns.new.marks }
+    ensures placed { is_user_at store.now mover ≡ true → IsPlaced store.now (standing turns.new.waits) mover }
+{
+    match place_of_talker(store, mover) {
+        Place::Goes => turns.wake(mover),
+        Place::Hears { port } => settle_loud(turns, store, mover, port),
+        Place::Unsaid => put(turns, store, mover),
+    }
+}
+
+/// Where it belongs.
+#[inline(always)]
+fn place_of_talker(store: &Store, who: Who) -> Place
+    requires valid { IsValid (world store.now) }
+    ensures { IsThere store.now who result }
+{
+    if is_going(store, who, false) {
+        return Place::Goes;
+    }
+    match heard_at(store, who) {
+        Some(port) => Place::Hears { port },
+        None => place_by(can_talk(store, who)),
+    }
+}
+
+/// Where it belongs that can move, or of which nothing is known.
+fn place_by(can: bool) -> Place
+    ensures { result ≡ talks_of.place_by can }
+{
+    if can { Place::Goes } else { Place::Unsaid }
+}
+
+/// It is at a Send or an Over that meets a thread, and nothing is held.
+#[inline(always)]
+fn can_talk(store: &Store, who: Who) -> bool
+    requires valid { IsValid (world store.now) }
+    ensures { OnTrue result (IsMoveReady (world store.now) (place_of store.now who)) }
+{
+    if store.is_any_held() {
+        return false;
+    }
+    fk_calls::may_talk(store, who)
 }
 
 /// A client and the thread that serves it are in no other talk.

@@ -128,7 +128,7 @@ fn why_not(store: &Store, who: Who, thread: &Thread) -> Why
 }
 
 /// It is stopped, or has a fault, or neither runs nor is in a call.
-fn is_resting(thread: &Thread) -> bool
+pub fn is_resting(thread: &Thread) -> bool
     ensures { (p : ℕ → Path) → result ≡ stuck.is_resting (thread_by p thread.now) }
 {
     thread.stops != 0 || has_fault(thread) || !is_user(thread.mode)

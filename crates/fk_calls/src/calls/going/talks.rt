@@ -1,5 +1,7 @@
 //! Stages of talks in which a thread meets another: words that go from page to page, and a turn that is handed on.
 ghost use Rattle.std.specs.Prelude.{◌≡◌, [], true, None};
+ghost use Rattle.std.specs.Bool.{OnTrue};
+ghost use Rattle.fk_model.specs.declared.moves.Ask.TheVariants as asks;
 ghost use Rattle.fk_model.specs.Holds.{decider};
 ghost use Rattle.fk_model.specs.Places.{Path};
 ghost use Rattle.fk_model.specs.Valid.{IsValid};
@@ -10,7 +12,8 @@ ghost use Rattle.fk_changes.specs.Threads.Answers.{came_answers};
 ghost use Rattle.fk_store.specs.Store.Paths.{path, place};
 ghost use Rattle.fk_store.specs.Store.Threads.{is_free_at};
 ghost use Rattle.fk_store.specs.Store.World.{world};
-ghost use Rattle.fk_calls.specs.Calls.Goings.{over_on, receive_on, sending, IsAtOrderly, WentTo};
+ghost use Rattle.fk_calls.specs.Calls.Goings.{over_on, receive_on, run_of, sending, IsAtOrderly, WentTo};
+ghost use Rattle.fk_calls.specs.Calls.Judgements.{IsReadyMove};
 
 use crate::calls::going::{Talked, Went};
 use fk_changes::readers::Caller;
@@ -83,6 +86,38 @@ fn hands(store: &mut Store, who: Who, handed: &Handing)
     finish(store, handed.receiver, answered(handed.came));
     store.pass_turn(handed.client, handed.turn);
     finish(store, who, Answers::Nothing);
+}
+
+/// Whether words go from a thread to one that receives them.
+#[inline(always)]
+pub fn may_send(store: &Store, who: Who, side: Turn, address: u64, count: u64) -> bool
+    requires valid { IsValid (world store.now) }
+    requires unheld { (q : Path) → decider (world store.now) q ≡ None }
+    requires free { is_free_at (world store.now) (place (path store.now) who) ≡ true }
+    requires at { IsAtOrderly (world store.now) (place (path store.now) who) (sending side address count) }
+    ensures { OnTrue result (IsReadyMove store.now (run_of who) asks.Run) }
+{
+    let caller = Caller {
+        who,
+        is_porter: false,
+    };
+    moving(store, caller, side, address, count).is_some()
+}
+
+/// Whether a turn goes from a thread to one that is at its Receive.
+#[inline(always)]
+pub fn may_pass(store: &Store, who: Who, side: Turn) -> bool
+    requires valid { IsValid (world store.now) }
+    requires unheld { (q : Path) → decider (world store.now) q ≡ None }
+    requires free { is_free_at (world store.now) (place (path store.now) who) ≡ true }
+    requires at { IsAtOrderly (world store.now) (place (path store.now) who) (over_on side) }
+    ensures { OnTrue result (IsReadyMove store.now (run_of who) asks.Run) }
+{
+    let caller = Caller {
+        who,
+        is_porter: false,
+    };
+    handing(store, caller, side).is_some()
 }
 
 /// Of a Receive the thread makes nothing: it waits for the other end, or the general way tells why it needn't.

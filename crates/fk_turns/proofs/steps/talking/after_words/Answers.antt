@@ -15,8 +15,8 @@ wake-requires c =
       marks = λ off. clash (stands c.args.receiver was.waits) there off;
     }
 
-pub put-requires : goal.put-requires
-put-requires c =
+pub settle_talker-requires : goal.settle_talker-requires
+settle_talker-requires c =
     let was = c.args.turns.now in
     let now = c.wake.new.self in
     record {
