@@ -1,10 +1,10 @@
 -- Stretched: the lists once a user's thread has made instructions on the pages of its space.
-use Rattle.std.proofs.Common.{◌≡◌, ℕ, true, ◌∷◌, refl, sym, ap, subst, ◌∙◌}
+use Rattle.std.proofs.Common.{◌≡◌, ℕ, true, ◌∷◌, refl, sym, subst}
 use Rattle.fk_model.specs.declared.names.Who.{Who}
 use Rattle.fk_model.specs.Places.{Path}
 use Rattle.fk_model.specs.Valid.{IsPaged, IsValid}
 use Rattle.fk_model.specs.Who.{named, space_born}
-use Rattle.fk_model.specs.World.{World, apply}
+use Rattle.fk_model.specs.World.{World}
 use Rattle.fk_model.specs.World.Change.{PutPage}
 use Rattle.fk_plans.specs.Plans.Effects.{is_running}
 use Rattle.fk_model.specs.Searches.{thread_at}
@@ -21,18 +21,18 @@ use Rattle.fk_kernel.proofs.Rewrote.{LeavesThreads}
 
 -- pages that are written leave the world valid
 pub valid_written : (space : Path) (w u : World) → Rewrites space w u → IsValid w → IsValid u
-valid_written space w w Stays valid = valid
-valid_written space w u (Writes t u page words rest there is) valid =
+valid_written space w _ Stays valid = valid
+valid_written space w _ (Writes t u page words rest there is) valid =
     subst IsValid (sym is) (valid-put t space page words there (valid_written space w t rest valid))
 
 still_written : (space : Path) (w u : World) → Rewrites space w u → (x : Path) → IsStill w x → IsStill u x
-still_written space w w Stays x why = why
-still_written space w u (Writes t u page words rest there is) x why =
+still_written space w _ Stays x why = why
+still_written space w _ (Writes t u page words rest there is) x why =
     subst (λ (v : World). IsStill v x) (sym is) (still_after t (PutPage space page words) x (still_written space w t rest x why) tt refl)
 
 at_written : (space : Path) (w u : World) → Rewrites space w u → (x key : Path) → IsAt w x key → IsAt u x key
-at_written space w w Stays x key why = why
-at_written space w u (Writes t u page words rest there is) x key why =
+at_written space w _ Stays x key why = why
+at_written space w _ (Writes t u page words rest there is) x key why =
     subst (λ (v : World). IsAt v x key) (sym is) (at_after t (PutPage space page words) x key (at_written space w t rest x key why) tt refl refl)
 
 pub written_leaves : (space : Path) (w u : World) → Rewrites space w u → LeavesThreads w u
@@ -44,8 +44,8 @@ written_leaves space w u rewrites = record {
 
 -- and the reasons of all others
 pub stuck_written : (space : Path) (w u : World) → Rewrites space w u → (me x : Path) (r : Reason) → IsStuck w x r → IsApart me x r → IsStuck u x r
-stuck_written space w w Stays me x r stuck apart = stuck
-stuck_written space w u (Writes t u page words rest there is) me x r stuck apart =
+stuck_written space w _ Stays me x r stuck apart = stuck
+stuck_written space w _ (Writes t u page words rest there is) me x r stuck apart =
     subst (λ (v : World). IsStuck v x r) (sym is)
     (calm_stays t me x (PutPage space page words) r there (stuck_written space w t rest me x r stuck apart) apart)
 

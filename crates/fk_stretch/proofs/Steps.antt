@@ -1,11 +1,12 @@
 -- Steps: an instruction of a burst that has all pages of a space.
-use Rattle.std.proofs.Common.{◌≡◌, ℕ, zero, suc, ◌+◌, ◌/◌, ◌%◌, ◌||◌, ◌&&◌, ◌==◌, Bool, true, false, cond, List, Option, Some, None, slice_index, slice_set}
-use Rattle.std.proofs.Common.{refl, sym, ap, ◌∙◌, arith}
+use Rattle.std.proofs.Common.{◌≡◌, ℕ, zero, suc, ◌+◌, ◌/◌, ◌%◌, ◌||◌, ◌&&◌, ◌==◌, Bool, true, false, cond, List, [], Option, Some, None, slice_index, slice_set}
+use Rattle.std.proofs.Common.{Bor, IfSome, IsSome, is_none, option_copied, unwrap_or, refl, sym, ap, subst, ◌∙◌, arith}
 use Rattle.fk_model.specs.declared.instruction.Act.{Act}
 use Rattle.fk_model.specs.declared.instruction.Act.TheVariants.{Put, Jump, Load, Store, Halt, Call}
 use Rattle.fk_model.specs.Instructions.{act}
 use Rattle.fk_model.specs.Objects.{and_then}
 use Rattle.fk_model.specs.Places.{Path, same_path}
+use Rattle.fk_model.specs.Reach.{words_at}
 use Rattle.fk_model.specs.World.{World, apply}
 use Rattle.fk_model.specs.World.Change.{PutPage}
 use Rattle.fk_model.proofs.walks.PlaceLaws.{same_path_refl}
@@ -82,6 +83,19 @@ module _ (w : World) (space : Path) where
 
   -- ---- in code
 
+  -- a page that gets another word
+  pub written : (v : World) (address value page : ℕ) → page ≡ address / 64 → IsSome (w.page space page) →
+      v ≡ apply (PutPage space page (slice_set (words_at w space page) (address % 64) value)) w → IsWritten w space address value v
+  written v address value page same some is = record {
+    words = words_at w space (address / 64);
+    there = known (w.page space (address / 64)) (subst (λ (p : ℕ). IsSome (w.page space p)) same some);
+    becomes = is ∙ ap (λ (p : ℕ). apply (PutPage space p (slice_set (words_at w space p) (address % 64) value)) w) same;
+  }
+    where
+      known : (o : Option (List ℕ)) → IsSome o → o ≡ Some (unwrap_or o [])
+      known None some = absurd (cc)
+      known (Some words) some = refl
+
   pub begins : (t u : Running) (words : List ℕ) (rest : Rest) → Some words ≡ w.page space (t.counter / 64) →
       rest ≡ rest_of (act (slice_index words (t.counter % 64)) t.registers t.counter) →
       u ≡ begun (act (slice_index words (t.counter % 64)) t.registers t.counter) t →
@@ -138,6 +152,24 @@ module _ (w : World) (space : Path) where
 
       by : (p : ℕ) (here : Bool) → cond here (Some words) (w.page space p) ≡ cond (same_path space space && here) (Some words) (w.page space p)
       by p here = ap (λ t. cond (t && here) (Some words) (w.page space p)) (sym (same_path_refl space))
+
+-- ---- pages that are looked up
+
+pub found : (o : Option (Bor (List ℕ))) (p q : Option (List ℕ)) → option_copied o ≡ p → p ≡ q → IfSome o (λ (words : Bor (List ℕ)). Some words.now ≡ q)
+found None p q is same = tt
+found (Some words) p q is same = is ∙ same
+
+pub found_some : (o : Option (Bor (List ℕ))) (p : Option (List ℕ)) (none : Bool) → option_copied o ≡ p → none ≡ is_none o → none ≡ false → IsSome p
+found_some None p none is so off = let no : true ≡ false = sym so ∙ off in absurd (cc)
+found_some (Some words) p none is so off = subst (λ (o : Option (List ℕ)). IsSome o) is refl
+
+-- what is left to be done isn't nothing
+pub else_stays : (b c : Burst) (rest : Rest) → IsBegun b c rest → (rest ≡ rests.Nothing → ⊥) → c ≡ b
+else_stays b c rests.Nothing is other = absurd (other refl)
+else_stays b c (rests.Stores address value) is other = is.0
+else_stays b c (rests.Loads register address) is other = is
+else_stays b c (rests.Halts code) is other = is
+else_stays b c rests.Calls is other = is
 
 -- ---- several
 

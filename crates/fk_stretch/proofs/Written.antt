@@ -1,17 +1,20 @@
 -- Written: pages of a space that get other words, and the thread that wrote them.
-use Rattle.std.proofs.Common.{◌≡◌, ℕ, zero, suc, ◌<◌, ◌∷◌, replicate, ◌&&◌, ◌==◌, Bool, true, false, cond, List, Option, Some, None, IsSome, is_some, option_map, refl, sym, ap, subst, ◌∙◌, arith}
+use Rattle.std.proofs.Common.{◌≡◌, ℕ, zero, suc, ◌<◌, ◌∷◌, replicate, ◌&&◌, ◌==◌, Bool, true, false, cond, Option, Some, None, is_some, refl, sym, ap, ◌∙◌, arith}
 use Rattle.fk_model.specs.declared.moves.Ask.TheVariants as asks
 use Rattle.fk_model.specs.Moves.{IsReady}
-use Rattle.fk_model.specs.Objects.{Body, and_then}
+use Rattle.fk_model.specs.Holds.{is_free}
+use Rattle.fk_model.specs.Objects.{Body, Thread, and_then, holds}
 use Rattle.fk_model.specs.Objects.Mode.{Running}
 use Rattle.fk_model.specs.Places.{Path, parent, same_path}
+use Rattle.fk_model.specs.Searches.{thread_at}
 use Rattle.fk_model.specs.Valid.{birth_of, IsPaged}
-use Rattle.fk_model.specs.World.{World, apply}
+use Rattle.fk_model.specs.World.{World, Change, apply}
 use Rattle.fk_model.specs.World.Change.{Alter, PutPage}
 use Rattle.fk_model.specs.World.Edit.{Proceed}
 use Rattle.fk_model.proofs.walks.PlaceLaws.{same_path_eq}
 use Rattle.fk_store.specs.Store.Contents.{Contents}
 use Rattle.fk_store.specs.Store.Paths.{path}
+use Rattle.fk_store.specs.Store.Threads.{is_free_at}
 use Rattle.fk_store.specs.Store.World.{world, IsSpace}
 use Rattle.laws_bursts.specs.Bursts.{Burst}
 use Rattle.laws_bursts.proofs.Moves.{bursts_are_moves_lem}
@@ -20,8 +23,8 @@ use Rattle.fk_stretch.specs.Stretches.{burst_in, IsBurst, IsStretch, IsWritten, 
 use Rattle.fk_stretch.specs.Stretches.Rewrites.{Stays, Writes}
 
 pub then_writes : (space : Path) (w u v : World) → Rewrites space w u → Rewrites space u v → Rewrites space w v
-then_writes space w u u first Stays = first
-then_writes space w u v first (Writes t v page words rest there is) = Writes t v page words (then_writes space w u t first rest) there is
+then_writes space w u _ first Stays = first
+then_writes space w u _ first (Writes t v page words rest there is) = Writes t v page words (then_writes space w u t first rest) there is
 
 pub one_written : (space : Path) (w v : World) (address value : ℕ) → IsWritten w space address value v → Rewrites space w v
 one_written space w v address value is = Writes w v _ _ Stays (ap is_some is.there) is.becomes
@@ -29,8 +32,8 @@ one_written space w v address value is = Writes w v _ _ Stays (ap is_some is.the
 -- all bodies stay
 pub bodies_written : (space : Path) (w u : World) → Rewrites space w u → u.body ≡ w.body
 unfolding apply
-bodies_written space w w Stays = refl
-bodies_written space w u (Writes t u page words rest there is) = ap (λ (v : World). v.body) is ∙ bodies_written space w t rest
+bodies_written space w _ Stays = refl
+bodies_written space w _ (Writes t u page words rest there is) = ap (λ (v : World). v.body) is ∙ bodies_written space w t rest
 
 -- and so does the space
 pub space_stays : (m n : Contents) (space : ℕ) → Rewrites (path m space) (world m) (world n) → path n ≡ path m → IsSpace m space → IsSpace n space
@@ -42,8 +45,8 @@ space_stays m n space rewrites paths is =
 -- nothing but pages changes
 pages_alone : (space : Path) (w u : World) → Rewrites space w u → u ≡ record w { page = u.page }
 unfolding apply
-pages_alone space w w Stays = refl
-pages_alone space w u (Writes t u page words rest there is) =
+pages_alone space w _ Stays = refl
+pages_alone space w _ (Writes t u page words rest there is) =
     is
     ∙ ap (apply (PutPage space page words)) (pages_alone space w t rest)
     ∙ ap (λ (v : World). record w { page = v.page }) (sym is)
@@ -51,11 +54,16 @@ pages_alone space w u (Writes t u page words rest there is) =
 -- and no page of another space
 others_stay : (space q : Path) (w u : World) (page : ℕ) → same_path q space ≡ false → Rewrites space w u → u.page q page ≡ w.page q page
 unfolding apply
-others_stay space q w w page off Stays = refl
-others_stay space q w u page off (Writes t u at words rest there is) =
+others_stay space q w _ page off Stays = refl
+others_stay space q w _ page off (Writes t u at words rest there is) =
     ap (λ (v : World). v.page q page) is
     ∙ ap (λ b. cond (b && page == at) (Some words) (t.page q page)) off
     ∙ others_stay space q w t page off rest
+
+-- who is free is so by its words
+pub free_thread : (w : World) (x : Path) (t : Thread) → is_free_at w x ≡ true → thread_at w x ≡ Some t → is_free w (parent x) t ≡ true
+unfolding is_free_at
+free_thread w x t free there = sym (ap (holds (is_free w (parent x))) there) ∙ free
 
 -- a stretch is a burst
 pub is_burst : (w : World) (x : Path) (n : ℕ) (v : World) → IsPaged w → IsStretch w x n v → IsBurst w x n v
@@ -74,7 +82,7 @@ is_burst w x n v paged s = record {
     to : Burst
     to = burst_in s.middle (parent x) s.to
 
-    goes : _
+    goes : Change
     goes = Alter x (Proceed (Running s.to.registers) s.to.counter)
 
     by : (q : Path) (page : ℕ) (same : Bool) → same_path q (parent x) ≡ same →

@@ -3,7 +3,7 @@ use Rattle.std.specs.Prelude.{◌≡◌, ℕ, ◌/◌, ◌%◌, true, List, Some
 use Rattle.fk_model.specs.declared.limits.TheConstants.{PAGE_WORDS}
 use Rattle.fk_model.specs.declared.thread.Thread.{Thread as StoredThread}
 use Rattle.fk_model.specs.Holds.{is_free}
-use Rattle.fk_model.specs.Objects.{Mode, Thread}
+use Rattle.fk_model.specs.Objects.{Thread}
 use Rattle.fk_model.specs.Objects.Mode.{Running as RunsWith}
 use Rattle.fk_model.specs.Places.{Path, parent}
 use Rattle.fk_model.specs.Searches.{thread_at}

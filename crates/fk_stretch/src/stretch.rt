@@ -1,11 +1,10 @@
 //! Instructions over a store.
-ghost use Rattle.std.specs.Prelude.{◌≡◌, ◌≤◌, ◌<◌, ◌+◌, ◌/◌, ◌%◌, ℕ, List, Some, None, IfSome, slice_index, slice_set};
+ghost use Rattle.std.specs.Prelude.{◌≡◌, ◌≤◌, ◌<◌, ◌/◌, Some, IfSome};
 ghost use Rattle.std.specs.Bool.{OnTrue, OnFalse};
-ghost use Rattle.fk_model.specs.declared.limits.TheConstants.{PAGE_WORDS};
 ghost use Rattle.fk_model.specs.Valid.{kind_there};
 ghost use Rattle.fk_store.specs.Store.Paths.{path, place};
 ghost use Rattle.fk_store.specs.Store.World.{world, IsSpace};
-ghost use Rattle.laws_bursts.specs.Bursts.{made};
+ghost use Rattle.laws_bursts.specs.Bursts as bursts;
 ghost use Rattle.fk_stretch.specs.Stretches.{burst_in, HasWord, IsBegun, IsStretch, IsWritten, Rewrites, RunsSo, StoresNext};
 
 use crate::running::{Rest, Running};
@@ -27,15 +26,27 @@ struct Come {
     stores: Option<Storing>,
 }
 
+/// The number of the page in which an address is, where a space has such a page.
+#[inline(always)]
+fn page_number(address: u64) -> Option<u8>
+    ensures { IfSome result (λ page. page ≡ address / PAGE_WORDS) }
+{
+    if address < SPACE_WORDS {
+        Some((address / PAGE_WORDS) as u8)
+    } else {
+        None
+    }
+}
+
 /// The page of a space in which an address is, where it is there.
 #[inline(always)]
 fn page_of(store: &Store, space: u32, address: u64) -> Option<&[u64; 64]>
     ensures { IfSome result (λ words. Some words.now ≡ (world store.now).page (path store.now space) (address / PAGE_WORDS)) }
 {
-    if address >= SPACE_WORDS {
-        return None;
+    match page_number(address) {
+        Some(page) => store.page(space, page),
+        None => None,
     }
-    store.page(space, (address / PAGE_WORDS) as u8)
 }
 
 /// The word at an address of a space, where its page is there.
@@ -57,14 +68,16 @@ fn put_word(store: &mut Store, space: u32, storing: Storing) -> bool
     ensures kinds { kind_there (world store.new) ≡ kind_there (world store.old) }
     ensures paths { path store.new ≡ path store.old }
 {
-    let address = storing.address;
-    if page_of(store, space, address).is_none() {
+    let Some(page) = page_number(storing.address) else {
+        return false;
+    };
+    if store.page(space, page).is_none() {
         return false;
     }
     store.put_word(
         space,
-        (address / PAGE_WORDS) as u8,
-        (address % PAGE_WORDS) as u8,
+        page,
+        (storing.address % PAGE_WORDS) as u8,
         storing.value,
     );
     true
@@ -99,7 +112,7 @@ fn run_in(
     most: u64,
 ) -> Come
     requires there { Some words.now ≡ (world store.now).page (path store.now space) (running.old.counter / PAGE_WORDS) }
-    ensures made { made result.made (burst_in (world store.now) (path store.now space) running.old)
+    ensures made { bursts.made result.made (burst_in (world store.now) (path store.now space) running.old)
         ≡ Some (burst_in (world store.now) (path store.now space) running.new) }
     ensures few { result.made ≤ most }
     ensures stores { IfSome result.stores (λ s. (result.made < most)
@@ -121,7 +134,7 @@ fn run_in(
                     stores: Some(Storing { address, value }),
                 };
             }
-            Rest::Loads { .. } | Rest::Halts { .. } | Rest::Calls => {
+            _ => {
                 return Come {
                     made: event,
                     stores: None,
@@ -139,7 +152,7 @@ fn run_in(
 #[inline(always)]
 fn run_page(store: &mut Store, space: u32, running: &mut Running, most: u64) -> u64
     requires space { IsSpace store.old space }
-    ensures made { made result (burst_in (world store.old) (path store.old space) running.old)
+    ensures made { bursts.made result (burst_in (world store.old) (path store.old space) running.old)
         ≡ Some (burst_in (world store.new) (path store.old space) running.new) }
     ensures few { result ≤ most }
     ensures none { result ≡ 0 → store.new ≡ store.old }
@@ -164,7 +177,7 @@ fn run_page(store: &mut Store, space: u32, running: &mut Running, most: u64) -> 
 /// Makes instructions over the pages of a space, at most so many, and says how many they were.
 fn run_beside(store: &mut Store, space: u32, running: &mut Running, most: u64) -> u64
     requires space { IsSpace store.old space }
-    ensures made { made result (burst_in (world store.old) (path store.old space) running.old)
+    ensures made { bursts.made result (burst_in (world store.old) (path store.old space) running.old)
         ≡ Some (burst_in (world store.new) (path store.old space) running.new) }
     ensures few { result ≤ most }
     ensures none { result ≡ 0 → store.new ≡ store.old }
@@ -205,18 +218,19 @@ pub fn run(store: &mut Store, who: Who, most: u64) -> u64
     ensures kinds { kind_there (world store.new) ≡ kind_there (world store.old) }
     ensures paths { path store.new ≡ path store.old }
 {
-    if !store.is_free(who) {
-        return 0;
-    }
     let Some(thread) = store.thread(who) else {
         return 0;
     };
     let Some(mut running) = running_of(thread) else {
         return 0;
     };
-    let made = run_beside(store, who.space, &mut running, most);
-    if made > 0 {
-        store.proceed(who, &running.registers, running.counter, Mode::Running);
+    if !store.is_free(who) {
+        return 0;
     }
+    let made = run_beside(store, who.space, &mut running, most);
+    if made == 0 {
+        return 0;
+    }
+    store.proceed(who, &running.registers, running.counter, Mode::Running);
     made
 }

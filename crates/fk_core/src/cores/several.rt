@@ -71,9 +71,34 @@ impl<S: Service + Drop, W: Worker + Drop> Core<S, W> {
         Some((Move { who, pick: None }, made))
     }
 
+    /// Makes one move, or none, as `advance` does.
+    fn advance_one(&mut self, table: &Table, most: u64) -> Result<Option<(Move, u64)>, NoMemory>
+        requires some { 0 < most }
+        requires fits { AllFit (map (λ r. r.rule) table.now.list.items) self.old.services.list }
+        requires come { IsGoing self.old }
+        ensures advanced { IfOk result (λ made. IsAdvancedSo self.old.jobs.jobs self.old.budget most (run_core self.old) made (run_core self.new)) }
+        ensures none { IfOk result (λ made. IfNone made (IsOver self.old.jobs.jobs self.old.budget (run_core self.old))) }
+        ensures first { IfOk result (λ made. IsFirstDue self.old.jobs self.old.budget (run_core self.old) (mover_of made)) }
+        ensures lacking { OnErr result (run_core self.new ≡ run_core self.old) }
+        ensures lacks { OnErr result (IsLacking self.old.jobs.jobs self.old.budget (run_core self.old)) }
+        ensures fits { AllFit (map (λ r. r.rule) table.now.list.items) self.new.services.list }
+        ensures budget { self.new.budget ≡ self.old.budget }
+        ensures jobs { self.new.jobs.jobs ≡ self.old.jobs.jobs }
+        ensures come { IsGoing self.new }
+    {
+        match self.advance(table)? {
+            Some(m) => Ok(Some((m, 1))),
+            None => Ok(None),
+        }
+    }
+
     /// Makes moves of one mover that are ready, at least one, at most so many and none past the end of the round of 64, and gives whose and how many: what
     /// `advance` makes, or instructions of the thread that moved last. There is none exactly where none is ready or the budget is used, and then, and for
     /// want of memory, all is as before. Memory lacks only where a ready move may want it.
+    ///
+    /// # Errors
+    ///
+    /// There is no memory for what a ready move may want: an object, a page, a server that grows, a job that grows by its answer. All is as before then.
     pub fn advance_by(&mut self, table: &Table, most: u64) -> Result<Option<(Move, u64)>, NoMemory>
         requires some { 0 < most }
         requires fits { AllFit (map (λ r. r.rule) table.now.list.items) self.old.services.list }
@@ -91,9 +116,6 @@ impl<S: Service + Drop, W: Worker + Drop> Core<S, W> {
         if let Some(made) = self.proceed_by(most) {
             return Ok(Some(made));
         }
-        match self.advance(table)? {
-            Some(m) => Ok(Some((m, 1))),
-            None => Ok(None),
-        }
+        self.advance_one(table, most)
     }
 }

@@ -1,5 +1,5 @@
 -- FaultedLaws: a thread gets another fault, by its name.
-use Rattle.std.proofs.Common.{◌≡◌, ℕ, List, Option, Some, None, refl, sym, ap, subst, ◌∙◌}
+use Rattle.std.proofs.Common.{◌≡◌, ℕ, List, Option, Some, sym, ap, subst, ◌∙◌}
 use Rattle.std.specs.FinMap.{get}
 use Rattle.fk_model.specs.Objects.{and_then}
 use Rattle.fk_model.specs.declared.names.Who.{Who}

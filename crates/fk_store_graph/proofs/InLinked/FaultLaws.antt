@@ -1,6 +1,6 @@
 -- FaultLaws: a thread gets another fault where it stands.
-use Rattle.std.proofs.Common.{◌≡◌, ◌≢◌, ℕ, ◌+◌, ◌*◌, ◌/◌, ◌%◌, ◌<◌, ◌≤◌, Bool, true, false, cond, ◌==◌, nat_lt, List, [], Option, Some, None, option_map}
-use Rattle.std.proofs.Common.{refl, sym, ap, subst, ◌∙◌, arith}
+use Rattle.std.proofs.Common.{◌≡◌, ◌≢◌, ℕ, ◌/◌, ◌%◌, ◌<◌, ◌≤◌, Bool, true, false, cond, ◌==◌, nat_lt, List, [], Option, Some, None, option_map}
+use Rattle.std.proofs.Common.{refl, sym, ap, ◌∙◌, arith}
 use Rattle.std.proofs.lemmas.Bool.Decides.{nat_tests}
 use Rattle.fk_model.specs.Objects.{and_then}
 use Rattle.fk_model.specs.declared.body.Body.{Body}
@@ -9,7 +9,6 @@ use Rattle.fk_model.specs.declared.thread.Fault.{Fault}
 use Rattle.fk_model.specs.declared.thread.Mode.TheVariants as modes
 use Rattle.fk_model.specs.declared.thread.Thread.{Thread as State}
 use Rattle.fk_store_graph.specs.declared.links.links.Link.{Link}
-use Rattle.fk_store_graph.specs.declared.hints.lead.Lead.{Lead}
 use Rattle.fk_store_graph.specs.Hints.Leads.{led, of_fault, of_thread}
 use Rattle.fk_store_graph.specs.Links.Links.{AreRings}
 use Rattle.fk_store_graph.specs.Links.Nodes.{is_head, node_of}

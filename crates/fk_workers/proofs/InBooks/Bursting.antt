@@ -115,9 +115,9 @@ room_by first s t past times room m run moves wide =
     let budget = run.budget in
     omega (arith, events, counted, long, within, budget, wide)
 
-pub longer_by : {C : Type 0} (b d : Told C) (times : ℕ) (m : Move) → d.history ≡ b.history ++ replicate times m →
-    length d.history ≡ length b.history + times
-longer_by b d times m is = ap length is ∙ length-append b.history (replicate times m) ∙ ap (λ n. length b.history + n) (long_replicate times m)
+pub longer_by : (past longer : List Move) (times : ℕ) (m : Move) → longer ≡ past ++ replicate times m → length longer ≡ length past + times
+longer_by past longer times m is =
+    ap length is ∙ (length-append past (replicate times m) ∙ ap (λ n. length past + n) (long_replicate times m))
 
 -- the events of a run are within its budget
 pub within_now : (first s : Shown) (past : List Move) → HasRun first past s → s.core.events ≤ s.budget

@@ -1,6 +1,7 @@
 -- What a core's calls come to is what a book asks of them.
-use Rattle.std.proofs.Common.{◌≡◌, ℕ, zero, suc, ◌+◌, ◌<◌, ◌≤◌, ◌%◌, length, replicate, refl, Bool, true, false, Option, Some, None, IfNone}
+use Rattle.std.proofs.Common.{◌≡◌, ℕ, ◌+◌, ◌<◌, ◌≤◌, ◌%◌, Bool, true, false, Option, Some, None, IfNone}
 use Rattle.std.proofs.Common.{IfSome, Result, Ok, Err, IfOk, OnErr, sym, ap, subst, ◌∙◌}
+use Rattle.std.proofs.lemmas.List.{length-replicate}
 use Rattle.std.specs.Bool.{OnTrue, OnFalse}
 use Rattle.fk_model.specs.declared.moves.Move.{Move}
 use Rattle.fk_core.specs.Cores.Bursts.{IsAdvancedSo}
@@ -22,10 +23,6 @@ ended s t None advanced jobs budget over = subst HasEnded (sym (shown_same s t j
 ended s t (Some m) advanced jobs budget over = tt
 
 -- the same of several
-long_replicate : {X : Type 0} (n : ℕ) (x : X) → length (replicate n x) ≡ n
-long_replicate zero x = refl
-long_replicate (suc n) x = ap suc (long_replicate n x)
-
 comes_by : (s t : Shown) (most : ℕ) (made : Option (Move × ℕ)) → IsAdvancedSo s.jobs s.budget most s.core made t.core → t.jobs ≡ s.jobs →
     t.budget ≡ s.budget → ComesBy s most made t
 comes_by s t most None advanced jobs budget = shown_same s t jobs budget advanced
@@ -34,7 +31,7 @@ comes_by s t most (Some made) advanced jobs budget = (
   advanced.few,
   record {
     run = advanced.run;
-    events = advanced.events ∙ ap (λ n. s.core.events + n) (sym (long_replicate made.1 made.0));
+    events = advanced.events ∙ ap (λ n. s.core.events + n) (sym (length-replicate made.1 made.0));
     within = subst (λ n. n ≤ s.budget) (sym advanced.events) advanced.within;
     jobs = jobs;
     budget = budget;

@@ -27,10 +27,6 @@ pub fault_nobody : (w : World) (x : Path) (fault : Option Fault) → thread_at w
 unfolding edited
 fault_nobody w x fault none = alter-nobody w x (SetFault fault) _ (λ b. refl) none
 
-pub taker_nobody : (w : World) (x : Path) (taker : Option Peer) → thread_at w x ≡ None → w ≡ apply (Alter x (SetTaker taker)) w
-unfolding edited
-taker_nobody w x taker none = alter-nobody w x (SetTaker taker) _ (λ b. refl) none
-
 -- ---- another taker is another fault
 
 pub taker_is_fault : (w : World) (x : Path) (f : Fault) (taker : Option Peer) → fault_at w x ≡ Some f →

@@ -7,7 +7,7 @@ use Rattle.fk_model.specs.declared.stage.Stage.{Stage}
 use Rattle.fk_model.specs.declared.thread.Mode as modes_of
 use Rattle.fk_model.specs.declared.thread.Mode.TheVariants as modes
 use Rattle.fk_model.specs.declared.thread.Thread as threads_of
-use Rattle.fk_model.specs.Places.{Path, same_path, Ptr}
+use Rattle.fk_model.specs.Places.{Path, same_path}
 use Rattle.fk_model.specs.Calls.{words, todo_of, rest_of, code_of}
 use Rattle.fk_model.specs.Objects.{Thread, Body, kind_of}
 use Rattle.fk_model.specs.Objects.Mode.{Running}
@@ -15,7 +15,6 @@ use Rattle.fk_model.specs.Objects.Body.{Mutex, Cond, Mapping, Region, Port, Port
 use Rattle.fk_model.specs.World.{World, Edit, edited, on_thread, apply}
 use Rattle.fk_model.specs.World.Edit.{End}
 use Rattle.fk_model.specs.World.Change.{Alter}
-use Rattle.fk_model.specs.Readers.{fault_on}
 use Rattle.fk_model.specs.Valid.{kind_there}
 use Rattle.fk_model.proofs.calls.CallLaws.{todo_writes_back_lem}
 use Rattle.fk_store.specs.Store.Bodies.{mode_by, thread_by}
@@ -105,9 +104,3 @@ ended-other p t status other = by t.mode refl
 pub end_nobody : (w : World) (x : Path) (status : ℕ) → thread_at w x ≡ None → w ≡ apply (Alter x (End status [])) w
 unfolding edited
 end_nobody w x status none = alter-nobody w x (End status []) _ (λ b. refl) none
-
--- ---- what else becomes of a thread
-
-pub raise_nobody : (w : World) (x : Path) (page : ℕ) (write : Bool) (port : Ptr) → thread_at w x ≡ None → w ≡ apply (fault_on x page write port) w
-unfolding edited
-raise_nobody w x page write port none = alter-nobody w x _ _ (λ b. refl) none

@@ -1,25 +1,27 @@
 use Rattle.std.proofs.Common.{◌≡◌, ◌<◌, ℕ, true, None, sym, ap, subst, ◌∙◌, arith}
 use Rattle.fk_model.specs.declared.moves.Ask.TheVariants as asks
 use Rattle.fk_model.specs.Moves.{IsReady}
-use Rattle.fk_model.specs.Objects.Mode.{Running}
 use Rattle.fk_model.specs.Places.{Path}
 use Rattle.fk_model.specs.Searches.{thread_at}
 use Rattle.fk_model.specs.Valid.{IsValid}
 use Rattle.fk_model.specs.Who.{named}
-use Rattle.fk_model.specs.World.{World}
 use Rattle.fk_plans.specs.Plans.Effects.{is_running}
+use Rattle.fk_store.specs.Store.Contents.{Contents}
 use Rattle.fk_store.specs.Store.Paths.{path, place}
 use Rattle.fk_store.specs.Store.World.{world}
 use Rattle.fk_stretch.specs.Stretches.{IsStretch}
 use Rattle.fk_stretch.proofs.Written.{ready_first}
 use Rattle.fk_turns.specs.Steps.Kept.{is_user_at}
 use Rattle.fk_turns.specs.Steps.Told.{IsStored}
+use Rattle.fk_turns.specs.Steps.Waiting.{standing}
 use Rattle.fk_turns.proofs.InSteps.Went.{free_when_ready}
 use Rattle.laws_moves.specs.Users.Stood.{is_users_at}
 use Rattle.fk_kernel.proofs.Quietly.{replaced_stays, runs_at}
 use Rattle.fk_kernel.proofs.Replacing.{valid-proceeded}
 use Rattle.fk_kernel.proofs.Rewrote.{leaves_whys, moved_rewritten, others_stay, quiet_rewritten, room_rewritten, user_running, user_stays}
-use Rattle.fk_kernel.proofs.Stretched.{runs_first, stuck_written, valid_written, written_leaves}
+use Rattle.fk_kernel.specs.Kernels.{IsHeld}
+use Rattle.fk_kernel.proofs.Kept.{kept_of}
+use Rattle.fk_kernel.proofs.Stretched.{burst_named, runs_first, stuck_written, valid_written, written_leaves}
 use Rattle.fk_kernel.proofs.kernel.Kernel.run_on.Goals as goal
 
 pub after_still-requires : goal.after_still-requires
@@ -30,8 +32,8 @@ after_still-requires c =
     let thread = c.args.thread in
     let stored : IsStored m = record {
       valid = c.self.invariant.valid;
-      born = rw (sym c.self.view_is) at c.names.ensures.born;
-      few = rw (sym c.self.view_is) at c.names.ensures.few;
+      born = c.names.ensures.born;
+      few = c.names.ensures.few;
     } in
     let some : 0 < c.run-made.result = omega arith in
     let s : IsStretch (world m) (place (path m) thread) c.run-made.result (world n) = c.run-made.ensures.stretch some in
@@ -75,3 +77,23 @@ invariant_of-self c =
       valid = subst IsValid (sym s.goes) (valid-proceeded s.middle _ _ _ (valid_written _ (world m) s.middle s.rewrites c.self.invariant.valid));
       kept = c.after_still.ensures.kept;
     }
+
+-- where none was made all is as before
+pub invariant_of-self-then-made-eq0 : goal.invariant_of-self-then-made-eq0
+invariant_of-self-then-made-eq0 c =
+    let was = c.self.inside.turns in
+    subst (λ (n : Contents). IsHeld n was.waits was.marks) (sym (c.run-made.ensures.none c.if-made-eq0.true)) c.self.invariant
+
+pub returns-then-made-eq0-clause-none : goal.returns-then-made-eq0-clause-none
+returns-then-made-eq0-clause-none c none =
+    rw (← c.self.view_is) (ap (λ (n : Contents). kept_of n (standing c.self.inside.turns.waits)) (c.run-made.ensures.none c.if-made-eq0.true))
+
+pub returns-clause-ran : goal.returns-clause-ran
+returns-clause-ran c some =
+    let m = c.self.inside.store in
+    let made = c.run-made in
+    rw (← c.self.view_is) (burst_named (world m) (path m) c.args.thread made.result (world made.new.store) c.names.ensures.born c.self.invariant.valid.paged
+    (made.ensures.stretch some))
+
+pub returns-clause-none : goal.returns-clause-none
+returns-clause-none c none = absurd (omega (arith, none))

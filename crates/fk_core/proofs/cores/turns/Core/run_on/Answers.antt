@@ -1,4 +1,4 @@
-use Rattle.std.proofs.Common.{◌≡◌, ◌<◌, None, refl, sym, subst, arith}
+use Rattle.std.proofs.Common.{◌<◌, None, refl, sym, subst, arith}
 use Rattle.fk_model.specs.declared.moves.Move.{Move}
 use Rattle.fk_core.specs.Rounds.Kernels.{world_of as world}
 use Rattle.laws_turns.specs.Quiet.{LeadRunning}
