@@ -96,7 +96,7 @@ fn go_at(store: &mut Store, who: Who) -> Went
     requires unheld { (q : Path) → decider (world store.old) q ≡ None }
     ensures { WentTo store.old store.new who result }
 {
-    let Some(stage) = stage_of(store, who) else {
+    let Some(stage) = stage_here(store, who) else {
         return Went::Not;
     };
     match stage {
@@ -119,7 +119,7 @@ pub fn may_lock(store: &Store, who: Who) -> bool
     ensures free { OnTrue result (is_free_at (world store.now) (place (path store.now) who) ≡ true) }
     ensures ready { OnTrue result (IsReadyMove store.now (run_of who) asks.Run) }
 {
-    match stage_of(store, who) {
+    match stage_here(store, who) {
         Some(stage) => is_unlocked(store, who, stage),
         None => false,
     }
@@ -131,7 +131,7 @@ pub fn may_talk(store: &Store, who: Who) -> bool
     requires unheld { (q : Path) → decider (world store.now) q ≡ None }
     ensures { OnTrue result (IsReadyMove store.now (run_of who) asks.Run) }
 {
-    match stage_of(store, who) {
+    match stage_here(store, who) {
         Some(stage) => meets(store, who, stage),
         None => false,
     }
@@ -189,7 +189,7 @@ fn is_open(store: &Store, who: Who, m: u64) -> bool
 
 /// The stage that is made here at which the free user in a slot is, if it is at one.
 #[inline(always)]
-fn stage_of(store: &Store, who: Who) -> Option<Stage>
+fn stage_here(store: &Store, who: Who) -> Option<Stage>
     ensures free { IsSome result → is_free_at (world store.now) (place (path store.now) who) ≡ true }
     ensures at { IfSome result (IsAtOrderly (world store.now) (place (path store.now) who)) }
     ensures alone { IfSome result (λ stage. is_lock stage ≡ true → todo_at (world store.now) (place (path store.now) who) ≡ stage ∷ []) }

@@ -11,6 +11,7 @@ ghost use Rattle.fk_turns.specs.Moved.Kept.{is_user_at, AreKept};
 ghost use Rattle.fk_turns.specs.Next.Waiting.{standing, IsMoveReady, IsPlaced};
 ghost use Rattle.fk_turns.specs.Steps.Talks as talks_of;
 ghost use Rattle.fk_turns.specs.Steps.Talks.{peer_at, ComesTalked, IsAlone, IsThere};
+ghost use Rattle.fk_turns.specs.Whys.Whys.{IsLoudly};
 ghost use Rattle.laws_waits.specs.Few.{is_peer_of};
 
 use crate::moved::settle_loud;
@@ -56,8 +57,40 @@ fn after_words(
     ensures kept { AreKept store.now turns.new.waits turns.new.marks }
     ensures placed { is_user_at store.now mover ≡ true → IsPlaced store.now (standing turns.new.waits) mover }
 {
-    turns.wake(receiver);
+    tell_receiver(turns, store, mover, client, receiver, sender);
     settle_talker(turns, store, mover);
+}
+
+/// Who received words waits for more where it stood, or may move.
+#[inline(always)]
+fn tell_receiver(
+    turns: &mut Turns,
+    store: &Store,
+    mover: Who,
+    client: Who,
+    receiver: Who,
+    sender: Who,
+)
+    requires valid { IsValid (world store.now) }
+    requires comes { ComesTalked store.now mover (Talked.Sends client receiver sender) turns.old.waits turns.old.marks }
+    ensures { AreKept store.now turns.new.waits turns.new.marks }
+{
+    if hears_still(store, receiver) {
+        return;
+    }
+    turns.wake(receiver);
+}
+
+/// It waits at its Receive for the other end.
+#[inline(always)]
+fn hears_still(store: &Store, who: Who) -> bool
+    requires valid { IsValid (world store.now) }
+    ensures { OnTrue result (IsLoudly (world store.now) (place_of store.now who)) }
+{
+    match heard_at(store, who) {
+        Some(_) => true,
+        None => false,
+    }
 }
 
 /// The lists after a turn that went to a receiver. Where one of the two is in another talk too, those who wait for it there are looked at as after any move.

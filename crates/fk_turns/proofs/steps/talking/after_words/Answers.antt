@@ -1,26 +1,4 @@
-use Rattle.fk_calls.specs.declared.calls.going.Talked.TheVariants.{Sends}
-use Rattle.fk_waits.proofs.InCauses.Numbers.{clash}
-use Rattle.fk_waits.specs.Waits.Lists.{stands}
-use Rattle.fk_turns.proofs.InSteps.Talked.{kept_sent, receiver_stands}
 use Rattle.fk_turns.proofs.steps.talking.after_words.Goals as goal
 
-pub wake-requires : goal.wake-requires
-wake-requires c =
-    let was = c.args.turns.now in
-    let by = Sends c.args.client c.args.receiver c.args.sender in
-    let there = receiver_stands c.args.store.now c.args.mover by was.waits was.marks c.requires.comes in
-    record {
-      sound = c.requires.comes.kept.sound;
-      waits = λ off. clash (stands c.args.receiver was.waits) there off;
-      marks = λ off. clash (stands c.args.receiver was.waits) there off;
-    }
-
 pub settle_talker-requires : goal.settle_talker-requires
-settle_talker-requires c =
-    let was = c.args.turns.now in
-    let now = c.wake.new.self in
-    record {
-      valid = c.requires.valid;
-      kept = kept_sent c.args.store.now c.args.mover c.args.client c.args.receiver c.args.sender was.waits was.marks now.waits now.marks c.requires.comes
-          c.wake.ensures.waits c.wake.ensures.met c.wake.ensures.away c.wake.ensures.sound;
-    }
+settle_talker-requires c = record { valid = c.requires.valid; kept = c.tell_receiver.ensures }

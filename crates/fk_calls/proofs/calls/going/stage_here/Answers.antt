@@ -2,7 +2,7 @@ use Rattle.std.proofs.Common.{◌≡◌, length, arith}
 use Rattle.fk_store.specs.Store.Paths.{path, place}
 use Rattle.fk_store.specs.Store.World.{world}
 use Rattle.fk_calls.proofs.InCalls.Talking.{lone_if, orderly_if}
-use Rattle.fk_calls.proofs.calls.going.stage_of.Goals as goal
+use Rattle.fk_calls.proofs.calls.going.stage_here.Goals as goal
 
 pub returns-in-Calling-clause-at : goal.returns-in-Calling-clause-at
 returns-in-Calling-clause-at c =
