@@ -87,10 +87,10 @@ fn hears_still(store: &Store, who: Who) -> bool
     requires valid { IsValid (world store.now) }
     ensures { OnTrue result (IsLoudly (world store.now) (place_of store.now who)) }
 {
-    match heard_at(store, who) {
-        Some(_) => true,
-        None => false,
+    if let Some(_port) = heard_at(store, who) {
+        return true;
     }
+    false
 }
 
 /// The lists after a turn that went to a receiver. Where one of the two is in another talk too, those who wait for it there are looked at as after any move.
