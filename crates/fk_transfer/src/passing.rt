@@ -239,13 +239,7 @@ pub fn handing(store: &Store, caller: Caller, side: Turn) -> Option<Handing>
 
 /// The same with this thread at the other end.
 #[tactic(auto, unfolding(fk_store::specs::Store::Threads::is_free_at))]
-fn handing_to(
-    store: &Store,
-    caller: Caller,
-    side: Turn,
-    client: Who,
-    peer: Who,
-) -> Option<Handing>
+fn handing_to(store: &Store, caller: Caller, side: Turn, client: Who, peer: Who) -> Option<Handing>
     ensures outcome { (words : List ℕ) → IfSome result (λ h. outcome_by (world store.now) (path store.now) (caller_by (path store.now) caller words) (passed_of h)
         ≡ rows.passes_to_thread (world store.now) (caller_by (path store.now) caller words) side (place (path store.now) client) None
         (talks.thread_led_to (world store.now) (At (place (path store.now) peer)))) }

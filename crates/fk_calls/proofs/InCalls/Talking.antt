@@ -172,11 +172,16 @@ module _ (m : Contents) (who : Who) (unheld : (q : Path) → decider (world m) q
         by false = refl
 
     allowed : (last : Bool) → AreAllowed w me (all last)
-    allowed last =
-        (unfrozen (path m words.block.to.0),
-        (record { object = unfrozen (place (path m) words.client); changed = none_led (w.body (place (path m) words.client)); made = refl },
-        (record { object = unfrozen (place (path m) words.receiver); changed = none_led (w.body (place (path m) words.receiver)); made = refl },
-        (record { object = unfrozen (place (path m) words.sender); changed = none_led (w.body (place (path m) words.sender)); made = refl }, by last))))
+    allowed last = (
+      unfrozen (path m words.block.to.0),
+      (
+        record { object = unfrozen (place (path m) words.client); changed = none_led (w.body (place (path m) words.client)); made = refl },
+        (
+          record { object = unfrozen (place (path m) words.receiver); changed = none_led (w.body (place (path m) words.receiver)); made = refl },
+          (record { object = unfrozen (place (path m) words.sender); changed = none_led (w.body (place (path m) words.sender)); made = refl }, by last),
+        ),
+      ),
+    )
       where
         by : (last : Bool) → AreAllowed w me (if last then Alter me (Finish []) ∷ [] else [])
         by true = (record { object = unfrozen me; changed = none_led (w.body me); made = refl }, tt)
@@ -248,10 +253,13 @@ module _ (m : Contents) (who : Who) (unheld : (q : Path) → decider (world m) q
     turned = Alter (place (path m) to.receiver) (Finish (came_answers to.came)) ∷ Alter (place (path m) to.client) (PassTurn to.turn) ∷ Alter me (Finish []) ∷ []
 
     may_turn : AreAllowed w me turned
-    may_turn =
-        (record { object = unfrozen (place (path m) to.receiver); changed = none_led (w.body (place (path m) to.receiver)); made = refl },
-        (record { object = unfrozen (place (path m) to.client); changed = none_led (w.body (place (path m) to.client)); made = refl },
-        (record { object = unfrozen me; changed = none_led (w.body me); made = refl }, tt)))
+    may_turn = (
+      record { object = unfrozen (place (path m) to.receiver); changed = none_led (w.body (place (path m) to.receiver)); made = refl },
+      (
+        record { object = unfrozen (place (path m) to.client); changed = none_led (w.body (place (path m) to.client)); made = refl },
+        (record { object = unfrozen me; changed = none_led (w.body me); made = refl }, tt),
+      ),
+    )
 
     passed_judged : (side : Turn) → IsAtStage w me (over_on side) →
         outcome_by w (path m) (caller_by (path m) (user who) []) (passed_of to) ≡ over w (user_at me) side None →

@@ -53,9 +53,16 @@ pub enum What {
 #[derive(Clone, Copy)]
 pub enum Talked {
     /// Words went from the sender to the receiver, which is at its Receive still.
-    Sends { client: Who, receiver: Who, sender: Who },
+    Sends {
+        client: Who,
+        receiver: Who,
+        sender: Who,
+    },
     /// The receiver has the turn, and its Receive is done.
-    Passes { client: Who, receiver: Who },
+    Passes {
+        client: Who,
+        receiver: Who,
+    },
 }
 
 /// What came of a look at a thread.

@@ -189,6 +189,7 @@ module _ (m n : Contents) (mover : Who) (old : IsStored m) (new : IsStored n) (m
     pub left_passed : is_free_at (world m) (place_of m mover) ≡ true → IsAlone (world n) (place_of m client) → (who : Who) (why : Why) →
         is_same mover who ≡ false → is_same receiver who ≡ false → is_user_at m who ≡ true → is_barred_why why ≡ false →
         IsWhy (world m) (path m) (place_of m who) why → IsWhy (world n) (path n) (place_of n who) why
+    unfolding apply_all
     left_passed free alone who why off_mover off_receiver user named is =
         let there = user_there (world m) (place_of m who) user in
         let meets = pair (world m) (place_of m mover) (place_of m client) (place_of m receiver) row.side row.meets in
@@ -203,5 +204,4 @@ module _ (m n : Contents) (mover : Who) (old : IsStored m) (new : IsStored n) (m
         (other_place passed_edits who receiver off_receiver there) None asks.Run row.changes (path m) why named is)
       where
         all_parted : (me y c : Path) (answers : List ℕ) (turn : Turn) → apply_all (passes me y c answers turn) (world m) ≡ parted (world m) me y c answers turn
-        unfolding apply_all
         all_parted me y c answers turn = refl

@@ -297,11 +297,16 @@ module _ (w : World) (me client y s : Path) (page k : ℕ) (words : List ℕ) wh
     done_quiet (Some u) is t e = let same : u ≡ t = cc in subst (λ (v : Thread). is_loud (Finish []) v ≡ false) same (sent_unreached u u.mode is)
 
     pub sent_mild : (last : Bool) → AreMild w (places last) (sent last)
-    sent_mild last =
-        (inl there,
-        (quiet_at paged client (CountMoved k) (refl, refl, refl) (in_paged anywhere client clients) (λ t is. refl),
-        (quiet_at counted y (Shift k) (refl, refl, refl) (in_counted anywhere y theirs) (λ t is. refl),
-        (quiet_at heard me (Shift k) (refl, refl, refl) (somebody (thread_at heard me) mine_heard) (λ t is. refl), by last))))
+    sent_mild last = (
+      inl there,
+      (
+        quiet_at paged client (CountMoved k) (refl, refl, refl) (in_paged anywhere client clients) (λ t is. refl),
+        (
+          quiet_at counted y (Shift k) (refl, refl, refl) (in_counted anywhere y theirs) (λ t is. refl),
+          (quiet_at heard me (Shift k) (refl, refl, refl) (somebody (thread_at heard me) mine_heard) (λ t is. refl), by last),
+        ),
+      ),
+    )
       where
         by : (last : Bool) → AreMild spoken (if last then me ∷ [] else []) (if last then Alter me (Finish []) ∷ [] else [])
         by true =
