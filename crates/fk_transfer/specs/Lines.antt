@@ -22,7 +22,7 @@ use Rattle.fk_plans.specs.declared.plans.plan.Plan.TheVariants as plans
 use Rattle.fk_plans.specs.declared.plans.plan.Verdict.{Verdict}
 use Rattle.fk_plans.specs.declared.plans.plan.Verdict.TheVariants as verdicts
 use Rattle.fk_transfer.specs.declared.lines.Line.{Line}
-use Rattle.fk_transfer.specs.declared.passing.Handover.{Handover}
+use Rattle.fk_transfer.specs.declared.passing.Passage.{Passage}
 
 abbrev pub line_by : (ℕ → Path) → Line → talks.Line
 line_by p line = record { client = place p line.client; talk = talk_by p line.talk; other = peer_by p line.other }
@@ -56,7 +56,7 @@ pub record AreEnds (w : World) (sender receiver : Path) (address into : ℕ) : T
 abbrev pub passed_by : Who → Turn → Who → Option Bool → Verdict
 passed_by client turn peer came = verdicts.Done (plans.Two (deeds.Finishes peer came) (deeds.Passes client turn)) Nothing
 
-abbrev pub passed_of : Handover → Verdict
+abbrev pub passed_of : Passage → Verdict
 passed_of h = passed_by h.client h.turn h.receiver h.came
 
 -- ---- who meets whom

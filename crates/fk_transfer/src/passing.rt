@@ -206,7 +206,7 @@ pub fn over_ref(store: &Store, caller: Caller, side: Turn, reference: u64) -> Re
 
 /// A turn that goes to a thread at its Receive, which is done then.
 #[derive(Clone, Copy)]
-pub struct Handover {
+pub struct Passage {
     pub client: Who,
     /// Whose turn it is then.
     pub turn: Turn,
@@ -217,7 +217,7 @@ pub struct Handover {
 
 /// What an Over comes to where the turn goes to a thread that is at its Receive. It is most Overs, and needs no verdict, which is large.
 #[tactic(auto, unfolding(fk_model::specs::TransferRows::over))]
-pub fn handing(store: &Store, caller: Caller, side: Turn) -> Option<Handover>
+pub fn handing(store: &Store, caller: Caller, side: Turn) -> Option<Passage>
     requires user { caller.is_porter ≡ false }
     requires valid { IsValid (world store.now) }
     ensures outcome { (words : List ℕ) → IfSome result (λ h. outcome_by (world store.now) (path store.now) (caller_by (path store.now) caller words) (passed_of h)
@@ -239,7 +239,7 @@ pub fn handing(store: &Store, caller: Caller, side: Turn) -> Option<Handover>
 
 /// The same with this thread at the other end.
 #[tactic(auto, unfolding(fk_store::specs::Store::Threads::is_free_at))]
-fn handing_to(store: &Store, caller: Caller, side: Turn, client: Who, peer: Who) -> Option<Handover>
+fn handing_to(store: &Store, caller: Caller, side: Turn, client: Who, peer: Who) -> Option<Passage>
     ensures outcome { (words : List ℕ) → IfSome result (λ h. outcome_by (world store.now) (path store.now) (caller_by (path store.now) caller words) (passed_of h)
         ≡ rows.passes_to_thread (world store.now) (caller_by (path store.now) caller words) side (place (path store.now) client) None
         (talks.thread_led_to (world store.now) (At (place (path store.now) peer)))) }
@@ -257,7 +257,7 @@ fn handing_to(store: &Store, caller: Caller, side: Turn, client: Who, peer: Who)
     }
     let turn = other_side(side);
     match receiving(store, peer.space, thread, turn) {
-        Some(_) => Some(Handover {
+        Some(_) => Some(Passage {
             client,
             turn,
             receiver: peer,

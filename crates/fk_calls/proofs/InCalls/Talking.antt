@@ -43,7 +43,7 @@ use Rattle.fk_store.specs.Store.Contents.{Contents}
 use Rattle.fk_store.specs.Store.Paths.{path, place}
 use Rattle.fk_store.specs.Store.Threads.{is_free_at, todo_at}
 use Rattle.fk_store.specs.Store.World.{world}
-use Rattle.fk_transfer.specs.declared.passing.Handover.{Handover}
+use Rattle.fk_transfer.specs.declared.passing.Passage.{Passage}
 use Rattle.fk_transfer.specs.Lines.{over_on, passed_of, sending, IsReceiver, Meets}
 use Rattle.fk_calls.specs.Acts.Endings.{IsLeft}
 use Rattle.fk_calls.specs.declared.calls.going.Talked.TheVariants as talkeds
@@ -245,7 +245,7 @@ module _ (m : Contents) (who : Who) (unheld : (q : Path) → decider (world m) q
 
   -- ---- a turn
 
-  module _ (to : Handover) where
+  module _ (to : Passage) where
     abbrev passed : Judgement
     passed = record { caller = user who; chooses = false; verdict = passed_of to }
 
@@ -309,7 +309,7 @@ module _ (m : Contents) (who : Who) (unheld : (q : Path) → decider (world m) q
   may_send side address count at (Some words) row fits =
       sent_ready words (sent_judged words side address count (at_stage w me (sending side address count) at) row fits)
 
-  pub may_pass : (side : Turn) → IsAtOrderly w me (over_on side) → (o : Option Handover) →
+  pub may_pass : (side : Turn) → IsAtOrderly w me (over_on side) → (o : Option Passage) →
       IfSome o (λ to. outcome_by w (path m) (caller_by (path m) (user who) []) (passed_of to) ≡ over w (user_at me) side None) →
       IfSome o (λ to. IsVerdict m (user who) (passed_of to)) → OnTrue (is_some o) (IsReadyMove m (run_of who) asks.Run)
   may_pass side at None row fits = tt

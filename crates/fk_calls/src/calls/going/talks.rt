@@ -21,7 +21,7 @@ use fk_changes::threads::{Answers, answered, finish};
 use fk_model::{Turn, Who};
 use fk_plans::move_words;
 use fk_store::Store;
-use fk_transfer::{Handover, awaits, handing, moving};
+use fk_transfer::{Passage, awaits, handing, moving};
 
 /// Sends words to a thread that receives them.
 #[inline(always)]
@@ -78,7 +78,7 @@ pub fn over(store: &mut Store, who: Who, side: Turn) -> Went
 
 /// The Receive of a thread is done, the turn passes to it, and the stage of the thread is done that hands it over.
 #[inline(always)]
-fn hands(store: &mut Store, who: Who, handed: &Handover)
+fn hands(store: &mut Store, who: Who, handed: &Passage)
     ensures { world store.new ≡ apply (Alter (place (path store.old) who) (Finish []))
         (apply (Alter (place (path store.old) handed.now.client) (PassTurn handed.now.turn))
         (apply (Alter (place (path store.old) handed.now.receiver) (Finish (came_answers handed.now.came))) (world store.old))) }
