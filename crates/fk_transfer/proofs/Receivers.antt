@@ -1,5 +1,5 @@
 -- Receivers: behind a Receive nothing stands in any call.
-use Rattle.std.proofs.Common.{◌≡◌, ℕ, Bool, true, not, List, [], ◌∷◌, length, Option, Some, None, unwrap_or, is_some, IsSome, IfSome, refl, sym, ap, ◌∙◌}
+use Rattle.std.proofs.Common.{◌≡◌, ℕ, Bool, true, not, List, [], ◌∷◌, length, Option, Some, None, unwrap_or, is_some, IsSome, IfSome, refl, sym, ap}
 use Rattle.fk_model.specs.declared.stage.Stage.{Stage}
 use Rattle.fk_model.specs.declared.thread.Mode as modes_of
 use Rattle.fk_model.specs.declared.thread.Mode.TheVariants as modes

@@ -1,4 +1,3 @@
-use Rattle.std.proofs.Common.{◌≡◌, length, arith}
 use Rattle.fk_store.specs.Store.Paths.{path, place}
 use Rattle.fk_store.specs.Store.World.{world}
 use Rattle.fk_calls.proofs.InCalls.Talking.{lone_if, orderly_if}
@@ -7,9 +6,8 @@ use Rattle.fk_calls.proofs.calls.going.stage_here.Goals as goal
 pub returns-in-Calling-clause-at : goal.returns-in-Calling-clause-at
 returns-in-Calling-clause-at c =
     let m = c.args.store.now in
-    let long : length c.in_ok-thread.thread.now.regs ≡ 16 = omega arith in
     orderly_if (world m) (place (path m) c.args.who) (path m) c.in_ok-thread.thread.now c.in_ok-thread.ensures.there c.in-Calling.is
-    c.stage_named.result long c.stage_named.ensures.first
+    c.stage_named.result c.in_ok-thread.ensures.sized c.stage_named.ensures.first
 
 pub returns-in-Calling-clause-alone : goal.returns-in-Calling-clause-alone
 returns-in-Calling-clause-alone c =

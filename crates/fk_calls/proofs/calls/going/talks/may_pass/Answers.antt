@@ -4,5 +4,5 @@ use Rattle.fk_calls.proofs.calls.going.talks.may_pass.Goals as goal
 
 pub returns : goal.returns
 returns c =
-    may_pass c.args.store.now c.args.who c.requires.unheld c.requires.free c.args.side c.requires.at c.handing.result
-    (c.handing.ensures.outcome []) c.handing.ensures.fits
+    rw c.is_some.ensures (may_pass c.args.store.now c.args.who c.requires.unheld c.requires.free c.args.side c.requires.at c.handing.result
+    (c.handing.ensures.outcome []) c.handing.ensures.fits)

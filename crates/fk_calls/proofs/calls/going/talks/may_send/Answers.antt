@@ -7,5 +7,5 @@ moving-requires-clause-calling c = rw c.requires.at.todo refl
 
 pub returns : goal.returns
 returns c =
-    may_send c.args.store.now c.args.who c.requires.unheld c.requires.free c.args.side c.args.address c.args.count c.requires.at c.moving.result
-    (c.moving.ensures.outcome []) c.moving.ensures.fits
+    rw c.is_some.ensures (may_send c.args.store.now c.args.who c.requires.unheld c.requires.free c.args.side c.args.address c.args.count c.requires.at c.moving.result
+    (c.moving.ensures.outcome []) c.moving.ensures.fits)
