@@ -305,7 +305,7 @@ goes_untouched w x z server e goes apart nobody r stuck named =
       served = serves_not (apply (Alter z e) w) z server goes.thread goes.then_there goes.faultless goes.away x apart;
     }
 
-pub passed_untouched : (w : World) (me y client server x : Path) (answers : List ℕ) (turn : Turn) → GoesAway w y server (Finish answers) →
+passed_untouched : (w : World) (me y client server x : Path) (answers : List ℕ) (turn : Turn) → GoesAway w y server (Finish answers) →
     GoesAway (ended w y answers) client server (PassTurn turn) → GoesAway (turned w y client answers turn) me server (Finish []) →
     same_path server x ≡ false → IsNobodyTo w x y → IsNobodyTo w x client → IsNobodyTo w x me → (r : Reason) → IsStuck w x r → is_barred r ≡ false →
     AreUntouched w (passes me y client answers turn) x r
@@ -489,10 +489,10 @@ module _ (w : World) (me y client server : Path) (side : Turn) (answers : List �
   passed_talk : (t : Thread) → t.talk ≡ Some alone.talk → (passed_in (other_side side) t).talk ≡ Some (with_turn alone.talk)
   passed_talk t is = ap (option_map with_turn) is
 
-  record AllGo (client server : Path) : Type 0 where
-    first : GoesAway w y server (Finish answers)
-    second : GoesAway (ended w y answers) client server (PassTurn (other_side side))
-    third : GoesAway (turned w y client answers (other_side side)) me server (Finish [])
+  record AllGo (c s : Path) : Type 0 where
+    first : GoesAway w y s (Finish answers)
+    second : GoesAway (ended w y answers) c s (PassTurn (other_side side))
+    third : GoesAway (turned w y c answers (other_side side)) me s (Finish [])
 
   -- the client hands it over
   by_client : talk_at w me ≡ Some alone.talk → talk_at w y ≡ None → alone.talk.peer ≡ Server (At y) → AllGo me y

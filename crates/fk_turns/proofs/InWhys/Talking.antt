@@ -358,15 +358,17 @@ module _ (w : World) (me client y s : Path) (page k : ℕ) (words : List ℕ) wh
       none_awaited a None is = absurd (cc)
       none_awaited a (Some t) is = unreceived a t.mode is
 
+      none_is : (p : ℕ × ℕ) → ◌≡◌ {A = Option (ℕ × ℕ)} None (Some p) → ⊥
+      none_is p is = absurd (cc)
+
       room_no_mover : (a : Turn) (z : Path) (into room : ℕ) → HasRoom w a z into room → same_path z me ≡ false
       room_no_mover a z into room has = by (same_path z me) refl
         where
           by : (b : Bool) → same_path z me ≡ b → b ≡ false
           by false e = refl
           by true e =
-              let off : None ≡ Some (into, room) = sym (none_awaited (other_side a) (thread_at w me) mine)
-              ∙ ap (λ (q : Path). and_then (λ (t : Thread). awaits_on (other_side a) t.mode) (thread_at w q)) (sym (same_path_eq z me e)) ∙ has.0 in
-              absurd (cc)
+              absurd (none_is (into, room) (sym (none_awaited (other_side a) (thread_at w me) mine)
+              ∙ ap (λ (q : Path). and_then (λ (t : Thread). awaits_on (other_side a) t.mode) (thread_at w q)) (sym (same_path_eq z me e)) ∙ has.0))
 
       receiver : IsIn w y (receives.stage ∷ [])
       receiver = in_call w y receives.stage [] receives.alone

@@ -3,8 +3,8 @@ use Rattle.fk_store.specs.Store.World.{place_of}
 use Rattle.fk_turns.proofs.InSteps.Locked.{if_true}
 use Rattle.fk_turns.proofs.steps.talking.is_alone.Goals as goal
 
-pub returns-in-Some : goal.returns-in-Some
-returns-in-Some c =
+pub returns-else-not-has_no_talk : goal.returns-else-not-has_no_talk
+returns-else-not-has_no_talk c =
     if_true c.serves_nobody.result (λ none. record {
       server = place_of c.args.store.now c.in-Some.server;
       peer = c.in-Some.ensures;

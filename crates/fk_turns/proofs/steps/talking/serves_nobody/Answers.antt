@@ -5,4 +5,4 @@ use Rattle.fk_turns.proofs.steps.talking.serves_nobody.Goals as goal
 pub returns : goal.returns
 returns c =
     let m = c.args.store.now in
-    serves_none_if (world m) c.requires.valid c.names.ensures.few (place_of m c.args.who) c.client_of.result c.client_of.ensures.some
+    rw c.is_none.ensures (serves_none_if (world m) c.requires.valid c.names.ensures.few (place_of m c.args.who) c.client_of.result c.client_of.ensures.some)
