@@ -6,11 +6,11 @@ use Rattle.fk_model.specs.declared.moves.Ask.TheVariants as asks
 use Rattle.fk_model.specs.declared.names.Who.{Who}
 use Rattle.fk_model.specs.declared.thread.Turn.{Turn}
 use Rattle.fk_model.specs.Moves.{outcome, step, stepped}
-use Rattle.fk_model.specs.Objects.{Body}
+use Rattle.fk_model.specs.Objects.{Body, Talk, Thread, and_then, thread_of}
 use Rattle.fk_model.specs.Outcomes.{Outcome, listed}
 use Rattle.fk_model.specs.Outcomes.Outcome.{Goes, Refused, Waits}
 use Rattle.fk_model.specs.Places.{Path, same_path}
-use Rattle.fk_model.specs.Searches.{depth, thread_at}
+use Rattle.fk_model.specs.Searches.{depth, talk_at, thread_at}
 use Rattle.fk_model.specs.Talks.{other_side}
 use Rattle.fk_model.specs.World.{World, Change, Edit, apply, apply_all, edited}
 use Rattle.fk_model.specs.World.Change.{Alter, PutPage}
@@ -95,6 +95,13 @@ users_after (Alter x edit ∷ cs) v q are =
     by is false = refl
 users_after (PutPage space page words ∷ cs) v q are = users_after cs (apply (PutPage space page words) v) q are
 users_after (c ∷ cs) v q are = absurd (cc)
+
+talk_there : (w : World) (x : Path) (talk : Talk) → talk_at w x ≡ Some talk → IsSome (w.body x)
+talk_there w x talk is = by (w.body x) is
+  where
+    by : (o : Option Body) → and_then (λ (t : Thread). t.talk) (and_then thread_of o) ≡ Some talk → IsSome o
+    by None h = absurd (cc)
+    by (Some b) h = refl
 
 module _ (m n : Contents) (mover : Who) (old : IsStored m) (new : IsStored n) (made : IsMadeTo m n mover None asks.Run) where
   abbrev changes : List Change
@@ -186,7 +193,7 @@ module _ (m n : Contents) (mover : Who) (old : IsStored m) (new : IsStored n) (m
         is_user_at n who ≡ is_user_at m who
     passed_users = users_same passed_edits
 
-    pub left_passed : is_free_at (world m) (place_of m mover) ≡ true → IsAlone (world n) (place_of m client) → (who : Who) (why : Why) →
+    pub left_passed : is_free_at (world m) (place_of m mover) ≡ true → IsAlone (world n) (place_of n client) → (who : Who) (why : Why) →
         is_same mover who ≡ false → is_same receiver who ≡ false → is_user_at m who ≡ true → is_barred_why why ≡ false →
         IsWhy (world m) (path m) (place_of m who) why → IsWhy (world n) (path n) (place_of n who) why
     unfolding apply_all
@@ -197,7 +204,9 @@ module _ (m n : Contents) (mover : Who) (old : IsStored m) (new : IsStored n) (m
         then_world ∙ ap (λ (l : List Change). apply_all l (world m)) row.changes ∙ all_parted (place_of m mover) (place_of m receiver) (place_of m client)
         row.answers (other_side row.side) in
         let before = alone_before (world m) (place_of m mover) (place_of m receiver) (place_of m client) meets.server row.answers (other_side row.side)
-        meets.talk meets.there meets.peer (subst (λ (u : World). IsAlone u (place_of m client)) world_is alone) in
+        meets.talk meets.there meets.peer
+        (subst (λ (u : World). IsAlone u (place_of m client)) world_is (subst (λ (q : Path). IsAlone (world n) q)
+        (leads passed_edits client (talk_there (world m) (place_of m client) meets.talk meets.there)) alone)) in
         why_then passed_edits who why there named is
         (why_passed (world m) (place_of m mover) (place_of m receiver) (place_of m client) meets.server row.side row.answers row.at free row.receiving before
         meets.two old.valid old.few (place_of m who) (other_place passed_edits who mover off_mover there)

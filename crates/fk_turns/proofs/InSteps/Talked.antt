@@ -1,5 +1,5 @@
 -- Talked: the lists after a stage in which two threads met.
-use Rattle.std.proofs.Common.{◌≡◌, ◌≤◌, ◌⊎◌, ℕ, Bool, true, false, [], ◌∷◌, Option, Some, None, is_none, is_some, inl, inr, refl, sym, ap, subst, ◌∙◌}
+use Rattle.std.proofs.Common.{◌≡◌, ◌≤◌, ◌⊎◌, ℕ, Bool, true, false, [], ◌∷◌, Option, Some, None, not, is_some, inl, inr, refl, sym, ap, subst, ◌∙◌}
 use Rattle.std.proofs.lemmas.Bool.{or_right}
 use Rattle.std.specs.Bool.{OnTrue}
 use Rattle.fk_calls.specs.declared.calls.going.Talked.{Talked}
@@ -285,10 +285,10 @@ serves_none : (w : World) → IsValid w → w.next ≤ depth → (x : Path) (b :
     is_peer_of w x q ≡ false
 serves_none w valid few x b is off q = no_client w valid.consistent valid.rooted few x (none_from (client_of w x) (sym is ∙ off)) q
 
-pub serves_none_if : (w : World) → IsValid w → w.next ≤ depth → (x : Path) (o : Option Who) → is_some o ≡ is_some (client_of w x) →
-    OnTrue (is_none o) ((q : Path) → is_peer_of w x q ≡ false)
-serves_none_if w valid few x None is = λ q. serves_none w valid few x false is refl q
-serves_none_if w valid few x (Some who) is = tt
+pub serves_none_if : (w : World) → IsValid w → w.next ≤ depth → (x : Path) (o : Option Who) (none : Bool) → is_some o ≡ is_some (client_of w x) →
+    is_some o ≡ not none → OnTrue none ((q : Path) → is_peer_of w x q ≡ false)
+serves_none_if w valid few x o true is off = λ q. serves_none w valid few x (is_some o) is off q
+serves_none_if w valid few x o false is off = tt
 
 -- ---- where its thread stands
 

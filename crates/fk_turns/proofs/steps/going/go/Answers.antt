@@ -1,4 +1,4 @@
-use Rattle.std.proofs.Common.{sym, subst}
+use Rattle.std.proofs.Common.{refl, sym, subst}
 use Rattle.fk_model.specs.declared.moves.Ask.TheVariants as asks
 use Rattle.fk_model.specs.declared.moves.Said.TheVariants as says
 use Rattle.fk_model.specs.Valid.{IsValid}
@@ -90,6 +90,11 @@ returns-in-Not c =
     let same = rw c.in-Not.is at c.go-went.ensures.same in
     let was = c.args.turns.now in
     record {
+      made = tt;
+      ended = tt;
+      waits = λ is. absurd (cc);
+      placed = tt;
+      still = refl;
       same = same;
       valid = subst (λ (d : Contents). IsValid (world d)) (sym same) c.requires.valid;
       kept = subst (λ (d : Contents). AreKept d was.waits was.marks) (sym same) c.requires.kept;
@@ -100,6 +105,10 @@ returns-in-Waits c =
     let same = rw c.in-Waits.is at c.go-went.ensures.same in
     let was = c.args.turns.now in
     record {
+      made = tt;
+      ended = tt;
+      placed = tt;
+      still = refl;
       waits = λ is. c.go-went.ensures.waits c.in-Waits.is;
       same = same;
       valid = subst (λ (d : Contents). IsValid (world d)) (sym same) c.requires.valid;

@@ -5,4 +5,5 @@ use Rattle.fk_turns.proofs.steps.talking.serves_nobody.Goals as goal
 pub returns : goal.returns
 returns c =
     let m = c.args.store.now in
-    rw c.is_none.ensures (serves_none_if (world m) c.requires.valid c.names.ensures.few (place_of m c.args.who) c.client_of.result c.client_of.ensures.some)
+    serves_none_if (world m) c.requires.valid c.names.ensures.few (place_of m c.args.who) c.client_of.result c.is_none.result c.client_of.ensures.some
+    c.is_none.ensures
