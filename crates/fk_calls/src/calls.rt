@@ -30,7 +30,7 @@ mod straight;
 pub use answering::call;
 pub use fitting::is_fit;
 pub use foretelling::foretell;
-pub use going::{Then, Went, What, go, may_lock};
+pub use going::{Talked, Then, Went, What, go, may_lock, may_talk};
 pub use judging::may_move;
 pub use moves::{Ran, Told, attempt, ready, run, take};
 pub use picking::{Picks, may_pick};

@@ -12,6 +12,6 @@ pub mod acts;
 pub mod calls;
 
 pub use calls::{
-    Picks, Ran, Saying, Sent, Then, Told, Went, What, attempt, call, foretell, go, is_fit,
-    may_lock, may_move, may_pick, ready, run, say, stage, take,
+    Picks, Ran, Saying, Sent, Talked, Then, Told, Went, What, attempt, call, foretell, go, is_fit,
+    may_lock, may_move, may_pick, may_talk, ready, run, say, stage, take,
 };

@@ -1,15 +1,21 @@
 -- Passed: a turn that is handed to a thread.
-use Rattle.std.proofs.Common.{◌≡◌, Bool, true, Option, Some, is_some, refl}
+use Rattle.std.proofs.Common.{◌≡◌, ℕ, Bool, true, Option, Some, None, Ok, is_some, refl}
+use Rattle.fk_changes.specs.Threads.Answers.{came_answers}
+use Rattle.fk_model.specs.declared.names.Who.{Who}
 use Rattle.fk_model.specs.declared.thread.Turn.{Turn}
 use Rattle.fk_model.specs.Objects.{Thread}
-use Rattle.fk_model.specs.Outcomes.{Caller, when}
+use Rattle.fk_model.specs.Objects.Peer.{Server}
+use Rattle.fk_model.specs.Outcomes.{Caller, path_of, when}
 use Rattle.fk_model.specs.Places.{Path, parent, Ptr}
 use Rattle.fk_model.specs.Places.Ptr.{At}
 use Rattle.fk_model.specs.Searches.{thread_at}
-use Rattle.fk_model.specs.Talks.{awaited, other_side, receiving, thread_led_to}
-use Rattle.fk_model.specs.TransferRows.{passes, passes_to_thread, takes_turn}
+use Rattle.fk_model.specs.Talks.{awaited, other_side, receiving, thread_led_to, Line}
+use Rattle.fk_model.specs.TransferRows.{in_turn, over, passes, passes_to_thread, taken_answers, takes_turn}
 use Rattle.fk_model.specs.World.{World}
+use Rattle.fk_plans.specs.Plans.Verdicts.{outcome_by}
+use Rattle.fk_store.specs.Store.Paths.{place}
 use Rattle.fk_store.specs.Store.Threads.{is_free_at}
+use Rattle.fk_transfer.specs.Lines.{passed_by}
 
 -- where it is free, by its being at its Receive
 pub passed_free : (w : World) (c : Caller) (side : Turn) (client y : Path) (carried : Option Ptr) (t : Thread) (b : Bool) →
@@ -17,3 +23,15 @@ pub passed_free : (w : World) (c : Caller) (side : Turn) (client y : Path) (carr
     when b (passes c side client (takes_turn y carried (awaited t.mode))) ≡ passes_to_thread w c side client carried (thread_led_to w (At y))
 unfolding is_free_at
 passed_free w c side client y carried t b there free at = let free_there = rw (← there) at free in rw (← there, free_there, at) refl
+
+-- what hands the turn over without a pointer
+pub passed_row : (w : World) (p : ℕ → Path) (c : Caller) (side turn : Turn) (client receiver : Who) (came : Option Bool) (to : Option ℕ) →
+    turn ≡ other_side side → came_answers came ≡ taken_answers to None →
+    outcome_by w p c (passed_by client turn receiver came) ≡ passes c side (place p client) (takes_turn (place p receiver) None to)
+passed_row w p c side turn client receiver came to is answers = rw (is, answers) refl
+
+-- the row of an Over where a thread is at the other end
+pub over_goes : (w : World) (c : Caller) (side : Turn) (l : Line) (y : Path) → Ok l ≡ in_turn w (path_of c) side side → l.other ≡ Server (At y) →
+    passes_to_thread w c side l.client None (thread_led_to w (At y)) ≡ over w c side None
+unfolding over
+over_goes w c side l y line other = rw (← line, other) refl

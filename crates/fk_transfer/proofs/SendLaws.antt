@@ -45,7 +45,7 @@ first_or (Some p) = p.0
 abbrev awaiting : Turn → Mode → Option (ℕ × ℕ)
 awaiting side m = and_then (receive_on side) (first_stage m)
 
-received : (w : World) (space : Path) (side : Turn) (m : Mode) (r : ℕ × ℕ) → Some r ≡ receiving w space side m → Some r ≡ awaiting side m
+pub received : (w : World) (space : Path) (side : Turn) (m : Mode) (r : ℕ × ℕ) → Some r ≡ receiving w space side m → Some r ≡ awaiting side m
 received w space side m r h = by (is_handled w space (awaited m)) h
   where
     by : (b : Bool) → Some r ≡ cond b (awaiting side m) None → Some r ≡ awaiting side m

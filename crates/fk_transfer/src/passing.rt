@@ -9,9 +9,10 @@ ghost use Rattle.fk_store.specs.Store.Bodies.{peer_by, pointer_by};
 ghost use Rattle.fk_store.specs.Store.Named.{OnPointer};
 ghost use Rattle.fk_store.specs.Store.Paths.{path, place};
 ghost use Rattle.fk_store.specs.Store.World.{world, IsLive};
+ghost use Rattle.fk_changes.specs.Threads.Answers.{came_answers};
 ghost use Rattle.fk_plans.specs.Plans.Plans.{caller_by};
 ghost use Rattle.fk_plans.specs.Plans.Verdicts.{outcome_by, IsSureVerdict, IsVerdict, Judges};
-ghost use Rattle.fk_transfer.specs.Lines.{line_by, passed_by};
+ghost use Rattle.fk_transfer.specs.Lines.{line_by, passed_by, passed_of, IsReceiver, Meets};
 
 use crate::lines::{Line, in_turn, other_side};
 use fk_changes::readers::{Caller, reference_in};
@@ -201,4 +202,77 @@ pub fn over_ref(store: &Store, caller: Caller, side: Turn, reference: u64) -> Re
 {
     let to = reference_in(store, caller, caller.who.space, reference)?;
     hands_on(store, caller, side, Some(to))
+}
+
+/// A turn that goes to a thread at its Receive, which is done then.
+#[derive(Clone, Copy)]
+pub struct Passage {
+    pub client: Who,
+    /// Whose turn it is then.
+    pub turn: Turn,
+    pub receiver: Who,
+    /// Whether a pointer comes with it, where the receiver awaits one.
+    pub came: Option<bool>,
+}
+
+/// What an Over comes to where the turn goes to a thread that is at its Receive. It is most Overs, and needs no verdict, which is large.
+#[tactic(auto, unfolding(fk_model::specs::TransferRows::over))]
+pub fn handing(store: &Store, caller: Caller, side: Turn) -> Option<Passage>
+    requires user { caller.is_porter ≡ false }
+    requires valid { IsValid (world store.now) }
+    ensures outcome { (words : List ℕ) → IfSome result (λ h. outcome_by (world store.now) (path store.now) (caller_by (path store.now) caller words) (passed_of h)
+        ≡ rows.over (world store.now) (caller_by (path store.now) caller words) side None) }
+    ensures fits { IfSome result (λ h. IsVerdict store.now caller (passed_of h)) }
+    ensures turn { IfSome result (λ h. h.turn ≡ talks.other_side side) }
+    ensures meets { IfSome result (λ h. Meets (world store.now)
+        (place (path store.now) caller.who) (place (path store.now) h.client) (place (path store.now) h.receiver) side) }
+    ensures receiver { IfSome result (λ h. IsReceiver (world store.now) (place (path store.now) h.receiver) (talks.other_side side)) }
+{
+    let Ok(line) = in_turn(store, caller.who, side, side) else {
+        return None;
+    };
+    let Peer::Thread(peer) = line.other else {
+        return None;
+    };
+    handing_to(store, caller, side, line.client, peer)
+}
+
+/// The same with this thread at the other end.
+#[tactic(auto, unfolding(fk_store::specs::Store::Threads::is_free_at))]
+fn handing_to(store: &Store, caller: Caller, side: Turn, client: Who, peer: Who) -> Option<Passage>
+    ensures outcome { (words : List ℕ) → IfSome result (λ h. outcome_by (world store.now) (path store.now) (caller_by (path store.now) caller words) (passed_of h)
+        ≡ rows.passes_to_thread (world store.now) (caller_by (path store.now) caller words) side (place (path store.now) client) None
+        (talks.thread_led_to (world store.now) (At (place (path store.now) peer)))) }
+    ensures fits { IfSome result (λ h. IsVerdict store.now caller (passed_of h)) }
+    ensures client { IfSome result (λ h. h.client ≡ client) }
+    ensures peer { IfSome result (λ h. h.receiver ≡ peer) }
+    ensures turn { IfSome result (λ h. h.turn ≡ talks.other_side side) }
+    ensures receiver { IfSome result (λ h. IsReceiver (world store.now) (place (path store.now) peer) (talks.other_side side)) }
+{
+    let Some(thread) = store.thread(peer) else {
+        return None;
+    };
+    if !store.is_free(peer) {
+        return None;
+    }
+    let turn = other_side(side);
+    match receiving(store, peer.space, thread, turn) {
+        Some(_) => Some(Passage {
+            client,
+            turn,
+            receiver: peer,
+            came: came_without(awaited_by(thread)),
+        }),
+        None => None,
+    }
+}
+
+/// What a thread hears that awaits a pointer in this slot, or none, where none comes.
+fn came_without(awaited: Option<u64>) -> Option<bool>
+    ensures { came_answers result ≡ rows.taken_answers awaited None }
+{
+    match awaited {
+        None => None,
+        Some(_) => Some(false),
+    }
 }

@@ -1,15 +1,19 @@
 //! Receive, on either side of a talk.
-ghost use Rattle.std.specs.Prelude.{◌≡◌, false, IfOk};
+ghost use Rattle.std.specs.Prelude.{◌≡◌, ℕ, List, false, IfOk};
+ghost use Rattle.std.specs.Bool.{OnTrue};
+ghost use Rattle.fk_model.specs.Outcomes.Outcome.{Waits};
 ghost use Rattle.fk_model.specs.TransferRows as rows;
 ghost use Rattle.fk_model.specs.Valid.{IsValid};
+ghost use Rattle.fk_store.specs.Store.Paths.{path};
 ghost use Rattle.fk_store.specs.Store.World.{world};
+ghost use Rattle.fk_plans.specs.Plans.Plans.{caller_by};
 ghost use Rattle.fk_plans.specs.Plans.Verdicts.{IsSureVerdict, Judges};
 
 use crate::lines::{in_turn, other_side};
 use fk_changes::readers::{Caller, reference_in};
 use fk_model::Turn;
 use fk_plans::{Verdict, own_page};
-use fk_store::Store;
+use fk_store::{Reach, Store};
 
 /// It waits for the other side's Send and Over, at that side's turn. By itself it is only refused:
 /// NOTLINKED, WRONGTURN, and with room BADADDRESS; or its page is missing, of which the keeper is told.
@@ -63,4 +67,23 @@ pub fn receive_ref(
 {
     reference_in(store, caller, caller.who.space, reference)?;
     receive(store, caller, side, into, room)
+}
+
+/// Whether a Receive waits, which most do: it is the other side's turn, and it has no room left, or its page is there. It needs no verdict.
+#[tactic(auto, unfolding(fk_model::specs::TransferRows::receive))]
+pub fn awaits(store: &Store, caller: Caller, side: Turn, into: u64, room: u64) -> bool
+    requires valid { IsValid (world store.now) }
+    ensures { (words : List ℕ) → OnTrue result
+        (rows.receive (world store.now) (caller_by (path store.now) caller words) side into room ≡ Waits) }
+{
+    let Ok(_) = in_turn(store, caller.who, side, other_side(side)) else {
+        return false;
+    };
+    if room == 0 {
+        return true;
+    }
+    match store.reach_word(caller.who.space, into, true) {
+        Reach::Home { .. } => true,
+        Reach::Missing { .. } | Reach::Bad => false,
+    }
 }

@@ -1,5 +1,5 @@
 //! Send, on either side of a talk.
-ghost use Rattle.std.specs.Prelude.{◌≡◌, ◌≤◌, ◌<◌, ◌+◌, ◌%◌, min, List, ℕ, false, IfSome, IfOk};
+ghost use Rattle.std.specs.Prelude.{◌≡◌, ◌≤◌, ◌<◌, ◌+◌, ◌%◌, min, List, ℕ, false, IfSome, IfOk, IsSome};
 ghost use Rattle.fk_model.specs.Places.Ptr.{At};
 ghost use Rattle.fk_model.specs.Reach.{words_at};
 ghost use Rattle.fk_model.specs.Talks as talks;
@@ -12,7 +12,7 @@ ghost use Rattle.fk_plans.specs.Plans.Movings.{verdict_of};
 ghost use Rattle.fk_plans.specs.Plans.Own.{IsPage};
 ghost use Rattle.fk_plans.specs.Plans.Plans.{caller_by};
 ghost use Rattle.fk_plans.specs.Plans.Verdicts.{outcome_by, IsSureVerdict, IsVerdict, Judges};
-ghost use Rattle.fk_transfer.specs.Lines.{line_by, AreEnds, IsSender};
+ghost use Rattle.fk_transfer.specs.Lines.{line_by, AreEnds, IsBetween, IsReceiver, IsSender, Meets};
 
 use crate::lines::{Line, in_turn, other_side};
 use fk_changes::readers::Caller;
@@ -76,6 +76,7 @@ fn sent(
         receiver.into (path store.now to.0) to.1 (words_at (world store.now) (path store.now to.0) to.1) }
     ensures fits { IsVerdict store.now caller (verdict_of result) }
     ensures sure { IsSureVerdict (verdict_of result) }
+    ensures between { IsBetween client receiver.thread caller.who result }
 {
     let count = moved(message.address, message.count, receiver.into, receiver.room);
     let block = Block {
@@ -299,6 +300,8 @@ fn moves_into(
         ≡ rows.sends_into (world store.now) (caller_by (path store.now) caller words) (place (path store.now) client) (place (path store.now) peer)
         message.address message.count (words_at (world store.now) (path store.now message.page.0) message.page.1) receive) }
     ensures fits { IfSome result (λ m. IsVerdict store.now caller (verdict_of m)) }
+    ensures between { IfSome result (IsBetween client peer caller.who) }
+    ensures receives { IsSome result → IsSome receive }
 {
     match receive {
         None => None,
@@ -339,6 +342,8 @@ fn moves_to_thread(
         message.address message.count (words_at (world store.now) (path store.now message.page.0) message.page.1)
         (talks.thread_led_to (world store.now) (At (place (path store.now) peer)))) }
     ensures fits { IfSome result (λ m. IsVerdict store.now caller (verdict_of m)) }
+    ensures between { IfSome result (IsBetween client peer caller.who) }
+    ensures receiver { IsSome result → IsReceiver (world store.now) (place (path store.now) peer) (talks.other_side side) }
 {
     let Some(thread) = store.thread(peer) else {
         return None;
@@ -360,6 +365,10 @@ pub fn moving(store: &Store, caller: Caller, side: Turn, address: u64, count: u6
     ensures outcome { (words : List ℕ) → IfSome result (λ m. outcome_by (world store.now) (path store.now) (caller_by (path store.now) caller words) (verdict_of m)
         ≡ rows.send (world store.now) (caller_by (path store.now) caller words) side address count) }
     ensures fits { IfSome result (λ m. IsVerdict store.now caller (verdict_of m)) }
+    ensures sender { IfSome result (λ m. m.sender ≡ caller.who) }
+    ensures meets { IfSome result (λ m. Meets (world store.now)
+        (place (path store.now) caller.who) (place (path store.now) m.client) (place (path store.now) m.receiver) side) }
+    ensures receiver { IfSome result (λ m. IsReceiver (world store.now) (place (path store.now) m.receiver) (talks.other_side side)) }
 {
     if count == 0 {
         return None;

@@ -4,3 +4,6 @@ pub mod Apart
 pub mod Calmly
 pub mod Mildly
 pub mod Locked
+pub mod Talking
+pub mod Passing
+pub mod Hearing

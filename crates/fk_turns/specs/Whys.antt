@@ -1,3 +1,4 @@
 pub mod Whys
 pub mod Causes
 pub mod Staying
+pub mod Hearings

@@ -10,6 +10,7 @@ mod going;
 mod plain;
 mod room;
 mod steps;
+mod talking;
 
 pub use fk_calls::{Sent, Told, is_fit, ready};
 pub use going::Gone;

@@ -8,10 +8,12 @@
 //! its fault, and what its stage waits for.
 
 mod causes;
+mod hearing;
 mod stages;
 mod staying;
 mod whys;
 
 pub use causes::cause;
+pub use hearing::heard_at;
 pub use staying::reasons_stay;
 pub use whys::{Why, at_locked, reason};

@@ -1,5 +1,5 @@
 //! Moves by one look: what a thread is at is matched once, its row is made where it stands, and it is told what the thread is at then. Stages of mutexes
-//! are made so.
+//! are made so, and in `talks` the Sends and Overs that meet a thread.
 ghost use Rattle.std.specs.Prelude.{◌≡◌, ◌≤◌, true, false, [], ◌∷◌, Some, None, IsSome, IfSome};
 ghost use Rattle.std.specs.Bool.{OnTrue, OnFalse};
 ghost use Rattle.fk_model.specs.declared.moves.Ask.TheVariants as asks;
@@ -14,14 +14,23 @@ ghost use Rattle.fk_model.specs.World.Edit.{Finish, SetLocked};
 ghost use Rattle.fk_store.specs.Store.Paths.{path, place};
 ghost use Rattle.fk_store.specs.Store.Threads.{is_free_at, todo_at};
 ghost use Rattle.fk_store.specs.Store.World.{world};
-ghost use Rattle.fk_calls.specs.Calls.Goings.{is_lock, run_of, touched_by, was_made, HasRow, IfMade, IsAnyReady, IsThen, WentTo};
+ghost use Rattle.fk_calls.specs.Calls.Doings.{first_of};
+ghost use Rattle.fk_calls.specs.Calls.Goings.{is_lock, run_of, touched_by, touched_in, was_made, HasRow, HasTalkRow, IfMade, IfTalked, IsAnyReady};
+ghost use Rattle.fk_calls.specs.Calls.Goings.{IsAtOrderly, IsThen, WentTo};
 ghost use Rattle.fk_calls.specs.Calls.Judgements.{IsEnded, IsReadyMove, IsStepTo, TellsTouched};
 
+mod talks;
+
+use crate::calls::going::talks::{may_pass, may_send, over, receive, send};
 use crate::calls::judging::free_user;
 use fk_changes::readers::{Caller, mutex_in};
 use fk_changes::threads::{Answers, finish};
-use fk_model::call::{MUTEX_LOCK, MUTEX_TRYLOCK, MUTEX_UNLOCK};
-use fk_model::{Mode, Stage, Who};
+use fk_model::call::{
+    CLIENT_OVER, CLIENT_OVER_RECEIVE, CLIENT_RECEIVE, CLIENT_SEND, CLIENT_SEND_OVER_RECEIVE,
+    MUTEX_LOCK, MUTEX_TRYLOCK, MUTEX_UNLOCK, SERVER_OVER, SERVER_OVER_RECEIVE, SERVER_RECEIVE,
+    SERVER_SEND, SERVER_SEND_OVER_RECEIVE,
+};
+use fk_model::{Mode, Stage, Turn, Who};
 use fk_store::Store;
 
 /// What a thread is at, once a stage of it was made.
@@ -40,6 +49,22 @@ pub enum What {
     Unlocks { mutex: Who },
 }
 
+/// What a stage did in a talk with a thread.
+#[derive(Clone, Copy)]
+pub enum Talked {
+    /// Words went from the sender to the receiver, which is at its Receive still.
+    Sends {
+        client: Who,
+        receiver: Who,
+        sender: Who,
+    },
+    /// The receiver has the turn, and its Receive is done.
+    Passes {
+        client: Who,
+        receiver: Who,
+    },
+}
+
 /// What came of a look at a thread.
 #[derive(Clone, Copy)]
 pub enum Went {
@@ -49,6 +74,8 @@ pub enum Went {
     Waits,
     /// Its next stage was made, and this is what the thread is at then.
     Made { what: What, at: Then },
+    /// Its next stage was made, in a talk. What the thread is at then is for a look to tell.
+    Talked { by: Talked },
 }
 
 /// Makes the next stage of the user in a slot by one look at it, where that is a stage that is made here, and tells what it did and what the thread is at
@@ -61,6 +88,8 @@ pub fn go(store: &mut Store, who: Who) -> Went
     ensures touched { IfMade result (λ what at. TellsTouched store.old (run_of who) asks.Run (touched_by what)) }
     ensures row { IfMade result (λ what at. HasRow store.old who what) }
     ensures at { IfMade result (λ what at. IsThen store.new who at) }
+    ensures tells { IfTalked result (λ by. TellsTouched store.old (run_of who) asks.Run (touched_in by)) }
+    ensures talked { IfTalked result (HasTalkRow store.old who) }
     ensures waits { result ≡ Went.Waits → IsAnyReady (world store.old) (place (path store.old) who) → ⊥ }
     ensures same { OnFalse (was_made result) (store.new ≡ store.old) }
 {
@@ -74,13 +103,19 @@ fn go_at(store: &mut Store, who: Who) -> Went
     requires unheld { (q : Path) → decider (world store.old) q ≡ None }
     ensures { WentTo store.old store.new who result }
 {
-    let Some(stage) = lock_of(store, who) else {
+    let Some(stage) = stage_here(store, who) else {
         return Went::Not;
     };
     match stage {
         Stage::MutexLock { m } => lock(store, who, m),
         Stage::MutexTrylock { m } => try_lock(store, who, m),
         Stage::MutexUnlock { m } => unlock(store, who, m),
+        Stage::ClientSend { addr, count } => send(store, who, Turn::Client, addr, count),
+        Stage::ServerSend { addr, count } => send(store, who, Turn::Server, addr, count),
+        Stage::ClientOver => over(store, who, Turn::Client),
+        Stage::ServerOver => over(store, who, Turn::Server),
+        Stage::ClientReceive { addr, room } => receive(store, who, Turn::Client, addr, room),
+        Stage::ServerReceive { addr, room } => receive(store, who, Turn::Server, addr, room),
         _ => Went::Not,
     }
 }
@@ -91,9 +126,39 @@ pub fn may_lock(store: &Store, who: Who) -> bool
     ensures free { OnTrue result (is_free_at (world store.now) (place (path store.now) who) ≡ true) }
     ensures ready { OnTrue result (IsReadyMove store.now (run_of who) asks.Run) }
 {
-    match lock_of(store, who) {
+    match stage_here(store, who) {
         Some(stage) => is_unlocked(store, who, stage),
         None => false,
+    }
+}
+
+/// Whether the user in a slot is at a Send or an Over that meets a thread: then it can move. Nothing is held.
+pub fn may_talk(store: &Store, who: Who) -> bool
+    requires valid { IsValid (world store.now) }
+    requires unheld { (q : Path) → decider (world store.now) q ≡ None }
+    ensures { OnTrue result (IsReadyMove store.now (run_of who) asks.Run) }
+{
+    match stage_here(store, who) {
+        Some(stage) => meets(store, who, stage),
+        None => false,
+    }
+}
+
+/// The same at this stage of it.
+#[inline(always)]
+fn meets(store: &Store, who: Who, stage: Stage) -> bool
+    requires valid { IsValid (world store.now) }
+    requires unheld { (q : Path) → decider (world store.now) q ≡ None }
+    requires free { is_free_at (world store.now) (place (path store.now) who) ≡ true }
+    requires at { IsAtOrderly (world store.now) (place (path store.now) who) stage }
+    ensures { OnTrue result (IsReadyMove store.now (run_of who) asks.Run) }
+{
+    match stage {
+        Stage::ClientSend { addr, count } => may_send(store, who, Turn::Client, addr, count),
+        Stage::ServerSend { addr, count } => may_send(store, who, Turn::Server, addr, count),
+        Stage::ClientOver => may_pass(store, who, Turn::Client),
+        Stage::ServerOver => may_pass(store, who, Turn::Server),
+        _ => false,
     }
 }
 
@@ -102,7 +167,7 @@ pub fn may_lock(store: &Store, who: Who) -> bool
 fn is_unlocked(store: &Store, who: Who, stage: Stage) -> bool
     requires unheld { (q : Path) → decider (world store.now) q ≡ None }
     requires free { is_free_at (world store.now) (place (path store.now) who) ≡ true }
-    requires alone { todo_at (world store.now) (place (path store.now) who) ≡ stage ∷ [] }
+    requires alone { is_lock stage ≡ true → todo_at (world store.now) (place (path store.now) who) ≡ stage ∷ [] }
     ensures { OnTrue result (IsReadyMove store.now (run_of who) asks.Run) }
 {
     match stage {
@@ -129,32 +194,46 @@ fn is_open(store: &Store, who: Who, m: u64) -> bool
     !locked
 }
 
-/// The stage of a mutex at which the free user in a slot is, if it is at one.
+/// The stage that is made here at which the free user in a slot is, if it is at one.
 #[inline(always)]
-fn lock_of(store: &Store, who: Who) -> Option<Stage>
+fn stage_here(store: &Store, who: Who) -> Option<Stage>
     ensures free { IsSome result → is_free_at (world store.now) (place (path store.now) who) ≡ true }
-    ensures alone { IfSome result (λ stage. todo_at (world store.now) (place (path store.now) who) ≡ stage ∷ []) }
-    ensures lock { IfSome result (λ stage. is_lock stage ≡ true) }
+    ensures at { IfSome result (IsAtOrderly (world store.now) (place (path store.now) who)) }
+    ensures alone { IfSome result (λ stage. is_lock stage ≡ true → todo_at (world store.now) (place (path store.now) who) ≡ stage ∷ []) }
 {
     let thread = free_user(store, who)?;
     match thread.mode {
-        Mode::Calling => lock_named(&thread.regs),
+        Mode::Calling => stage_named(&thread.regs),
         Mode::Running | Mode::Halted(_) | Mode::Native => None,
     }
 }
 
-/// The stage of a mutex that registers name, if they name one.
+/// The first stage of the call that registers name, if that is made here.
 #[tactic(auto, unfolding(fk_model::specs::Calls::todo_of))]
 #[inline(always)]
-fn lock_named(registers: &[u64; 16]) -> Option<Stage>
-    ensures named { IfSome result (λ stage. todo_of registers.now ≡ Some (stage ∷ [])) }
-    ensures lock { IfSome result (λ stage. is_lock stage ≡ true) }
+fn stage_named(registers: &[u64; 16]) -> Option<Stage>
+    ensures first { IfSome result (λ stage. first_of (todo_of registers.now) ≡ Some stage) }
+    ensures alone { IfSome result (λ stage. is_lock stage ≡ true → todo_of registers.now ≡ Some (stage ∷ [])) }
 {
     let m = registers[1];
+    let addr = registers[2];
+    let count = registers[3];
     match registers[0] {
         MUTEX_LOCK => Some(Stage::MutexLock { m }),
         MUTEX_TRYLOCK => Some(Stage::MutexTrylock { m }),
         MUTEX_UNLOCK => Some(Stage::MutexUnlock { m }),
+        CLIENT_SEND | CLIENT_SEND_OVER_RECEIVE => Some(Stage::ClientSend { addr, count }),
+        SERVER_SEND | SERVER_SEND_OVER_RECEIVE => Some(Stage::ServerSend { addr, count }),
+        CLIENT_OVER | CLIENT_OVER_RECEIVE => Some(Stage::ClientOver),
+        SERVER_OVER | SERVER_OVER_RECEIVE => Some(Stage::ServerOver),
+        CLIENT_RECEIVE => Some(Stage::ClientReceive {
+            addr: registers[4],
+            room: registers[5],
+        }),
+        SERVER_RECEIVE => Some(Stage::ServerReceive {
+            addr: registers[4],
+            room: registers[5],
+        }),
         _ => None,
     }
 }

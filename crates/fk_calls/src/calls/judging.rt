@@ -1,5 +1,5 @@
 //! What a move comes to.
-ghost use Rattle.std.specs.Prelude.{◌≡◌, ℕ, List, Option, true, false, Some, IsSome, IfSome, IfNone};
+ghost use Rattle.std.specs.Prelude.{◌≡◌, ℕ, List, length, Option, true, false, Some, IsSome, IfSome, IfNone};
 ghost use Rattle.fk_model.specs.declared.moves.Ask.TheVariants as asks;
 ghost use Rattle.fk_model.specs.Holds as holds;
 ghost use Rattle.fk_model.specs.Moves.{IsReady};
@@ -108,6 +108,7 @@ pub fn free_user<'a>(store: &'a Store, who: Who) -> Option<&'a Thread>
     ensures held { IfNone result (is_free_at (world store.now) (place (path store.now) who) ≡ false) }
     ensures space { IsSome result → IsSpace store.now who.space }
     ensures there { IfSome result (λ thread. Some (thread_by (path store.now) thread.now) ≡ thread_at (world store.now) (place (path store.now) who)) }
+    ensures sized { IfSome result (λ thread. length thread.now.regs ≡ 16) }
 {
     match store.thread(who) {
         Some(thread) => {

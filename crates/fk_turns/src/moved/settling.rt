@@ -7,7 +7,7 @@ ghost use Rattle.fk_model.specs.Valid.{IsValid};
 ghost use Rattle.fk_store.specs.Store.Paths.{path};
 ghost use Rattle.fk_store.specs.Store.World.{world, place_of};
 ghost use Rattle.fk_turns.specs.Whys.Causes.{cause_at};
-ghost use Rattle.fk_turns.specs.Whys.Whys.{IsAt, IsWhy};
+ghost use Rattle.fk_turns.specs.Whys.Whys.{IsAt, IsLoudly, IsWhy};
 ghost use Rattle.fk_turns.specs.Moved.Kept.{is_user_at, AreKept};
 ghost use Rattle.fk_turns.specs.Moved.Settled as settled;
 ghost use Rattle.fk_turns.specs.Moved.Settled.{IsSettled};
@@ -47,6 +47,21 @@ pub fn settle_at(turns: &mut Turns, store: &Store, who: Who, mutex: Option<Who>)
         Some(key) => settle_for(turns, store, who, key, Why::At { key }),
         None => settle(turns, store, who),
     }
+}
+
+/// The same at this cause, where any move of another may end why no move of it is ready.
+pub fn settle_loud(turns: &mut Turns, store: &Store, who: Who, cause: Who)
+    requires valid { IsValid (world store.now) }
+    requires kept { AreKept store.now turns.old.waits turns.old.marks }
+    requires user { is_user_at store.now who ≡ true }
+    requires why { IsLoudly (world store.now) (place_of store.now who) }
+    requires cause { place_of store.now cause ≡ cause_at (world store.now) (place_of store.now who) }
+    ensures kept { AreKept store.now turns.new.waits turns.new.marks }
+    ensures settled { IsSettled store.now who turns.old.waits turns.new.waits }
+    ensures unready { (pick : Option Path) → IsReady (world store.now) (place_of store.now who) pick asks.Run → ⊥ }
+{
+    store.names();
+    settle_for(turns, store, who, cause, Why::Loud);
 }
 
 /// The same at this cause, where it is known why no move of it is ready.

@@ -16,6 +16,7 @@ ghost use Rattle.fk_turns.specs.Steps.Steps.{IsPut};
 use crate::next::put;
 use crate::steps::plain::turns_on;
 use crate::steps::steps::proceed_stage;
+use crate::steps::talking::after_talk;
 use fk_calls::{Then, Went, What};
 use fk_model::{Said, Who};
 use fk_store::Store;
@@ -100,6 +101,10 @@ fn go(store: &mut Store, turns: &mut Turns, who: Who) -> Gone
         Went::Waits => Gone::Waits,
         Went::Made { what, at } => {
             after_class(turns, store, who, what, at);
+            Gone::Made
+        }
+        Went::Talked { by } => {
+            after_talk(turns, store, who, by);
             Gone::Made
         }
     }

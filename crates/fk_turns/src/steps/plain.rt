@@ -535,7 +535,7 @@ fn goes_on(store: &Store, who: Who, ran: bool) -> bool
 
 /// A user's thread runs, or after what was no instruction is in a call that waits for nobody, and nothing keeps it, as far as is seen at once.
 #[inline(always)]
-fn is_going(store: &Store, who: Who, ran: bool) -> bool
+pub fn is_going(store: &Store, who: Who, ran: bool) -> bool
     ensures up { OnTrue result (IsMoveReady (world store.now) (place_of store.now who)) }
     ensures user { OnTrue result (is_user_at store.now who ≡ true) }
     ensures on { OnTrue result (ran ≡ true → runs_on_at store.now who ≡ true) }

@@ -128,7 +128,7 @@ fn why_not(store: &Store, who: Who, thread: &Thread) -> Why
 }
 
 /// It is stopped, or has a fault, or neither runs nor is in a call.
-fn is_resting(thread: &Thread) -> bool
+pub fn is_resting(thread: &Thread) -> bool
     ensures { (p : ℕ → Path) → result ≡ stuck.is_resting (thread_by p thread.now) }
 {
     thread.stops != 0 || has_fault(thread) || !is_user(thread.mode)
@@ -151,7 +151,13 @@ fn in_call(store: &Store, who: Who, thread: &Thread) -> Why
     ensures { IsKnown (world store.now) (path store.now) (place (path store.now) who) result }
 {
     match first_stage(thread) {
-        Some(stage) => known_or(store, who, thread, stage, at_stage(store, who, thread, stage)),
+        Some(stage) => known_or(
+            store,
+            who,
+            thread,
+            stage,
+            at_stage(store, who, thread, stage),
+        ),
         None => Why::Barred,
     }
 }

@@ -1,4 +1,4 @@
-use Rattle.std.proofs.Common.{◌≡◌, ◌≤◌, Bool, true, false, Option, option_map, is_some, IfSome, sym, ap, ◌∙◌, subst}
+use Rattle.std.proofs.Common.{◌≡◌, ◌≤◌, true, false, Option, option_map, is_some, IfSome, sym, ap, ◌∙◌, subst}
 use Rattle.fk_model.specs.declared.limits.TheConstants.{LAST_USER_SLOT}
 use Rattle.fk_model.specs.Places.{Ptr}
 use Rattle.fk_model.specs.Talks.{other_side, receiving}

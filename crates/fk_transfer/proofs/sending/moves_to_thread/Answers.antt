@@ -6,6 +6,7 @@ use Rattle.fk_store.specs.Store.Bodies.{thread_by}
 use Rattle.fk_store.specs.Store.Paths.{path, place}
 use Rattle.fk_store.specs.Store.Threads.{is_free_at}
 use Rattle.fk_store.specs.Store.World.{world}
+use Rattle.fk_transfer.proofs.Receivers.{receiver_if}
 use Rattle.fk_transfer.proofs.SendLaws.{ends_if, if_moving, to_thread}
 use Rattle.fk_transfer.proofs.sending.moves_to_thread.Goals as goal
 
@@ -28,3 +29,13 @@ returns-clause-outcome c words =
     to_thread w (caller_by p c.args.caller words) c.args.side (place p c.args.client) (place p c.args.peer) c.args.message.address c.args.message.count
     (words_at w (p c.args.message.page.0) c.args.message.page.1) (thread_by p c.in-Some.thread.now) c.receiving-receive.result _
     c.in-Some.ensures.thread free at goes) (c.moves_into.ensures.outcome words)
+
+pub returns-clause-receiver : goal.returns-clause-receiver
+returns-clause-receiver c some =
+    let p = path c.args.store.now in
+    let w = world c.args.store.now in
+    let free : is_free_at w (place p c.args.peer) ≡ true = cc in
+    let at : c.receiving-receive.result ≡ receiving w (p c.args.peer.space) (other_side c.args.side) (thread_by p c.in-Some.thread.now).mode
+    = rw (← c.other_side.ensures) c.receiving-receive.ensures.receive in
+    receiver_if w (place p c.args.peer) p c.in-Some.thread.now (other_side c.args.side) c.in-Some.ensures.sized.0 c.in-Some.ensures.thread free
+    c.receiving-receive.result at (c.moves_into.ensures.receives some)

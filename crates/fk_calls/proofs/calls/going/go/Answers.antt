@@ -1,4 +1,4 @@
-use Rattle.fk_calls.proofs.InCalls.Went.{went_at, went_ended, went_made, went_row, went_same, went_touched, went_waits}
+use Rattle.fk_calls.proofs.InCalls.Went.{went_at, went_ended, went_made, went_row, went_same, went_talked, went_tells, went_touched, went_waits}
 use Rattle.fk_calls.proofs.calls.going.go.Goals as goal
 
 pub returns : goal.returns
@@ -12,6 +12,8 @@ returns c =
       touched = went_touched m n c.args.who c.go_at.result to;
       row = went_row m n c.args.who c.go_at.result to;
       at = went_at m n c.args.who c.go_at.result to;
+      tells = went_tells m n c.args.who c.go_at.result to;
+      talked = went_talked m n c.args.who c.go_at.result to;
       waits = went_waits m n c.args.who c.go_at.result to;
       same = went_same m n c.args.who c.go_at.result to;
     }

@@ -1,0 +1,26 @@
+use Rattle.std.proofs.lemmas.Bool.{OnTrue_at}
+use Rattle.fk_calls.specs.declared.calls.going.Talked.TheVariants.{Passes}
+use Rattle.fk_waits.proofs.InCauses.Numbers.{clash}
+use Rattle.fk_waits.specs.Waits.Lists.{stands}
+use Rattle.fk_turns.proofs.InSteps.Talked.{kept_passed, receiver_stands}
+use Rattle.fk_turns.proofs.steps.talking.after_turn.Goals as goal
+
+pub wake-requires : goal.wake-requires
+wake-requires c =
+    let was = c.args.turns.now in
+    let there = receiver_stands c.args.store.now c.args.mover (Passes c.args.client c.args.receiver) was.waits was.marks c.requires.comes in
+    record {
+      sound = c.requires.comes.kept.sound;
+      waits = λ off. clash (stands c.args.receiver was.waits) there off;
+      marks = λ off. clash (stands c.args.receiver was.waits) there off;
+    }
+
+pub settle_talker-requires : goal.settle_talker-requires
+settle_talker-requires c =
+    let was = c.args.turns.now in
+    let now = c.wake.new.self in
+    record {
+      valid = c.requires.valid;
+      kept = kept_passed c.args.store.now c.args.mover c.args.client c.args.receiver was.waits was.marks now.waits now.marks c.requires.comes
+          (OnTrue_at c.if-not-is_alone.false c.is_alone.ensures) c.wake.ensures.waits c.wake.ensures.met c.wake.ensures.away c.wake.ensures.sound;
+    }
