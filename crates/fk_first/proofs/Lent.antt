@@ -1,5 +1,5 @@
 -- A player to whom cores are lent.
-use Rattle.std.proofs.Common.{◌≡◌, Bool, Result, Ok, Err, subst, sym}
+use Rattle.std.proofs.Common.{Bool, Result, Ok, Err, subst, sym}
 use Rattle.fk_core.specs.Cores.Cores.{RunCore}
 use Rattle.fk_first.specs.Lent.{IsPlayed, ArePlayed}
 use Rattle.fk_first.specs.Lent.ArePlayed.{Goes}

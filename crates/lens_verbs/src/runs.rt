@@ -19,8 +19,7 @@ use fk_responders::Table;
 use fk_scenario::Scenario;
 use fk_scenario::entries::SpaceEntry;
 use lens_text::{
-    Asked, Programs, Sheet, Verb, file_of, programs_of, push_plain, push_record,
-    refused_scenario,
+    Asked, Programs, Sheet, Verb, file_of, programs_of, push_plain, push_record, refused_scenario,
 };
 
 /// Notes with which programs the spaces of these entries begin. The root's birth number is 0, those of the others follow from 1 on.
@@ -78,7 +77,14 @@ impl<H: Shelf> Showing<'_, H> {
             programs,
             by,
         };
-        match watch(sheet.alloc, table, scenario, &mut self.files, trace, &mut show) {
+        match watch(
+            sheet.alloc,
+            table,
+            scenario,
+            &mut self.files,
+            trace,
+            &mut show,
+        ) {
             Ok(stop) => check_stop(sheet, &Asked { name, ..asked }, stop),
             Err(problem) => sheet.fails(problem),
         }
@@ -147,7 +153,13 @@ impl<H: Shelf> Showing<'_, H> {
             }
             Verb::Why => self.show(table, scenario, &programs, false, Why::new(sheet)),
             Verb::Sums => self.show(table, scenario, &programs, false, Sums::new(sheet)),
-            Verb::Page => self.show(table, scenario, &programs, false, Page::new(sheet, asked.name)),
+            Verb::Page => self.show(
+                table,
+                scenario,
+                &programs,
+                false,
+                Page::new(sheet, asked.name),
+            ),
             _ => self.show(table, scenario, &programs, false, Tree),
         }
     }

@@ -72,7 +72,10 @@ pub fn first_apart(first: &Deeds, second: &Deeds) -> Apart {
 /// The last move before a place in one trace that may do something to others and doesn't come before a place in the other.
 pub fn last_before(deeds: &Deeds, place: usize, other: &Deeds, there: usize) -> Option<usize> {
     let mut found = None;
-    for at in 0..place.min(deeds.list.len()) {
+    for at in 0..deeds.list.len() {
+        if at >= place {
+            break;
+        }
         let deed = deeds.list[at];
         let is_before = match other.place_of(deed) {
             Some(at) => at < there,

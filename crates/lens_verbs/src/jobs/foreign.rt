@@ -46,14 +46,18 @@ fn leads(body: &Body, who: Who) -> Option<&'static str> {
             holder: Some(holder),
             ..
         } => (Ptr::At(holder), "the hold of its thread on "),
-        Body::Thread(Thread {
-            talk: Some(ref talk),
-            ..
-        }) if talk.port == who => (Ptr::At(who), "the talk of "),
-        Body::Thread(Thread {
-            fault: Some(ref fault),
-            ..
-        }) => (Ptr::At(fault.port), "the fault of "),
+        Body::Thread(
+            Thread {
+                talk: Some(ref talk),
+                ..
+            },
+        ) if talk.port == who => (Ptr::At(who), "the talk of "),
+        Body::Thread(
+            Thread {
+                fault: Some(ref fault),
+                ..
+            },
+        ) => (Ptr::At(fault.port), "the fault of "),
         _ => return None,
     };
     match to {
@@ -100,14 +104,18 @@ fn led_by(body: &Body, field: u8) -> Option<Who> {
         } => Some(to),
         Body::Reference { to: Ptr::At(to) } => Some(to),
         Body::Space { holder, .. } => holder,
-        Body::Thread(Thread {
-            talk: Some(ref talk),
-            ..
-        }) if field == 0 => Some(talk.port),
-        Body::Thread(Thread {
-            fault: Some(ref fault),
-            ..
-        }) if field > 0 => Some(fault.port),
+        Body::Thread(
+            Thread {
+                talk: Some(ref talk),
+                ..
+            },
+        ) if field == 0 => Some(talk.port),
+        Body::Thread(
+            Thread {
+                fault: Some(ref fault),
+                ..
+            },
+        ) if field > 0 => Some(fault.port),
         _ => None,
     }
 }

@@ -65,11 +65,13 @@ pub struct Fate<'a> {
 /// What has become of the job with this number. Who only asks this needs to know nothing of how jobs work.
 pub fn fate_of<'a>(jobs: &'a Jobs<Porter>, number: usize) -> Fate<'a> {
     match jobs.ends().get(number) {
-        Some(Ended::Worked {
-            worker,
-            begun,
-            last,
-        }) => Fate {
+        Some(
+            Ended::Worked {
+                worker,
+                begun,
+                last,
+            },
+        ) => Fate {
             ending: match worker.end() {
                 Some(Finish::Image(_) | Finish::Restored) => Ending::Done,
                 Some(Finish::Foreign(place)) => Ending::Foreign(place),

@@ -37,12 +37,7 @@ fn push_held(sheet: &Sheet, store: &Store, porter: Who) {
 
 /// Adds the line of the job whose turn it is: since when it has been at work, or when it begins, what it holds, which call comes next, and how many come
 /// behind it.
-pub fn push_resting(
-    sheet: &Sheet,
-    seen: &Seen<'_>,
-    jobs: &Jobs<Porter>,
-    begun: Option<u64>,
-) {
+pub fn push_resting(sheet: &Sheet, seen: &Seen<'_>, jobs: &Jobs<Porter>, begun: Option<u64>) {
     let number = jobs.ends().len();
     let Some(plan) = jobs.plans().get(number) else {
         return;

@@ -8,7 +8,13 @@ use lens_text::word_at;
 /// That the server of a port has a client now: whose turn it is, and how many words have moved in that.
 fn taken(store: &Store, port: Who) -> Option<Note> {
     if let Some(client) = store.client_at(port) {
-        if let Some(Thread { talk: Some(talk), .. }) = store.thread(client) {
+        if let Some(
+            Thread {
+                talk: Some(talk),
+                ..
+            },
+        ) = store.thread(client)
+        {
             return Some(Note::Taken {
                 turn: talk.turn,
                 moved: talk.moved,

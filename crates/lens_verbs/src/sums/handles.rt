@@ -35,8 +35,7 @@ impl Caller<'_> {
         if slot == OWN_SPACE {
             self.sheet.put(b"; ");
             self.sheet.put(name);
-            self.sheet
-                .fill(b"=@ is the caller's own space", slot, 0, 0);
+            self.sheet.fill(b"=@ is the caller's own space", slot, 0, 0);
         } else {
             self.push(name, self.space, slot);
         }

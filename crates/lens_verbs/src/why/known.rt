@@ -50,7 +50,8 @@ impl Locking {
     /// It sees what stands before a move of somebody.
     pub fn before(&mut self, store: &Store, mover: Who) {
         self.mutex = None;
-        let Some(Stage::MutexLock { m } | Stage::MutexTrylock { m }) = next_stage(store, mover) else {
+        let Some(Stage::MutexLock { m } | Stage::MutexTrylock { m }) = next_stage(store, mover)
+        else {
             return;
         };
         if let Some(mutex) = handled(store, mover.space, m) {

@@ -13,7 +13,7 @@ loop-init g c = Begins
 pub loop-preserved : goal.loop-preserved
 loop-preserved g c =
     plays-on g.P.Player.plays (IsFirst c.args.scenario.now) c.args.player.now c.loop.player c.lend_core.result c.lend_core.new.player c.loop.invariant
-        c.lend_core.ensures
+    c.lend_core.ensures
 
 pub returns : goal.returns
 returns g c = elim c.loop-test.branch [
@@ -21,5 +21,5 @@ returns g c = elim c.loop-test.branch [
   | then-loop-test+in-Ok-false w ↦
       rw w.player-is
       (plays-on g.P.Player.plays (IsFirst c.args.scenario.now) c.args.player.now c.loop.player w.lend_core.result w.lend_core.new.player c.loop.invariant
-          w.lend_core.ensures)
+      w.lend_core.ensures)
 ]
