@@ -2,16 +2,14 @@
 use Rattle.std.proofs.Common.{◌≡◌, ℕ, zero, suc, ◌+◌, ◌-◌, ◌<◌, ◌≤◌, Bool, true, false, List, [], ◌∷◌, ◌++◌, length, map, Option, Some, None, option_map, is_some}
 use Rattle.std.proofs.Common.{◌↔◌, IsTrue, IfSome, IfNone, refl, sym, ap, subst, ◌∙◌, arith}
 use Rattle.std.specs.List.{slice_get}
-use Rattle.fk_model.specs.declared.moves.Ask.{Ask}
 use Rattle.fk_model.specs.declared.stage.Stage.{Stage}
 use Rattle.fk_image.specs.declared.image.image.Image.{Image}
-use Rattle.fk_finish.specs.declared.finish.Finish.{Finish}
 use Rattle.fk_checkpoint.specs.declared.checkpoint.checkpoint.Phase.{Phase}
 use Rattle.fk_checkpoint.specs.declared.checkpoint.checkpoint.Phase.TheVariants as phases
 use Rattle.fk_checkpoint.specs.Checkpoint.Checkpoints.{end_of, gathered_in}
 use Rattle.fk_checkpoint.specs.Checkpoint.Phases.{phase_of, state_of, IsOver}
 use Rattle.laws_jobs.specs.Machines.{no_words, Head}
-use Rattle.laws_jobs.specs.Machines.Head.{Asks, Stops}
+use Rattle.laws_jobs.specs.Machines.Head.{Asks}
 use Rattle.laws_checkpoint.specs.Checkpoint as checks
 use Rattle.laws_handover.specs.NearSide as near
 use Rattle.fk_image.specs.Format.Spelling.{spelling}

@@ -1,5 +1,5 @@
 -- A table of pieces, where there is one.
-use Rattle.std.proofs.Common.{◌≡◌, ℕ, List, [], ◌∷◌, ◌++◌, length, Option, Some, None, refl, sym, ap, subst, ◌∙◌}
+use Rattle.std.proofs.Common.{◌≡◌, ℕ, List, [], ◌∷◌, ◌++◌, length, Option, Some, None, sym, subst}
 use Rattle.fk_image.specs.declared.image.image.Image.{Image}
 use Rattle.laws_handover.specs.Pieces.{Piece}
 use Rattle.fk_sides.specs.declared.blocks.Block.{Block}
