@@ -52,34 +52,6 @@ pub ended_so : (slot : ℕ) (i : Image) (s : restores.State) (finish : Finish) �
     → of_job i (made s) ≡ of_job i (made_end (end_of finish))
 ended_so slot i s finish e = over_so slot i s (end_of finish) e
 
-pub done_so : (finish : Finish) → (finish ≡ finishes.Occupied → ⊥) → ((port : ℕ) → finish ≡ finishes.NoPort port → ⊥) → end_of finish ≡ restores.Done
-done_so (finishes.Image image) taken missing = refl
-done_so (finishes.Foreign place) taken missing = refl
-done_so finishes.Dead taken missing = refl
-done_so finishes.Restored taken missing = refl
-done_so finishes.Occupied taken missing = absurd (taken refl)
-done_so (finishes.NoPort port) taken missing = absurd (missing port refl)
-
--- ---- what comes of an answer, by where the restore stands then
-
-came_to : (old new : Restore) (look : Look) (slot status : ℕ) (words : List ℕ) → new.image ≡ old.image
-    → state_of new ≡ (restore_of slot old.image []).next (state_of old) status words → of_job new.image (made (state_of new)) ≡ look_of new look
-    → restored slot (job_of old) status words ≡ look_of new look
-came_to old new look slot status words image state is =
-    sym (λ j. of_job (image j) (made (state j))) ∙ is
-
-pub went_on : (old new : Restore) (look : Look) (slot status : ℕ) (words : List ℕ) → new.image ≡ old.image
-    → state_of new ≡ (restore_of slot old.image []).next (state_of old) status words → of_job new.image (made (state_of new)) ≡ look_of new look
-    → made_so new.image (look_of new look) ≡ made_so old.image (restored slot (job_of old) status words)
-went_on old new look slot status words image state is =
-    ap (λ (i : Image). made_so i (look_of new look)) image ∙ ap (made_so old.image) (sym (came_to old new look slot status words image state is))
-
-pub was_undone : (old new : Restore) (look : Look) (slot status : ℕ) (words : List ℕ) → new.image ≡ old.image
-    → state_of new ≡ (restore_of slot old.image []).next (state_of old) status words → of_job new.image (made (state_of new)) ≡ look_of new look
-    → undone_so new.image (look_of new look) ≡ undone_so old.image (restored slot (job_of old) status words)
-was_undone old new look slot status words image state is =
-    ap (λ (i : Image). undone_so i (look_of new look)) image ∙ ap (undone_so old.image) (sym (came_to old new look slot status words image state is))
-
 -- ---- stages of destroying
 
 abbrev ended : Image → Bool → FarSide
