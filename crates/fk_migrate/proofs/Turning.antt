@@ -1,5 +1,5 @@
 -- What is handed in with a move, and whose it is.
-use Rattle.std.proofs.Common.{◌≡◌, ℕ, zero, suc, Bool, true, false, cond, eqb-true, eq-eqb, ◌&&◌, ◌==◌, [], ◌∷◌, Option, Some, None, IsTrue, ◌↔◌, refl, sym, ap, subst, ◌∙◌}
+use Rattle.std.proofs.Common.{◌≡◌, ℕ, zero, suc, Bool, true, false, cond, if◌then◌else◌, eqb-true, eq-eqb, ◌&&◌, ◌==◌, [], ◌∷◌, Option, Some, None, IsTrue, ◌↔◌, refl, sym, ap, subst, ◌∙◌}
 use Rattle.fk_model.specs.declared.limits.TheConstants.{LAST_PORTER_SLOT}
 use Rattle.fk_model.specs.declared.moves.Ask.{Ask}
 use Rattle.fk_model.specs.declared.moves.Move.{Move}
@@ -29,11 +29,15 @@ some_ready services w m (Some other) ask b is ready =
 root_path : (m : Contents) (n : ℕ) → (n == 0) ≡ same_path [] (path m n)
 unfolding path path_by same_path
 root_path m zero = refl
-root_path m (suc n) = by (home m (suc n))
+root_path m (suc n) = by (suc n == 0)
   where
-    by : (o : Option Who) → false ≡ same_path [] (from_home (path_by n m) o)
-    by None = refl
-    by (Some who) = refl
+    from : (o : Option Who) → false ≡ same_path [] (from_home (path_by n m) o)
+    from None = refl
+    from (Some who) = refl
+
+    by : (b : Bool) → b ≡ same_path [] (if b then [] else from_home (path_by n m) (home m (suc n)))
+    by true = refl
+    by false = from (home m (suc n))
 
 and_back : (a b : Bool) → (a && b) ≡ (b && a)
 and_back true true = refl

@@ -1,5 +1,5 @@
 -- A piece more among those that have come.
-use Rattle.std.proofs.Common.{◌≡◌, ℕ, zero, suc, ◌+◌, ◌<◌, ◌≤◌, Bool, true, false, cond, eqb, eqb-true, eq-eqb, ◌==◌, List, [], ◌∷◌, ◌++◌, length, take, replicate}
+use Rattle.std.proofs.Common.{◌≡◌, ℕ, zero, suc, ◌+◌, ◌<◌, ◌≤◌, Bool, true, false, cond, eqb-true, eq-eqb, ◌==◌, List, [], ◌∷◌, ◌++◌, length, replicate}
 use Rattle.std.proofs.Common.{Option, Some, None, option_map, is_some, ◌⊎◌, inl, inr, refl, sym, ap, subst, ◌∙◌, arith, append-nil, append_assoc, drop, drop-cons, get_or}
 use Rattle.std.specs.List.{slice_get, slice_set}
 use Rattle.laws_handover.specs.Pieces.{Piece, content, found, behind, joined_from, joined, read_from}
@@ -201,7 +201,7 @@ idle_unread blocks first (q ∷ qs) p shows filled idle going total unread = by 
         ap (read_from read_bytes) (joined_whole blocks first q (qs ++ p ∷ []) more going filled.to le ∙ sym (joined_whole blocks first q qs shows going filled.to le))
         ∙ unread
 
--- ---- a piece in an free place
+-- ---- a piece in a free place
 
 set_long : {X : Type 0} (xs : List X) (k : ℕ) (x : X) → length (slice_set xs k x) ≡ length xs
 set_long [] k x = refl
@@ -324,27 +324,6 @@ reads blocks new first got number total b o free its begins is filled le read = 
     by None e = record { at = shows.at; unread = e; many = many }
     by (Some image) e = e
 
--- ---- the first piece
-
-replicate_open : (n m : ℕ) → bytes_at (replicate n no_block) m ≡ None
-replicate_open zero m = refl
-replicate_open (suc n) zero = refl
-replicate_open (suc n) (suc m) = replicate_open n m
-
-pub replicate_long : {X : Type 0} (n : ℕ) (x : X) → length (replicate n x) ≡ n
-replicate_long zero x = refl
-replicate_long (suc n) x = ap suc (replicate_long n x)
-
-pub open_first : (blocks : Blocks) (total : ℕ) → blocks ≡ replicate total no_block → bytes_at blocks 0 ≡ None
-open_first blocks total is = ap (λ (bs : Blocks). bytes_at bs 0) is ∙ replicate_open total 0
-
--- none has come
-pub empties : (blocks : Blocks) (total : ℕ) → blocks ≡ replicate total no_block → IsIn blocks [] × (total ≡ length blocks)
-empties blocks total is = (
-  record { at = λ n lt. ap (λ (bs : Blocks). bytes_at bs n) is ∙ replicate_open total n; unread = refl; many = refl },
-  sym (ap (λ (bs : Blocks). length bs) is ∙ replicate_long total no_block),
-)
-
 -- ---- all blocks, one after the other
 
 pub joined_more : (blocks : Blocks) (i : ℕ) (d : Option Block) (before now : List ℕ) → i < length blocks → now ≡ before ++ shown (get_or blocks i d)
@@ -355,16 +334,6 @@ joined_more blocks i d before now lt is so_far =
     ap (λ (bytes : List ℕ). bytes ++ spelled (drop (i + 1) blocks)) is
     ∙ append_assoc before (shown (get_or blocks i d)) (spelled (drop (i + 1) blocks))
     ∙ ap (λ (xs : Blocks). before ++ spelled xs) (sym here) ∙ so_far
-
-pub joined_all : (blocks : Blocks) (i : ℕ) (out : List ℕ) → length blocks ≤ i → out ++ spelled (drop i blocks) ≡ spelled blocks → out ≡ spelled blocks
-joined_all blocks i out past so_far =
-    sym (append-nil out) ∙ ap (λ (xs : Blocks). out ++ spelled xs) (sym (dropped blocks i past)) ∙ so_far
-  where
-    dropped : (xs : Blocks) (n : ℕ) → length xs ≤ n → drop n xs ≡ []
-    dropped [] zero le = refl
-    dropped [] (suc n) le = refl
-    dropped (x ∷ xs) zero le = absurd (omega (arith, le))
-    dropped (x ∷ xs) (suc n) le = dropped xs n (omega (arith, le))
 
 -- ---- the first open place
 

@@ -1,5 +1,5 @@
 -- What a packet makes of the far side.
-use Rattle.std.proofs.Common.{◌≡◌, ℕ, List, [], ◌∷◌, ◌++◌, Option, Some, None, refl, sym, ap, subst, ◌∙◌}
+use Rattle.std.proofs.Common.{◌≡◌, ℕ, List, Option, Some, None, sym, ap, subst, ◌∙◌}
 use Rattle.fk_image.specs.declared.image.image.Image.{Image}
 use Rattle.laws_handover.specs.FarSide as far
 use Rattle.laws_handover.specs.Handover.{far_told, listened}

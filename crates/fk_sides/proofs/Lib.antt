@@ -1,6 +1,5 @@
 pub mod Cuts
 pub mod Coming
-pub mod Tables
 pub mod Nearness
 pub mod Looks
 pub mod Hearing

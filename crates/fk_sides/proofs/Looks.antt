@@ -1,11 +1,11 @@
 -- Where a restore stands after an answer.
-use Rattle.std.proofs.Common.{◌≡◌, ℕ, zero, suc, ◌-◌, arith, Bool, true, false, List, [], ◌∷◌, Option, Some, None, refl, sym, ap, ◌∙◌}
+use Rattle.std.proofs.Common.{◌≡◌, ℕ, zero, suc, ◌-◌, arith, Bool, true, false, List, [], ◌∷◌, Some, refl, sym, ap, ◌∙◌}
 use Rattle.fk_finish.specs.declared.finish.Finish.{Finish}
 use Rattle.fk_finish.specs.declared.finish.Finish.TheVariants as finishes
 use Rattle.fk_image.specs.declared.image.image.Image.{Image}
 use Rattle.fk_restore.specs.declared.restore.restore.Restore.{Restore}
 use Rattle.fk_restore.specs.Restore.Restores.{end_of, is_built, state_of}
-use Rattle.laws_jobs.specs.Machines.{Head, IsAtCall}
+use Rattle.laws_jobs.specs.Machines.{IsAtCall}
 use Rattle.laws_jobs.specs.Machines.Head.{Asks, Stops}
 use Rattle.laws_restore.specs.Restore.Restore as restores
 use Rattle.laws_restore.specs.Rooms.Restoring.{restore_of}
@@ -13,7 +13,6 @@ use Rattle.laws_handover.specs.FarSide as far
 use Rattle.laws_handover.specs.FarSide.{Made}
 use Rattle.laws_migrate.specs.Migration.{Why, Job, made, made_end, of_job}
 use Rattle.fk_sides.specs.declared.far.Look.{Look}
-use Rattle.fk_sides.specs.declared.far.Look.TheVariants as looks
 use Rattle.fk_sides.specs.Fars.{job_of, look_of}
 use Rattle.fk_sides.specs.Sides.{FarSide, made_so, undone_so, restored, far_heard}
 
@@ -52,34 +51,6 @@ over_so slot i (restores.Over other) end e = let same : other ≡ end = cc in ap
 pub ended_so : (slot : ℕ) (i : Image) (s : restores.State) (finish : Finish) → restores.head slot s ≡ Stops (end_of finish)
     → of_job i (made s) ≡ of_job i (made_end (end_of finish))
 ended_so slot i s finish e = over_so slot i s (end_of finish) e
-
-pub done_so : (finish : Finish) → (finish ≡ finishes.Occupied → ⊥) → ((port : ℕ) → finish ≡ finishes.NoPort port → ⊥) → end_of finish ≡ restores.Done
-done_so (finishes.Image image) taken missing = refl
-done_so (finishes.Foreign place) taken missing = refl
-done_so finishes.Dead taken missing = refl
-done_so finishes.Restored taken missing = refl
-done_so finishes.Occupied taken missing = absurd (taken refl)
-done_so (finishes.NoPort port) taken missing = absurd (missing port refl)
-
--- ---- what comes of an answer, by where the restore stands then
-
-came_to : (old new : Restore) (look : Look) (slot status : ℕ) (words : List ℕ) → new.image ≡ old.image
-    → state_of new ≡ (restore_of slot old.image []).next (state_of old) status words → of_job new.image (made (state_of new)) ≡ look_of new look
-    → restored slot (job_of old) status words ≡ look_of new look
-came_to old new look slot status words image state is =
-    sym (λ j. of_job (image j) (made (state j))) ∙ is
-
-pub went_on : (old new : Restore) (look : Look) (slot status : ℕ) (words : List ℕ) → new.image ≡ old.image
-    → state_of new ≡ (restore_of slot old.image []).next (state_of old) status words → of_job new.image (made (state_of new)) ≡ look_of new look
-    → made_so new.image (look_of new look) ≡ made_so old.image (restored slot (job_of old) status words)
-went_on old new look slot status words image state is =
-    ap (λ (i : Image). made_so i (look_of new look)) image ∙ ap (made_so old.image) (sym (came_to old new look slot status words image state is))
-
-pub was_undone : (old new : Restore) (look : Look) (slot status : ℕ) (words : List ℕ) → new.image ≡ old.image
-    → state_of new ≡ (restore_of slot old.image []).next (state_of old) status words → of_job new.image (made (state_of new)) ≡ look_of new look
-    → undone_so new.image (look_of new look) ≡ undone_so old.image (restored slot (job_of old) status words)
-was_undone old new look slot status words image state is =
-    ap (λ (i : Image). undone_so i (look_of new look)) image ∙ ap (undone_so old.image) (sym (came_to old new look slot status words image state is))
 
 -- ---- stages of destroying
 

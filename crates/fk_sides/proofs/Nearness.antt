@@ -2,16 +2,14 @@
 use Rattle.std.proofs.Common.{◌≡◌, ℕ, zero, suc, ◌+◌, ◌-◌, ◌<◌, ◌≤◌, Bool, true, false, List, [], ◌∷◌, ◌++◌, length, map, Option, Some, None, option_map, is_some}
 use Rattle.std.proofs.Common.{◌↔◌, IsTrue, IfSome, IfNone, refl, sym, ap, subst, ◌∙◌, arith}
 use Rattle.std.specs.List.{slice_get}
-use Rattle.fk_model.specs.declared.moves.Ask.{Ask}
 use Rattle.fk_model.specs.declared.stage.Stage.{Stage}
 use Rattle.fk_image.specs.declared.image.image.Image.{Image}
-use Rattle.fk_finish.specs.declared.finish.Finish.{Finish}
 use Rattle.fk_checkpoint.specs.declared.checkpoint.checkpoint.Phase.{Phase}
 use Rattle.fk_checkpoint.specs.declared.checkpoint.checkpoint.Phase.TheVariants as phases
 use Rattle.fk_checkpoint.specs.Checkpoint.Checkpoints.{end_of, gathered_in}
 use Rattle.fk_checkpoint.specs.Checkpoint.Phases.{phase_of, state_of, IsOver}
 use Rattle.laws_jobs.specs.Machines.{no_words, Head}
-use Rattle.laws_jobs.specs.Machines.Head.{Asks, Stops}
+use Rattle.laws_jobs.specs.Machines.Head.{Asks}
 use Rattle.laws_checkpoint.specs.Checkpoint as checks
 use Rattle.laws_handover.specs.NearSide as near
 use Rattle.fk_image.specs.Format.Spelling.{spelling}
@@ -144,7 +142,7 @@ waits_hears_none slot s status words there =
     let its = image_there (gathered_in s) there in
     waits s its.0 its.1 ∙ sym (ap (λ (n : NearSide). near_heard slot n status words) (waits s its.0 its.1))
 
--- ---- one without an image takes no packet, and doesn't give up
+-- ---- one without an image takes no packet
 
 pub told_nothing : (slot : ℕ) (s : checks.State) (p : Packet Piece Why) → gathered_in s ≡ None → near_at s ≡ near_told (both slot) (near_at s) p
 told_nothing slot checks.Holds p none = refl
@@ -160,21 +158,6 @@ told_nothing slot (checks.Releases (checks.Done i)) p none = absurd (some_none i
 told_nothing slot (checks.Over checks.Gone) p none = refl
 told_nothing slot (checks.Over (checks.Foreign place)) p none = refl
 told_nothing slot (checks.Over (checks.Done i)) p none = refl
-
-pub gives_up_nothing : (slot : ℕ) (s : checks.State) → gathered_in s ≡ None → near_at s ≡ gives_up (both slot) (near_at s)
-gives_up_nothing slot checks.Holds none = refl
-gives_up_nothing slot (checks.Readies r rest) none = refl
-gives_up_nothing slot (checks.Walks s) none = refl
-gives_up_nothing slot (checks.Seeks mets s) none = refl
-gives_up_nothing slot (checks.Reads s) none = refl
-gives_up_nothing slot (checks.Gathers contents s) none = refl
-gives_up_nothing slot (checks.Drops r rest end) none = refl
-gives_up_nothing slot (checks.Releases checks.Gone) none = refl
-gives_up_nothing slot (checks.Releases (checks.Foreign place)) none = refl
-gives_up_nothing slot (checks.Releases (checks.Done i)) none = absurd (some_none i none)
-gives_up_nothing slot (checks.Over checks.Gone) none = refl
-gives_up_nothing slot (checks.Over (checks.Foreign place)) none = refl
-gives_up_nothing slot (checks.Over (checks.Done i)) none = refl
 
 -- one waits exactly where it has an image
 image_waits : (s : checks.State) → is_some (gathered_in s) ≡ true → may_give_up (near_at s)
@@ -202,22 +185,6 @@ works_wait s c b is there = (
   λ yes. subst (λ (x : Saves). may_give_up (saves_of x)) (sym is) (image_waits (state_of c) (sym there ∙ yes)),
   λ may. there ∙ waits_image (state_of c) (subst (λ (x : Saves). may_give_up (saves_of x)) is may),
 )
-
--- and has sent nothing
-pub sent_nothing : (s : checks.State) → gathered_in s ≡ None → sent_near image_codec (near_at s) ≡ []
-sent_nothing checks.Holds none = refl
-sent_nothing (checks.Readies r rest) none = refl
-sent_nothing (checks.Walks s) none = refl
-sent_nothing (checks.Seeks mets s) none = refl
-sent_nothing (checks.Reads s) none = refl
-sent_nothing (checks.Gathers contents s) none = refl
-sent_nothing (checks.Drops r rest end) none = refl
-sent_nothing (checks.Releases checks.Gone) none = refl
-sent_nothing (checks.Releases (checks.Foreign place)) none = refl
-sent_nothing (checks.Releases (checks.Done i)) none = absurd (some_none i none)
-sent_nothing (checks.Over checks.Gone) none = refl
-sent_nothing (checks.Over (checks.Foreign place)) none = refl
-sent_nothing (checks.Over (checks.Done i)) none = refl
 
 -- ---- stages of destroying
 
@@ -289,23 +256,6 @@ pub works_next : (slot : ℕ) (s : Saves) (c : Checkpoint) (o : Option Stage) �
 works_next slot s c o is same next =
     let here : c.slot ≡ slot = sym (ap (slot_in slot) is) ∙ same in
     next ∙ ap (λ (k : ℕ). near_call k (near_at (state_of c))) here ∙ sym (ap (λ (x : Saves). near_call slot (saves_of x)) is)
-
--- ---- the slot of its checkpoint is its own
-
-pub works_slot : (slot : ℕ) (s : Saves) (c : Checkpoint) → s ≡ saves.Works c → slot_in slot s ≡ slot → c.slot ≡ slot
-works_slot slot s c is same = sym (ap (slot_in slot) is) ∙ same
-
-pub works_heard : (slot : ℕ) (s : Saves) (c : Checkpoint) (n : NearSide) (status : ℕ) (words : List ℕ) → s ≡ saves.Works c → slot_in slot s ≡ slot
-    → n ≡ near_heard c.slot (near_at (state_of c)) status words → n ≡ near_heard slot (saves_of s) status words
-works_heard slot s c n status words is same heard =
-    heard ∙ ap (λ (k : ℕ). near_heard k (near_at (state_of c)) status words) (works_slot slot s c is same)
-    ∙ sym (ap (λ (x : Saves). near_heard slot (saves_of x) status words) is)
-
-pub works_told : (slot : ℕ) (s : Saves) (c : Checkpoint) (n : NearSide) (p : Packet Piece Why) → s ≡ saves.Works c → IsSpelled s → n ≡ near_at (state_of c)
-    → saves_of s ≡ n → n ≡ near_told (both slot) (saves_of s) p
-works_told slot s c n p is spelled now same =
-    let none : gathered_in (state_of c) ≡ None = subst IsSpelled is spelled in
-    now ∙ told_nothing slot (state_of c) p none ∙ sym (ap (λ (x : Saves). near_told (both slot) (saves_of x) p) is)
 
 -- ---- a packet, and giving up, once what is gathered is spelled
 

@@ -1,4 +1,4 @@
-use Rattle.std.proofs.Common.{◌+◌, sym, ◌∙◌, arith}
+use Rattle.std.proofs.Common.{sym, ◌∙◌, arith}
 use Rattle.fk_sides.proofs.Coming.{filled_more, filled_end, is_within}
 use Rattle.fk_sides.proofs.blocks.first_open.Goals as goal
 

@@ -1,5 +1,5 @@
 use Rattle.std.proofs.Common.{arith}
-use Rattle.fk_sides.proofs.Coming.{joined_more, joined_all}
+use Rattle.fk_sides.proofs.Coming.{joined_more}
 use Rattle.fk_sides.proofs.blocks.join.Goals as goal
 
 pub loop-block-preserved : goal.loop-block-preserved

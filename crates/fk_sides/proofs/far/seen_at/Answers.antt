@@ -1,4 +1,4 @@
-use Rattle.std.proofs.Common.{◌≡◌, sym, ap, ◌∙◌}
+use Rattle.std.proofs.Common.{sym, ap, ◌∙◌}
 use Rattle.fk_restore.specs.Restore.Restores.{state_of}
 use Rattle.laws_handover.specs.FarSide.{Made}
 use Rattle.laws_migrate.specs.Migration.{Why, of_job}

@@ -1,4 +1,4 @@
-use Rattle.std.proofs.Common.{◌≡◌, ap, ◌∙◌}
+use Rattle.std.proofs.Common.{ap, ◌∙◌}
 use Rattle.fk_image.specs.declared.image.image.Image.{Image}
 use Rattle.laws_restore.specs.Restore.Restore.{objects}
 use Rattle.laws_restore.specs.Rooms.Rooms.{rooms_of}

@@ -1,4 +1,4 @@
-use Rattle.std.proofs.Common.{◌≡◌, is_some, ap, ◌∙◌}
+use Rattle.std.proofs.Common.{is_some, ap, ◌∙◌}
 use Rattle.fk_sides.proofs.Nearness.{some_map}
 use Rattle.fk_sides.proofs.near.has_image.Goals as goal
 

@@ -1,4 +1,4 @@
-use Rattle.std.proofs.Common.{◌≡◌, ◌∙◌}
+use Rattle.std.proofs.Common.{◌∙◌}
 use Rattle.fk_sides.proofs.Nearness.{sent_first, sent_past, sent_last}
 use Rattle.fk_sides.proofs.near.packet_since.Goals as goal
 

@@ -1,5 +1,5 @@
-use Rattle.std.proofs.Common.{◌≡◌, ℕ, ◌*◌, ◌<◌, ◌≤◌, List, length, take, ap, ◌∙◌, refl, arith}
-use Rattle.laws_handover.specs.Pieces.{piece, pieces}
+use Rattle.std.proofs.Common.{ℕ, ◌*◌, List, take, ap, ◌∙◌, refl, arith}
+use Rattle.laws_handover.specs.Pieces.{piece}
 use Rattle.fk_sides.proofs.Cuts.{no_piece, packet_is, piece_told, rest_is, within_bytes}
 use Rattle.fk_sides.proofs.spelled.piece_in.Goals as goal
 

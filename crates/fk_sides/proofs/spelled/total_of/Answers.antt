@@ -1,4 +1,4 @@
-use Rattle.std.proofs.Common.{◌≡◌, ◌*◌, ◌<◌, ◌≤◌, arith}
+use Rattle.std.proofs.Common.{arith}
 use Rattle.fk_sides.proofs.Cuts.{pieces_long}
 use Rattle.fk_sides.proofs.spelled.total_of.Goals as goal
 

@@ -1,4 +1,4 @@
-use Rattle.std.proofs.Common.{◌≡◌, ◌<◌, ◌≤◌, List, Option, ap, ◌∙◌, arith}
+use Rattle.std.proofs.Common.{List, Option, ap, ◌∙◌, arith}
 use Rattle.fk_sides.specs.declared.blocks.Block.{Block}
 use Rattle.fk_sides.specs.Blocks.{spelled}
 use Rattle.laws_migrate.specs.Images.{read_bytes}

@@ -1,4 +1,4 @@
-use Rattle.std.proofs.Common.{◌≡◌, refl}
+use Rattle.std.proofs.Common.{refl}
 use Rattle.fk_sides.proofs.Coming.{filled_put}
 use Rattle.fk_sides.proofs.came.Table.put.Goals as goal
 

@@ -1,4 +1,4 @@
-use Rattle.std.proofs.Common.{◌≡◌, List, Option, subst}
+use Rattle.std.proofs.Common.{List, Option, subst}
 use Rattle.std.proofs.lemmas.Bool.{OnTrue_at, OnFalse_at}
 use Rattle.fk_sides.specs.declared.blocks.Block.{Block}
 use Rattle.fk_sides.specs.Blocks.{IsOpen, IsIdle}

@@ -1,4 +1,6 @@
 use Rattle.std.proofs.lemmas.Result.{err_from_is_err_and}
+use Rattle.fk_sides.specs.declared.far.Makes.TheVariants as makes
+use Rattle.fk_sides.specs.Sides.{packet_of}
 use Rattle.fk_sides.proofs.Hearing.{taken_so, lacking_so, never_so, restores_so}
 use Rattle.fk_sides.proofs.far.Far.take.Goals as goal
 
@@ -8,7 +10,7 @@ returns-in-Some-clause-told c =
 
 pub returns-in-None-clause-told : goal.returns-in-None-clause-told
 returns-in-None-clause-told c =
-    taken_so c.args.self.now.slot c.args.self.now.makes _ c.in-Listens.came _ c.in-Listens.is (rw c.in-None.is at c.in_ok-next-in-Listens.ensures.told)
+    taken_so c.args.self.now.slot c.args.self.now.makes (makes.Listens c.listen.new.came) c.in-Listens.came (packet_of c.args.packet.now) c.in-Listens.is (rw c.in-None.is at c.in_ok-next-in-Listens.ensures.told)
 
 pub returns-in-Never-clause-told : goal.returns-in-Never-clause-told
 returns-in-Never-clause-told c = never_so c.args.self.now.slot c.args.self.now.makes _ c.in-Never.is

@@ -1,4 +1,4 @@
-use Rattle.std.proofs.Common.{◌≡◌, ℕ, List, option_map, ap, ◌∙◌}
+use Rattle.std.proofs.Common.{ℕ, List, option_map, ap, ◌∙◌}
 use Rattle.std.specs.List.{slice_get}
 use Rattle.fk_image.specs.declared.image.image.Image.{Image}
 use Rattle.fk_image.specs.Format.Spelling.{spelling}
