@@ -13,13 +13,15 @@
 #![tactic(auto)]
 
 mod answers;
+mod asking;
 mod console;
 mod native;
 mod server;
 mod service;
 
 pub use answers::{alike_services_answer_alike, alike_services_take_up_alike, replies_are_by_rule};
+pub use asking::ask;
 pub use console::Console;
 pub use native::Native;
-pub use server::{Server, give};
+pub use server::Server;
 pub use service::{Heard, Service, Side};
