@@ -3,7 +3,7 @@ use crate::hunt::random::Random;
 use fk_core::{Core, Kernel};
 use fk_model::limits::LAST_PORTER_SLOT;
 use fk_model::{Ask, Mode, Move, Stage, Who};
-use fk_natives::{Native, Service};
+use fk_natives::{Native, ask};
 use fk_porters::Porter;
 use lens_text::next_stage;
 
@@ -101,7 +101,7 @@ fn accepting(core: &Run, random: &mut Random, kernel: &Kernel, who: Who) -> Opti
 /// The act of the native server at a place.
 fn server_move(core: &Run, random: &mut Random, place: usize) -> Option<Move> {
     let (port, native) = core.services().get(place)?;
-    match native.ask()? {
+    match ask(native)? {
         Ask::Accept => accepting(core, random, core.kernel(), *port),
         _ => Some(Move {
             who: *port,
