@@ -12,4 +12,5 @@ pub mod Chosen
 pub mod Running
 pub mod Touches
 pub mod Locking
+pub mod Sleeping
 pub mod Went
