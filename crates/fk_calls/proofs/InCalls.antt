@@ -13,4 +13,5 @@ pub mod Running
 pub mod Touches
 pub mod Locking
 pub mod Sleeping
+pub mod Signalling
 pub mod Went

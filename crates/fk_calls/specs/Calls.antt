@@ -7,3 +7,4 @@ pub mod Sayings
 pub mod Tried
 pub mod Quiet
 pub mod Goings
+pub mod Signals
