@@ -10,3 +10,4 @@ pub mod Beside
 pub mod Known
 pub mod Unknown
 pub mod Locked
+pub mod Risen

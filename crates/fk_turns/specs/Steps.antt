@@ -9,3 +9,4 @@ pub use Rattle.fk_turns.specs.Next.Tried
 pub use Rattle.fk_turns.specs.Next.Waiting
 pub mod Steps
 pub mod Classes
+pub mod Beside

@@ -102,6 +102,36 @@ runs_then w k s x e stage off free alone = by (thread_at w (k ∷ s)) refl free 
     by None there free alone = absurd (cc)
     by (Some t) there free alone = by_mode t t.mode refl there free alone
 
+-- ---- and who locks its mutex
+
+different_from : (w : World) (me x : Path) (cond mutex : ℕ) → todo_at w me ≡ CondSignal cond ∷ [] → IsAsleep w x mutex → same_path x me ≡ false
+different_from w me x cond mutex alone asleep = by (same_path x me) refl
+  where
+    by : (b : Bool) → same_path x me ≡ b → same_path x me ≡ false
+    by false e = e
+    by true e =
+        let same : CondAsleep asleep.0 mutex ∷ [] ≡ CondSignal cond ∷ [] = sym asleep.1 ∙ ap (todo_at w) (same_path_eq x me e) ∙ alone in
+        absurd (cc)
+
+locks_then : (w : World) (me x : Path) (c mutex : ℕ) → same_path x me ≡ false → todo_at w x ≡ CondAsleep c mutex ∷ [] →
+    todo_at (apply (Alter me (Finish [])) (apply (Alter x (Replace (MutexLock mutex))) w)) x ≡ MutexLock mutex ∷ []
+unfolding apply edited todo_at
+locks_then w me x c mutex off asleep = by (thread_at w x) refl asleep
+  where
+    by_mode : (t : Thread) (mode : Mode) → t.mode ≡ mode → thread_at w x ≡ Some t → todo_of_mode mode ≡ CondAsleep c mutex ∷ [] →
+        todo_at (apply (Alter me (Finish [])) (apply (Alter x (Replace (MutexLock mutex))) w)) x ≡ MutexLock mutex ∷ []
+    by_mode t (Calling todo rest) is there asleep =
+        let body = body_of_thread (w.body x) t there in
+        rw (off, same_path_refl x, body, is, asleep) refl
+    by_mode t (Running g) is there asleep = absurd (cc)
+    by_mode t (Halted g code) is there asleep = absurd (cc)
+    by_mode t (Native g) is there asleep = absurd (cc)
+
+    by : (o : Option Thread) → thread_at w x ≡ o → todo_of_thread o ≡ CondAsleep c mutex ∷ [] →
+        todo_at (apply (Alter me (Finish [])) (apply (Alter x (Replace (MutexLock mutex))) w)) x ≡ MutexLock mutex ∷ []
+    by None there asleep = absurd (cc)
+    by (Some t) there asleep = by_mode t t.mode refl there asleep
+
 -- ---- the move
 
 abbrev pub SeesCond : Contents → Who → ℕ → Type 0
@@ -162,6 +192,8 @@ module _ (m n : Contents) (who : Who) (cond mutex slot : ℕ) (valid : IsValid (
             (sym paths_are)
             (runs_then w who.slot (path m who.space) x (Replace (MutexLock mutex)) (CondSignal cond)
             (different w me x cond mutex signals.alone asleep) signals.free signals.alone));
+        locks = rw (world_is, paths_are)
+            (locks_then w me x asleep.0 mutex (different_from w me x cond mutex signals.alone asleep) asleep.1);
       }
 
 -- ---- who signals

@@ -37,7 +37,7 @@ pub record HasSignal (m : Contents) (who other : Who) : Type 0 where
   pub changes : listed (outcome_of m (picking who other) asks.Run)
       ≡ Alter (place (path m) other) (Replace (MutexLock mutex)) ∷ Alter (place (path m) who) (Finish []) ∷ []
 
--- it was made, and then who made it runs
+-- it was made; then who made it runs, and the other locks its mutex
 pub record HasWoken (m n : Contents) (who other : Who) : Type 0 where
   pub ready : IsReadyMove m (picking who other) asks.Run
   pub step : IsStepTo m (picking who other) asks.Run n says.Nothing
@@ -45,3 +45,4 @@ pub record HasWoken (m n : Contents) (who other : Who) : Type 0 where
   pub touched : TellsTouched m (picking who other) asks.Run (Few (Some other) None None)
   pub row : HasSignal m who other
   pub on : is_under_way_at n who ≡ true
+  pub locks : todo_at (world n) (place (path n) other) ≡ MutexLock row.mutex ∷ []

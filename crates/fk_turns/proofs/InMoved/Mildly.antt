@@ -34,13 +34,13 @@ use Rattle.fk_waits.specs.Causes.Names.{is_same}
 use Rattle.laws_waits.specs.Touching.{is_loud, IsThreadEdit}
 
 -- a thread whose call has one stage
-record IsAtOne (w : World) (x : Path) (stage : Stage) : Type 0 where
-  thread : Thread
-  rest : List ℕ
-  there : thread_at w x ≡ Some thread
-  mode : thread.mode ≡ Calling (stage ∷ []) rest
+pub record IsAtOne (w : World) (x : Path) (stage : Stage) : Type 0 where
+  pub thread : Thread
+  pub rest : List ℕ
+  pub there : thread_at w x ≡ Some thread
+  pub mode : thread.mode ≡ Calling (stage ∷ []) rest
 
-at_one : (w : World) (x : Path) (stage : Stage) → todo_at w x ≡ stage ∷ [] → IsAtOne w x stage
+pub at_one : (w : World) (x : Path) (stage : Stage) → todo_at w x ≡ stage ∷ [] → IsAtOne w x stage
 unfolding todo_at
 at_one w x stage is = by (thread_at w x) refl is
   where
@@ -55,7 +55,7 @@ at_one w x stage is = by (thread_at w x) refl is
     by (Some t) there h = by_mode t t.mode there refl h
 
 -- a user's thread
-user_thread : (o : Option Thread) → holds (λ (t : Thread). not (is_porter t.mode)) o ≡ true → (t : Thread) × (o ≡ Some t)
+pub user_thread : (o : Option Thread) → holds (λ (t : Thread). not (is_porter t.mode)) o ≡ true → (t : Thread) × (o ≡ Some t)
 user_thread None is = absurd (cc)
 user_thread (Some t) is = (t, refl)
 

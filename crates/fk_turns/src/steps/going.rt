@@ -140,7 +140,7 @@ fn rouse_by(turns: &mut Turns, store: &Store, mover: Who, what: What)
 
 /// A thread that runs goes from first to last.
 #[inline(always)]
-fn go_last(turns: &mut Turns, store: &Store, mover: Who)
+pub fn go_last(turns: &mut Turns, store: &Store, mover: Who)
     requires valid { IsValid (world store.now) }
     requires kept { AreKept store.now turns.old.waits turns.old.marks }
     requires on { is_under_way_at store.now mover ≡ true }
