@@ -80,7 +80,7 @@ module _ (m n : Contents) (valid : IsValid (world m)) (few : (world m).next ≤ 
   ended-proceeded born false ended = tt
 
   -- of words for a native server
-  pub ended-said : (born : path m ≡ space_born (world m)) (o : Option Sent) → (IsSome o → IsEnded m n None) →
+  pub ended-said : {A : Type 0} (born : path m ≡ space_born (world m)) (o : Option A) → (IsSome o → IsEnded m n None) →
       IsSome o → (port : Who) → has_ended (world m) (world n) (named (world m) port) ≡ false
   ended-said born o ended some = λ port. rw (← born) (ended-exact None (ended some) port)
 
@@ -105,6 +105,16 @@ pub made-proceeded : (m n : Contents) (who : Who) (born : path m ≡ space_born 
     × (step_of (world m) (event_of (world m) asks.Run (record { who = who; pick = None })) ≡ record { world = world n; said = Nothing }))
 made-proceeded m n who born true made = rw (← born) made
 made-proceeded m n who born false made = tt
+
+-- ---- a signal, as an event
+
+pub made-signalled : (m n : Contents) (who : Who) (born : path m ≡ space_born (world m)) (o : Option Who) →
+    IfSome o (λ other. IsReadyMove m (record { who = who; pick = Some other }) asks.Run
+    × IsStepTo m (record { who = who; pick = Some other }) asks.Run n says.Nothing) →
+    IfSome o (λ other. IsReadyEvent (world m) (event_of (world m) asks.Run (record { who = who; pick = Some other }))
+    × (step_of (world m) (event_of (world m) asks.Run (record { who = who; pick = Some other })) ≡ record { world = world n; said = Nothing }))
+made-signalled m n who born (Some other) made = rw (← born) made
+made-signalled m n who born None made = tt
 
 -- ---- words for a native server, as an event
 

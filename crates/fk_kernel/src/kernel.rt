@@ -266,6 +266,25 @@ impl Kernel {
         gone
     }
 
+    /// Makes the signal of the user in a slot, where it is at one and somebody is queued at its condition, and gives whom it wakes. Else, and wherever it
+    /// declines, it gives none and all stays as it is. No native server loses its client by it.
+    pub fn signal(&mut self, who: Who) -> Option<Who>
+        ensures made { IfSome result (λ other.
+            IsReadyEvent (world_of self.old) (event_of (world_of self.old) Ask.Run (record { who = who; pick = Some other }))
+            × (step_of (world_of self.old) (event_of (world_of self.old) Ask.Run (record { who = who; pick = Some other }))
+            ≡ record { world = world_of self.new; said = Nothing })) }
+        ensures ended { IsSome result → (port : Who) → has_ended (world_of self.old) (world_of self.new) (named (world_of self.old) port) ≡ false }
+        ensures placed { IfSome result (λ other.
+            IsPut (store_of self.old) (record { who = who; pick = Some other }) Ask.Run (store_of self.new) (standing_of self.new)) }
+        ensures same { IfNone result (self.new ≡ self.old) }
+    {
+        self.store.names();
+        let other = fk_turns::steps::signal(&mut self.store, &mut self.turns, who);
+        // And so they do in the world that the signal leaves.
+        self.store.names();
+        other
+    }
+
     /// Makes the next stage of the user in a slot, where that sends words to a native server and is ready: lays the words into the room, with
     /// zeros behind them, and gives whom they are for. Else, and wherever it declines, it gives none and all stays as it is: whether the move is
     /// ready then `attempt` tells. No native server loses its client by it.

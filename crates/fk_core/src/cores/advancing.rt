@@ -7,7 +7,7 @@ ghost use Rattle.fk_jobs.specs.Jobs.{current};
 
 use crate::cores::turns::Core;
 use fk_jobs::Worker;
-use fk_model::{Move, NoMemory};
+use fk_model::{Move, NoMemory, Who};
 use fk_natives::Service;
 use fk_responders::Table;
 use fk_served::Gone;
@@ -33,7 +33,29 @@ impl<S: Service + Drop, W: Worker + Drop> Core<S, W> {
                 self.rounds.park();
                 None
             }
-            Gone::Not => None,
+            Gone::Not => self.signal_on(who),
+        }
+    }
+
+    /// Makes the signal of a user, where it is at one and somebody is queued at its condition, and no job is left.
+    fn signal_on(&mut self, who: Who) -> Option<Move>
+        requires few { self.old.events < self.old.budget }
+        requires none { current self.old.jobs ≡ None }
+        ensures advanced { IsAdvanced self.old.jobs.jobs self.old.budget (run_core self.old) result (run_core self.new) }
+        ensures services { self.new.services.list ≡ self.old.services.list }
+        ensures budget { self.new.budget ≡ self.old.budget }
+        ensures jobs { self.new.jobs.jobs ≡ self.old.jobs.jobs }
+    {
+        match self.kernel.signal(who) {
+            Some(other) => {
+                self.events += 1;
+                self.rounds.hear(None);
+                Some(Move {
+                    who,
+                    pick: Some(other),
+                })
+            }
+            None => None,
         }
     }
 
