@@ -14,4 +14,5 @@ pub mod Touches
 pub mod Locking
 pub mod Sleeping
 pub mod Signalling
+pub mod Acted
 pub mod Went

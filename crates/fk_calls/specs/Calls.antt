@@ -8,3 +8,4 @@ pub mod Tried
 pub mod Quiet
 pub mod Goings
 pub mod Signals
+pub mod Acted

@@ -12,17 +12,6 @@ use Rattle.fk_model.specs.World.{World}
 use Rattle.fk_store.specs.Store.Threads.{todo_at, todo_of_thread}
 use Rattle.fk_links.specs.Connects.{connect_first}
 
--- so far, and in one slot more
-pub one_more : (F : ℕ → Type 0) (n : ℕ) → ((k : ℕ) → k < n → F k) → F n → (k : ℕ) → k < n + 1 → F k
-one_more F n all here k low = by (less k n low)
-  where
-    less : (k n : ℕ) → k < n + 1 → (k < n) ⊎ (n ≡ k)
-    less k n low = grind (arith, low)
-
-    by : (k < n) ⊎ (n ≡ k) → F k
-    by (inl below) = all k below
-    by (inr same) = subst F same here
-
 -- so far, and up to the next slot in which something stands: what isn't there counts as seen
 pub up_to : (F L : ℕ → Type 0) (n next : ℕ) → ((k : ℕ) → (L k → F k) → F k) → ((k : ℕ) → k < n → F k) → ((k : ℕ) → L k → n ≤ k → next ≤ k) →
     F next → (k : ℕ) → k < next + 1 → F k
