@@ -11,3 +11,4 @@ pub mod Known
 pub mod Unknown
 pub mod Locked
 pub mod Risen
+pub mod Served
