@@ -87,6 +87,13 @@ impl Service for Server {
         }
     }
 
+    fn left(&self) -> Option<&[u64]> {
+        match self.side {
+            Side::Own => Some(words_of(&self.left)),
+            Side::Idle | Side::Client => None,
+        }
+    }
+
     fn reserve(&mut self) -> Result<(), NoMemory>
         ensures same { meaning_of self.new ≡ meaning_of self.old }
         ensures done { IsOk result }

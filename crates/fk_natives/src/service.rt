@@ -1,6 +1,6 @@
 //! What native servers have in common.
-ghost use Rattle.std.specs.Prelude.{◌≡◌, ◌≤◌, Bool, length, map, true, Option, option_map, OnOk};
-ghost use Rattle.fk_natives.specs.Natives.{State, Words, grows, hears, news_of, DoesFit, asks_for, alias_of, printed_by, side_at, side_after};
+ghost use Rattle.std.specs.Prelude.{◌≡◌, ◌≤◌, Bool, length, map, true, IfSome, Option, Some, option_map, OnOk};
+ghost use Rattle.fk_natives.specs.Natives.{State, Words, grows, hears, news_of, DoesFit, asks_for, gives_left, alias_of, printed_by, side_at, side_after};
 
 use fk_model::{Ask, NoMemory, Reply, Turn, Who};
 use fk_responders::Table;
@@ -40,6 +40,11 @@ pub trait Service {
     /// What it asks for: nothing exactly at its client's turn.
     fn ask(&self) -> Option<Ask>
         ensures { result ≡ asks_for (meaning self.now) };
+
+    /// What is left of its reply, at most 64 words, at its own turn: it gives them, or hands over where there are none.
+    fn left(&self) -> Option<&[u64]>
+        ensures left { IfSome result (λ left. asks_for (meaning self.now) ≡ Some (gives_left left.now)) }
+        ensures few { IfSome result (λ left. length left.now ≤ 64) };
 
     /// Makes room for one thing that it is told, and changes nothing else.
     fn reserve(&mut self) -> Result<(), NoMemory>

@@ -116,6 +116,13 @@ words_at_port port words who = if same_who who port then Some (natives.Words wor
 abbrev pub sent_at_port : Who → List ℕ → Who × State → Who × State
 sent_at_port port words served = (served.0, after_news (words_at_port port words served.0) served.1)
 
+-- and this
+abbrev pub news_at_port : Who → News → Who → Option News
+news_at_port port news who = if same_who who port then Some news else None
+
+abbrev pub told_at_port : Who → News → Who × State → Who × State
+told_at_port port news served = (served.0, after_news (news_at_port port news served.0) served.1)
+
 -- ---- what takes memory
 
 -- a server grows by news, if there are any

@@ -1,8 +1,10 @@
 //! What whoever moves asks for, and which acts of servers are ready.
-ghost use Rattle.std.specs.Prelude.{◌≡◌, ◌↔◌, ◌≤◌, IsTrue, None, IfSome, IfNone, true, false, length};
+ghost use Rattle.std.specs.Prelude.{◌≡◌, ◌↔◌, ◌≤◌, IsTrue, None, Some, IfSome, IfNone, true, false, length};
 ghost use Rattle.fk_kernel.specs.Events.{is_who};
 ghost use Rattle.fk_kernel.specs.Kernels.{world_of as world};
+ghost use Rattle.fk_model.specs.Whole.{are_words};
 ghost use Rattle.fk_model.specs.Who.{event_of};
+ghost use Rattle.fk_natives.specs.Natives.{gives_left};
 ghost use Rattle.fk_served.specs.Acts.{HasNoAct, HaveNoActs, IsReadyAsked};
 ghost use Rattle.fk_served.specs.Served.{asked};
 ghost use Rattle.laws_jobs.specs.Machines.{IsReadyAt};
@@ -23,6 +25,24 @@ pub fn asked_by<S: Service + Drop>(kernel: &Kernel, services: &Services<S>, who:
     match store.at(who) {
         Some(Body::Port { served: true, .. }) => services.ask(who),
         _ => Some(Ask::Run),
+    }
+}
+
+/// What the server of a port has left for its client, where it asks to give words or hand over: none in the latter case.
+pub fn left_by<'a, S: Service + Drop>(
+    kernel: &Kernel,
+    services: &'a Services<S>,
+    port: Who,
+) -> Option<&'a [u64]>
+    ensures asked { IfSome result (λ left. asked services.now.list (world kernel.now) port ≡ Some (gives_left left.now)) }
+    ensures words { IfSome result (λ left. are_words left.now ≡ true) }
+    ensures few { IfSome result (λ left. length left.now ≤ 64) }
+{
+    let store = kernel.store();
+    store.names();
+    match store.at(port) {
+        Some(Body::Port { served: true, .. }) => services.left(port),
+        _ => None,
     }
 }
 

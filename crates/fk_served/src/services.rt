@@ -3,9 +3,9 @@ ghost use Rattle.std.specs.Prelude.{◌≡◌, ◌<◌, ◌≤◌, true, false, 
 ghost use Rattle.std.specs.List.{slice_get};
 ghost use Rattle.fk_model.specs.Whole.{are_words};
 ghost use Rattle.laws_moves.specs.Whole.Runnable.{has_all_words};
-ghost use Rattle.fk_served.specs.Served.{asked_of, serving, told, said_to, news_to, after_news, gives_words, words_at_port, sent_at_port, AllFit, shown};
+ghost use Rattle.fk_served.specs.Served.{asked_of, serving, told, said_to, news_to, after_news, gives_words, words_at_port, sent_at_port, news_at_port, told_at_port, AllFit, shown};
 ghost use Rattle.fk_served.specs.Served.{grows_by, grows_told, some_told, HaveRoom, HaveRoomFor};
-ghost use Rattle.fk_natives.specs.Natives.{DoesFit};
+ghost use Rattle.fk_natives.specs.Natives.{gives_left, news_of, DoesFit};
 ghost use Rattle.fk_model.specs.declared.moves.Said.TheVariants as says;
 
 use crate::told::{heard_by, is_telling, is_told, said_to};
@@ -48,6 +48,19 @@ fn ask_in<S: Service>(list: &[(Who, S)], who: Who) -> Option<Ask>
         }
     }
     Some(Ask::Run)
+}
+
+/// What the server of a port has left for its client, at its own turn.
+fn left_in<'a, S: Service>(list: &'a [(Who, S)], who: Who) -> Option<&'a [u64]>
+    ensures left { IfSome result (λ left. asked_of (serving (shown S.meaning list.now) who) ≡ Some (gives_left left.now)) }
+    ensures few { IfSome result (λ left. length left.now ≤ 64) }
+{
+    for (port, service) in list {
+        if *port == who {
+            return service.left();
+        }
+    }
+    None
 }
 
 /// Each number is a word, as its type says once it is read.
@@ -150,6 +163,29 @@ fn tell_in<S: Service>(list: &mut Vec<(Who, S)>, table: &Table, what: &Told)
     }
 }
 
+/// Tells a server this, if its port is this one.
+fn tell_at<S: Service>(entry: &mut (Who, S), table: &Table, port: Who, heard: &Heard)
+    requires fits { DoesFit (map (λ r. r.rule) table.now.list.items) (S.meaning entry.old.1) }
+    requires room { S.has_room entry.old.1 ≡ true }
+    ensures who { entry.new.0 ≡ entry.old.0 }
+    ensures told { S.meaning entry.new.1 ≡ after_news (news_at_port port (news_of heard.now) entry.old.0) (S.meaning entry.old.1) }
+{
+    if entry.0 == port {
+        entry.1.absorb(table, heard);
+    }
+}
+
+/// Tells the server of a port this.
+fn tell_port<S: Service>(list: &mut Vec<(Who, S)>, table: &Table, port: Who, heard: &Heard)
+    requires fits { AllFit (map (λ r. r.rule) table.now.list.items) (shown S.meaning list.old.items) }
+    requires room { HaveRoom S.has_room list.old.items }
+    ensures { shown S.meaning list.new.items ≡ map (told_at_port port (news_of heard.now)) (shown S.meaning list.old.items) }
+{
+    for at in 0..list.len() {
+        tell_at(&mut list[at], table, port, heard);
+    }
+}
+
 /// Tells a server that its client has sent these words, if its port is this one.
 fn say_one<S: Service>(entry: &mut (Who, S), table: &Table, port: Who, words: &[u64])
     requires few { length words.now ≤ 64 }
@@ -200,6 +236,19 @@ impl<S: Service + Drop> Services<S> {
         asked
     }
 
+    /// What the server of a port has left for its client, at its own turn: words, or the turn where there are none.
+    pub fn left(&self, port: Who) -> Option<&[u64]>
+        ensures left { IfSome result (λ left. asked_of (serving self.now.list port) ≡ Some (gives_left left.now)) }
+        ensures words { IfSome result (λ left. are_words left.now ≡ true) }
+        ensures few { IfSome result (λ left. length left.now ≤ 64) }
+    {
+        let Some(left) = left_in(self.list.as_slice(), port) else {
+            return None;
+        };
+        read_numbers(left);
+        Some(left)
+    }
+
     /// Makes room for what each may be told.
     ///
     /// # Errors
@@ -242,6 +291,26 @@ impl<S: Service + Drop> Services<S> {
     {
         self.used = true;
         say_in(&mut self.list, table, port, words_of(sent));
+    }
+
+    /// Tells the server of a port that its client has taken so many words.
+    pub fn hear_given(&mut self, table: &Table, port: Who, count: u8)
+        requires fits { AllFit (map (λ r. r.rule) table.now.list.items) self.old.list }
+        requires ready { self.old.ready ≡ true }
+        ensures { self.new.list ≡ map (told (says.Given port count) None) self.old.list }
+    {
+        self.used = true;
+        tell_port(&mut self.list, table, port, &Heard::Given(count));
+    }
+
+    /// Tells the server of a port that the turn has changed.
+    pub fn hear_over(&mut self, table: &Table, port: Who)
+        requires fits { AllFit (map (λ r. r.rule) table.now.list.items) self.old.list }
+        requires ready { self.old.ready ≡ true }
+        ensures { self.new.list ≡ map (told (says.Over port) None) self.old.list }
+    {
+        self.used = true;
+        tell_port(&mut self.list, table, port, &Heard::Over);
     }
 
     /// How many there are.

@@ -31,6 +31,14 @@ impl Service for Post {
         }
     }
 
+    fn left(&self) -> Option<&[u64]> {
+        match self {
+            Post::Plain(server) => server.left(),
+            Post::Tap(tap) => tap.left(),
+            Post::Replay(replay) => replay.left(),
+        }
+    }
+
     fn reserve(&mut self) -> Result<(), NoMemory> {
         match self {
             Post::Plain(server) => server.reserve(),

@@ -7,7 +7,7 @@ ghost use Rattle.fk_trace.specs.Taps.{replay_of, to_come};
 
 use fk_model::{Ask, NoMemory, Reply, Turn};
 use fk_natives::{Heard, Service, Side, give};
-use fk_responders::{Table, without};
+use fk_responders::{Table, without, words_of};
 
 /// Gives the replies of a list in order, and empty ones behind its end.
 #[derive(Drop)]
@@ -73,6 +73,13 @@ impl Service for Replay {
             Side::Idle => Some(Ask::Accept),
             Side::Client => None,
             Side::Own => Some(give(&self.left)),
+        }
+    }
+
+    fn left(&self) -> Option<&[u64]> {
+        match self.side {
+            Side::Own => Some(words_of(&self.left)),
+            Side::Idle | Side::Client => None,
         }
     }
 

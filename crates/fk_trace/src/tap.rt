@@ -103,6 +103,10 @@ impl<S: Service + Drop> Service for Tap<S> {
         self.inner.ask()
     }
 
+    fn left(&self) -> Option<&[u64]> {
+        self.inner.left()
+    }
+
     fn reserve(&mut self) -> Result<(), NoMemory> {
         self.inner.reserve()?;
         match self.notes.reserve(2) {
