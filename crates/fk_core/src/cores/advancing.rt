@@ -119,7 +119,7 @@ impl<S: Service + Drop, W: Worker + Drop> Core<S, W> {
     }
 
     /// Makes any move that is ready: of the thread that moved last where it is ready, or else of whoever comes next.
-    fn go_further(&mut self, table: &Table) -> Result<Option<Move>, NoMemory>
+    pub(crate) fn go_further(&mut self, table: &Table) -> Result<Option<Move>, NoMemory>
         requires fits { AllFit (map (λ r. r.rule) table.now.list.items) self.old.services.list }
         requires come { IsGoing self.old }
         ensures made { IsAdvancedOrOver self.old.jobs.jobs self.old.budget (run_core self.old) (run_core self.new) result }
@@ -292,7 +292,7 @@ impl<S: Service + Drop, W: Worker + Drop> Core<S, W> {
     {
         match self.proceed() {
             Some(m) => Ok(Some(m)),
-            None => self.go_further(table),
+            None => self.go_answered(table),
         }
     }
 
