@@ -12,4 +12,7 @@ pub mod Chosen
 pub mod Running
 pub mod Touches
 pub mod Locking
+pub mod Sleeping
+pub mod Signalling
+pub mod Acted
 pub mod Went

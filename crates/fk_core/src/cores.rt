@@ -19,6 +19,7 @@ mod given;
 mod lacking;
 mod looks;
 mod room;
+mod serving;
 mod settling;
 mod several;
 mod turns;

@@ -6,3 +6,4 @@ pub mod Places
 pub mod Told
 pub mod Quiet
 pub mod Mildly
+pub mod Woken

@@ -10,3 +10,5 @@ pub mod Beside
 pub mod Known
 pub mod Unknown
 pub mod Locked
+pub mod Risen
+pub mod Served

@@ -4,3 +4,4 @@ pub mod Apart
 pub mod Calmly
 pub mod Mildly
 pub mod Locked
+pub mod Woken

@@ -14,4 +14,4 @@ mod whys;
 
 pub use causes::cause;
 pub use staying::reasons_stay;
-pub use whys::{Why, at_locked, reason};
+pub use whys::{Why, asleep_at, at_locked, reason};

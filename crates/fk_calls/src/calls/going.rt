@@ -1,5 +1,5 @@
 //! Moves by one look: what a thread is at is matched once, its row is made where it stands, and it is told what the thread is at then. Stages of mutexes
-//! are made so.
+//! and waits on conditions are made so.
 ghost use Rattle.std.specs.Prelude.{◌≡◌, ◌≤◌, true, false, [], ◌∷◌, Some, None, IsSome, IfSome};
 ghost use Rattle.std.specs.Bool.{OnTrue, OnFalse};
 ghost use Rattle.fk_model.specs.declared.moves.Ask.TheVariants as asks;
@@ -10,17 +10,18 @@ ghost use Rattle.fk_model.specs.Places.{Path};
 ghost use Rattle.fk_model.specs.Valid.{IsValid};
 ghost use Rattle.fk_model.specs.World.{apply};
 ghost use Rattle.fk_model.specs.World.Change.{Alter};
-ghost use Rattle.fk_model.specs.World.Edit.{Finish, SetLocked};
+ghost use Rattle.fk_model.specs.World.Edit.{Finish, Replace, SetLocked};
 ghost use Rattle.fk_store.specs.Store.Paths.{path, place};
 ghost use Rattle.fk_store.specs.Store.Threads.{is_free_at, todo_at};
 ghost use Rattle.fk_store.specs.Store.World.{world};
 ghost use Rattle.fk_calls.specs.Calls.Goings.{is_lock, run_of, touched_by, was_made, HasRow, IfMade, IsAnyReady, IsThen, WentTo};
+ghost use Rattle.fk_calls.specs.Calls.Rows.{IsFirst};
 ghost use Rattle.fk_calls.specs.Calls.Judgements.{IsEnded, IsReadyMove, IsStepTo, TellsTouched};
 
 use crate::calls::judging::free_user;
-use fk_changes::readers::{Caller, mutex_in};
-use fk_changes::threads::{Answers, finish};
-use fk_model::call::{MUTEX_LOCK, MUTEX_TRYLOCK, MUTEX_UNLOCK};
+use fk_changes::readers::{Caller, cond_in, mutex_in};
+use fk_changes::threads::{Answers, fall_asleep, finish};
+use fk_model::call::{COND_WAIT, MUTEX_LOCK, MUTEX_TRYLOCK, MUTEX_UNLOCK};
 use fk_model::{Mode, Stage, Who};
 use fk_store::Store;
 
@@ -29,6 +30,8 @@ use fk_store::Store;
 pub enum Then {
     /// It runs, isn't stopped and has no fault.
     Runs,
+    /// It sleeps on a condition, until it is woken.
+    Asleep,
 }
 
 /// What a stage did besides.
@@ -38,6 +41,8 @@ pub enum What {
     Locks { mutex: Who },
     /// It unlocked one. Who waits for it may move.
     Unlocks { mutex: Who },
+    /// It unlocked one, which it locks again once it is woken at a condition.
+    Sleeps { cond: u64, mutex: Who },
 }
 
 /// What came of a look at a thread.
@@ -81,6 +86,7 @@ fn go_at(store: &mut Store, who: Who) -> Went
         Stage::MutexLock { m } => lock(store, who, m),
         Stage::MutexTrylock { m } => try_lock(store, who, m),
         Stage::MutexUnlock { m } => unlock(store, who, m),
+        Stage::CondWait { c, m } => sleep(store, who, c, m),
         _ => Went::Not,
     }
 }
@@ -129,7 +135,7 @@ fn is_open(store: &Store, who: Who, m: u64) -> bool
     !locked
 }
 
-/// The stage of a mutex at which the free user in a slot is, if it is at one.
+/// The stage of a mutex at which the free user in a slot is, or its wait on a condition, if it is at one.
 #[inline(always)]
 fn lock_of(store: &Store, who: Who) -> Option<Stage>
     ensures free { IsSome result → is_free_at (world store.now) (place (path store.now) who) ≡ true }
@@ -155,6 +161,10 @@ fn lock_named(registers: &[u64; 16]) -> Option<Stage>
         MUTEX_LOCK => Some(Stage::MutexLock { m }),
         MUTEX_TRYLOCK => Some(Stage::MutexTrylock { m }),
         MUTEX_UNLOCK => Some(Stage::MutexUnlock { m }),
+        COND_WAIT => Some(Stage::CondWait {
+            c: m,
+            m: registers[2],
+        }),
         _ => None,
     }
 }
@@ -243,6 +253,37 @@ fn unlock(store: &mut Store, who: Who, m: u64) -> Went
     }
 }
 
+/// Unlocks a mutex where it is locked, and sleeps on a condition.
+#[inline(always)]
+fn sleep(store: &mut Store, who: Who, c: u64, m: u64) -> Went
+    requires valid { IsValid (world store.old) }
+    requires unheld { (q : Path) → decider (world store.old) q ≡ None }
+    requires free { is_free_at (world store.old) (place (path store.old) who) ≡ true }
+    requires alone { todo_at (world store.old) (place (path store.old) who) ≡ Stage.CondWait c m ∷ [] }
+    ensures { WentTo store.old store.new who result }
+{
+    store.names();
+    let caller = Caller {
+        who,
+        is_porter: false,
+    };
+    let Ok(()) = cond_in(store, caller, who.space, c) else {
+        return Went::Not;
+    };
+    let Ok(locked) = mutex_in(store, caller, who.space, m) else {
+        return Went::Not;
+    };
+    if !locked {
+        return Went::Not;
+    }
+    let mutex = mutex_at(who, m);
+    falls(store, who, mutex, c, m);
+    Went::Made {
+        what: What::Sleeps { cond: c, mutex },
+        at: Then::Asleep,
+    }
+}
+
 /// The name of what is in a slot of a thread's space.
 #[inline(always)]
 fn mutex_at(who: Who, m: u64) -> Who
@@ -264,4 +305,16 @@ fn sets(store: &mut Store, who: Who, mutex: Who, locked: bool)
 {
     store.set_locked(mutex, locked);
     finish(store, who, Answers::Nothing);
+}
+
+/// A mutex is unlocked, and then the thread sleeps that was about to wait on a condition.
+#[inline(always)]
+fn falls(store: &mut Store, who: Who, mutex: Who, c: u64, m: u64)
+    requires waits { IsFirst (Stage.CondWait c m) (todo_at (world store.old) (place (path store.old) who)) }
+    ensures world { world store.new ≡ apply (Alter (place (path store.old) who) (Replace (Stage.CondAsleep c m)))
+        (apply (Alter (place (path store.old) mutex) (SetLocked false)) (world store.old)) }
+    ensures paths { path store.new ≡ path store.old }
+{
+    store.set_locked(mutex, false);
+    fall_asleep(store, who, c, m);
 }

@@ -7,7 +7,7 @@ ghost use Rattle.fk_jobs.specs.Jobs.{current};
 
 use crate::cores::turns::Core;
 use fk_jobs::Worker;
-use fk_model::{Move, NoMemory};
+use fk_model::{Move, NoMemory, Who};
 use fk_natives::Service;
 use fk_responders::Table;
 use fk_served::Gone;
@@ -33,7 +33,29 @@ impl<S: Service + Drop, W: Worker + Drop> Core<S, W> {
                 self.rounds.park();
                 None
             }
-            Gone::Not => None,
+            Gone::Not => self.signal_on(who),
+        }
+    }
+
+    /// Makes the signal of a user, where it is at one and somebody is queued at its condition, and no job is left.
+    fn signal_on(&mut self, who: Who) -> Option<Move>
+        requires few { self.old.events < self.old.budget }
+        requires none { current self.old.jobs ≡ None }
+        ensures advanced { IsAdvanced self.old.jobs.jobs self.old.budget (run_core self.old) result (run_core self.new) }
+        ensures services { self.new.services.list ≡ self.old.services.list }
+        ensures budget { self.new.budget ≡ self.old.budget }
+        ensures jobs { self.new.jobs.jobs ≡ self.old.jobs.jobs }
+    {
+        match self.kernel.signal(who) {
+            Some(other) => {
+                self.events += 1;
+                self.rounds.hear(None);
+                Some(Move {
+                    who,
+                    pick: Some(other),
+                })
+            }
+            None => None,
         }
     }
 
@@ -81,7 +103,7 @@ impl<S: Service + Drop, W: Worker + Drop> Core<S, W> {
 
     /// Makes a move that is ready, of whoever comes next.
     #[inline(never)]
-    fn go_next(&mut self, table: &Table) -> Result<Option<Move>, NoMemory>
+    pub(crate) fn go_next(&mut self, table: &Table) -> Result<Option<Move>, NoMemory>
         requires fits { AllFit (map (λ r. r.rule) table.now.list.items) self.old.services.list }
         requires come { IsGoing self.old }
         ensures made { IsAdvancedOrOver self.old.jobs.jobs self.old.budget (run_core self.old) (run_core self.new) result }
@@ -96,7 +118,7 @@ impl<S: Service + Drop, W: Worker + Drop> Core<S, W> {
         Ok(Some(m))
     }
 
-    /// Makes any move that is ready: of the thread that moved last where it is ready, or else of whoever comes next.
+    /// Makes any move that is ready: of the thread that moved last where it is ready, or else of the server that heard of it, or of whoever comes next.
     fn go_further(&mut self, table: &Table) -> Result<Option<Move>, NoMemory>
         requires fits { AllFit (map (λ r. r.rule) table.now.list.items) self.old.services.list }
         requires come { IsGoing self.old }
@@ -107,7 +129,7 @@ impl<S: Service + Drop, W: Worker + Drop> Core<S, W> {
     {
         match self.go_on_told(table)? {
             Some(m) => Ok(Some(m)),
-            None => self.go_next(table),
+            None => self.go_answered(table),
         }
     }
 

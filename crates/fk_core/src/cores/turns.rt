@@ -281,6 +281,7 @@ impl<S: Service + Drop, W: Worker + Drop> Core<S, W> {
     fn go_said(&mut self, table: &Table, m: &Move) -> bool
         requires other { is_porter self.old.jobs m.now.who ≡ false }
         requires few { self.old.events < self.old.budget }
+        requires fits { AllFit (map (λ r. r.rule) table.now.list.items) self.old.services.list }
         ensures made { OnTrue result (IsAdvanced self.old.jobs.jobs self.old.budget (run_core self.old) (Some m.now) (run_core self.new)) }
         ensures kernel { OnFalse result (self.new.kernel ≡ self.old.kernel) }
         ensures events { OnFalse result (self.new.events ≡ self.old.events) }

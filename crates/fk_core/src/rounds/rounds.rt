@@ -66,6 +66,24 @@ impl Rounds {
         moment.last()
     }
 
+    /// The port whose server the last move told something, but where the look goes round and where the budget is used.
+    #[inline(always)]
+    pub fn heard<S: Service + Drop, W: Worker + Drop>(
+        &self,
+        moment: &Moment<'_, S, W>,
+    ) -> Option<Who>
+        ensures { IsSome result → moment.now.events < moment.now.budget }
+    {
+        // Mostly nobody heard anything.
+        if self.heard.is_none() {
+            return None;
+        }
+        if !moment.is_below_budget() || self.is_round(moment) {
+            return None;
+        }
+        self.heard
+    }
+
     /// Its move, where that is ready and picks nobody.
     pub fn again<S: Service + Drop, W: Worker + Drop>(
         &self,

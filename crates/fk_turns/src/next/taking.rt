@@ -65,14 +65,16 @@ fn takes_first_of(turns: &Turns, store: &Store, who: Who, set: u64) -> Option<Mo
     ensures ready { IfSome result (λ m. IsReadyMove store.now m asks.Run) }
     ensures who { IfSome result (λ m. m.who ≡ who) }
 {
-    for slot in 0..256u16 {
+    let mut from: u16 = 0;
+    while let Some(slot) = store.next_in(who.space, from) {
         let port = Who {
             space: who.space,
-            slot: slot as u8,
+            slot,
         };
         if let Some(m) = takes_first_at(turns, store, who, set, port) {
             return Some(m);
         }
+        from = u16::from(slot) + 1;
     }
     None
 }
