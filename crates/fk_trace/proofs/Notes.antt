@@ -1,6 +1,5 @@
 -- Notes made of words, and of the reply that a server gives.
-use Rattle.std.proofs.Common.{◌≡◌, ℕ, ◌-◌, ◌≤◌, true, is_none, Some, List, [], ◌∷◌, ◌++◌, append_assoc, length, take, replicate, refl, sym, ap, ◌∙◌, arith}
-use Rattle.std.proofs.lemmas.List.{take-append-le, take_all}
+use Rattle.std.proofs.Common.{◌≡◌, ℕ, ◌≤◌, true, is_none, Some, List, [], ◌∷◌, ◌++◌, append_assoc, length, take, take_all, refl, sym, ap, ◌∙◌}
 use Rattle.std.proofs.lemmas.List.Elements.{filter-append}
 use Rattle.fk_model.specs.declared.thread.Turn.TheVariants as turns
 use Rattle.fk_model.specs.Answers.{reply_words}
@@ -8,16 +7,16 @@ use Rattle.fk_natives.specs.declared.service.Side.TheVariants as sides
 use Rattle.fk_natives.specs.Natives.{State, OfConsole, OfServer, OfReplay, OfTap, Over, Taken, asks_at, asks_for, given_by, gives_left, hears, left_of, seen_of, side_of}
 use Rattle.fk_responders.specs.Notes.{Note, is_seen}
 use Rattle.fk_responders.specs.Words.{padded}
+use Rattle.fk_responders.proofs.Replies.{padded_back}
 
 -- the words of a reply that is made of at most 64
 pub padded_words : (words : List ℕ) → length words ≤ 64 → reply_words (padded (take 64 words)) ≡ words
-padded_words words few = ap (λ ws. take (length ws) (ws ++ replicate (64 - length ws) 0)) (take_all 64 words few)
-    ∙ (take-append-le (length words) words (replicate (64 - length words) 0) (omega arith) ∙ take_all (length words) words (omega arith))
+padded_words words few = padded_back (take 64 words) ∙ take_all 64 words few
 
 -- at its own turn a server asks to give what is left of its reply
 given_left : (left : List ℕ) → given_by (Some (gives_left left)) ≡ left
 given_left [] = refl
-given_left (w ∷ ws) = take-append-le (length (w ∷ ws)) (w ∷ ws) (replicate (64 - length (w ∷ ws)) 0) (omega arith) ∙ take_all (length (w ∷ ws)) (w ∷ ws) (omega arith)
+given_left (word ∷ words) = padded_back (word ∷ words)
 
 pub given_own : (s : State) → side_of s ≡ sides.Own → given_by (asks_for s) ≡ left_of s
 given_own s own = ap (λ side. given_by (asks_at side (left_of s))) own ∙ given_left (left_of s)

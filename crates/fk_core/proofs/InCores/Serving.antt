@@ -1,19 +1,18 @@
 -- Serving: an act of a native server that is made at once is a turn.
-use Rattle.std.proofs.Common.{◌≡◌, ℕ, zero, suc, ◌+◌, ◌-◌, ◌<◌, ◌≤◌, true, false, List, [], ◌∷◌, ◌++◌, length, map, replicate, Some, None}
-use Rattle.std.proofs.Common.{take_all, refl, sym, ap, ◌∙◌}
+use Rattle.std.proofs.Common.{◌≡◌, ℕ, zero, suc, ◌+◌, ◌-◌, ◌<◌, true, false, List, [], ◌∷◌, ◌++◌, length, map, replicate, Some, None}
+use Rattle.std.proofs.Common.{refl}
 use Rattle.std.proofs.lemmas.Bool.{and_parts}
 use Rattle.fk_model.specs.declared.moves.Ask.{Ask}
 use Rattle.fk_model.specs.declared.moves.Ask.TheVariants as asks
 use Rattle.fk_model.specs.declared.moves.Said as says_of
 use Rattle.fk_model.specs.declared.moves.Said.TheVariants as says
 use Rattle.fk_model.specs.declared.names.Who.{Who}
-use Rattle.fk_model.specs.Answers.{reply_words}
 use Rattle.fk_model.specs.Whole.{are_words, is_word}
 use Rattle.laws_moves.specs.Whole.Runnable.{has_all_words}
 use Rattle.laws_runs.specs.Cores.{Settles}
 use Rattle.fk_natives.specs.Natives.{gives_left}
 use Rattle.fk_responders.specs.Words.{padded}
-use Rattle.fk_responders.proofs.Totals.{echoed}
+use Rattle.fk_responders.proofs.Replies.{padded_back}
 use Rattle.fk_jobs.specs.Jobs.{Queue}
 use Rattle.fk_core.specs.Rounds.Acted.{act_of, IsActed, IsGiven}
 use Rattle.fk_core.specs.Rounds.Kernels.{Kept}
@@ -35,15 +34,12 @@ served m n services new q budget events port ask said d few other asks_it words 
       count,
     )
 
--- the words with zeros behind them are these words
-padded_left : (left : List ℕ) → length left ≤ 64 → reply_words (padded left) ≡ left
-padded_left left few = ap (λ ws. reply_words (padded ws)) (sym (take_all 64 left few)) ∙ echoed left few
-
-pub given_left : (m n : Kept) (port : Who) (left : List ℕ) (count : ℕ) → length left ≤ 64 → (length left ≡ 0 → ⊥) → IsGiven m n port left count →
+-- what is left is asked for with zeros behind it
+pub given_left : (m n : Kept) (port : Who) (left : List ℕ) (count : ℕ) → (length left ≡ 0 → ⊥) → IsGiven m n port left count →
     IsActed m n port (gives_left left) (says.Given port count)
-given_left m n port [] count few some given = absurd (some refl)
-given_left m n port (word ∷ words) count few some given =
-    given (padded (word ∷ words)).words (padded (word ∷ words)).len (padded_left (word ∷ words) few)
+given_left m n port [] count some given = absurd (some refl)
+given_left m n port (word ∷ words) count some given =
+    given (padded (word ∷ words)).words (padded (word ∷ words)).len (padded_back (word ∷ words))
 
 -- and all that is given is words
 zeros : (n : ℕ) → are_words (replicate n 0) ≡ true

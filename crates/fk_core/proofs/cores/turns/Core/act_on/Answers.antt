@@ -20,7 +20,7 @@ returns-clause-advanced g c =
     let said = says.Given port c.in-Some-give.count in
     let asked_for : asked self.services.list (world self.kernel) port ≡ Some (gives_left left) =
     rw (sym c.reserve.ensures.same) c.in-Some-left_by.ensures.asked in
-    let acted = given_left self.kernel c.give.new.self port left c.in-Some-give.count c.in-Some-left_by.ensures.few
+    let acted = given_left self.kernel c.give.new.self port left c.in-Some-give.count
     (λ none. c.if-is_empty.false) c.in-Some-give.ensures.gave in
     served self.kernel c.give.new.self self.services.list c.hear_given.new.self.list self.jobs self.budget self.events port (gives_left left) said _
     (c.in-Some.ensures.few refl) c.in-Some.ensures.other asked_for (words_left left c.in-Some-left_by.ensures.words) acted
