@@ -272,7 +272,7 @@ impl<S: Service + Drop, W: Worker + Drop> Core<S, W> {
         if self.go_said(table, m) {
             return Ok(true);
         }
-        self.go_asked(table, m)
+        self.go_acting(table, m)
     }
 
     /// Makes a send of words to a native server, where that is what a move is and where it is ready, and answers whether it did; else, and
@@ -315,7 +315,7 @@ impl<S: Service + Drop, W: Worker + Drop> Core<S, W> {
 
     /// The same of what it asks for.
     #[inline(never)]
-    fn go_asked(&mut self, table: &Table, m: &Move) -> Result<bool, NoMemory>
+    pub(crate) fn go_asked(&mut self, table: &Table, m: &Move) -> Result<bool, NoMemory>
         requires other { is_porter self.old.jobs m.now.who ≡ false }
         requires few { self.old.events < self.old.budget }
         requires fits { AllFit (map (λ r. r.rule) table.now.list.items) self.old.services.list }

@@ -3,10 +3,10 @@ use Rattle.fk_model.specs.declared.moves.Ask.TheVariants as asks
 use Rattle.fk_model.specs.declared.moves.Said.TheVariants as says
 use Rattle.fk_core.proofs.InRounds.Hearing.{fits-told}
 use Rattle.fk_core.proofs.InCores.Serving.{served}
-use Rattle.fk_core.proofs.cores.turns.Core.pass_on.Goals as goal
+use Rattle.fk_core.proofs.cores.turns.Core.pass_at.Goals as goal
 
-pub returns-clause-advanced : goal.returns-clause-advanced
-returns-clause-advanced g c =
+pub returns-clause-made : goal.returns-clause-made
+returns-clause-made g c =
     let self = c.args.self.now in
     let port = c.args.port in
     served self.kernel c.pass.new.self self.services.list c.hear_over.new.self.list self.jobs self.budget self.events port asks.Over (says.Over port) _
