@@ -54,14 +54,14 @@ pub trait Service {
 
     /// Whether it grows by something that it is told.
     fn grows(&self, heard: Heard<'_>) -> bool
-        ensures { result ≡ grows (meaning self.now) (news_of heard) };
+        ensures { result ≡ grows (meaning self.now) (news_of heard.entry) };
 
     /// Is told something. Where it grows by that, that uses up its room. The table has its responder and its observer.
     fn absorb(&mut self, table: &Table, heard: Heard<'_>)
         requires fits { DoesFit (map (λ r. r.rule) table.now.list.items) (meaning self.old) }
         requires few { AreFew (news_of heard) }
         requires room { grows (meaning self.old) (news_of heard) ≡ true → has_room self.old ≡ true }
-        ensures { meaning self.new ≡ hears (meaning self.old) (news_of heard) };
+        ensures { meaning self.new ≡ hears (meaning self.old) (news_of heard.entry) };
 
     /// A console's alias. Others have none.
     fn alias(&self) -> Option<&str>

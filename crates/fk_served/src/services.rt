@@ -52,7 +52,7 @@ fn server_in<S: Service>(list: &[(Who, S)], who: Who) -> Option<&S>
 
 /// What a server asks for. Where there is none, whoever it is runs.
 fn ask_of<S: Service>(server: Option<&S>) -> Option<Ask>
-    ensures { result ≡ asked_of (option_map (λ server. S.meaning server.now) server) }
+    ensures { result ≡ asked_of (option_map (λ server. S.meaning server.now) server.entry) }
 {
     match server {
         Some(server) => ask(server),
@@ -153,7 +153,7 @@ fn tell_at<S: Service>(entry: &mut (Who, S), table: &Table, port: Who, heard: He
     requires few { AreFew (news_of heard) }
     requires room { S.has_room entry.old.1 ≡ true }
     ensures who { entry.new.0 ≡ entry.old.0 }
-    ensures told { S.meaning entry.new.1 ≡ after_news (news_at_port port (news_of heard) entry.old.0) (S.meaning entry.old.1) }
+    ensures told { S.meaning entry.new.1 ≡ after_news (news_at_port port (news_of heard.entry) entry.old.0) (S.meaning entry.old.1) }
 {
     if entry.0 == port {
         entry.1.absorb(table, heard);
@@ -165,7 +165,7 @@ fn tell_port<S: Service>(list: &mut Vec<(Who, S)>, table: &Table, port: Who, hea
     requires fits { AllFit (map (λ r. r.rule) table.now.list.items) (shown S.meaning list.old.items) }
     requires few { AreFew (news_of heard) }
     requires room { HaveRoom S.has_room list.old.items }
-    ensures { shown S.meaning list.new.items ≡ map (told_at_port port (news_of heard)) (shown S.meaning list.old.items) }
+    ensures { shown S.meaning list.new.items ≡ map (told_at_port port (news_of heard.entry)) (shown S.meaning list.old.items) }
 {
     for at in 0..list.len() {
         tell_at(&mut list[at], table, port, heard);

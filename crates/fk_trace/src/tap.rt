@@ -33,7 +33,7 @@ fn is_clients_turn<S: Service>(inner: &S) -> bool
 
 /// Whether something is noted of a server when it hears this.
 fn is_noted<S: Service>(inner: &S, heard: Heard<'_>) -> bool
-    ensures { result ≡ is_noted (asks_for (S.meaning inner.now)) (news_of heard) }
+    ensures { result ≡ is_noted (asks_for (S.meaning inner.now)) (news_of heard.entry) }
 {
     match heard {
         Heard::Taken { .. } | Heard::Words(_) | Heard::Ended => true,

@@ -166,7 +166,8 @@ impl Rounds {
     ) -> Option<Move>
         ensures { IfSome result (λ m. IsReadyNow moment.now m) }
     {
-        if moment.events() / ROUND % 2 == 0 {
+        // At the round's begin alone: for an idle server it is sought who comes to it, among all.
+        if !self.is_round(moment) || moment.events() / ROUND % 2 == 0 {
             return None;
         }
         let at = self.next;
