@@ -1,5 +1,6 @@
 //! Taps.
 ghost use Rattle.std.specs.Prelude.{◌≡◌, ◌≤◌, ◌<◌, ◌+◌, ◌++◌, ◌∷◌, [], is_none, length, vec_len, vec_capacity};
+ghost use Rattle.fk_model.specs.declared.thread.Turn.TheVariants as turns;
 ghost use Rattle.fk_natives.specs.Natives.{asks_for, given_by, is_noted, news_of, seen_of, side_of};
 ghost use Rattle.fk_natives.specs.declared.service.Side.TheVariants as sides;
 ghost use Rattle.fk_responders.specs.Notes as facts;
@@ -110,6 +111,36 @@ fn keep_left<S: Service>(notes: &mut Vec<Note>, watch: u8, table: &Table, inner:
     keep_reply(notes, watch, table, inner.left());
 }
 
+/// Keeps the notes of a talk that is taken up at the server's turn, and of the reply to that.
+#[tactic(auto, using(crate::proofs::Notes::seen_both))]
+fn keep_taken_and_reply<S: Service>(
+    notes: &mut Vec<Note>,
+    watch: u8,
+    table: &Table,
+    moved: u16,
+    inner: &S,
+)
+    requires room { vec_len notes.old + 2 ≤ vec_capacity notes.old }
+    requires own { side_of (S.meaning inner.now) ≡ sides.Own }
+    ensures { noted notes.new.items ≡ noted notes.old.items
+        ++ seen_of watch (facts.Taken turns.Server moved ∷ facts.Reply (given_by (asks_for (S.meaning inner.now))) ∷ []) }
+{
+    keep_taken(notes, watch, table, Turn::Server, moved);
+    keep_left(notes, watch, table, inner);
+}
+
+/// Keeps the notes of a client that hands over, and of the reply to that.
+#[tactic(auto, using(crate::proofs::Notes::seen_both))]
+fn keep_over_and_reply<S: Service>(notes: &mut Vec<Note>, watch: u8, table: &Table, inner: &S)
+    requires room { vec_len notes.old + 2 ≤ vec_capacity notes.old }
+    requires own { side_of (S.meaning inner.now) ≡ sides.Own }
+    ensures { noted notes.new.items ≡ noted notes.old.items
+        ++ seen_of watch (facts.Over ∷ facts.Reply (given_by (asks_for (S.meaning inner.now))) ∷ []) }
+{
+    keep_over(notes, watch, table);
+    keep_left(notes, watch, table, inner);
+}
+
 /// Keeps the note of a talk that has ended.
 #[inline(never)]
 fn keep_ended(notes: &mut Vec<Note>, watch: u8, table: &Table)
@@ -171,7 +202,7 @@ impl<S: Service + Drop> Service for Tap<S> {
         is_noted(&self.inner, heard) || self.inner.grows(heard)
     }
 
-    #[tactic(auto, using(crate::proofs::Notes::own_taken, crate::proofs::Notes::own_over, crate::proofs::Notes::seen_both))]
+    #[tactic(auto, using(crate::proofs::Notes::own_taken, crate::proofs::Notes::own_over))]
     fn absorb(&mut self, table: &Table, heard: Heard<'_>) {
         match heard {
             Heard::Taken {
@@ -188,8 +219,7 @@ impl<S: Service + Drop> Service for Tap<S> {
                 ..
             } => {
                 self.inner.absorb(table, heard);
-                keep_taken(&mut self.notes, self.watch, table, Turn::Server, moved);
-                keep_left(&mut self.notes, self.watch, table, &self.inner);
+                keep_taken_and_reply(&mut self.notes, self.watch, table, moved, &self.inner);
             }
             Heard::Words(words) => {
                 self.inner.absorb(table, Heard::Words(words));
@@ -199,8 +229,7 @@ impl<S: Service + Drop> Service for Tap<S> {
                 let hands_over = is_clients_turn(&self.inner);
                 self.inner.absorb(table, heard);
                 if hands_over {
-                    keep_over(&mut self.notes, self.watch, table);
-                    keep_left(&mut self.notes, self.watch, table, &self.inner);
+                    keep_over_and_reply(&mut self.notes, self.watch, table, &self.inner);
                 }
             }
             Heard::Given(_) => self.inner.absorb(table, heard),
