@@ -93,6 +93,10 @@ runs services w who pick ready = by (w.body (named w who)) refl
     by (Some b) e = rw e refl
     by None e = rw e refl
 
+-- nor is it where no native server acts for whatever stands there
+pub unserved_runs : (services : Services) (w : World) (who : Who) → is_served_port w (At (named w who)) ≡ false → asked services w who ≡ Some asks.Run
+unserved_runs services w who none = rw none refl
+
 -- ---- what is given is words
 
 word_state : (state : State) (ask : Ask) → asks_for state ≡ Some ask → gives_words ask ≡ true → has_all_words ask ≡ true

@@ -3,7 +3,9 @@ ghost use Rattle.std.specs.Prelude.{◌≡◌, ◌↔◌, ◌≤◌, IsTrue, Non
 ghost use Rattle.fk_kernel.specs.Events.{is_who};
 ghost use Rattle.fk_kernel.specs.Kernels.{world_of as world};
 ghost use Rattle.fk_model.specs.Whole.{are_words};
-ghost use Rattle.fk_model.specs.Who.{event_of};
+ghost use Rattle.fk_model.specs.Places.Ptr.{At};
+ghost use Rattle.fk_model.specs.Valid.{is_served_port};
+ghost use Rattle.fk_model.specs.Who.{event_of, named};
 ghost use Rattle.fk_natives.specs.Natives.{gives_left};
 ghost use Rattle.fk_served.specs.Acts.{HasNoAct, HaveNoActs, IsReadyAsked};
 ghost use Rattle.fk_served.specs.Served.{asked, asked_of};
@@ -15,16 +17,24 @@ use fk_kernel::Kernel;
 use fk_model::{Ask, Body, Move, Who};
 use fk_natives::{Service, Side};
 
+/// Whether a native server acts for whatever stands by a name: a served port. Whoever else that is runs.
+pub fn is_served(kernel: &Kernel, who: Who) -> bool
+    ensures { result ≡ is_served_port (world kernel.now) (At (named (world kernel.now) who)) }
+{
+    let store = kernel.store();
+    store.names();
+    matches!(store.at(who), Some(Body::Port { served: true, .. }))
+}
+
 /// What a mover asks for that is no job's porter: what it gives is words. Whoever isn't a served port runs.
 pub fn asked_by<S: Service + Drop>(kernel: &Kernel, services: &Services<S>, who: Who) -> Option<Ask>
     ensures asked { result ≡ asked services.now.list (world kernel.now) who }
     ensures words { IfSome result (λ ask. has_all_words ask ≡ true) }
 {
-    let store = kernel.store();
-    store.names();
-    match store.at(who) {
-        Some(Body::Port { served: true, .. }) => services.ask(who),
-        _ => Some(Ask::Run),
+    if is_served(kernel, who) {
+        services.ask(who)
+    } else {
+        Some(Ask::Run)
     }
 }
 
@@ -36,11 +46,10 @@ fn server_of<'a, S: Service + Drop>(
 ) -> Option<&'a S>
     ensures { asked services.now.list (world kernel.now) port ≡ asked_of (option_map (λ server. S.meaning server.now) result) }
 {
-    let store = kernel.store();
-    store.names();
-    match store.at(port) {
-        Some(Body::Port { served: true, .. }) => services.server(port),
-        _ => None,
+    if is_served(kernel, port) {
+        services.server(port)
+    } else {
+        None
     }
 }
 
@@ -54,11 +63,10 @@ pub fn left_by<'a, S: Service + Drop>(
     ensures words { IfSome result (λ left. are_words left.now ≡ true) }
     ensures few { IfSome result (λ left. length left.now ≤ 64) }
 {
-    let store = kernel.store();
-    store.names();
-    match store.at(port) {
-        Some(Body::Port { served: true, .. }) => services.left(port),
-        _ => None,
+    if is_served(kernel, port) {
+        services.left(port)
+    } else {
+        None
     }
 }
 
