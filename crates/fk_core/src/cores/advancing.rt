@@ -33,12 +33,12 @@ impl<S: Service + Drop, W: Worker + Drop> Core<S, W> {
                 self.rounds.park();
                 None
             }
-            Gone::Not => self.signal_on(who),
+            Gone::Not => self.pick_on(who),
         }
     }
 
-    /// Makes the signal of a user, where it is at one and somebody is queued at its condition, and no job is left.
-    fn signal_on(&mut self, who: Who) -> Option<Move>
+    /// Makes the signal or the wait of a user, where it is at one and somebody is queued at its condition or at a port of its set, and no job is left.
+    fn pick_on(&mut self, who: Who) -> Option<Move>
         requires few { self.old.events < self.old.budget }
         requires none { current self.old.jobs ≡ None }
         ensures advanced { IsAdvanced self.old.jobs.jobs self.old.budget (run_core self.old) result (run_core self.new) }
@@ -46,7 +46,7 @@ impl<S: Service + Drop, W: Worker + Drop> Core<S, W> {
         ensures budget { self.new.budget ≡ self.old.budget }
         ensures jobs { self.new.jobs.jobs ≡ self.old.jobs.jobs }
     {
-        match self.kernel.signal(who) {
+        match self.kernel.pick(who) {
             Some(other) => {
                 self.events += 1;
                 self.rounds.hear(None);
