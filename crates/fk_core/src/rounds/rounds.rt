@@ -63,7 +63,7 @@ impl Rounds {
         if self.stuck || !moment.is_below_budget() || self.is_round(moment) {
             return None;
         }
-        moment.last()
+        moment.last_up()
     }
 
     /// The port whose server the last move told something, but where the look goes round and where the budget is used.
