@@ -7,7 +7,7 @@ ghost use Rattle.fk_jobs.specs.Jobs.{current};
 
 use crate::cores::turns::Core;
 use fk_jobs::Worker;
-use fk_model::{Move, NoMemory, Who};
+use fk_model::{Move, NoMemory, Who, call};
 use fk_natives::Service;
 use fk_responders::Table;
 use fk_served::Gone;
@@ -55,7 +55,32 @@ impl<S: Service + Drop, W: Worker + Drop> Core<S, W> {
                     pick: Some(other),
                 })
             }
-            None => None,
+            None => {
+                if self.rests(who) {
+                    self.rounds.park();
+                }
+                None
+            }
+        }
+    }
+
+    /// A thread is in a call that begins with a stage in which others make it go on. It is a hint: nothing is said of it. Who looks whether one of these
+    /// goes on, finds it among the ready, if it is there.
+    fn rests(&self, who: Who) -> bool {
+        match self.kernel.store().thread(who) {
+            Some(thread) => matches!(
+                thread.regs[0],
+                call::COND_ASLEEP
+                    | call::CONNECT
+                    | call::CONNECT_SEND_OVER_RECEIVE
+                    | call::CLIENT_RECEIVE
+                    | call::CLIENT_RECEIVE_REF
+                    | call::WAIT
+                    | call::WAIT_RECEIVE
+                    | call::SERVER_RECEIVE
+                    | call::SERVER_RECEIVE_REF
+            ),
+            None => false,
         }
     }
 
@@ -103,7 +128,7 @@ impl<S: Service + Drop, W: Worker + Drop> Core<S, W> {
 
     /// Makes a move that is ready, of whoever comes next.
     #[inline(never)]
-    fn go_next(&mut self, table: &Table) -> Result<Option<Move>, NoMemory>
+    pub(crate) fn go_next(&mut self, table: &Table) -> Result<Option<Move>, NoMemory>
         requires fits { AllFit (map (λ r. r.rule) table.now.list.items) self.old.services.list }
         requires come { IsGoing self.old }
         ensures made { IsAdvancedOrOver self.old.jobs.jobs self.old.budget (run_core self.old) (run_core self.new) result }
@@ -129,7 +154,7 @@ impl<S: Service + Drop, W: Worker + Drop> Core<S, W> {
     {
         match self.go_on_told(table)? {
             Some(m) => Ok(Some(m)),
-            None => self.go_next(table),
+            None => self.go_ready(table),
         }
     }
 

@@ -98,6 +98,17 @@ impl Rounds {
         if moment.ready(&m) { Some(m) } else { None }
     }
 
+    /// A server may come before the threads: one that heard of the last move, or in every second round one, each in its turn. It is a hint.
+    pub fn may_serve<S: Service + Drop, W: Worker + Drop>(
+        &self,
+        moment: &Moment<'_, S, W>,
+    ) -> bool {
+        if self.heard.is_some() {
+            return true;
+        }
+        moment.servers() != 0 && moment.events() / ROUND % 2 != 0
+    }
+
     /// A move was made that told the server of this port something, or none. By it who waited may move.
     pub fn hear(&mut self, heard: Option<Who>)
         ensures { self.new.heard ≡ heard }

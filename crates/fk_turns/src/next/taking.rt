@@ -11,7 +11,7 @@ ghost use Rattle.fk_turns.specs.Next.Waiting.{IsMoveReady};
 
 use fk_calls::{Picks, may_pick};
 use fk_links::is_member;
-use fk_model::call::WAIT;
+use fk_model::call::{WAIT, WAIT_RECEIVE};
 use fk_model::{Ask, Move, Who};
 use fk_store::Store;
 use fk_waits::turns::Turns;
@@ -98,7 +98,7 @@ fn takes_first_at(turns: &Turns, store: &Store, who: Who, set: u64, port: Who) -
 /// Who is queued first at a port of the set on which the user in a slot waits, if it is at a wait. It is a hint: nothing is said of it.
 pub fn first_to_take(turns: &Turns, store: &Store, who: Who) -> Option<Who> {
     let thread = store.thread(who)?;
-    if thread.regs[0] != WAIT {
+    if !begins_with_wait(thread.regs[0]) {
         return None;
     }
     let set = thread.regs[1];
@@ -114,6 +114,11 @@ pub fn first_to_take(turns: &Turns, store: &Store, who: Who) -> Option<Who> {
         from = u16::from(slot) + 1;
     }
     None
+}
+
+/// A call begins with a wait.
+fn begins_with_wait(code: u64) -> bool {
+    code == WAIT || code == WAIT_RECEIVE
 }
 
 /// Who is queued first at a port, if that is in a set.
