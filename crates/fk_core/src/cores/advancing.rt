@@ -12,6 +12,27 @@ use fk_natives::Service;
 use fk_responders::Table;
 use fk_served::Gone;
 
+/// A call begins with a signal or a wait, which may pick somebody.
+fn picks(code: u64) -> bool {
+    matches!(code, call::COND_SIGNAL | call::WAIT | call::WAIT_RECEIVE)
+}
+
+/// A call begins with a stage in which others make a thread go on. Who looks whether one of these goes on finds it among the ready, if it is there.
+fn rests(code: u64) -> bool {
+    matches!(
+        code,
+        call::COND_ASLEEP
+            | call::CONNECT
+            | call::CONNECT_SEND_OVER_RECEIVE
+            | call::CLIENT_RECEIVE
+            | call::CLIENT_RECEIVE_REF
+            | call::WAIT
+            | call::WAIT_RECEIVE
+            | call::SERVER_RECEIVE
+            | call::SERVER_RECEIVE_REF
+    )
+}
+
 impl<S: Service + Drop, W: Worker + Drop> Core<S, W> {
     /// Makes the next move of the thread that moved last, where that is an instruction or a stage that tells nobody of anything, is
     /// ready, and no job is left. What others' moves tell takes much room; this needs none. A thread that is seen to wait isn't tried again.
@@ -46,6 +67,13 @@ impl<S: Service + Drop, W: Worker + Drop> Core<S, W> {
         ensures budget { self.new.budget ≡ self.old.budget }
         ensures jobs { self.new.jobs.jobs ≡ self.old.jobs.jobs }
     {
+        let code = self.code_of(who);
+        if rests(code) {
+            self.rounds.park();
+        }
+        if !picks(code) {
+            return None;
+        }
         match self.kernel.pick(who) {
             Some(other) => {
                 self.events += 1;
@@ -55,32 +83,15 @@ impl<S: Service + Drop, W: Worker + Drop> Core<S, W> {
                     pick: Some(other),
                 })
             }
-            None => {
-                if self.rests(who) {
-                    self.rounds.park();
-                }
-                None
-            }
+            None => None,
         }
     }
 
-    /// A thread is in a call that begins with a stage in which others make it go on. It is a hint: nothing is said of it. Who looks whether one of these
-    /// goes on, finds it among the ready, if it is there.
-    fn rests(&self, who: Who) -> bool {
+    /// The code of the call in which a thread is, or what stands there else. It is a hint: nothing is said of it.
+    fn code_of(&self, who: Who) -> u64 {
         match self.kernel.store().thread(who) {
-            Some(thread) => matches!(
-                thread.regs[0],
-                call::COND_ASLEEP
-                    | call::CONNECT
-                    | call::CONNECT_SEND_OVER_RECEIVE
-                    | call::CLIENT_RECEIVE
-                    | call::CLIENT_RECEIVE_REF
-                    | call::WAIT
-                    | call::WAIT_RECEIVE
-                    | call::SERVER_RECEIVE
-                    | call::SERVER_RECEIVE_REF
-            ),
-            None => false,
+            Some(thread) => thread.regs[0],
+            None => 0,
         }
     }
 
