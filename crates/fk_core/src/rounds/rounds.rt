@@ -167,7 +167,7 @@ impl Rounds {
         if self.is_round(moment) {
             return None;
         }
-        moment.act_besides(self.heard?)
+        moment.act_met(self.heard?)
     }
 
     /// In every second round a ready act of one server, each in its turn.
