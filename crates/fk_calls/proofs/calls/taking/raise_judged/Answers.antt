@@ -1,5 +1,5 @@
-use Rattle.std.proofs.Common.{None, [], false, refl, ap, ◌∙◌}
-use Rattle.fk_model.specs.Moves.{closed, stepped, Step}
+use Rattle.std.proofs.Common.{◌≡◌, None, [], false, refl, ◌∙◌}
+use Rattle.fk_model.specs.Moves.{closed, stepped}
 use Rattle.fk_model.specs.Outcomes.Said.{Nothing}
 use Rattle.fk_model.specs.World.{apply, apply_all}
 use Rattle.fk_model.specs.declared.moves.Ask.TheVariants as asks
