@@ -27,6 +27,7 @@ mod sayings;
 mod signalling;
 mod silent;
 mod straight;
+mod taking;
 
 pub use answering::call;
 pub use fitting::is_fit;
@@ -38,3 +39,4 @@ pub use picking::{Picks, may_pick};
 pub use sayings::{Saying, Sent, say};
 pub use signalling::{signal, signal_of};
 pub use silent::stage;
+pub use taking::take_up;

@@ -13,5 +13,5 @@ pub mod calls;
 
 pub use calls::{
     Picks, Ran, Saying, Sent, Then, Told, Went, What, attempt, call, foretell, go, is_fit,
-    may_lock, may_move, may_pick, ready, run, say, signal, signal_of, stage, take,
+    may_lock, may_move, may_pick, ready, run, say, signal, signal_of, stage, take, take_up,
 };

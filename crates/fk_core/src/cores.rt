@@ -15,6 +15,7 @@
 
 mod advancing;
 mod bursts;
+mod first;
 mod given;
 mod lacking;
 mod looks;

@@ -115,15 +115,15 @@ pub made-proceeded : (m n : Contents) (who : Who) (born : path m ≡ space_born 
 made-proceeded m n who born true made = rw (← born) made
 made-proceeded m n who born false made = tt
 
--- ---- a signal, as an event
+-- ---- a stage that picks, as an event
 
-pub made-signalled : (m n : Contents) (who : Who) (born : path m ≡ space_born (world m)) (o : Option Who) →
+pub made-picked : (m n : Contents) (who : Who) (born : path m ≡ space_born (world m)) (o : Option Who) →
     IfSome o (λ other. IsReadyMove m (record { who = who; pick = Some other }) asks.Run
     × IsStepTo m (record { who = who; pick = Some other }) asks.Run n says.Nothing) →
     IfSome o (λ other. IsReadyEvent (world m) (event_of (world m) asks.Run (record { who = who; pick = Some other }))
     × (step_of (world m) (event_of (world m) asks.Run (record { who = who; pick = Some other })) ≡ record { world = world n; said = Nothing }))
-made-signalled m n who born (Some other) made = rw (← born) made
-made-signalled m n who born None made = tt
+made-picked m n who born (Some other) made = rw (← born) made
+made-picked m n who born None made = tt
 
 -- ---- words for a native server, as an event
 

@@ -294,9 +294,9 @@ impl Kernel {
         passed
     }
 
-    /// Makes the signal of the user in a slot, where it is at one and somebody is queued at its condition, and gives whom it wakes. Else, and wherever it
-    /// declines, it gives none and all stays as it is. No native server loses its client by it.
-    pub fn signal(&mut self, who: Who) -> Option<Who>
+    /// Makes the signal or the wait of the user in a slot, where it is at one, with whoever is queued first at the condition or at a port of the set, and gives
+    /// whom it picks. Else, and wherever it declines, it gives none and all stays as it is. No native server loses its client by it.
+    pub fn pick(&mut self, who: Who) -> Option<Who>
         ensures made { IfSome result (λ other.
             IsReadyEvent (world_of self.old) (event_of (world_of self.old) Ask.Run (record { who = who; pick = Some other }))
             × (step_of (world_of self.old) (event_of (world_of self.old) Ask.Run (record { who = who; pick = Some other }))
@@ -307,8 +307,8 @@ impl Kernel {
         ensures same { IfNone result (self.new ≡ self.old) }
     {
         self.store.names();
-        let other = fk_turns::steps::signal(&mut self.store, &mut self.turns, who);
-        // And so they do in the world that the signal leaves.
+        let other = fk_turns::steps::pick(&mut self.store, &mut self.turns, who);
+        // And so they do in the world that the stage leaves.
         self.store.names();
         other
     }

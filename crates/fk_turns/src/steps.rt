@@ -12,10 +12,11 @@ mod room;
 mod serving;
 mod signalling;
 mod steps;
+mod taking;
 
 pub use fk_calls::{Sent, Told, is_fit, ready};
 pub use going::Gone;
 pub use plain::{after_plain, after_still};
 pub use serving::{give, pass};
-pub use signalling::signal;
 pub use steps::{attempt, call, proceed, proceed_on, say, take};
+pub use taking::pick;

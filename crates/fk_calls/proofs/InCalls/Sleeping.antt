@@ -1,5 +1,5 @@
 -- Sleeping: a thread that waits on a condition unlocks its mutex, and sleeps.
-use Rattle.std.proofs.Common.{◌≡◌, ◌≤◌, ℕ, nat_le, Bool, true, false, [], ◌∷◌, Option, Some, None, Ok, option_map}
+use Rattle.std.proofs.Common.{◌≡◌, ◌≤◌, ◌||◌, ℕ, nat_le, Bool, true, false, [], ◌∷◌, Option, Some, None, Ok, option_map}
 use Rattle.std.proofs.Common.{if◌then◌else◌, refl, sym, ap, subst, ◌∙◌}
 use Rattle.fk_model.specs.declared.moves.Ask.TheVariants as asks
 use Rattle.fk_model.specs.declared.moves.Said.TheVariants as says
@@ -41,7 +41,9 @@ use Rattle.fk_calls.specs.declared.calls.going.Then.TheVariants as thens
 use Rattle.fk_calls.specs.declared.calls.going.What.TheVariants as whats
 use Rattle.fk_calls.specs.declared.calls.judging.Judgement.{Judgement}
 use Rattle.fk_calls.specs.Calls.Goings.{run_of, HasGone}
-use Rattle.fk_calls.specs.Calls.Judgements.{IsJudged, IsReadyMove, IsStepTo}
+use Rattle.fk_calls.specs.Calls.Judgements.{IsJudged, IsReadyMove, IsStepTo, TellsTouched}
+use Rattle.fk_plans.specs.declared.wakes.touching.Touched.TheVariants.{Few}
+use Rattle.fk_plans.specs.Wakes.Touches.{leave, MovesFirst}
 use Rattle.fk_calls.proofs.InCalls.Judged.{held_user, quiet_judged, stage_judged, staged_user, step_judged, user}
 use Rattle.fk_calls.proofs.InCalls.Locking.{body_of_thread, left_thread, named, seen_mutex, Sees}
 use Rattle.fk_calls.proofs.InCalls.Touches.{touching}
@@ -191,6 +193,22 @@ module _ (m n : Contents) (who mutex : Who) (c k : ℕ) (valid : IsValid (world 
       stage_judged m (run_of who) (CondWait c k) verdict free (record { later = []; todo = alone }) row
       (tt, (tt, first_unlocked w at me false (CondWait c mutex.slot) (rw (slot_is, alone) refl), refl)) (λ none. tt)
 
+  -- that it touches itself needn't be told
+  own : (s a : Bool) → (s || (a || (s || false))) ≡ true → (s || (a || (false || false))) ≡ true
+  own true a is = refl
+  own false true is = refl
+  own false false is = absurd (cc)
+
+  touched_own : IsJudged m (run_of who) asks.Run judgement → TellsTouched m (run_of who) asks.Run (Few (Some mutex) None None)
+  touched_own is =
+      let told = touching m (run_of who) asks.Run judgement is in
+      record {
+        names = λ x n. own (same_path x me) (same_path x at) (told.names x n);
+        leaves = ap (λ (o : Outcome). leave (path m) (Few (Some mutex) None None) (listed o)) is.outcome;
+        makes = λ sure. refl;
+        moves = subst (MovesFirst (path m) (Few (Some mutex) None None)) (sym is.outcome) refl;
+      }
+
   abbrev SeesCond : Type 0
   SeesCond = mapped found (Ok tt) ≡ object_in w (caller_by (path m) (user who) []) cond_of (path m who.space) c
 
@@ -219,7 +237,7 @@ module _ (m n : Contents) (who mutex : Who) (c k : ℕ) (valid : IsValid (world 
         ready = ready;
         step = step;
         ended = quiet_judged m n (run_of who) asks.Run judgement says.Nothing valid few refl is_judged (ready, step);
-        touched = touching m (run_of who) asks.Run judgement is_judged;
+        touched = touched_own is_judged;
         row = record {
           begins = record { stage = CondWait c k; alone = alone; lock = refl };
           changes = ap listed is_judged.outcome;

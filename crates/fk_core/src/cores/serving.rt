@@ -122,7 +122,7 @@ impl<S: Service + Drop, W: Worker + Drop> Core<S, W> {
     {
         match self.act_on(table) {
             Some(m) => Ok(Some(m)),
-            None => self.go_next(table),
+            None => self.go_ready(table),
         }
     }
 

@@ -218,7 +218,7 @@ impl<S: Service + Drop, W: Worker + Drop> Core<S, W> {
 
     /// Makes an instruction, or a stage that tells nobody of anything, where that is what a move is and where it is ready, and
     /// answers whether it did; else all is as before. What other moves tell takes much room; this needs none.
-    fn go_plain(&mut self, m: &Move) -> bool
+    pub(crate) fn go_plain(&mut self, m: &Move) -> bool
         requires few { self.old.events < self.old.budget }
         ensures made { OnTrue result (IsAdvanced self.old.jobs.jobs self.old.budget (run_core self.old) (Some m.now) (run_core self.new)) }
         ensures kernel { OnFalse result (self.new.kernel ≡ self.old.kernel) }
