@@ -1,6 +1,7 @@
 -- Serving: an act of a native server that is made at once is a turn.
 use Rattle.std.proofs.Common.{◌≡◌, ℕ, zero, suc, ◌+◌, ◌-◌, ◌<◌, true, false, List, [], ◌∷◌, ◌++◌, length, map, replicate, Some, None}
 use Rattle.std.proofs.Common.{refl}
+use Rattle.std.specs.Prelude.{◌==◌}
 use Rattle.std.proofs.lemmas.Bool.{and_parts}
 use Rattle.fk_model.specs.declared.moves.Ask.{Ask}
 use Rattle.fk_model.specs.declared.moves.Ask.TheVariants as asks
@@ -35,9 +36,9 @@ served m n services new q budget events port ask said d few other asks_it words 
     )
 
 -- what is left is asked for with zeros behind it
-pub given_left : (m n : Kept) (port : Who) (left : List ℕ) (count : ℕ) → (length left ≡ 0 → ⊥) → IsGiven m n port left count →
+pub given_left : (m n : Kept) (port : Who) (left : List ℕ) (count : ℕ) → (length left == 0) ≡ false → IsGiven m n port left count →
     IsActed m n port (gives_left left) (says.Given port count)
-given_left m n port [] count some given = absurd (some refl)
+given_left m n port [] count some given = absurd (cc)
 given_left m n port (word ∷ words) count some given =
     given (padded (word ∷ words)).words (padded (word ∷ words)).len (padded_back (word ∷ words))
 
@@ -55,6 +56,6 @@ words_left [] all = refl
 words_left (word ∷ words) all = padded_words (word ∷ words) (64 - length (word ∷ words)) all
 
 -- nothing is left
-pub none_left : (left : List ℕ) → length left ≡ 0 → gives_left left ≡ asks.Over
+pub none_left : (left : List ℕ) → (length left == 0) ≡ true → gives_left left ≡ asks.Over
 none_left [] none = refl
 none_left (word ∷ words) none = absurd (cc)

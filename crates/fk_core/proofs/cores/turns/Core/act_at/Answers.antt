@@ -9,7 +9,7 @@ use Rattle.fk_core.proofs.cores.turns.Core.act_at.Goals as goal
 
 pub pass_at-requires-clause-asked : goal.pass_at-requires-clause-asked
 pass_at-requires-clause-asked g c =
-    c.in-Some.ensures.asked ∙ ap Some (none_left c.in-Some.left.now (c.is_empty.ensures.0 c.if-is_empty.true))
+    c.in-Some.ensures.asked ∙ ap Some (none_left c.in-Some.left.now (sym c.is_empty.ensures ∙ c.if-is_empty.true))
 
 pub returns-clause-made : goal.returns-clause-made
 returns-clause-made g c =
@@ -18,7 +18,7 @@ returns-clause-made g c =
     let left = c.in-Some.left.now in
     let count = c.in-Some-give.count in
     let asked_for : asked self.services.list (world self.kernel) port ≡ Some (gives_left left) = rw (sym c.reserve.ensures.same) c.in-Some.ensures.asked in
-    let acted = given_left self.kernel c.give.new.self port left count (λ none. c.if-is_empty.false) c.in-Some-give.ensures.gave in
+    let acted = given_left self.kernel c.give.new.self port left count (sym c.is_empty.ensures ∙ c.if-is_empty.false) c.in-Some-give.ensures.gave in
     served self.kernel c.give.new.self self.services.list c.hear_given.new.self.list self.jobs self.budget self.events port (gives_left left)
     (says.Given port count) _ c.requires.few c.requires.other asked_for (words_left left c.in-Some.ensures.words) acted
     (c.hear_given.ensures ∙ ap (map (told (says.Given port count) None)) c.reserve.ensures.same) c.settle.ensures.settles c.settle.ensures.events
