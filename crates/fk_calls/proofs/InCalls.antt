@@ -13,4 +13,7 @@ pub mod Running
 pub mod Touches
 pub mod Locking
 pub mod Talking
+pub mod Sleeping
+pub mod Signalling
+pub mod Acted
 pub mod Went

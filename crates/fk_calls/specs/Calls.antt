@@ -7,3 +7,5 @@ pub mod Sayings
 pub mod Tried
 pub mod Quiet
 pub mod Goings
+pub mod Signals
+pub mod Acted

@@ -7,7 +7,7 @@
 //! abstract machine is ready to make a move, that `take` makes of the store's world what the machine
 //! makes of it, that `attempt` does both, judging once, and tells which native server lost its client,
 //! that `run` makes an instruction and tells whether the thread runs on, `go` a stage that has an arm of its own, and what the thread is at then,
-//! `stage` any other that tells nothing,
+//! `signal` one that wakes whom the caller has found, `stage` any other that tells nothing,
 //! that `say` does the same of words for a native server, which it lays into the caller's room, and `call` of a porter's answer,
 //! that each of them tells which objects the move touched, that `foretell` tells what a move would tell native servers,
 //! that `is_fit` tells which moves may be made at all, that `may_move` tells cheaply of whom no move is ready, and that
@@ -24,8 +24,10 @@ mod moves;
 mod picking;
 mod rows;
 mod sayings;
+mod signalling;
 mod silent;
 mod straight;
+mod taking;
 
 pub use answering::call;
 pub use fitting::is_fit;
@@ -35,4 +37,6 @@ pub use judging::may_move;
 pub use moves::{Ran, Told, attempt, ready, run, take};
 pub use picking::{Picks, may_pick};
 pub use sayings::{Saying, Sent, say};
+pub use signalling::{signal, signal_of};
 pub use silent::stage;
+pub use taking::take_up;

@@ -13,5 +13,6 @@ pub mod calls;
 
 pub use calls::{
     Picks, Ran, Saying, Sent, Talked, Then, Told, Went, What, attempt, call, foretell, go, is_fit,
-    may_lock, may_move, may_pick, may_talk, ready, run, say, stage, take,
+    may_lock, may_move, may_pick, may_talk, ready, run, say, signal, signal_of, stage, take,
+    take_up,
 };

@@ -3,6 +3,7 @@ pub mod Turning
 pub mod Histories
 pub mod Cutting
 pub mod Proceeding
+pub mod Serving
 pub mod Starts
 pub mod Going
 pub mod Trying

@@ -1,3 +1,4 @@
+pub use Rattle.fk_served.specs.Acted
 pub use Rattle.fk_served.specs.Events
 pub use Rattle.fk_served.specs.Kernels
 pub use Rattle.fk_served.specs.Served

@@ -5,4 +5,5 @@ pub use Rattle.fk_core.specs.Moment.Rooms
 pub use Rattle.fk_core.specs.Moment.Moments
 pub use Rattle.fk_core.specs.Moment.Kernels
 pub use Rattle.fk_core.specs.Moment.Events
+pub use Rattle.fk_core.specs.Moment.Acted
 pub use Rattle.fk_core.specs.Moment.Ends

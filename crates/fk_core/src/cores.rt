@@ -15,10 +15,12 @@
 
 mod advancing;
 mod bursts;
+mod first;
 mod given;
 mod lacking;
 mod looks;
 mod room;
+mod serving;
 mod settling;
 mod several;
 mod turns;

@@ -5,6 +5,7 @@ use Rattle.std.specs.Bool.{OnTrue}
 use Rattle.fk_model.specs.declared.moves.Ask.{Ask}
 use Rattle.fk_model.specs.declared.moves.Ask.TheVariants as asks
 use Rattle.fk_model.specs.declared.moves.Move.{Move}
+use Rattle.fk_model.specs.declared.moves.Said as says_of
 use Rattle.fk_model.specs.declared.moves.Said.TheVariants as says
 use Rattle.fk_model.specs.declared.names.Who.{Who}
 use Rattle.fk_model.specs.Endings.{has_ended}
@@ -22,11 +23,15 @@ use Rattle.fk_store.specs.Store.World.{world}
 use Rattle.fk_plans.specs.Plans.Hearers.{says_to, says_to_who}
 use Rattle.fk_plans.specs.Endings.Clients.{HasClient, LosesClient}
 use Rattle.fk_plans.proofs.InEndings.Changes.{client-found, found-client}
+use Rattle.fk_turns.specs.Steps.Acted.{HasActed, HasGiven}
 use Rattle.fk_turns.specs.Steps.Tellings.{Told}
 use Rattle.fk_turns.specs.Steps.Tellings.{Sent}
 use Rattle.fk_turns.specs.Steps.Judgements.{IsEnded, IsHeardBy, IsReadyMove, IsStepTo}
 use Rattle.fk_turns.specs.Steps.Sayings.{told_by}
+use Rattle.fk_turns.specs.Steps.Waiting.{Standing}
+use Rattle.fk_kernel.specs.Acted.{IsActed, IsGiven}
 use Rattle.fk_kernel.specs.Events.{is_who, step_of, IsReadyEvent}
+use Rattle.fk_kernel.specs.Kernels.{Kept}
 
 module _ (m n : Contents) (valid : IsValid (world m)) (few : (world m).next ≤ depth) (kept : IsValid (world n)) (low : (world n).next ≤ depth) where
   some_before : (p : Path) → HasClient (world m) p → is_some (client_at (world m) p) ≡ true
@@ -79,8 +84,12 @@ module _ (m n : Contents) (valid : IsValid (world m)) (few : (world m).next ≤ 
   ended-proceeded born true ended = λ port. rw (← born) (ended-exact None ended port)
   ended-proceeded born false ended = tt
 
+  -- of an act of a native server
+  pub ended-acted : path m ≡ space_born (world m) → IsEnded m n None → (port : Who) → has_ended (world m) (world n) (named (world m) port) ≡ is_who None port
+  ended-acted born ended = λ port. rw (← born) (ended-exact None ended port)
+
   -- of words for a native server
-  pub ended-said : (born : path m ≡ space_born (world m)) (o : Option Sent) → (IsSome o → IsEnded m n None) →
+  pub ended-said : {A : Type 0} (born : path m ≡ space_born (world m)) (o : Option A) → (IsSome o → IsEnded m n None) →
       IsSome o → (port : Who) → has_ended (world m) (world n) (named (world m) port) ≡ false
   ended-said born o ended some = λ port. rw (← born) (ended-exact None (ended some) port)
 
@@ -106,6 +115,16 @@ pub made-proceeded : (m n : Contents) (who : Who) (born : path m ≡ space_born 
 made-proceeded m n who born true made = rw (← born) made
 made-proceeded m n who born false made = tt
 
+-- ---- a stage that picks, as an event
+
+pub made-picked : (m n : Contents) (who : Who) (born : path m ≡ space_born (world m)) (o : Option Who) →
+    IfSome o (λ other. IsReadyMove m (record { who = who; pick = Some other }) asks.Run
+    × IsStepTo m (record { who = who; pick = Some other }) asks.Run n says.Nothing) →
+    IfSome o (λ other. IsReadyEvent (world m) (event_of (world m) asks.Run (record { who = who; pick = Some other }))
+    × (step_of (world m) (event_of (world m) asks.Run (record { who = who; pick = Some other })) ≡ record { world = world n; said = Nothing }))
+made-picked m n who born (Some other) made = rw (← born) made
+made-picked m n who born None made = tt
+
 -- ---- words for a native server, as an event
 
 module _ (m n : Contents) (who : Who) (words : List ℕ) (born : path m ≡ space_born (world m)) where
@@ -125,3 +144,34 @@ module _ (m n : Contents) (who : Who) (words : List ℕ) (born : path m ≡ spac
       subst (λ p. says_to (step (world m) (place p who) (picked_by p None) asks.Run).said (place p port) ≡ says_to_who (told_by sent words) port) born
       (ap (λ (s : Step). says_to s.said (place (path m) port)) made.1 ∙ heard port)
   heard-said None made heard = tt
+
+-- ---- an act of a native server, as an event
+
+module _ (m n : Contents) (was now : Standing) (port : Who) (valid : IsValid (world m)) (few : (world m).next ≤ depth) (then_valid : IsValid (world n))
+    (low : (world n).next ≤ depth) (born : path m ≡ space_born (world m)) where
+  abbrev before : Kept
+  before = record { store = m; standing = was }
+
+  abbrev after : Kept
+  after = record { store = n; standing = now }
+
+  made-acted : (client : Who) (ask : Ask) (said : says_of.Said) → HasActed m n port client ask said → IsActed before after port ask said
+  made-acted client ask said acted = record {
+    ready = rw (← born) acted.ready;
+    step = rw (← born) acted.step;
+    ended = ended-acted m n valid few then_valid low born acted.ended;
+    told = λ other.
+        subst (λ p. says_to (step (world m) (place p port) (picked_by p None) ask).said (place p other) ≡ says_to_who said other) born
+        (ap (λ (s : Step). says_to s.said (place (path m) other)) acted.step ∙ acted.heard other);
+  }
+
+  pub made-given : (words : List ℕ) (o : Option ℕ) → IfSome o (λ count. (client : Who) × HasGiven m n port client words count) →
+      IfSome o (IsGiven before after port words)
+  made-given words None given = tt
+  made-given words (Some count) given =
+      λ numbers len is. made-acted given.0 (asks.Give numbers len) (says.Given port count) (given.1 numbers len is)
+
+  pub made-passed : (b : Bool) → OnTrue b ((client : Who) × HasActed m n port client asks.Over (says.Over port)) →
+      OnTrue b (IsActed before after port asks.Over (says.Over port))
+  made-passed true passed = made-acted passed.0 asks.Over (says.Over port) passed.1
+  made-passed false passed = tt

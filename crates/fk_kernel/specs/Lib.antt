@@ -1,5 +1,6 @@
 pub mod Events
 pub mod Kernels
+pub mod Acted
 pub use Rattle.fk_plans.specs.Answers.Rooms
 pub use Rattle.fk_turns.specs.Steps.Tried
 pub use Rattle.fk_turns.specs.Steps.Classes

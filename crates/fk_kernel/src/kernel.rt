@@ -1,7 +1,8 @@
 //! The kernel. Its contracts speak of paths and those of the store of names, so each call begins with the store's
 //! `names`: it does nothing, and tells that the two agree, which a store keeps and only a call of it can say.
-ghost use Rattle.std.specs.Prelude.{◌≡◌, ◌≤◌, ◌↔◌, true, false, IsTrue, IsOk, IfOk, IfSome, IfNone, IsSome, OnErr, None, Some, option_map};
+ghost use Rattle.std.specs.Prelude.{◌≡◌, ◌≤◌, ◌↔◌, true, false, IsTrue, IsOk, IfOk, IfSome, IfNone, IsSome, OnErr, None, Some, length, option_map};
 ghost use Rattle.fk_model.specs.declared.moves.Ask.TheVariants as asks;
+ghost use Rattle.fk_model.specs.declared.moves.Said.TheVariants as says;
 ghost use Rattle.std.specs.Bool.{OnTrue, OnFalse};
 ghost use Rattle.fk_model.specs.Outcomes.Said.{Nothing};
 ghost use Rattle.fk_model.specs.Valid.{IsValid};
@@ -23,6 +24,7 @@ ghost use Rattle.fk_turns.specs.Steps.Classes.{is_made};
 ghost use Rattle.fk_turns.specs.Steps.Steps.{was_made, IsPut};
 ghost use Rattle.fk_turns.specs.Steps.Waiting.{standing, ArePassed, AreWaiting};
 ghost use Rattle.fk_waits.specs.Waits.Lists.{first_ready};
+ghost use Rattle.fk_kernel.specs.Acted.{IsActed, IsGiven};
 ghost use Rattle.fk_kernel.specs.Kernels.{path_of, standing_of, store_of, world_of};
 ghost use Rattle.fk_kernel.specs.Events as events;
 ghost use Rattle.fk_kernel.specs.Events.{is_fit_event, is_who, AreNamed, IsAcceptReady, IsAnyReady, IsIdleBetween, IsIdleUpTo, IsMoveReady};
@@ -264,6 +266,51 @@ impl Kernel {
         let gone = fk_turns::steps::proceed_on(&mut self.store, &mut self.turns, who);
         self.store.names();
         gone
+    }
+
+    /// Gives words of a port's native server to its client, where that is ready and the client has room, and tells how many; else all stays as it is, and
+    /// whether the act is ready `ready` tells.
+    pub fn give(&mut self, port: Who, words: &[u64]) -> Option<u8>
+        requires few { length words.now ≤ 64 }
+        ensures gave { IfSome result (λ count. IsGiven self.old self.new port words.now count) }
+        ensures same { IfNone result (self.new ≡ self.old) }
+    {
+        self.store.names();
+        let gave = fk_turns::steps::give(&mut self.store, &mut self.turns, port, words);
+        // And so they do in the world that the act leaves.
+        self.store.names();
+        gave
+    }
+
+    /// Hands the turn of a port's native server to its client, where that is ready; and whether it did. Else all stays as it is.
+    pub fn pass(&mut self, port: Who) -> bool
+        ensures passed { OnTrue result (IsActed self.old self.new port asks.Over (says.Over port)) }
+        ensures same { OnFalse result (self.new ≡ self.old) }
+    {
+        self.store.names();
+        let passed = fk_turns::steps::pass(&mut self.store, &mut self.turns, port);
+        // And so they do in the world that the act leaves.
+        self.store.names();
+        passed
+    }
+
+    /// Makes the signal or the wait of the user in a slot, where it is at one, with whoever is queued first at the condition or at a port of the set, and gives
+    /// whom it picks. Else, and wherever it declines, it gives none and all stays as it is. No native server loses its client by it.
+    pub fn pick(&mut self, who: Who) -> Option<Who>
+        ensures made { IfSome result (λ other.
+            IsReadyEvent (world_of self.old) (event_of (world_of self.old) Ask.Run (record { who = who; pick = Some other }))
+            × (step_of (world_of self.old) (event_of (world_of self.old) Ask.Run (record { who = who; pick = Some other }))
+            ≡ record { world = world_of self.new; said = Nothing })) }
+        ensures ended { IsSome result → (port : Who) → has_ended (world_of self.old) (world_of self.new) (named (world_of self.old) port) ≡ false }
+        ensures placed { IfSome result (λ other.
+            IsPut (store_of self.old) (record { who = who; pick = Some other }) Ask.Run (store_of self.new) (standing_of self.new)) }
+        ensures same { IfNone result (self.new ≡ self.old) }
+    {
+        self.store.names();
+        let other = fk_turns::steps::pick(&mut self.store, &mut self.turns, who);
+        // And so they do in the world that the stage leaves.
+        self.store.names();
+        other
     }
 
     /// Makes the next stage of the user in a slot, where that sends words to a native server and is ready: lays the words into the room, with

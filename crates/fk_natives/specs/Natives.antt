@@ -1,5 +1,5 @@
 -- Native servers: what they ask for, and what becomes of them by what they are told.
-use Rattle.std.specs.Prelude.{◌≡◌, ◌||◌, ℕ, ◌+◌, nat_le, is_none, Bool, true, false, List, [], ◌∷◌, ◌++◌, filter, take, drop, Option, Some, None}
+use Rattle.std.specs.Prelude.{◌≡◌, ◌≤◌, ◌||◌, ℕ, ◌+◌, nat_le, is_none, Bool, true, false, List, [], ◌∷◌, ◌++◌, filter, length, take, drop, Option, Some, None}
 use Rattle.std.specs.List.{slice_get}
 use Rattle.fk_model.specs.declared.moves.Ask.{Ask}
 use Rattle.fk_model.specs.declared.moves.Ask.TheVariants as asks
@@ -29,6 +29,20 @@ pub data State : Type 0 where
 -- ---- what it asks for: a client where it has none, nothing at its client's turn; at its own a server or a replay gives what is left of its
 -- reply, and then hands over, as a console does at once. A tap asks for what the server in it asks for
 
+-- whose turn it is in its talk
+abbrev pub side_of : State → Side
+side_of (OfConsole alias words side) = side
+side_of (OfServer index rule config position request left side) = side
+side_of (OfReplay replies left side) = side
+side_of (OfTap watch noted inner) = side_of inner
+
+-- what is left of its reply
+abbrev pub left_of : State → List ℕ
+left_of (OfConsole alias words side) = []
+left_of (OfServer index rule config position request left side) = left
+left_of (OfReplay replies left side) = left
+left_of (OfTap watch noted inner) = left_of inner
+
 abbrev pub give_of : Reply → Ask
 give_of r = asks.Give r.words r.len
 
@@ -36,17 +50,13 @@ abbrev pub gives_left : List ℕ → Ask
 gives_left [] = asks.Over
 gives_left (word ∷ words) = give_of (padded (word ∷ words))
 
+abbrev pub asks_at : Side → List ℕ → Option Ask
+asks_at sides.Idle left = Some asks.Accept
+asks_at sides.Client left = None
+asks_at sides.Own left = Some (gives_left left)
+
 abbrev pub asks_for : State → Option Ask
-asks_for (OfConsole alias words sides.Idle) = Some asks.Accept
-asks_for (OfConsole alias words sides.Client) = None
-asks_for (OfConsole alias words sides.Own) = Some asks.Over
-asks_for (OfServer index rule config position request left sides.Idle) = Some asks.Accept
-asks_for (OfServer index rule config position request left sides.Client) = None
-asks_for (OfServer index rule config position request left sides.Own) = Some (gives_left left)
-asks_for (OfReplay replies left sides.Idle) = Some asks.Accept
-asks_for (OfReplay replies left sides.Client) = None
-asks_for (OfReplay replies left sides.Own) = Some (gives_left left)
-asks_for (OfTap watch noted inner) = asks_for inner
+asks_for s = asks_at (side_of s) (left_of s)
 
 -- ---- what becomes of it
 
@@ -62,7 +72,7 @@ pub data News : Type 0 where
 -- as the code has it
 abbrev pub news_of : Heard → News
 news_of (tells.Taken client turn moved) = Taken turn moved
-news_of (tells.Words reply) = Words (reply_words reply)
+news_of (tells.Words words) = Words words.now
 news_of tells.Over = Over
 news_of (tells.Given count) = Given count
 news_of tells.Ended = Ended
@@ -202,6 +212,14 @@ printed_by (OfReplay replies left side) = []
 printed_by (OfTap watch noted inner) = printed_by inner
 
 -- ---- what it rests on
+
+-- words that are sent come 64 at a time
+abbrev pub AreFew : News → Type 0
+AreFew (Taken turn moved) = Unit {0}
+AreFew (Words words) = length words ≤ 64
+AreFew Over = Unit {0}
+AreFew (Given count) = Unit {0}
+AreFew Ended = Unit {0}
 
 -- the table has the rule at the place of the server, also of one in a tap
 abbrev pub DoesFit : List Rule → State → Type 0

@@ -1,12 +1,12 @@
 //! Servers that reply by a rule.
 ghost use Rattle.std.specs.Prelude.{◌≡◌, map, [], IsOk};
 ghost use Rattle.fk_model.specs.Answers.{reply_words};
-ghost use Rattle.fk_natives.specs.Natives.{meaning_of, DoesFit, replies, gives_left};
+ghost use Rattle.fk_natives.specs.Natives.{meaning_of, DoesFit, replies};
 ghost use Rattle.fk_natives.specs.Natives.State.{OfServer};
 
 use crate::service::{Heard, Service, Side};
-use fk_model::{Ask, List, NoMemory, Reply, Rule, Turn};
-use fk_responders::{Table, append, reply_of, without, words_of};
+use fk_model::{List, NoMemory, Reply, Rule, Turn};
+use fk_responders::{Table, append, take_off, words_of};
 
 /// A server that replies by a rule.
 #[derive(Drop)]
@@ -24,40 +24,22 @@ pub struct Server {
     pub side: Side,
 }
 
-const EMPTY: Reply = Reply {
-    words: [0; 64],
-    len: 0,
-};
-
-/// What a server asks for at its turn: it gives what is left of its reply, or hands over.
-#[tactic(auto, using(crate::proofs::Asked::gives_some))]
-pub fn give(left: &Reply) -> Ask
-    ensures { result ≡ gives_left (reply_words left.now) }
-{
-    let words = words_of(left);
-    if words.is_empty() {
-        return Ask::Over;
-    }
-    let Reply { words, len } = reply_of(words);
-    Ask::Give { words, len }
-}
-
 impl Server {
     /// It computes its reply to the request, and leaves out what was moved.
     fn reply(&mut self, table: &Table, moved: usize)
         requires { DoesFit (map (λ r. r.rule) table.now.list.items) (meaning_of self.old) }
         ensures { meaning_of self.new ≡ replies self.old.index self.old.rule self.old.config self.old.position (reply_words self.old.request) moved }
     {
-        let reply = table.answer(
+        self.left = table.answer(
             self.index,
             self.rule,
             self.config.as_slice(),
             self.position,
             words_of(&self.request),
         );
-        self.left = without(&reply, moved);
+        take_off(&mut self.left, moved);
         self.position = self.position.saturating_add(1);
-        self.request = EMPTY;
+        self.request.len = 0;
         self.side = Side::Own;
     }
 
@@ -65,8 +47,8 @@ impl Server {
     fn rest(&mut self, side: Side)
         ensures { meaning_of self.new ≡ OfServer self.old.index self.old.rule self.old.config self.old.position [] [] side }
     {
-        self.request = EMPTY;
-        self.left = EMPTY;
+        self.request.len = 0;
+        self.left.len = 0;
         self.side = side;
     }
 }
@@ -79,12 +61,12 @@ impl Service for Server {
 
     ghost has_room = { λ s. std_words.true };
 
-    fn ask(&self) -> Option<Ask> {
-        match self.side {
-            Side::Idle => Some(Ask::Accept),
-            Side::Client => None,
-            Side::Own => Some(give(&self.left)),
-        }
+    fn side(&self) -> Side {
+        self.side
+    }
+
+    fn left(&self) -> &[u64] {
+        words_of(&self.left)
     }
 
     fn reserve(&mut self) -> Result<(), NoMemory>
@@ -94,11 +76,11 @@ impl Service for Server {
         Ok(())
     }
 
-    fn grows(&self, _heard: &Heard) -> bool {
+    fn grows(&self, _heard: Heard<'_>) -> bool {
         false
     }
 
-    fn absorb(&mut self, table: &Table, heard: &Heard) {
+    fn absorb(&mut self, table: &Table, heard: Heard<'_>) {
         match heard {
             Heard::Taken {
                 turn: Turn::Client,
@@ -109,21 +91,17 @@ impl Service for Server {
                 moved,
                 ..
             } => {
-                self.request = EMPTY;
-                self.reply(table, usize::from(*moved));
+                self.request.len = 0;
+                self.reply(table, usize::from(moved));
             }
-            Heard::Words(reply) => self.take_words(table, words_of(reply)),
+            Heard::Words(words) => append(&mut self.request, words),
             Heard::Over => match self.side {
                 Side::Client => self.reply(table, 0),
                 _ => self.rest(Side::Client),
             },
-            Heard::Given(count) => self.left = without(&self.left, usize::from(*count)),
+            Heard::Given(count) => take_off(&mut self.left, usize::from(count)),
             Heard::Ended => self.rest(Side::Idle),
         }
-    }
-
-    fn take_words(&mut self, _table: &Table, words: &[u64]) {
-        append(&mut self.request, words);
     }
 
     fn alias(&self) -> Option<&str> {

@@ -1,8 +1,8 @@
 //! What native servers have in common.
 ghost use Rattle.std.specs.Prelude.{◌≡◌, ◌≤◌, Bool, length, map, true, Option, option_map, OnOk};
-ghost use Rattle.fk_natives.specs.Natives.{State, Words, grows, hears, news_of, DoesFit, asks_for, alias_of, printed_by, side_at, side_after};
+ghost use Rattle.fk_natives.specs.Natives.{State, grows, hears, news_of, AreFew, DoesFit, side_of, left_of, alias_of, printed_by, side_at, side_after};
 
-use fk_model::{Ask, NoMemory, Reply, Turn, Who};
+use fk_model::{NoMemory, Turn, Who};
 use fk_responders::Table;
 
 /// Whose turn it is, if a server has a client.
@@ -16,13 +16,13 @@ pub enum Side {
     Own,
 }
 
-/// What a native server is told.
+/// What a native server is told. Words are lent from where they stand.
 #[derive(Clone, Copy)]
-pub enum Heard {
+pub enum Heard<'a> {
     /// It has a client, which has this turn, and the words moved in it.
     Taken { client: Who, turn: Turn, moved: u16 },
-    /// The client has sent these words.
-    Words(Reply),
+    /// The client has sent these words, at most 64.
+    Words(&'a [u64]),
     /// The turn has changed.
     Over,
     /// The client has taken so many words.
@@ -31,15 +31,21 @@ pub enum Heard {
     Ended,
 }
 
-/// A native server.
+/// A native server. What it asks for is known by whose turn it is and by what is left of its reply: both are small, where what it asks for has room for 64
+/// words.
 pub trait Service {
     ghost meaning: { Self → State };
 
     ghost has_room: { Self → Bool };
 
-    /// What it asks for: nothing exactly at its client's turn.
-    fn ask(&self) -> Option<Ask>
-        ensures { result ≡ asks_for (meaning self.now) };
+    /// Whose turn it is, if it has a client.
+    fn side(&self) -> Side
+        ensures { result ≡ side_of (meaning self.now) };
+
+    /// What is left of its reply, at most 64 words.
+    fn left(&self) -> &[u64]
+        ensures left { result.now ≡ left_of (meaning self.now) }
+        ensures few { length result.now ≤ 64 };
 
     /// Makes room for one thing that it is told, and changes nothing else.
     fn reserve(&mut self) -> Result<(), NoMemory>
@@ -47,20 +53,15 @@ pub trait Service {
         ensures room { OnOk result (has_room self.new ≡ true) };
 
     /// Whether it grows by something that it is told.
-    fn grows(&self, heard: &Heard) -> bool
-        ensures { result ≡ grows (meaning self.now) (news_of heard.now) };
+    fn grows(&self, heard: Heard<'_>) -> bool
+        ensures { result ≡ grows (meaning self.now) (news_of heard.entry) };
 
     /// Is told something. Where it grows by that, that uses up its room. The table has its responder and its observer.
-    fn absorb(&mut self, table: &Table, heard: &Heard)
+    fn absorb(&mut self, table: &Table, heard: Heard<'_>)
         requires fits { DoesFit (map (λ r. r.rule) table.now.list.items) (meaning self.old) }
-        requires room { grows (meaning self.old) (news_of heard.now) ≡ true → has_room self.old ≡ true }
-        ensures { meaning self.new ≡ hears (meaning self.old) (news_of heard.now) };
-
-    /// Is told that its client has sent these words. Where it grows by them, that uses up its room.
-    fn take_words(&mut self, table: &Table, words: &[u64])
-        requires few { length words.now ≤ 64 }
-        requires room { grows (meaning self.old) (Words words.now) ≡ true → has_room self.old ≡ true }
-        ensures { meaning self.new ≡ hears (meaning self.old) (Words words.now) };
+        requires few { AreFew (news_of heard) }
+        requires room { grows (meaning self.old) (news_of heard) ≡ true → has_room self.old ≡ true }
+        ensures { meaning self.new ≡ hears (meaning self.old) (news_of heard.entry) };
 
     /// A console's alias. Others have none.
     fn alias(&self) -> Option<&str>

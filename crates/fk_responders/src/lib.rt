@@ -18,4 +18,4 @@ pub use observer::{Observer, Sight, watches};
 pub use responder::{Call, Responder};
 pub use rules::{echo, feed, reply_by, rule_name, sum};
 pub use table::Table;
-pub use words::{append, reply_of, without, words_of};
+pub use words::{append, first_words, reply_of, take_off, words_of};

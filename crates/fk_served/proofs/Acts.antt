@@ -13,8 +13,9 @@ use Rattle.fk_model.specs.Places.Ptr.{At}
 use Rattle.fk_model.specs.Valid.{is_fit, is_served_port}
 use Rattle.fk_model.specs.Who.{named}
 use Rattle.fk_model.specs.World.{World}
+use Rattle.fk_natives.specs.declared.service.Side.{Side}
 use Rattle.fk_natives.specs.declared.service.Side.TheVariants as sides
-use Rattle.fk_natives.specs.Natives.{State, OfConsole, OfServer, OfReplay, OfTap, asks_for, gives_left}
+use Rattle.fk_natives.specs.Natives.{State, asks_at, asks_for, gives_left, left_of, side_of}
 use Rattle.fk_store.specs.Store.Names.{same_who}
 use Rattle.fk_store_graph.proofs.InLeads.NameLaws.{same_who_eq}
 use Rattle.laws_moves.specs.Frozen.Users.{is_users}
@@ -28,21 +29,11 @@ unfolding is_fit
 fit-left w x [] = refl
 fit-left w x (word ∷ words) = refl
 
-fit-state : (w : World) (x : Path) (state : State) (ask : Ask) → asks_for state ≡ Some ask → is_fit w x ask ≡ true
+fit-state : (w : World) (x : Path) (side : Side) (left : List ℕ) (ask : Ask) → asks_at side left ≡ Some ask → is_fit w x ask ≡ true
 unfolding is_fit
-fit-state w x (OfConsole alias words sides.Idle) ask is = let same : asks.Accept ≡ ask = cc in subst (λ a. is_fit w x a ≡ true) same refl
-fit-state w x (OfConsole alias words sides.Client) ask is = absurd (cc)
-fit-state w x (OfConsole alias words sides.Own) ask is = let same : asks.Over ≡ ask = cc in subst (λ a. is_fit w x a ≡ true) same refl
-fit-state w x (OfServer index rule config position request left sides.Idle) ask is = let same : asks.Accept ≡ ask = cc in
-    subst (λ a. is_fit w x a ≡ true) same refl
-fit-state w x (OfServer index rule config position request left sides.Client) ask is = absurd (cc)
-fit-state w x (OfServer index rule config position request left sides.Own) ask is =
-    let same : gives_left left ≡ ask = cc in subst (λ a. is_fit w x a ≡ true) same (fit-left w x left)
-fit-state w x (OfReplay replies left sides.Idle) ask is = let same : asks.Accept ≡ ask = cc in subst (λ a. is_fit w x a ≡ true) same refl
-fit-state w x (OfReplay replies left sides.Client) ask is = absurd (cc)
-fit-state w x (OfReplay replies left sides.Own) ask is =
-    let same : gives_left left ≡ ask = cc in subst (λ a. is_fit w x a ≡ true) same (fit-left w x left)
-fit-state w x (OfTap watch noted inner) ask is = fit-state w x inner ask is
+fit-state w x sides.Idle left ask is = let same : asks.Accept ≡ ask = cc in subst (λ a. is_fit w x a ≡ true) same refl
+fit-state w x sides.Client left ask is = absurd (cc)
+fit-state w x sides.Own left ask is = let same : gives_left left ≡ ask = cc in subst (λ a. is_fit w x a ≡ true) same (fit-left w x left)
 
 pub fit-asked : (services : Services) (w : World) (who : Who) (ask : Ask) (x : Path) → asked services w who ≡ Some ask → is_fit w x ask ≡ true
 unfolding is_fit
@@ -53,7 +44,7 @@ fit-asked services w who ask x is = by (is_served_port w (At (named w who))) (se
 
     by : (port : Bool) (state : Option State) → (if port then asked_of state else Some asks.Run) ≡ Some ask → is_fit w x ask ≡ true
     by true None is = run ask is
-    by true (Some state) is = fit-state w x state ask is
+    by true (Some state) is = fit-state w x (side_of state) (left_of state) ask is
     by false state is = run ask is
 
 -- ---- which servers there are, and that none calls
@@ -75,25 +66,16 @@ no-call : (left : List ℕ) (stage : Stage) (words : List ℕ) → gives_left le
 no-call [] stage words is = cc
 no-call (word ∷ left) stage words is = cc
 
-state-calls : (state : State) (stage : Stage) (words : List ℕ) → asks_for state ≡ Some (asks.Call stage words) → ⊥
-state-calls (OfConsole alias printed sides.Idle) stage words is = cc
-state-calls (OfConsole alias printed sides.Client) stage words is = cc
-state-calls (OfConsole alias printed sides.Own) stage words is = cc
-state-calls (OfServer index rule config position request left sides.Idle) stage words is = cc
-state-calls (OfServer index rule config position request left sides.Client) stage words is = cc
-state-calls (OfServer index rule config position request left sides.Own) stage words is =
-    no-call left stage words (let same : gives_left left ≡ asks.Call stage words = cc in same)
-state-calls (OfReplay replies left sides.Idle) stage words is = cc
-state-calls (OfReplay replies left sides.Client) stage words is = cc
-state-calls (OfReplay replies left sides.Own) stage words is =
-    no-call left stage words (let same : gives_left left ≡ asks.Call stage words = cc in same)
-state-calls (OfTap watch noted inner) stage words is = state-calls inner stage words is
+state-calls : (side : Side) (left : List ℕ) (stage : Stage) (words : List ℕ) → asks_at side left ≡ Some (asks.Call stage words) → ⊥
+state-calls sides.Idle left stage words is = cc
+state-calls sides.Client left stage words is = cc
+state-calls sides.Own left stage words is = no-call left stage words (let same : gives_left left ≡ asks.Call stage words = cc in same)
 
 pub never-calls : (services : Services) (w : World) (who : Who) (stage : Stage) (words : List ℕ) → asked services w who ≡ Some (asks.Call stage words) → ⊥
 never-calls services w who stage words is = by (is_served_port w (At (named w who))) (serving services who) is
   where
     by : (port : Bool) (state : Option State) → (if port then asked_of state else Some asks.Run) ≡ Some (asks.Call stage words) → ⊥
-    by true (Some state) e = state-calls state stage words e
+    by true (Some state) e = state-calls (side_of state) (left_of state) stage words e
     by true None e = cc
     by false state e = cc
 
@@ -111,11 +93,15 @@ runs services w who pick ready = by (w.body (named w who)) refl
     by (Some b) e = rw e refl
     by None e = rw e refl
 
+-- nor is it where no native server acts for whatever stands there
+pub unserved_runs : (services : Services) (w : World) (who : Who) → is_served_port w (At (named w who)) ≡ false → asked services w who ≡ Some asks.Run
+unserved_runs services w who none = rw none refl
+
 -- ---- what is given is words
 
 word_state : (state : State) (ask : Ask) → asks_for state ≡ Some ask → gives_words ask ≡ true → has_all_words ask ≡ true
 word_state state asks.Run is words = refl
-word_state state (asks.Call stage given) is words = absurd (state-calls state stage given is)
+word_state state (asks.Call stage given) is words = absurd (state-calls (side_of state) (left_of state) stage given is)
 word_state state asks.Accept is words = refl
 word_state state (asks.Give given len) is words = words
 word_state state asks.Over is words = refl
@@ -133,21 +119,14 @@ given : (left : List ℕ) → is_users (gives_left left) ≡ true
 given [] = refl
 given (word ∷ words) = refl
 
-state_asks : (state : State) (ask : Ask) → asks_for state ≡ Some ask → is_users ask ≡ true
-state_asks (OfConsole alias words sides.Idle) ask e = same_ask asks.Accept ask e refl
-state_asks (OfConsole alias words sides.Client) ask e = cc
-state_asks (OfConsole alias words sides.Own) ask e = same_ask asks.Over ask e refl
-state_asks (OfServer index rule config position request left sides.Idle) ask e = same_ask asks.Accept ask e refl
-state_asks (OfServer index rule config position request left sides.Client) ask e = cc
-state_asks (OfServer index rule config position request left sides.Own) ask e = same_ask (gives_left left) ask e (given left)
-state_asks (OfReplay replies left sides.Idle) ask e = same_ask asks.Accept ask e refl
-state_asks (OfReplay replies left sides.Client) ask e = cc
-state_asks (OfReplay replies left sides.Own) ask e = same_ask (gives_left left) ask e (given left)
-state_asks (OfTap watch noted inner) ask e = state_asks inner ask e
+state_asks : (side : Side) (left : List ℕ) (ask : Ask) → asks_at side left ≡ Some ask → is_users ask ≡ true
+state_asks sides.Idle left ask e = same_ask asks.Accept ask e refl
+state_asks sides.Client left ask e = cc
+state_asks sides.Own left ask e = same_ask (gives_left left) ask e (given left)
 
 served_asks : (o : Option State) (ask : Ask) → asked_of o ≡ Some ask → is_users ask ≡ true
 served_asks None ask e = same_ask asks.Run ask e refl
-served_asks (Some state) ask e = state_asks state ask e
+served_asks (Some state) ask e = state_asks (side_of state) (left_of state) ask e
 
 pub servers_ask_as_users : ServersAskAsUsers
 servers_ask_as_users services w who ask e = by (is_served_port w (At (named w who))) e

@@ -58,6 +58,17 @@ no-act services w port ask is other unready m asked_for who asks_it act ready = 
     by (Some p) e =
         unpicked-ready w (named w port) (named w p) ask (subst (λ a. is_act a ≡ true) same act) other (there (Some p) e)
 
+-- who runs has no act
+pub runs_alone : (services : Services) (w : World) (port : Who) → asked services w port ≡ Some asks.Run → HasNoAct services w port
+runs_alone services w port runs m ask who asks_it act ready =
+    let e : Some asks.Run ≡ Some ask = sym runs ∙ asks_it in
+    let same : asks.Run ≡ ask = cc in
+    let not : is_act asks.Run ≡ true = subst (λ a. is_act a ≡ true) (sym same) act in cc
+
+-- nor who asks for nothing
+pub asks_nothing : (services : Services) (w : World) (port : Who) → asked services w port ≡ None → HasNoAct services w port
+asks_nothing services w port none m ask who asks_it act ready = let e : None ≡ Some ask = sym none ∙ asks_it in cc
+
 pub if-none : {A : Type 0} (o : Option A) (X Y : Type 0) → (X → Y) → IfNone o X → IfNone o Y
 if-none None X Y f h = f h
 if-none (Some a) X Y f h = tt

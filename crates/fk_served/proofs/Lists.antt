@@ -8,8 +8,8 @@ use Rattle.std.specs.List.{All}
 use Rattle.fk_model.specs.declared.moves.Rule.{Rule}
 use Rattle.fk_model.specs.declared.moves.Said as says_of
 use Rattle.fk_model.specs.declared.names.Who.{Who}
-use Rattle.fk_model.specs.declared.moves.Ask.TheVariants as asks
-use Rattle.fk_natives.specs.Natives.{State, asks_for}
+use Rattle.fk_natives.specs.declared.service.Side.TheVariants as sides
+use Rattle.fk_natives.specs.Natives.{State, asks_at, gives_left, left_of, side_of}
 use Rattle.fk_store.specs.Store.Names.{same_who}
 use Rattle.std.proofs.Math.ListN.{drop_of_length-le}
 use Rattle.fk_served.specs.Served.{Services, shown, told, AllFit, HaveRoom, after_news, news_to, serving, asked_of}
@@ -28,24 +28,30 @@ taken [] i y h = absurd (omega (arith, h))
 taken (x ∷ xs) zero y h = refl
 taken (x ∷ xs) (suc i) y h = ap (λ zs. x ∷ zs) (taken xs i y (omega (arith, h)))
 
+-- a server at its own turn gives what it has left
+pub asks_left : (o : Option State) (state : State) (left : List ℕ) → Some state ≡ o → sides.Own ≡ side_of state → left ≡ left_of state
+    → asked_of o ≡ Some (gives_left left)
+asks_left o state left is own rest =
+    ap asked_of (sym is) ∙ (ap (λ side. asks_at side (left_of state)) (sym own) ∙ ap (λ words. Some (gives_left words)) (sym rest))
+
 -- ---- the server of a port is sought one after the other
 
 module _ {S : Type 0} (meaning : S → State) where
   pub served-here : (xs : List (Who × S)) (i : ℕ) (x : Who × S) (who : Who) → i < length xs → x ≡ get_or xs i x → same_who x.0 who ≡ true
-      → asked_of (serving (shown meaning (drop i xs)) who) ≡ asks_for (meaning x.1)
+      → serving (shown meaning (drop i xs)) who ≡ Some (meaning x.1)
   unfolding serving
   served-here xs i x who h is same =
       let rest : drop i xs ≡ x ∷ drop (suc i) xs = drop-cons xs i x h ∙ ap (λ y. y ∷ drop (suc i) xs) (sym is) in
       rw (rest, same) refl
 
   pub served-next : (xs : List (Who × S)) (i : ℕ) (x : Who × S) (who : Who) → i < length xs → x ≡ get_or xs i x → same_who x.0 who ≡ false
-      → asked_of (serving (shown meaning (drop (i + 1) xs)) who) ≡ asked_of (serving (shown meaning (drop i xs)) who)
+      → serving (shown meaning (drop (i + 1) xs)) who ≡ serving (shown meaning (drop i xs)) who
   unfolding serving
   served-next xs i x who h is other =
       let rest : drop i xs ≡ x ∷ drop (suc i) xs = drop-cons xs i x h ∙ ap (λ y. y ∷ drop (suc i) xs) (sym is) in
       rw (rest, other, add-one) refl
 
-  pub served-none : (xs : List (Who × S)) (i : ℕ) (who : Who) → length xs ≤ i → asked_of (serving (shown meaning (drop i xs)) who) ≡ Some asks.Run
+  pub served-none : (xs : List (Who × S)) (i : ℕ) (who : Who) → length xs ≤ i → serving (shown meaning (drop i xs)) who ≡ None
   unfolding serving
   served-none xs i who h = rw (drop_of_length-le xs h) refl
 

@@ -1,3 +1,4 @@
+pub use Rattle.fk_kernel.specs.Acted
 pub use Rattle.fk_kernel.specs.Events
 pub use Rattle.fk_kernel.specs.Kernels
 pub mod Served

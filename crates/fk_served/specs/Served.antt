@@ -109,12 +109,12 @@ news_to said ended who = if is_who ended who then Some natives.Ended else said_t
 abbrev pub told : says_of.Said → Option Who → Who × State → Who × State
 told said ended served = (served.0, after_news (news_to said ended served.0) served.1)
 
--- the server of a port alone hears these words
-abbrev pub words_at_port : Who → List ℕ → Who → Option News
-words_at_port port words who = if same_who who port then Some (natives.Words words) else None
+-- the server of a port alone hears this
+abbrev pub news_at_port : Who → News → Who → Option News
+news_at_port port news who = if same_who who port then Some news else None
 
-abbrev pub sent_at_port : Who → List ℕ → Who × State → Who × State
-sent_at_port port words served = (served.0, after_news (words_at_port port words served.0) served.1)
+abbrev pub told_at_port : Who → News → Who × State → Who × State
+told_at_port port news served = (served.0, after_news (news_at_port port news served.0) served.1)
 
 -- ---- what takes memory
 

@@ -3,10 +3,10 @@
 //! It stands on `fk_natives` for what a server is, on `fk_kernel` for what a move tells, and on `laws_runs` for what a run wants of servers. It is
 //! generic in its servers.
 //!
-//! It promises what each of them asks for, that what it gives is words, which acts are ready (`specs/Acts.antt`), and that each hears what a move
-//! tells at its port, or that its talk has ended, and nothing else (`specs/Served.antt`); that what is said of it by names is what the machine says
-//! by paths; and that servers ask for what users may. Of each it tells whether it grows by what a move tells, which takes memory; `foretell` says
-//! what a move would tell.
+//! It promises what each of them asks for and what it has left for its client, that what it gives is words, which acts are ready (`specs/Acts.antt`),
+//! and that each hears what a move tells at its port, or that its talk has ended, and nothing else (`specs/Served.antt`); that what is said of it by
+//! names is what the machine says by paths; and that servers ask for what users may. Of each it tells whether it grows by what a move tells, which takes
+//! memory; `foretell` says what a move would tell.
 #![tactic(auto)]
 
 ghost use Rattle.fk_served.specs.Served.{ServersAskAsUsers, HearByNames, FitsOnceTold};

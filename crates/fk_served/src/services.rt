@@ -3,15 +3,15 @@ ghost use Rattle.std.specs.Prelude.{◌≡◌, ◌<◌, ◌≤◌, true, false, 
 ghost use Rattle.std.specs.List.{slice_get};
 ghost use Rattle.fk_model.specs.Whole.{are_words};
 ghost use Rattle.laws_moves.specs.Whole.Runnable.{has_all_words};
-ghost use Rattle.fk_served.specs.Served.{asked_of, serving, told, said_to, news_to, after_news, gives_words, words_at_port, sent_at_port, AllFit, shown};
+ghost use Rattle.fk_served.specs.Served.{asked_of, serving, told, said_to, news_to, after_news, gives_words, news_at_port, told_at_port, AllFit, shown};
 ghost use Rattle.fk_served.specs.Served.{grows_by, grows_told, some_told, HaveRoom, HaveRoomFor};
-ghost use Rattle.fk_natives.specs.Natives.{DoesFit};
+ghost use Rattle.fk_natives.specs.Natives.{gives_left, news_of, AreFew, DoesFit};
 ghost use Rattle.fk_model.specs.declared.moves.Said.TheVariants as says;
 
-use crate::told::{heard_by, is_telling, is_told, said_to};
+use crate::told::{heard_by, is_telling, said_to};
 use fk_kernel::Told;
 use fk_model::{Ask, NoMemory, Reply, Said, Who};
-use fk_natives::{Heard, Service};
+use fk_natives::{Heard, Service, Side, ask};
 use fk_responders::{Table, words_of};
 use std::marker::Model;
 
@@ -38,16 +38,26 @@ impl<S: Service + Drop> Model for Services<S> {
     ghost invariant = { λ s. s.used ≡ false → served.HaveRoom S.has_room s.list.items };
 }
 
-/// What the server of a port asks for. Everybody else runs.
-fn ask_in<S: Service>(list: &[(Who, S)], who: Who) -> Option<Ask>
-    ensures { result ≡ asked_of (serving (shown S.meaning list.now) who) }
+/// The server of a port.
+fn server_in<S: Service>(list: &[(Who, S)], who: Who) -> Option<&S>
+    ensures { option_map (λ server. S.meaning server.now) result ≡ serving (shown S.meaning list.now) who }
 {
-    for (port, service) in list {
+    for (port, server) in list {
         if *port == who {
-            return service.ask();
+            return Some(server);
         }
     }
-    Some(Ask::Run)
+    None
+}
+
+/// What a server asks for. Where there is none, whoever it is runs.
+fn ask_of<S: Service>(server: Option<&S>) -> Option<Ask>
+    ensures { result ≡ asked_of (option_map (λ server. S.meaning server.now) server.entry) }
+{
+    match server {
+        Some(server) => ask(server),
+        None => Some(Ask::Run),
+    }
 }
 
 /// Each number is a word, as its type says once it is read.
@@ -85,7 +95,7 @@ fn grows_by_said<S: Service>(entry: &(Who, S), said: &Said) -> bool
     ensures { result ≡ grows_by (said_to said.now entry.now.0) (S.meaning entry.now.1) }
 {
     match said_to(said, entry.0) {
-        Some(heard) => entry.1.grows(&heard),
+        Some(heard) => entry.1.grows(heard),
         None => false,
     }
 }
@@ -97,7 +107,7 @@ fn grows_told<S: Service>(entry: &(Who, S), what: &Told) -> bool
     if grows_by_said(entry, &what.said) {
         return true;
     }
-    what.ended == Some(entry.0) && entry.1.grows(&Heard::Ended)
+    what.ended == Some(entry.0) && entry.1.grows(Heard::Ended)
 }
 
 /// Whether some server grows by what a move tells it.
@@ -112,29 +122,16 @@ fn some_told<S: Service>(list: &[(Who, S)], what: &Told) -> bool
     false
 }
 
-/// Tells a server what a move tells it. What that is takes much room, so it is looked at only where there may be any.
-#[inline(never)]
-#[tactic(auto, using(crate::proofs::Growing::told_room))]
-fn tell_heard<S: Service>(entry: &mut (Who, S), table: &Table, what: &Told)
-    requires fits { DoesFit (map (λ r. r.rule) table.now.list.items) (S.meaning entry.old.1) }
-    requires room { grows_told what.now.said what.now.ended (entry.old.0, S.meaning entry.old.1) ≡ true → S.has_room entry.old.1 ≡ true }
-    ensures who { entry.new.0 ≡ entry.old.0 }
-    ensures told { S.meaning entry.new.1 ≡ after_news (news_to what.now.said what.now.ended entry.old.0) (S.meaning entry.old.1) }
-{
-    if let Some(heard) = heard_by(what, entry.0) {
-        entry.1.absorb(table, &heard);
-    }
-}
-
 /// Tells a server what a move tells it.
+#[tactic(auto, using(crate::proofs::Growing::told_room))]
 fn tell_one<S: Service>(entry: &mut (Who, S), table: &Table, what: &Told)
     requires fits { DoesFit (map (λ r. r.rule) table.now.list.items) (S.meaning entry.old.1) }
     requires room { grows_told what.now.said what.now.ended (entry.old.0, S.meaning entry.old.1) ≡ true → S.has_room entry.old.1 ≡ true }
     ensures who { entry.new.0 ≡ entry.old.0 }
     ensures told { S.meaning entry.new.1 ≡ after_news (news_to what.now.said what.now.ended entry.old.0) (S.meaning entry.old.1) }
 {
-    if is_told(what, entry.0) {
-        tell_heard(entry, table, what);
+    if let Some(heard) = heard_by(what, entry.0) {
+        entry.1.absorb(table, heard);
     }
 }
 
@@ -150,26 +147,28 @@ fn tell_in<S: Service>(list: &mut Vec<(Who, S)>, table: &Table, what: &Told)
     }
 }
 
-/// Tells a server that its client has sent these words, if its port is this one.
-fn say_one<S: Service>(entry: &mut (Who, S), table: &Table, port: Who, words: &[u64])
-    requires few { length words.now ≤ 64 }
+/// Tells a server this, if its port is this one.
+fn tell_at<S: Service>(entry: &mut (Who, S), table: &Table, port: Who, heard: Heard<'_>)
+    requires fits { DoesFit (map (λ r. r.rule) table.now.list.items) (S.meaning entry.old.1) }
+    requires few { AreFew (news_of heard) }
     requires room { S.has_room entry.old.1 ≡ true }
     ensures who { entry.new.0 ≡ entry.old.0 }
-    ensures told { S.meaning entry.new.1 ≡ after_news (words_at_port port words.now entry.old.0) (S.meaning entry.old.1) }
+    ensures told { S.meaning entry.new.1 ≡ after_news (news_at_port port (news_of heard.entry) entry.old.0) (S.meaning entry.old.1) }
 {
     if entry.0 == port {
-        entry.1.take_words(table, words);
+        entry.1.absorb(table, heard);
     }
 }
 
-/// Tells the server of a port that its client has sent these words.
-fn say_in<S: Service>(list: &mut Vec<(Who, S)>, table: &Table, port: Who, words: &[u64])
-    requires few { length words.now ≤ 64 }
+/// Tells the server of a port this.
+fn tell_port<S: Service>(list: &mut Vec<(Who, S)>, table: &Table, port: Who, heard: Heard<'_>)
+    requires fits { AllFit (map (λ r. r.rule) table.now.list.items) (shown S.meaning list.old.items) }
+    requires few { AreFew (news_of heard) }
     requires room { HaveRoom S.has_room list.old.items }
-    ensures { shown S.meaning list.new.items ≡ map (sent_at_port port words.now) (shown S.meaning list.old.items) }
+    ensures { shown S.meaning list.new.items ≡ map (told_at_port port (news_of heard.entry)) (shown S.meaning list.old.items) }
 {
     for at in 0..list.len() {
-        say_one(&mut list[at], table, port, words);
+        tell_at(&mut list[at], table, port, heard);
     }
 }
 
@@ -188,16 +187,41 @@ impl<S: Service + Drop> Services<S> {
         self.list.as_slice()
     }
 
+    /// The server of a port.
+    pub fn server(&self, who: Who) -> Option<&S>
+        ensures { option_map (λ server. S.meaning server.now) result ≡ serving self.now.list who }
+    {
+        server_in(self.list.as_slice(), who)
+    }
+
     /// What the server of a port asks for, which is words where it gives any. Everybody else runs.
     pub fn ask(&self, who: Who) -> Option<Ask>
         ensures asked { result ≡ asked_of (serving self.now.list who) }
         ensures words { IfSome result (λ ask. has_all_words ask ≡ true) }
     {
-        let asked = ask_in(self.list.as_slice(), who);
+        let asked = ask_of(self.server(who));
         if let Some(ask) = &asked {
             look_at(ask);
         }
         asked
+    }
+
+    /// What the server of a port has left for its client, at its own turn: words, or the turn where there are none.
+    #[tactic(auto, using(crate::proofs::Lists::asks_left))]
+    pub fn left(&self, port: Who) -> Option<&[u64]>
+        ensures left { IfSome result (λ left. asked_of (serving self.now.list port) ≡ Some (gives_left left.now)) }
+        ensures words { IfSome result (λ left. are_words left.now ≡ true) }
+        ensures few { IfSome result (λ left. length left.now ≤ 64) }
+    {
+        let Some(server) = self.server(port) else {
+            return None;
+        };
+        let Side::Own = server.side() else {
+            return None;
+        };
+        let left = server.left();
+        read_numbers(left);
+        Some(left)
     }
 
     /// Makes room for what each may be told.
@@ -237,11 +261,32 @@ impl<S: Service + Drop> Services<S> {
 
     /// Tells the server of a port that its client has sent the first words of these.
     pub fn hear_words(&mut self, table: &Table, port: Who, sent: &Reply)
+        requires fits { AllFit (map (λ r. r.rule) table.now.list.items) self.old.list }
         requires ready { self.old.ready ≡ true }
         ensures { self.new.list ≡ map (told (says.Words port sent.now.words sent.now.len) None) self.old.list }
     {
         self.used = true;
-        say_in(&mut self.list, table, port, words_of(sent));
+        tell_port(&mut self.list, table, port, Heard::Words(words_of(sent)));
+    }
+
+    /// Tells the server of a port that its client has taken so many words.
+    pub fn hear_given(&mut self, table: &Table, port: Who, count: u8)
+        requires fits { AllFit (map (λ r. r.rule) table.now.list.items) self.old.list }
+        requires ready { self.old.ready ≡ true }
+        ensures { self.new.list ≡ map (told (says.Given port count) None) self.old.list }
+    {
+        self.used = true;
+        tell_port(&mut self.list, table, port, Heard::Given(count));
+    }
+
+    /// Tells the server of a port that the turn has changed.
+    pub fn hear_over(&mut self, table: &Table, port: Who)
+        requires fits { AllFit (map (λ r. r.rule) table.now.list.items) self.old.list }
+        requires ready { self.old.ready ≡ true }
+        ensures { self.new.list ≡ map (told (says.Over port) None) self.old.list }
+    {
+        self.used = true;
+        tell_port(&mut self.list, table, port, Heard::Over);
     }
 
     /// How many there are.

@@ -1,16 +1,18 @@
 //! What a server hears of a move.
-ghost use Rattle.std.specs.Prelude.{◌≡◌, false, None, option_map};
+ghost use Rattle.std.specs.Prelude.{◌≡◌, false, None, IfSome, option_map};
 ghost use Rattle.fk_model.specs.declared.names.Who as whos;
 ghost use Rattle.fk_served.specs.Served.{said_to, news_to};
-ghost use Rattle.fk_natives.specs.Natives.{news_of};
+ghost use Rattle.fk_natives.specs.Natives.{news_of, AreFew};
 
 use fk_kernel::Told;
-use fk_model::{Reply, Said, Who};
+use fk_model::{Said, Who};
 use fk_natives::Heard;
+use fk_responders::first_words;
 
-/// What a move tells the server of a port.
-pub fn said_to(said: &Said, who: Who) -> Option<Heard>
-    ensures { option_map news_of result ≡ said_to said.now who }
+/// What a move tells the server of a port. Words are lent from what it says.
+pub fn said_to(said: &Said, who: Who) -> Option<Heard<'_>>
+    ensures news { option_map news_of result ≡ said_to said.now who }
+    ensures few { IfSome result (λ heard. AreFew (news_of heard)) }
 {
     match said {
         Said::Taken {
@@ -24,10 +26,9 @@ pub fn said_to(said: &Said, who: Who) -> Option<Heard>
             turn: *turn,
             moved: *moved,
         }),
-        Said::Words { port, words, len } if who == *port => Some(Heard::Words(Reply {
-            words: *words,
-            len: *len,
-        })),
+        Said::Words { port, words, len } if who == *port => {
+            Some(Heard::Words(first_words(words, *len)))
+        }
         Said::Given { port, len } if who == *port => Some(Heard::Given(*len)),
         Said::Over { port } if who == *port => Some(Heard::Over),
         _ => None,
@@ -35,8 +36,9 @@ pub fn said_to(said: &Said, who: Who) -> Option<Heard>
 }
 
 /// What the server of a port hears of a move. That its talk has ended goes before all else.
-pub fn heard_by(told: &Told, who: Who) -> Option<Heard>
-    ensures { option_map news_of result ≡ news_to told.now.said told.now.ended who }
+pub fn heard_by(told: &Told, who: Who) -> Option<Heard<'_>>
+    ensures news { option_map news_of result ≡ news_to told.now.said told.now.ended who }
+    ensures few { IfSome result (λ heard. AreFew (news_of heard)) }
 {
     if told.ended == Some(who) {
         return Some(Heard::Ended);
@@ -49,24 +51,4 @@ pub fn is_telling(told: &Told) -> bool
     ensures { result ≡ false → (who : whos.Who) → news_to told.now.said told.now.ended who ≡ None }
 {
     told.ended.is_some() || !matches!(told.said, Said::Nothing | Said::Answer(_))
-}
-
-/// Whether what a move says is for the server of a port.
-fn is_said_to(said: &Said, who: Who) -> bool
-    ensures { result ≡ false → said_to said.now who ≡ None }
-{
-    match said {
-        Said::Taken { port, .. } => who == *port,
-        Said::Words { port, .. } => who == *port,
-        Said::Given { port, .. } => who == *port,
-        Said::Over { port } => who == *port,
-        _ => false,
-    }
-}
-
-/// Whether a move may tell the server of this port anything.
-pub fn is_told(told: &Told, who: Who) -> bool
-    ensures { result ≡ false → news_to told.now.said told.now.ended who ≡ None }
-{
-    told.ended == Some(who) || is_said_to(&told.said, who)
 }

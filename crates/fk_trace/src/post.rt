@@ -4,8 +4,8 @@ ghost use Rattle.fk_trace.specs.Posts.{meaning, has_room};
 
 use crate::replay::Replay;
 use crate::tap::Tap;
-use fk_model::{Ask, NoMemory};
-use fk_natives::{Heard, Native, Service};
+use fk_model::NoMemory;
+use fk_natives::{Heard, Native, Service, Side};
 use fk_responders::Table;
 
 /// A server as it is, a tap of one, or a replay.
@@ -23,11 +23,19 @@ impl Service for Post {
 
     ghost has_room = { λ p. posts.has_room p };
 
-    fn ask(&self) -> Option<Ask> {
+    fn side(&self) -> Side {
         match self {
-            Post::Plain(server) => server.ask(),
-            Post::Tap(tap) => tap.ask(),
-            Post::Replay(replay) => replay.ask(),
+            Post::Plain(server) => server.side(),
+            Post::Tap(tap) => tap.side(),
+            Post::Replay(replay) => replay.side(),
+        }
+    }
+
+    fn left(&self) -> &[u64] {
+        match self {
+            Post::Plain(server) => server.left(),
+            Post::Tap(tap) => tap.left(),
+            Post::Replay(replay) => replay.left(),
         }
     }
 
@@ -39,7 +47,7 @@ impl Service for Post {
         }
     }
 
-    fn grows(&self, heard: &Heard) -> bool {
+    fn grows(&self, heard: Heard<'_>) -> bool {
         match self {
             Post::Plain(server) => server.grows(heard),
             Post::Tap(tap) => tap.grows(heard),
@@ -47,19 +55,11 @@ impl Service for Post {
         }
     }
 
-    fn absorb(&mut self, table: &Table, heard: &Heard) {
+    fn absorb(&mut self, table: &Table, heard: Heard<'_>) {
         match self {
             Post::Plain(server) => server.absorb(table, heard),
             Post::Tap(tap) => tap.absorb(table, heard),
             Post::Replay(replay) => replay.absorb(table, heard),
-        }
-    }
-
-    fn take_words(&mut self, table: &Table, words: &[u64]) {
-        match self {
-            Post::Plain(server) => server.take_words(table, words),
-            Post::Tap(tap) => tap.take_words(table, words),
-            Post::Replay(replay) => replay.take_words(table, words),
         }
     }
 

@@ -5,9 +5,9 @@ ghost use Rattle.fk_natives.specs.Natives.{replays, OfReplay};
 ghost use Rattle.fk_natives.specs.declared.service.Side.TheVariants as sides;
 ghost use Rattle.fk_trace.specs.Taps.{replay_of, to_come};
 
-use fk_model::{Ask, NoMemory, Reply, Turn};
-use fk_natives::{Heard, Service, Side, give};
-use fk_responders::{Table, without};
+use fk_model::{NoMemory, Reply, Turn};
+use fk_natives::{Heard, Service, Side};
+use fk_responders::{Table, take_off, words_of};
 
 /// Gives the replies of a list in order, and empty ones behind its end.
 #[derive(Drop)]
@@ -43,7 +43,7 @@ impl Replay {
     fn reply(&mut self)
         ensures { replay_of self.new ≡ replays (to_come self.old.replies.items self.old.next) }
     {
-        self.left = EMPTY;
+        self.left.len = 0;
         if let Some(reply) = self.replies.get(self.next) {
             self.left = *reply;
             self.next += 1;
@@ -55,7 +55,7 @@ impl Replay {
     fn rest(&mut self, side: Side)
         ensures { replay_of self.new ≡ OfReplay (to_come self.old.replies.items self.old.next) [] side }
     {
-        self.left = EMPTY;
+        self.left.len = 0;
         self.side = side;
     }
 }
@@ -68,12 +68,12 @@ impl Service for Replay {
 
     ghost has_room = { λ r. std_words.true };
 
-    fn ask(&self) -> Option<Ask> {
-        match self.side {
-            Side::Idle => Some(Ask::Accept),
-            Side::Client => None,
-            Side::Own => Some(give(&self.left)),
-        }
+    fn side(&self) -> Side {
+        self.side
+    }
+
+    fn left(&self) -> &[u64] {
+        words_of(&self.left)
     }
 
     fn reserve(&mut self) -> Result<(), NoMemory>
@@ -83,11 +83,11 @@ impl Service for Replay {
         Ok(())
     }
 
-    fn grows(&self, _heard: &Heard) -> bool {
+    fn grows(&self, _heard: Heard<'_>) -> bool {
         false
     }
 
-    fn absorb(&mut self, _table: &Table, heard: &Heard) {
+    fn absorb(&mut self, _table: &Table, heard: Heard<'_>) {
         match heard {
             Heard::Taken {
                 turn: Turn::Client,
@@ -102,12 +102,10 @@ impl Service for Replay {
                 Side::Client => self.reply(),
                 _ => self.rest(Side::Client),
             },
-            Heard::Given(count) => self.left = without(&self.left, usize::from(*count)),
+            Heard::Given(count) => take_off(&mut self.left, usize::from(count)),
             Heard::Ended => self.rest(Side::Idle),
         }
     }
-
-    fn take_words(&mut self, _table: &Table, _words: &[u64]) {}
 
     fn alias(&self) -> Option<&str> {
         None

@@ -1,12 +1,14 @@
 //! Taps.
-ghost use Rattle.std.specs.Prelude.{◌≡◌, ◌≤◌, ◌<◌, ◌+◌, ◌++◌, ◌∷◌, [], vec_len, vec_capacity};
-ghost use Rattle.fk_model.specs.Answers.{reply_words};
-ghost use Rattle.fk_natives.specs.Natives.{given_by, is_noted, news_of, seen_of};
+ghost use Rattle.std.specs.Prelude.{◌≡◌, ◌≤◌, ◌<◌, ◌+◌, ◌++◌, ◌∷◌, [], is_none, length, vec_len, vec_capacity};
+ghost use Rattle.fk_model.specs.declared.thread.Turn.TheVariants as turns;
+ghost use Rattle.fk_natives.specs.Natives.{asks_for, given_by, is_noted, news_of, seen_of, side_of};
+ghost use Rattle.fk_natives.specs.declared.service.Side.TheVariants as sides;
+ghost use Rattle.fk_responders.specs.Notes as facts;
 ghost use Rattle.fk_responders.specs.Notes.{note_of};
 ghost use Rattle.fk_trace.specs.Taps.{noted};
 
-use fk_model::{Ask, NoMemory, Reply, Turn};
-use fk_natives::{Heard, Service};
+use fk_model::{NoMemory, Turn};
+use fk_natives::{Heard, Service, Side};
 use fk_responders::{Note, Table, reply_of};
 use std::alloc::Global;
 
@@ -19,29 +21,24 @@ pub struct Tap<S: Service + Drop> {
     notes: Vec<Note>,
 }
 
-/// The words that a server asks to give.
-fn reply_in(asked: &Option<Ask>) -> Reply
-    ensures { reply_words result ≡ given_by asked.now }
+/// Whether a server asks for nothing: it is its client's turn.
+fn is_clients_turn<S: Service>(inner: &S) -> bool
+    ensures { result ≡ is_none (asks_for (S.meaning inner.now)) }
 {
-    match asked {
-        Some(Ask::Give { words, len }) => Reply {
-            words: *words,
-            len: *len,
-        },
-        _ => Reply {
-            words: [0; 64],
-            len: 0,
-        },
+    match inner.side() {
+        Side::Client => true,
+        Side::Idle => false,
+        Side::Own => false,
     }
 }
 
-/// Whether something is noted of a server, by what it asks for before it hears this.
-fn is_noted(before: &Option<Ask>, heard: &Heard) -> bool
-    ensures { result ≡ is_noted before.now (news_of heard.now) }
+/// Whether something is noted of a server when it hears this.
+fn is_noted<S: Service>(inner: &S, heard: Heard<'_>) -> bool
+    ensures { result ≡ is_noted (asks_for (S.meaning inner.now)) (news_of heard.entry) }
 {
     match heard {
         Heard::Taken { .. } | Heard::Words(_) | Heard::Ended => true,
-        Heard::Over => before.is_none(),
+        Heard::Over => is_clients_turn(inner),
         Heard::Given(_) => false,
     }
 }
@@ -58,13 +55,99 @@ fn keep(notes: &mut Vec<Note>, watch: u8, table: &Table, note: &Note)
     }
 }
 
-/// Keeps two notes, each where its observer sees it.
-fn keep_both(notes: &mut Vec<Note>, watch: u8, table: &Table, note: &Note, other: &Note)
-    requires { vec_len notes.old + 2 ≤ vec_capacity notes.old }
-    ensures kept { noted notes.new.items ≡ noted notes.old.items ++ seen_of watch (note_of note.now ∷ note_of other.now ∷ []) }
+// Each note is made in a function that stands apart: a note has room for 64 words, which is cleared wherever one may be made.
+
+/// Keeps the note of a talk that is taken up.
+#[inline(never)]
+fn keep_taken(notes: &mut Vec<Note>, watch: u8, table: &Table, turn: Turn, moved: u16)
+    requires { vec_len notes.old < vec_capacity notes.old }
+    ensures kept { noted notes.new.items ≡ noted notes.old.items ++ seen_of watch (facts.Taken turn moved ∷ []) }
+    ensures len { vec_len notes.new ≤ vec_len notes.old + 1 }
+    ensures capacity { vec_capacity notes.new ≡ vec_capacity notes.old }
 {
-    keep(notes, watch, table, note);
-    keep(notes, watch, table, other);
+    keep(notes, watch, table, &Note::Taken { turn, moved });
+}
+
+/// Keeps the note of words that the client has sent.
+#[inline(never)]
+#[tactic(auto, using(crate::proofs::Notes::padded_words))]
+fn keep_said(notes: &mut Vec<Note>, watch: u8, table: &Table, words: &[u64])
+    requires room { vec_len notes.old < vec_capacity notes.old }
+    requires few { length words.now ≤ 64 }
+    ensures { noted notes.new.items ≡ noted notes.old.items ++ seen_of watch (facts.Said words.now ∷ []) }
+{
+    keep(notes, watch, table, &Note::Said(reply_of(words)));
+}
+
+/// Keeps the note of a client that hands over.
+#[inline(never)]
+fn keep_over(notes: &mut Vec<Note>, watch: u8, table: &Table)
+    requires { vec_len notes.old < vec_capacity notes.old }
+    ensures kept { noted notes.new.items ≡ noted notes.old.items ++ seen_of watch (facts.Over ∷ []) }
+    ensures len { vec_len notes.new ≤ vec_len notes.old + 1 }
+    ensures capacity { vec_capacity notes.new ≡ vec_capacity notes.old }
+{
+    keep(notes, watch, table, &Note::Over);
+}
+
+/// Keeps the note of a reply of these words.
+#[inline(never)]
+#[tactic(auto, using(crate::proofs::Notes::padded_words))]
+fn keep_reply(notes: &mut Vec<Note>, watch: u8, table: &Table, words: &[u64])
+    requires room { vec_len notes.old < vec_capacity notes.old }
+    requires few { length words.now ≤ 64 }
+    ensures { noted notes.new.items ≡ noted notes.old.items ++ seen_of watch (facts.Reply words.now ∷ []) }
+{
+    keep(notes, watch, table, &Note::Reply(reply_of(words)));
+}
+
+/// Keeps the note of the reply that a server asks to give at its own turn.
+#[tactic(auto, using(crate::proofs::Notes::given_own))]
+fn keep_left<S: Service>(notes: &mut Vec<Note>, watch: u8, table: &Table, inner: &S)
+    requires room { vec_len notes.old < vec_capacity notes.old }
+    requires own { side_of (S.meaning inner.now) ≡ sides.Own }
+    ensures { noted notes.new.items ≡ noted notes.old.items ++ seen_of watch (facts.Reply (given_by (asks_for (S.meaning inner.now))) ∷ []) }
+{
+    keep_reply(notes, watch, table, inner.left());
+}
+
+/// Keeps the notes of a talk that is taken up at the server's turn, and of the reply to that.
+#[tactic(auto, using(crate::proofs::Notes::seen_both))]
+fn keep_taken_and_reply<S: Service>(
+    notes: &mut Vec<Note>,
+    watch: u8,
+    table: &Table,
+    moved: u16,
+    inner: &S,
+)
+    requires room { vec_len notes.old + 2 ≤ vec_capacity notes.old }
+    requires own { side_of (S.meaning inner.now) ≡ sides.Own }
+    ensures { noted notes.new.items ≡ noted notes.old.items
+        ++ seen_of watch (facts.Taken turns.Server moved ∷ facts.Reply (given_by (asks_for (S.meaning inner.now))) ∷ []) }
+{
+    keep_taken(notes, watch, table, Turn::Server, moved);
+    keep_left(notes, watch, table, inner);
+}
+
+/// Keeps the notes of a client that hands over, and of the reply to that.
+#[tactic(auto, using(crate::proofs::Notes::seen_both))]
+fn keep_over_and_reply<S: Service>(notes: &mut Vec<Note>, watch: u8, table: &Table, inner: &S)
+    requires room { vec_len notes.old + 2 ≤ vec_capacity notes.old }
+    requires own { side_of (S.meaning inner.now) ≡ sides.Own }
+    ensures { noted notes.new.items ≡ noted notes.old.items
+        ++ seen_of watch (facts.Over ∷ facts.Reply (given_by (asks_for (S.meaning inner.now))) ∷ []) }
+{
+    keep_over(notes, watch, table);
+    keep_left(notes, watch, table, inner);
+}
+
+/// Keeps the note of a talk that has ended.
+#[inline(never)]
+fn keep_ended(notes: &mut Vec<Note>, watch: u8, table: &Table)
+    requires { vec_len notes.old < vec_capacity notes.old }
+    ensures { noted notes.new.items ≡ noted notes.old.items ++ seen_of watch (facts.Ended ∷ []) }
+{
+    keep(notes, watch, table, &Note::Ended);
 }
 
 impl<S: Service + Drop> Tap<S> {
@@ -99,8 +182,12 @@ impl<S: Service + Drop> Service for Tap<S> {
 
     ghost has_room = { λ t. taps.has_room (S.has_room t.inner) (std_words.vec_len t.notes) (std_words.vec_capacity t.notes) };
 
-    fn ask(&self) -> Option<Ask> {
-        self.inner.ask()
+    fn side(&self) -> Side {
+        self.inner.side()
+    }
+
+    fn left(&self) -> &[u64] {
+        self.inner.left()
     }
 
     fn reserve(&mut self) -> Result<(), NoMemory> {
@@ -111,11 +198,12 @@ impl<S: Service + Drop> Service for Tap<S> {
         }
     }
 
-    fn grows(&self, heard: &Heard) -> bool {
-        is_noted(&self.inner.ask(), heard) || self.inner.grows(heard)
+    fn grows(&self, heard: Heard<'_>) -> bool {
+        is_noted(&self.inner, heard) || self.inner.grows(heard)
     }
 
-    fn absorb(&mut self, table: &Table, heard: &Heard) {
+    #[tactic(auto, using(crate::proofs::Notes::own_taken, crate::proofs::Notes::own_over))]
+    fn absorb(&mut self, table: &Table, heard: Heard<'_>) {
         match heard {
             Heard::Taken {
                 turn: Turn::Client,
@@ -123,11 +211,7 @@ impl<S: Service + Drop> Service for Tap<S> {
                 ..
             } => {
                 self.inner.absorb(table, heard);
-                let note = Note::Taken {
-                    turn: Turn::Client,
-                    moved: *moved,
-                };
-                keep(&mut self.notes, self.watch, table, &note);
+                keep_taken(&mut self.notes, self.watch, table, Turn::Client, moved);
             }
             Heard::Taken {
                 turn: Turn::Server,
@@ -135,54 +219,25 @@ impl<S: Service + Drop> Service for Tap<S> {
                 ..
             } => {
                 self.inner.absorb(table, heard);
-                let note = Note::Taken {
-                    turn: Turn::Server,
-                    moved: *moved,
-                };
-                let asked = self.inner.ask();
-                keep_both(
-                    &mut self.notes,
-                    self.watch,
-                    table,
-                    &note,
-                    &Note::Reply(reply_in(&asked)),
-                );
+                keep_taken_and_reply(&mut self.notes, self.watch, table, moved, &self.inner);
             }
-            Heard::Words(reply) => {
-                self.inner.absorb(table, heard);
-                keep(&mut self.notes, self.watch, table, &Note::Said(*reply));
+            Heard::Words(words) => {
+                self.inner.absorb(table, Heard::Words(words));
+                keep_said(&mut self.notes, self.watch, table, words);
             }
             Heard::Over => {
-                let before = self.inner.ask();
+                let hands_over = is_clients_turn(&self.inner);
                 self.inner.absorb(table, heard);
-                if before.is_none() {
-                    let asked = self.inner.ask();
-                    keep_both(
-                        &mut self.notes,
-                        self.watch,
-                        table,
-                        &Note::Over,
-                        &Note::Reply(reply_in(&asked)),
-                    );
+                if hands_over {
+                    keep_over_and_reply(&mut self.notes, self.watch, table, &self.inner);
                 }
             }
             Heard::Given(_) => self.inner.absorb(table, heard),
             Heard::Ended => {
                 self.inner.absorb(table, heard);
-                keep(&mut self.notes, self.watch, table, &Note::Ended);
+                keep_ended(&mut self.notes, self.watch, table);
             }
         }
-    }
-
-    #[tactic(auto, using(crate::proofs::Notes::padded_words))]
-    fn take_words(&mut self, table: &Table, words: &[u64]) {
-        self.inner.take_words(table, words);
-        keep(
-            &mut self.notes,
-            self.watch,
-            table,
-            &Note::Said(reply_of(words)),
-        );
     }
 
     fn alias(&self) -> Option<&str> {

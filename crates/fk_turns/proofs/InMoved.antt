@@ -7,3 +7,4 @@ pub mod Told
 pub mod Quiet
 pub mod Mildly
 pub mod Talking
+pub mod Woken

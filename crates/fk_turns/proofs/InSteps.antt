@@ -11,3 +11,5 @@ pub mod Known
 pub mod Unknown
 pub mod Locked
 pub mod Talked
+pub mod Risen
+pub mod Served

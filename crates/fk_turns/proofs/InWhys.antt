@@ -7,3 +7,4 @@ pub mod Locked
 pub mod Talking
 pub mod Passing
 pub mod Hearing
+pub mod Woken

@@ -14,5 +14,5 @@ mod users;
 pub use filling::of;
 pub use laws::{told_moves_leave, told_names, told_quiet};
 pub use moving::moved;
-pub use settling::{settle, settle_at, settle_loud};
+pub use settling::{settle, settle_at, settle_loud, settle_still};
 pub use users::is_user;

@@ -12,3 +12,4 @@ mod taking;
 
 pub use going::{next, waiting};
 pub use placing::{after, put, ready_move};
+pub use taking::first_to_take;

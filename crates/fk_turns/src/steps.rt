@@ -9,10 +9,15 @@
 mod going;
 mod plain;
 mod room;
+mod serving;
+mod signalling;
 mod steps;
 mod talking;
+mod taking;
 
 pub use fk_calls::{Sent, Told, is_fit, ready};
 pub use going::Gone;
 pub use plain::{after_plain, after_still};
+pub use serving::{give, pass};
 pub use steps::{attempt, call, proceed, proceed_on, say, take};
+pub use taking::pick;

@@ -16,4 +16,4 @@ mod whys;
 pub use causes::cause;
 pub use hearing::heard_at;
 pub use staying::reasons_stay;
-pub use whys::{Why, at_locked, reason};
+pub use whys::{Why, asleep_at, at_locked, reason};

@@ -7,7 +7,7 @@ use Rattle.fk_model.specs.declared.moves.Ask.TheVariants as asks
 use Rattle.fk_model.specs.declared.moves.Said.TheVariants as says
 use Rattle.fk_model.specs.declared.names.Who.{Who}
 use Rattle.fk_model.specs.declared.stage.Stage.{Stage}
-use Rattle.fk_model.specs.declared.stage.Stage.TheVariants.{MutexLock, MutexTrylock, MutexUnlock}
+use Rattle.fk_model.specs.declared.stage.Stage.TheVariants.{CondWait, MutexLock, MutexTrylock, MutexUnlock}
 use Rattle.fk_model.specs.declared.thread.Mode.TheVariants as modes
 use Rattle.fk_model.specs.declared.thread.Thread as threads_of
 use Rattle.fk_model.specs.Calls.{todo_of}
@@ -26,7 +26,7 @@ use Rattle.fk_model.specs.Readers.{object_in, seen_as}
 use Rattle.fk_model.specs.Searches.{depth, option_list, thread_at}
 use Rattle.fk_model.specs.SyncRows.{mutex_lock, mutex_trylock, mutex_unlock}
 use Rattle.fk_model.specs.Valid.{IsValid}
-use Rattle.fk_model.specs.World.{World, apply, apply_all, edited}
+use Rattle.fk_model.specs.World.{World, Edit, apply, apply_all, edited}
 use Rattle.fk_model.specs.World.Change.{Alter}
 use Rattle.fk_model.specs.World.Edit.{Finish, SetLocked}
 use Rattle.fk_model.proofs.walks.PlaceLaws.{same_path_refl}
@@ -45,7 +45,7 @@ use Rattle.fk_calls.specs.declared.calls.going.Then.TheVariants as thens
 use Rattle.fk_calls.specs.declared.calls.going.What.{What}
 use Rattle.fk_calls.specs.declared.calls.going.What.TheVariants as whats
 use Rattle.fk_calls.specs.declared.calls.judging.Judgement.{Judgement}
-use Rattle.fk_calls.specs.Calls.Goings.{is_lock, locks_by, mutex_by, run_of, was_locked, HasGone, IsAnyReady}
+use Rattle.fk_calls.specs.Calls.Goings.{is_lock, locks_by, mutex_by, own_by, run_of, was_locked, HasGone, IsAnyReady}
 use Rattle.fk_calls.specs.Calls.Judgements.{IsJudged, IsReadyMove, IsStepTo}
 use Rattle.fk_calls.specs.Calls.Runs.{is_under_way}
 use Rattle.fk_calls.proofs.InCalls.Judged.{quiet_judged, stage_judged, staged_user, step_judged, user}
@@ -74,7 +74,7 @@ unfolding mutex_lock
 wait_row w x m pick is = rw is refl
 
 -- what is read as a mutex is one
-seen_mutex : (w : World) (x s : Path) (m : ℕ) (locked : Bool) → object_in w (user_at x) mutex_of s m ≡ Ok locked →
+pub seen_mutex : (w : World) (x s : Path) (m : ℕ) (locked : Bool) → object_in w (user_at x) mutex_of s m ≡ Ok locked →
     and_then mutex_of (w.body (m ∷ s)) ≡ Some locked
 unfolding object_in
 seen_mutex w x s m locked is = by (nat_le m (last_slot (user_at x))) refl
@@ -94,7 +94,7 @@ seen_mutex w x s m locked is = by (nat_le m (last_slot (user_at x))) refl
 -- ---- who runs then
 
 -- a mutex that is set leaves every thread
-left_thread : (w : World) (me mutex : Path) (locked : Bool) (t : Thread) → w.body me ≡ Some (Thread_of t) →
+pub left_thread : (w : World) (me mutex : Path) (locked : Bool) (t : Thread) → w.body me ≡ Some (Thread_of t) →
     (apply (Alter mutex (SetLocked locked)) w).body me ≡ Some (Thread_of t)
 unfolding apply edited
 left_thread w me mutex locked t is = by (same_path me mutex)
@@ -103,7 +103,7 @@ left_thread w me mutex locked t is = by (same_path me mutex)
     by true = ap (option_map (edited (SetLocked locked))) is
     by false = is
 
-body_of_thread : (o : Option Body) (t : Thread) → and_then thread_of o ≡ Some t → o ≡ Some (Thread_of t)
+pub body_of_thread : (o : Option Body) (t : Thread) → and_then thread_of o ≡ Some t → o ≡ Some (Thread_of t)
 body_of_thread (Some (Thread_of u)) t is = cc
 body_of_thread None t is = cc
 body_of_thread (Some b) t is = cc
@@ -137,7 +137,8 @@ runs_then w k s mutex locked stage free alone = by (thread_at w (k ∷ s)) refl 
 -- ---- the move
 
 module _ (m : Contents) (who : Who) (what : What) (stage : Stage) (unheld : (q : Path) → decider (world m) q ≡ None)
-    (free : is_free_at (world m) (place (path m) who) ≡ true) (alone : todo_at (world m) (place (path m) who) ≡ stage ∷ []) (lock : is_lock stage ≡ true) where
+    (free : is_free_at (world m) (place (path m) who) ≡ true) (alone : todo_at (world m) (place (path m) who) ≡ stage ∷ []) (lock : is_lock stage ≡ true)
+    (own : own_by what ≡ Finish []) where
   abbrev w : World
   w = world m
 
@@ -157,6 +158,7 @@ module _ (m : Contents) (who : Who) (what : What) (stage : Stage) (unheld : (q :
   plain (MutexLock m) is = refl
   plain (MutexTrylock m) is = refl
   plain (MutexUnlock m) is = refl
+  plain (CondWait c m) is = refl
   plain other is = absurd (cc)
 
   judged : done (user_at me) (Alter at (SetLocked (locks_by what)) ∷ []) [] ≡ allowed_row w (user_at me) None stage →
@@ -195,7 +197,7 @@ module _ (m : Contents) (who : Who) (what : What) (stage : Stage) (unheld : (q :
         touched = touching m (run_of who) asks.Run judgement is;
         row = record {
           begins = record { stage = stage; alone = alone; lock = lock };
-          changes = ap listed is.outcome;
+          changes = ap listed is.outcome ∙ ap (λ (e : Edit). Alter at (SetLocked (locks_by what)) ∷ Alter me e ∷ []) (sym own);
           found = found;
         };
         at_then = subst (λ (u : World). holds is_under_way (thread_at u (place (path n) who)) ≡ true) (sym world_is)
@@ -222,13 +224,13 @@ has_waited m who mutex free alone locked any =
 
 -- ---- each stage
 
-abbrev Sees : Contents → Who → ℕ → Bool → Type 0
+abbrev pub Sees : Contents → Who → ℕ → Bool → Type 0
 Sees m who k locked = Ok locked ≡ object_in (world m) (caller_by (path m) (user who) []) mutex_of (path m who.space) k
 
 abbrev Sets : Contents → Contents → Who → Who → Bool → Type 0
 Sets m n who mutex locked = world n ≡ apply (Alter (place (path m) who) (Finish [])) (apply (Alter (place (path m) mutex) (SetLocked locked)) (world m))
 
-abbrev named : Who → ℕ → Who
+abbrev pub named : Who → ℕ → Who
 named who k = record { space = who.space; slot = k }
 
 module _ (m n : Contents) (who mutex : Who) (k : ℕ) (valid : IsValid (world m)) (few : (world m).next ≤ depth)
@@ -250,18 +252,18 @@ module _ (m n : Contents) (who mutex : Who) (k : ℕ) (valid : IsValid (world m)
 
   pub lock_gone : todo_at (world m) x ≡ MutexLock k ∷ [] → Sees m who k false → Sets m n who mutex true → HasGone m n who (whats.Locks mutex) thens.Runs
   lock_gone alone sees sets =
-      has_gone m who (whats.Locks mutex) (MutexLock k) unheld free alone refl n valid few
+      has_gone m who (whats.Locks mutex) (MutexLock k) unheld free alone refl refl n valid few
       (row_of (MutexLock k) true (lock_row (world m) x k None (sym sees))) (found_mutex false sees) sets paths_are
 
   pub try_gone : todo_at (world m) x ≡ MutexTrylock k ∷ [] → Sees m who k false → Sets m n who mutex true → HasGone m n who (whats.Locks mutex) thens.Runs
   try_gone alone sees sets =
-      has_gone m who (whats.Locks mutex) (MutexTrylock k) unheld free alone refl n valid few
+      has_gone m who (whats.Locks mutex) (MutexTrylock k) unheld free alone refl refl n valid few
       (row_of (MutexTrylock k) true (try_row (world m) x k None (sym sees))) (found_mutex false sees) sets paths_are
 
   pub unlock_gone : todo_at (world m) x ≡ MutexUnlock k ∷ [] → Sees m who k true → Sets m n who mutex false →
       HasGone m n who (whats.Unlocks mutex) thens.Runs
   unlock_gone alone sees sets =
-      has_gone m who (whats.Unlocks mutex) (MutexUnlock k) unheld free alone refl n valid few
+      has_gone m who (whats.Unlocks mutex) (MutexUnlock k) unheld free alone refl refl n valid few
       (row_of (MutexUnlock k) false (unlock_row (world m) x k None (sym sees))) (found_mutex true sees) sets paths_are
 
 -- whose mutex isn't locked may lock it
@@ -270,7 +272,7 @@ pub may_lock : (m : Contents) (who : Who) (k : ℕ) → ((q : Path) → decider 
     OnTrue (not locked) (IsReadyMove m (run_of who) asks.Run)
 may_lock m who k unheld free alone true sees = tt
 may_lock m who k unheld free alone false sees =
-    goes_so m who (whats.Locks (named who k)) (MutexLock k) unheld free alone refl (lock_row (world m) (place (path m) who) k None (sym sees))
+    goes_so m who (whats.Locks (named who k)) (MutexLock k) unheld free alone refl refl (lock_row (world m) (place (path m) who) k None (sym sees))
 
 -- the stages that registers name, of a thread that calls
 pub named_alone : (w : World) (x : Path) (p : ℕ → Path) (t : threads_of.Thread) (stage : Stage) → Some (thread_by p t) ≡ thread_at w x →

@@ -5,18 +5,20 @@ use Rattle.fk_model.specs.declared.moves.Move.{Move}
 use Rattle.fk_model.specs.declared.moves.Said.TheVariants as says
 use Rattle.fk_model.specs.declared.names.Who.{Who}
 use Rattle.fk_model.specs.declared.stage.Stage.{Stage}
-use Rattle.fk_model.specs.declared.stage.Stage.TheVariants.{ClientOver, ClientReceive, ClientSend, Create, MutexLock, MutexTrylock, MutexUnlock}
+use Rattle.fk_model.specs.declared.stage.Stage.TheVariants.{ClientOver, ClientReceive, ClientSend, CondAsleep, CondWait, Create, MutexLock, MutexTrylock, MutexUnlock}
 use Rattle.fk_model.specs.declared.stage.Stage.TheVariants.{ServerOver, ServerReceive, ServerSend}
 use Rattle.fk_model.specs.declared.thread.Turn.{Turn}
 use Rattle.fk_model.specs.declared.thread.Turn.TheVariants as turns
 use Rattle.fk_model.specs.Moves.{IsReady}
-use Rattle.fk_model.specs.Objects.{and_then, mutex_of}
+use Rattle.fk_model.specs.Holds.{is_user}
+use Rattle.fk_model.specs.Objects.{Thread, and_then, holds, mutex_of}
 use Rattle.fk_model.specs.Outcomes.{listed}
 use Rattle.fk_model.specs.Places.{Path}
+use Rattle.fk_model.specs.Searches.{thread_at}
 use Rattle.fk_model.specs.Talks.{other_side}
-use Rattle.fk_model.specs.World.{World, Change}
+use Rattle.fk_model.specs.World.{World, Change, Edit}
 use Rattle.fk_model.specs.World.Change.{Alter, PutPage}
-use Rattle.fk_model.specs.World.Edit.{CountMoved, Finish, PassTurn, SetLocked, Shift}
+use Rattle.fk_model.specs.World.Edit.{CountMoved, Finish, PassTurn, Replace, SetLocked, Shift}
 use Rattle.fk_plans.specs.declared.wakes.touching.Touched.{Touched}
 use Rattle.fk_plans.specs.declared.wakes.touching.Touched.TheVariants.{Few}
 use Rattle.fk_store.specs.Store.Contents.{Contents}
@@ -45,22 +47,32 @@ run_of who = record { who = who; pick = None }
 abbrev pub mutex_by : What → Who
 mutex_by (whats.Locks mutex) = mutex
 mutex_by (whats.Unlocks mutex) = mutex
+mutex_by (whats.Sleeps cond mutex) = mutex
 
 -- and whether it is locked then. It was the other way before
 abbrev pub locks_by : What → Bool
 locks_by (whats.Locks mutex) = true
 locks_by (whats.Unlocks mutex) = false
+locks_by (whats.Sleeps cond mutex) = false
 
 abbrev pub was_locked : What → Bool
 was_locked (whats.Locks mutex) = false
 was_locked (whats.Unlocks mutex) = true
+was_locked (whats.Sleeps cond mutex) = true
+
+-- what became of its thread
+abbrev pub own_by : What → Edit
+own_by (whats.Locks mutex) = Finish []
+own_by (whats.Unlocks mutex) = Finish []
+own_by (whats.Sleeps cond mutex) = Replace (CondAsleep cond mutex.slot)
 
 -- its changes, in their order
 abbrev pub changes_of : (ℕ → Path) → Who → What → List Change
-changes_of p who what = Alter (place p (mutex_by what)) (SetLocked (locks_by what)) ∷ Alter (place p who) (Finish []) ∷ []
+changes_of p who what = Alter (place p (mutex_by what)) (SetLocked (locks_by what)) ∷ Alter (place p who) (own_by what) ∷ []
 
 -- it locks a mutex or unlocks it
 abbrev pub is_lock : Stage → Bool
+is_lock (CondWait cond m) = true
 is_lock (MutexLock m) = true
 is_lock (MutexTrylock m) = true
 is_lock (MutexUnlock m) = true
@@ -194,13 +206,19 @@ IfTalked (wents.Made what at) P = ⊤
 abbrev pub touched_by : What → Touched
 touched_by what = Few (Some (mutex_by what)) None None
 
--- what a thread is at
-abbrev pub IsThen : Contents → Who → Then → Type 0
-IsThen n who thens.Runs = is_under_way_at n who ≡ true
-
 -- a move of the user at a path is ready, whomever it picks
 abbrev pub IsAnyReady : World → Path → Type 0
 IsAnyReady w x = (pick : Option Path) × IsReady w x pick asks.Run
+
+-- a user's thread sleeps on a condition, and no move of it is ready
+pub record IsSleeper (n : Contents) (who : Who) : Type 0 where
+  pub user : holds (λ (t : Thread). is_user t.mode) (thread_at (world n) (place (path n) who)) ≡ true
+  pub waits : IsAnyReady (world n) (place (path n) who) → ⊥
+
+-- what a thread is at
+abbrev pub IsThen : Contents → Who → Then → Type 0
+IsThen n who thens.Runs = is_under_way_at n who ≡ true
+IsThen n who thens.Asleep = IsSleeper n who
 
 -- a thread's stage was made, which did this, and that is where the thread is then
 pub record HasGone (m n : Contents) (who : Who) (what : What) (at : Then) : Type 0 where

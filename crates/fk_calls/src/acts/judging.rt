@@ -236,7 +236,7 @@ fn gives_to(
 
 /// A server gives words to its client.
 #[tactic(auto, unfolding(fk_model::specs::NativeRows::give_row))]
-fn give(store: &Store, port: Who, words: &[u64]) -> Option<Act>
+pub fn give(store: &Store, port: Who, words: &[u64]) -> Option<Act>
     requires valid { IsValid (world store.now) }
     requires few { length words.now ≤ 64 }
     ensures outcome { outcome_by (world store.now) (path store.now) port words.now result
@@ -264,7 +264,7 @@ fn awaited_at(store: &Store, who: Who) -> Option<u64>
 
 /// A server hands its client the turn, and no pointer.
 #[tactic(auto, unfolding(fk_model::specs::NativeRows::over_row))]
-fn over(store: &Store, port: Who) -> Option<Act>
+pub fn over(store: &Store, port: Who) -> Option<Act>
     requires valid { IsValid (world store.now) }
     ensures outcome { outcome_by (world store.now) (path store.now) port [] result ≡ rows.over_row (world store.now) (place (path store.now) port) }
     ensures fits { IfSome result (IsAct store.now port []) }

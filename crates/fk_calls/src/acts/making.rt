@@ -80,7 +80,7 @@ fn takes(store: &mut Store, port: Who, client: Who) -> Said
 
 /// Words go to a client that receives them.
 #[tactic(auto, unfolding(fk_model::specs::World::apply_all))]
-fn gives(store: &mut Store, words: &[u64], client: Who, to: (u32, u8), into: u8, count: u8)
+pub fn gives(store: &mut Store, words: &[u64], client: Who, to: (u32, u8), into: u8, count: u8)
     requires gift { IsGift (world store.old) (path store.old) words.now client to into count }
     ensures world { (port : Who) → world store.new
         ≡ apply_all (changes_of (world store.old) (path store.old) port words.now (Act.Gives client to into count)) (world store.old) }
@@ -89,6 +89,17 @@ fn gives(store: &mut Store, words: &[u64], client: Who, to: (u32, u8), into: u8,
     put_words(store, words, to, into, count);
     count_moved(store, client, count);
     advance(store, client, u64::from(count));
+}
+
+/// A client that receives has the turn.
+#[tactic(auto, unfolding(fk_model::specs::World::apply_all))]
+pub fn passes(store: &mut Store, client: Who, came: Option<bool>)
+    ensures world { (port : Who) → world store.new
+        ≡ apply_all (changes_of (world store.old) (path store.old) port [] (Act.Passes client came)) (world store.old) }
+    ensures paths { path store.new ≡ path store.old }
+{
+    store.pass_turn(client, Turn::Client);
+    finish(store, client, answered(came));
 }
 
 /// Makes an act of a port's server, which gives these words, and tells it.

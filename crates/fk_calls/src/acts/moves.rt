@@ -74,7 +74,7 @@ pub fn foretell(store: &Store, m: &Move, ask: &Ask) -> Option<Said>
 }
 
 /// An object that is there has a path of its own.
-fn own_path(store: &Store, who: Who)
+pub fn own_path(store: &Store, who: Who)
     requires live { IsLive store.now who }
     ensures { HasOwnPath (path store.now) who }
 {

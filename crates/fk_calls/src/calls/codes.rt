@@ -1,4 +1,4 @@
-//! Codes of calls: those that begin with a send, and those on objects, spaces and pages.
+//! Codes of calls: those that begin with a send, and those on objects, spaces and pages, with the end of a fault.
 use fk_model::call::{
     self, CLIENT_SEND, CLIENT_SEND_OVER_RECEIVE, SERVER_SEND, SERVER_SEND_OVER_RECEIVE,
 };
@@ -13,7 +13,7 @@ pub fn begins_with_send(code: u64) -> bool {
     begins_with_client_send(code) || code == SERVER_SEND || code == SERVER_SEND_OVER_RECEIVE
 }
 
-/// A call is on objects, spaces or pages. Such a one waits for nobody.
+/// A call is on objects, spaces or pages, or ends a fault. Such a one waits for nobody, while nothing is held.
 pub fn is_on_objects(code: u64) -> bool {
     matches!(
         code,
@@ -37,5 +37,6 @@ pub fn is_on_objects(code: u64) -> bool {
             | call::PAGE_TAKE
             | call::PAGE_READ
             | call::PAGE_NEXT
+            | call::FAULT_DONE
     )
 }

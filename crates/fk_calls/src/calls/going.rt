@@ -1,5 +1,5 @@
 //! Moves by one look: what a thread is at is matched once, its row is made where it stands, and it is told what the thread is at then. Stages of mutexes
-//! are made so, and in `talks` the Sends and Overs that meet a thread.
+//! and waits on conditions are made so, and in `talks` the Sends and Overs that meet a thread.
 ghost use Rattle.std.specs.Prelude.{◌≡◌, ◌≤◌, true, false, [], ◌∷◌, Some, None, IsSome, IfSome};
 ghost use Rattle.std.specs.Bool.{OnTrue, OnFalse};
 ghost use Rattle.fk_model.specs.declared.moves.Ask.TheVariants as asks;
@@ -10,25 +10,26 @@ ghost use Rattle.fk_model.specs.Places.{Path};
 ghost use Rattle.fk_model.specs.Valid.{IsValid};
 ghost use Rattle.fk_model.specs.World.{apply};
 ghost use Rattle.fk_model.specs.World.Change.{Alter};
-ghost use Rattle.fk_model.specs.World.Edit.{Finish, SetLocked};
+ghost use Rattle.fk_model.specs.World.Edit.{Finish, Replace, SetLocked};
 ghost use Rattle.fk_store.specs.Store.Paths.{path, place};
 ghost use Rattle.fk_store.specs.Store.Threads.{is_free_at, todo_at};
 ghost use Rattle.fk_store.specs.Store.World.{world};
 ghost use Rattle.fk_calls.specs.Calls.Doings.{first_of};
 ghost use Rattle.fk_calls.specs.Calls.Goings.{is_lock, run_of, touched_by, touched_in, was_made, HasRow, HasTalkRow, IfMade, IfTalked, IsAnyReady};
 ghost use Rattle.fk_calls.specs.Calls.Goings.{IsAtOrderly, IsThen, WentTo};
+ghost use Rattle.fk_calls.specs.Calls.Rows.{IsFirst};
 ghost use Rattle.fk_calls.specs.Calls.Judgements.{IsEnded, IsReadyMove, IsStepTo, TellsTouched};
 
 mod talks;
 
 use crate::calls::going::talks::{may_pass, may_send, over, receive, send};
 use crate::calls::judging::free_user;
-use fk_changes::readers::{Caller, mutex_in};
-use fk_changes::threads::{Answers, finish};
+use fk_changes::readers::{Caller, cond_in, mutex_in};
+use fk_changes::threads::{Answers, fall_asleep, finish};
 use fk_model::call::{
     CLIENT_OVER, CLIENT_OVER_RECEIVE, CLIENT_RECEIVE, CLIENT_SEND, CLIENT_SEND_OVER_RECEIVE,
-    MUTEX_LOCK, MUTEX_TRYLOCK, MUTEX_UNLOCK, SERVER_OVER, SERVER_OVER_RECEIVE, SERVER_RECEIVE,
-    SERVER_SEND, SERVER_SEND_OVER_RECEIVE,
+    COND_WAIT, MUTEX_LOCK, MUTEX_TRYLOCK, MUTEX_UNLOCK, SERVER_OVER, SERVER_OVER_RECEIVE,
+    SERVER_RECEIVE, SERVER_SEND, SERVER_SEND_OVER_RECEIVE,
 };
 use fk_model::{Mode, Stage, Turn, Who};
 use fk_store::Store;
@@ -38,6 +39,8 @@ use fk_store::Store;
 pub enum Then {
     /// It runs, isn't stopped and has no fault.
     Runs,
+    /// It sleeps on a condition, until it is woken.
+    Asleep,
 }
 
 /// What a stage did besides.
@@ -47,6 +50,8 @@ pub enum What {
     Locks { mutex: Who },
     /// It unlocked one. Who waits for it may move.
     Unlocks { mutex: Who },
+    /// It unlocked one, which it locks again once it is woken at a condition.
+    Sleeps { cond: u64, mutex: Who },
 }
 
 /// What a stage did in a talk with a thread.
@@ -116,6 +121,7 @@ fn go_at(store: &mut Store, who: Who) -> Went
         Stage::ServerOver => over(store, who, Turn::Server),
         Stage::ClientReceive { addr, room } => receive(store, who, Turn::Client, addr, room),
         Stage::ServerReceive { addr, room } => receive(store, who, Turn::Server, addr, room),
+        Stage::CondWait { c, m } => sleep(store, who, c, m),
         _ => Went::Not,
     }
 }
@@ -234,6 +240,10 @@ fn stage_named(registers: &[u64; 16]) -> Option<Stage>
             addr: registers[4],
             room: registers[5],
         }),
+        COND_WAIT => Some(Stage::CondWait {
+            c: m,
+            m: registers[2],
+        }),
         _ => None,
     }
 }
@@ -322,6 +332,37 @@ fn unlock(store: &mut Store, who: Who, m: u64) -> Went
     }
 }
 
+/// Unlocks a mutex where it is locked, and sleeps on a condition.
+#[inline(always)]
+fn sleep(store: &mut Store, who: Who, c: u64, m: u64) -> Went
+    requires valid { IsValid (world store.old) }
+    requires unheld { (q : Path) → decider (world store.old) q ≡ None }
+    requires free { is_free_at (world store.old) (place (path store.old) who) ≡ true }
+    requires alone { todo_at (world store.old) (place (path store.old) who) ≡ Stage.CondWait c m ∷ [] }
+    ensures { WentTo store.old store.new who result }
+{
+    store.names();
+    let caller = Caller {
+        who,
+        is_porter: false,
+    };
+    let Ok(()) = cond_in(store, caller, who.space, c) else {
+        return Went::Not;
+    };
+    let Ok(locked) = mutex_in(store, caller, who.space, m) else {
+        return Went::Not;
+    };
+    if !locked {
+        return Went::Not;
+    }
+    let mutex = mutex_at(who, m);
+    falls(store, who, mutex, c, m);
+    Went::Made {
+        what: What::Sleeps { cond: c, mutex },
+        at: Then::Asleep,
+    }
+}
+
 /// The name of what is in a slot of a thread's space.
 #[inline(always)]
 fn mutex_at(who: Who, m: u64) -> Who
@@ -343,4 +384,16 @@ fn sets(store: &mut Store, who: Who, mutex: Who, locked: bool)
 {
     store.set_locked(mutex, locked);
     finish(store, who, Answers::Nothing);
+}
+
+/// A mutex is unlocked, and then the thread sleeps that was about to wait on a condition.
+#[inline(always)]
+fn falls(store: &mut Store, who: Who, mutex: Who, c: u64, m: u64)
+    requires waits { IsFirst (Stage.CondWait c m) (todo_at (world store.old) (place (path store.old) who)) }
+    ensures world { world store.new ≡ apply (Alter (place (path store.old) who) (Replace (Stage.CondAsleep c m)))
+        (apply (Alter (place (path store.old) mutex) (SetLocked false)) (world store.old)) }
+    ensures paths { path store.new ≡ path store.old }
+{
+    store.set_locked(mutex, false);
+    fall_asleep(store, who, c, m);
 }

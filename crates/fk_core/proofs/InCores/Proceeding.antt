@@ -27,7 +27,27 @@ use Rattle.fk_core.proofs.InRounds.Asking.{asks_other, others_ready}
 use Rattle.fk_core.proofs.InRounds.Lists.{untold}
 use Rattle.fk_core.proofs.InCores.Turning.{turned}
 
--- the next stage of a user that tells this, and ends no talk with a native server
+-- a move of a user that tells this, and ends no talk with a native server
+pub spoken_by : (m n : Kept) (services new : Services) (q : Queue) (budget events : ℕ) (who : Who) (pick : Option Who) (said : says_of.Said) (d : RunCore) →
+    events < budget → is_porter q who ≡ false →
+    IsReadyEvent (world m) (event_of (world m) asks.Run (record { who = who; pick = pick }))
+    × (step_of (world m) (event_of (world m) asks.Run (record { who = who; pick = pick })) ≡ record { world = world n; said = said_by (path n) said }) →
+    ((port : Who) → has_ended (world m) (world n) (named (world m) port) ≡ false) →
+    ((port : Who) → says_to (step_of (world m) (event_of (world m) asks.Run (record { who = who; pick = pick }))).said (named (world m) port)
+    ≡ says_to_who said port) →
+    new ≡ map (told said None) services →
+    Settles (house q.jobs) (core_at n new q (events + 1)) d → d.events ≡ events + 1 →
+    IsAdvanced q.jobs budget (core_at m services q events) (Some (record { who = who; pick = pick })) d
+spoken_by m n services new q budget events who pick said d few other made ends tells heard settles count =
+    let mv : Move = record { who = who; pick = pick } in
+    let as_others = asks_other q (world m) services events who asks.Run other (runs services (world m) who pick made.0) refl in (
+      few,
+      others_ready q (world m) services events mv (asks.Run, as_others, made.0),
+      turned m n services new q events mv asks.Run said None d as_others made.1 ends tells heard settles,
+      count,
+    )
+
+-- the same of its next stage, which picks nobody
 pub spoken : (m n : Kept) (services new : Services) (q : Queue) (budget events : ℕ) (who : Who) (said : says_of.Said) (d : RunCore) →
     events < budget → is_porter q who ≡ false →
     IsReadyEvent (world m) (event_of (world m) asks.Run (record { who = who; pick = None }))
@@ -39,13 +59,23 @@ pub spoken : (m n : Kept) (services new : Services) (q : Queue) (budget events :
     Settles (house q.jobs) (core_at n new q (events + 1)) d → d.events ≡ events + 1 →
     IsAdvanced q.jobs budget (core_at m services q events) (Some (record { who = who; pick = None })) d
 spoken m n services new q budget events who said d few other made ends tells heard settles count =
-    let mv : Move = record { who = who; pick = None } in
-    let as_others = asks_other q (world m) services events who asks.Run other (runs services (world m) who None made.0) refl in (
-      few,
-      others_ready q (world m) services events mv (asks.Run, as_others, made.0),
-      turned m n services new q events mv asks.Run said None d as_others made.1 ends tells heard settles,
-      count,
-    )
+    spoken_by m n services new q budget events who None said d few other made ends tells heard settles count
+
+-- a move that tells nothing
+pub proceeded_by : (m n : Kept) (services : Services) (q : Queue) (budget events : ℕ) (who : Who) (pick : Option Who) (d : RunCore) → events < budget →
+    is_porter q who ≡ false →
+    IsReadyEvent (world m) (event_of (world m) asks.Run (record { who = who; pick = pick }))
+    × (step_of (world m) (event_of (world m) asks.Run (record { who = who; pick = pick })) ≡ record { world = world n; said = Nothing }) →
+    ((port : Who) → has_ended (world m) (world n) (named (world m) port) ≡ false) →
+    Settles (house q.jobs) (core_at n services q (events + 1)) d → d.events ≡ events + 1 →
+    IsAdvanced q.jobs budget (core_at m services q events) (Some (record { who = who; pick = pick })) d
+proceeded_by m n services q budget events who pick d few other made ends settles count =
+    spoken_by m n services services q budget events who pick says.Nothing d few other made ends tells (untold says.Nothing None (λ who. refl) services)
+    settles count
+  where
+    tells : (port : Who) → says_to (step_of (world m) (event_of (world m) asks.Run (record { who = who; pick = pick }))).said (named (world m) port)
+        ≡ says_to_who says.Nothing port
+    tells port = ap (λ (s : Step). says_to s.said (named (world m) port)) made.1
 
 pub proceeded : (m n : Kept) (services : Services) (q : Queue) (budget events : ℕ) (who : Who) (d : RunCore) → events < budget → is_porter q who ≡ false →
     IsReadyEvent (world m) (event_of (world m) asks.Run (record { who = who; pick = None }))
@@ -54,11 +84,7 @@ pub proceeded : (m n : Kept) (services : Services) (q : Queue) (budget events : 
     Settles (house q.jobs) (core_at n services q (events + 1)) d → d.events ≡ events + 1 →
     IsAdvanced q.jobs budget (core_at m services q events) (Some (record { who = who; pick = None })) d
 proceeded m n services q budget events who d few other made ends settles count =
-    spoken m n services services q budget events who says.Nothing d few other made ends tells (untold says.Nothing None (λ who. refl) services) settles count
-  where
-    tells : (port : Who) → says_to (step_of (world m) (event_of (world m) asks.Run (record { who = who; pick = None }))).said (named (world m) port)
-        ≡ says_to_who says.Nothing port
-    tells port = ap (λ (s : Step). says_to s.said (named (world m) port)) made.1
+    proceeded_by m n services q budget events who None d few other made ends settles count
 
 -- where no job is left nothing settles
 pub none-left : (q : Queue) (c : RunCore) → c.ends ≡ q.ends → current q ≡ None → Settles (house q.jobs) c c

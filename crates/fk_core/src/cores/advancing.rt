@@ -7,10 +7,31 @@ ghost use Rattle.fk_jobs.specs.Jobs.{current};
 
 use crate::cores::turns::Core;
 use fk_jobs::Worker;
-use fk_model::{Move, NoMemory};
+use fk_model::{Move, NoMemory, Who, call};
 use fk_natives::Service;
 use fk_responders::Table;
 use fk_served::Gone;
+
+/// A call begins with a signal or a wait, which may pick somebody.
+fn picks(code: u64) -> bool {
+    matches!(code, call::COND_SIGNAL | call::WAIT | call::WAIT_RECEIVE)
+}
+
+/// A call begins with a stage in which others make a thread go on. Who looks whether one of these goes on finds it among the ready, if it is there.
+fn rests(code: u64) -> bool {
+    matches!(
+        code,
+        call::COND_ASLEEP
+            | call::CONNECT
+            | call::CONNECT_SEND_OVER_RECEIVE
+            | call::CLIENT_RECEIVE
+            | call::CLIENT_RECEIVE_REF
+            | call::WAIT
+            | call::WAIT_RECEIVE
+            | call::SERVER_RECEIVE
+            | call::SERVER_RECEIVE_REF
+    )
+}
 
 impl<S: Service + Drop, W: Worker + Drop> Core<S, W> {
     /// Makes the next move of the thread that moved last, where that is an instruction or a stage that tells nobody of anything, is
@@ -33,7 +54,44 @@ impl<S: Service + Drop, W: Worker + Drop> Core<S, W> {
                 self.rounds.park();
                 None
             }
-            Gone::Not => None,
+            Gone::Not => self.pick_on(who),
+        }
+    }
+
+    /// Makes the signal or the wait of a user, where it is at one and somebody is queued at its condition or at a port of its set, and no job is left.
+    fn pick_on(&mut self, who: Who) -> Option<Move>
+        requires few { self.old.events < self.old.budget }
+        requires none { current self.old.jobs ≡ None }
+        ensures advanced { IsAdvanced self.old.jobs.jobs self.old.budget (run_core self.old) result (run_core self.new) }
+        ensures services { self.new.services.list ≡ self.old.services.list }
+        ensures budget { self.new.budget ≡ self.old.budget }
+        ensures jobs { self.new.jobs.jobs ≡ self.old.jobs.jobs }
+    {
+        let code = self.code_of(who);
+        if rests(code) {
+            self.rounds.park();
+        }
+        if !picks(code) {
+            return None;
+        }
+        match self.kernel.pick(who) {
+            Some(other) => {
+                self.events += 1;
+                self.rounds.hear(None);
+                Some(Move {
+                    who,
+                    pick: Some(other),
+                })
+            }
+            None => None,
+        }
+    }
+
+    /// The code of the call in which a thread is, or what stands there else. It is a hint: nothing is said of it.
+    fn code_of(&self, who: Who) -> u64 {
+        match self.kernel.store().thread(who) {
+            Some(thread) => thread.regs[0],
+            None => 0,
         }
     }
 
@@ -81,7 +139,7 @@ impl<S: Service + Drop, W: Worker + Drop> Core<S, W> {
 
     /// Makes a move that is ready, of whoever comes next.
     #[inline(never)]
-    fn go_next(&mut self, table: &Table) -> Result<Option<Move>, NoMemory>
+    pub(crate) fn go_next(&mut self, table: &Table) -> Result<Option<Move>, NoMemory>
         requires fits { AllFit (map (λ r. r.rule) table.now.list.items) self.old.services.list }
         requires come { IsGoing self.old }
         ensures made { IsAdvancedOrOver self.old.jobs.jobs self.old.budget (run_core self.old) (run_core self.new) result }
@@ -96,7 +154,7 @@ impl<S: Service + Drop, W: Worker + Drop> Core<S, W> {
         Ok(Some(m))
     }
 
-    /// Makes any move that is ready: of the thread that moved last where it is ready, or else of whoever comes next.
+    /// Makes any move that is ready: of the thread that moved last where it is ready, or else of the server that heard of it, or of whoever comes next.
     fn go_further(&mut self, table: &Table) -> Result<Option<Move>, NoMemory>
         requires fits { AllFit (map (λ r. r.rule) table.now.list.items) self.old.services.list }
         requires come { IsGoing self.old }
@@ -107,7 +165,7 @@ impl<S: Service + Drop, W: Worker + Drop> Core<S, W> {
     {
         match self.go_on_told(table)? {
             Some(m) => Ok(Some(m)),
-            None => self.go_next(table),
+            None => self.go_answered(table),
         }
     }
 

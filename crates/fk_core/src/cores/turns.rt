@@ -1,10 +1,12 @@
 //! The core: a kernel with its native servers and its jobs.
 ghost use Rattle.fk_model.specs.declared.moves.Rule.{Rule};
+ghost use Rattle.fk_model.specs.declared.moves.Ask.TheVariants as asks;
 ghost use Rattle.fk_model.specs.Places.{Path};
 ghost use Rattle.fk_model.specs.Sound.{IsSoundStart};
 ghost use Rattle.std.specs.Prelude.{◌≡◌, ◌↔◌, List, [], ◌+◌, ◌<◌, Some, None, true, false, IsTrue, OnOk, OnErr, map};
 ghost use Rattle.std.specs.Bool.{OnTrue, OnFalse};
-ghost use Rattle.fk_core.specs.Rounds.Served.{AllFit, shown};
+ghost use Rattle.fk_core.specs.Rounds.Served.{asked, AllFit, shown};
+ghost use Rattle.laws_moves.specs.Whole.Runnable.{has_all_words};
 ghost use Rattle.fk_core.specs.Cores.Cores.{run_core, is_porter, reply_to, IsReadyMove, IsAskedMove, IsCalledMove, IsTurned, IsTried, IsAdvanced, is_timely};
 ghost use Rattle.fk_core.specs.Cores.Memory.{may_lack, may_lack_asked, may_lack_called};
 ghost use Rattle.fk_core.specs.Cores.Cuts.{KeepsCuts, LeavesStrangers};
@@ -21,6 +23,7 @@ use fk_jobs::{Jobs, Worker};
 use fk_model::{Answer, Ask, Move, NoMemory, Reply, Said, Who};
 use fk_natives::Service;
 use fk_responders::Table;
+use fk_served::asking::is_served;
 use fk_served::{Gone, Kernel, Services};
 
 /// A kernel with its native servers and its jobs, and how many moves it has made of how many.
@@ -215,7 +218,7 @@ impl<S: Service + Drop, W: Worker + Drop> Core<S, W> {
 
     /// Makes an instruction, or a stage that tells nobody of anything, where that is what a move is and where it is ready, and
     /// answers whether it did; else all is as before. What other moves tell takes much room; this needs none.
-    fn go_plain(&mut self, m: &Move) -> bool
+    pub(crate) fn go_plain(&mut self, m: &Move) -> bool
         requires few { self.old.events < self.old.budget }
         ensures made { OnTrue result (IsAdvanced self.old.jobs.jobs self.old.budget (run_core self.old) (Some m.now) (run_core self.new)) }
         ensures kernel { OnFalse result (self.new.kernel ≡ self.old.kernel) }
@@ -269,10 +272,47 @@ impl<S: Service + Drop, W: Worker + Drop> Core<S, W> {
         ensures budget { self.new.budget ≡ self.old.budget }
         ensures jobs { self.new.jobs.jobs ≡ self.old.jobs.jobs }
     {
+        if is_served(&self.kernel, m.who) {
+            self.go_acting(table, m)
+        } else {
+            self.go_user(table, m)
+        }
+    }
+
+    /// The same of a user's.
+    fn go_user(&mut self, table: &Table, m: &Move) -> Result<bool, NoMemory>
+        requires other { is_porter self.old.jobs m.now.who ≡ false }
+        requires few { self.old.events < self.old.budget }
+        requires fits { AllFit (map (λ r. r.rule) table.now.list.items) self.old.services.list }
+        requires runs { asked self.old.services.list (world self.old.kernel) m.now.who ≡ Some asks.Run }
+        ensures tried { IsTried (IsAskedMove self.old.jobs.jobs (run_core self.old) m.now)
+            (may_lack_asked (run_core self.old) m.now ≡ true) self.old.jobs.jobs (run_core self.old) m.now (run_core self.new) result }
+        ensures lacking_kernel { OnErr result (self.new.kernel ≡ self.old.kernel) }
+        ensures fits { AllFit (map (λ r. r.rule) table.now.list.items) self.new.services.list }
+        ensures budget { self.new.budget ≡ self.old.budget }
+        ensures jobs { self.new.jobs.jobs ≡ self.old.jobs.jobs }
+    {
         if self.go_said(table, m) {
             return Ok(true);
         }
-        self.go_asked(table, m)
+        self.go_running(table, m)
+    }
+
+    /// The same of one that runs. What it asks for takes much room, so it stands apart.
+    #[inline(never)]
+    fn go_running(&mut self, table: &Table, m: &Move) -> Result<bool, NoMemory>
+        requires other { is_porter self.old.jobs m.now.who ≡ false }
+        requires few { self.old.events < self.old.budget }
+        requires fits { AllFit (map (λ r. r.rule) table.now.list.items) self.old.services.list }
+        requires runs { asked self.old.services.list (world self.old.kernel) m.now.who ≡ Some asks.Run }
+        ensures tried { IsTried (IsAskedMove self.old.jobs.jobs (run_core self.old) m.now)
+            (may_lack_asked (run_core self.old) m.now ≡ true) self.old.jobs.jobs (run_core self.old) m.now (run_core self.new) result }
+        ensures lacking_kernel { OnErr result (self.new.kernel ≡ self.old.kernel) }
+        ensures fits { AllFit (map (λ r. r.rule) table.now.list.items) self.new.services.list }
+        ensures budget { self.new.budget ≡ self.old.budget }
+        ensures jobs { self.new.jobs.jobs ≡ self.old.jobs.jobs }
+    {
+        self.go_by(table, m, &Ask::Run)
     }
 
     /// Makes a send of words to a native server, where that is what a move is and where it is ready, and answers whether it did; else, and
@@ -281,6 +321,7 @@ impl<S: Service + Drop, W: Worker + Drop> Core<S, W> {
     fn go_said(&mut self, table: &Table, m: &Move) -> bool
         requires other { is_porter self.old.jobs m.now.who ≡ false }
         requires few { self.old.events < self.old.budget }
+        requires fits { AllFit (map (λ r. r.rule) table.now.list.items) self.old.services.list }
         ensures made { OnTrue result (IsAdvanced self.old.jobs.jobs self.old.budget (run_core self.old) (Some m.now) (run_core self.new)) }
         ensures kernel { OnFalse result (self.new.kernel ≡ self.old.kernel) }
         ensures events { OnFalse result (self.new.events ≡ self.old.events) }
@@ -312,9 +353,9 @@ impl<S: Service + Drop, W: Worker + Drop> Core<S, W> {
         true
     }
 
-    /// The same of what it asks for.
+    /// The same of what a mover asks for.
     #[inline(never)]
-    fn go_asked(&mut self, table: &Table, m: &Move) -> Result<bool, NoMemory>
+    pub(crate) fn go_asked(&mut self, table: &Table, m: &Move) -> Result<bool, NoMemory>
         requires other { is_porter self.old.jobs m.now.who ≡ false }
         requires few { self.old.events < self.old.budget }
         requires fits { AllFit (map (λ r. r.rule) table.now.list.items) self.old.services.list }
@@ -329,6 +370,24 @@ impl<S: Service + Drop, W: Worker + Drop> Core<S, W> {
         let Some(ask) = &asked else {
             return Ok(false);
         };
+        self.go_by(table, m, ask)
+    }
+
+    /// The same of this, for which it asks.
+    #[inline(never)]
+    fn go_by(&mut self, table: &Table, m: &Move, ask: &Ask) -> Result<bool, NoMemory>
+        requires other { is_porter self.old.jobs m.now.who ≡ false }
+        requires few { self.old.events < self.old.budget }
+        requires fits { AllFit (map (λ r. r.rule) table.now.list.items) self.old.services.list }
+        requires asked { asked self.old.services.list (world self.old.kernel) m.now.who ≡ Some ask.now }
+        requires words { has_all_words ask.now ≡ true }
+        ensures tried { IsTried (IsAskedMove self.old.jobs.jobs (run_core self.old) m.now)
+            (may_lack_asked (run_core self.old) m.now ≡ true) self.old.jobs.jobs (run_core self.old) m.now (run_core self.new) result }
+        ensures lacking_kernel { OnErr result (self.new.kernel ≡ self.old.kernel) }
+        ensures fits { AllFit (map (λ r. r.rule) table.now.list.items) self.new.services.list }
+        ensures budget { self.new.budget ≡ self.old.budget }
+        ensures jobs { self.new.jobs.jobs ≡ self.old.jobs.jobs }
+    {
         if self.lacks_room(m, ask) {
             return unmade(self.kernel.ready(m, ask));
         }

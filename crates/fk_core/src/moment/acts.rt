@@ -37,10 +37,27 @@ impl<'a, S: Service + Drop, W: Worker + Drop> Moment<'a, S, W> {
         ensures { IfSome result (λ m. IsReadyNow self.now m) }
     {
         if at < self.services.len() {
-            self.act_besides(self.services.port(at))
+            self.act_met(self.services.port(at))
         } else {
             None
         }
+    }
+
+    /// A ready act of the server of a port, where it has something to give or somebody is queued at the port.
+    pub fn act_met(&self, port: Who) -> Option<Move>
+        ensures { IfSome result (λ m. IsReadyNow self.now m) }
+    {
+        if self.may_act(port) {
+            self.act_besides(port)
+        } else {
+            None
+        }
+    }
+
+    /// The server of a port is at its own turn, or somebody is queued there. It is a hint: nothing is said of it. Who has come to the port and hasn't been
+    /// looked at yet is among the ready, and is queued once that is done.
+    fn may_act(&self, port: Who) -> bool {
+        self.services.left(port).is_some() || self.kernel.waits().first(port).is_some()
     }
 
     /// A server's act that is ready: of the one at whose port the thread that moved last is at its connect, or else of any up to a place.

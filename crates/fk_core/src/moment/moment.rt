@@ -55,11 +55,12 @@ impl<'a, S: Service + Drop, W: Worker + Drop> Moment<'a, S, W> {
         self.events
     }
 
-    /// The thread that has moved last.
-    pub fn last(&self) -> Option<Who>
-        ensures { result ≡ self.now.last }
-    {
-        self.last
+    /// The thread that has moved last, but where it was the last to be queued: no move of it is ready then.
+    pub fn last_up(&self) -> Option<Who> {
+        match self.last {
+            Some(who) if self.kernel.waits().has_parked(who) => None,
+            last => last,
+        }
     }
 
     /// How many servers there are.

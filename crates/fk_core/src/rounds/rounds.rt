@@ -63,7 +63,25 @@ impl Rounds {
         if self.stuck || !moment.is_below_budget() || self.is_round(moment) {
             return None;
         }
-        moment.last()
+        moment.last_up()
+    }
+
+    /// The port whose server the last move told something, but where the look goes round and where the budget is used.
+    #[inline(always)]
+    pub fn heard<S: Service + Drop, W: Worker + Drop>(
+        &self,
+        moment: &Moment<'_, S, W>,
+    ) -> Option<Who>
+        ensures { IsSome result → moment.now.events < moment.now.budget }
+    {
+        // Mostly nobody heard anything.
+        if self.heard.is_none() {
+            return None;
+        }
+        if !moment.is_below_budget() || self.is_round(moment) {
+            return None;
+        }
+        self.heard
     }
 
     /// Its move, where that is ready and picks nobody.
@@ -78,6 +96,17 @@ impl Rounds {
             pick: None,
         };
         if moment.ready(&m) { Some(m) } else { None }
+    }
+
+    /// A server may come before the threads: one that heard of the last move, or in every second round one, each in its turn. It is a hint.
+    pub fn may_serve<S: Service + Drop, W: Worker + Drop>(
+        &self,
+        moment: &Moment<'_, S, W>,
+    ) -> bool {
+        if self.heard.is_some() {
+            return true;
+        }
+        moment.servers() != 0 && moment.events() / ROUND % 2 != 0
     }
 
     /// A move was made that told the server of this port something, or none. By it who waited may move.
@@ -138,7 +167,7 @@ impl Rounds {
         if self.is_round(moment) {
             return None;
         }
-        moment.act_besides(self.heard?)
+        moment.act_met(self.heard?)
     }
 
     /// In every second round a ready act of one server, each in its turn.

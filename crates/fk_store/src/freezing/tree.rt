@@ -280,6 +280,15 @@ impl Tree {
         self.bodies.first_in(space)
     }
 
+    /// The first taken slot of a space from a slot on.
+    #[inline]
+    pub fn next_in(&self, space: u32, slot: u16) -> Option<u8>
+        ensures some { IfSome result (λ next. IsSome (map.get self.now (at space next)) × (slot ≤ next) × ((k : ℕ) → IsSome (map.get self.now (at space k)) → slot ≤ k → next ≤ k)) }
+        ensures none { result ≡ None → (k : ℕ) → IsSome (map.get self.now (at space k)) → k < slot }
+    {
+        self.bodies.next_in(space, slot)
+    }
+
     /// A space has no more than 256 slots.
     pub fn slots(&self)
         ensures { (q : Who) (b : Body) → map.get self.now q ≡ Some b → q.slot < 256 }

@@ -1,6 +1,7 @@
 -- Mildly: a stage that sets a mutex leaves the reasons of all others, but of those who wait for a mutex that it unlocks.
 use Rattle.std.proofs.Common.{◌≡◌, ℕ, Bool, true, false, not, List, [], ◌∷◌, Option, Some, None, IsSome, refl, sym, ap, subst, ◌∙◌, inl, inr}
 use Rattle.fk_calls.specs.declared.calls.going.What.{What}
+use Rattle.fk_calls.specs.declared.calls.going.What.TheVariants as whats
 use Rattle.fk_model.specs.declared.moves.Ask.TheVariants as asks
 use Rattle.fk_model.specs.declared.names.Who.{Who}
 use Rattle.fk_model.specs.declared.stage.Stage.{Stage}
@@ -22,7 +23,7 @@ use Rattle.fk_turns.specs.declared.whys.whys.Why.{Why}
 use Rattle.fk_turns.specs.declared.whys.whys.Why.TheVariants as whys
 use Rattle.fk_turns.specs.Moved.Kept.{is_user_at}
 use Rattle.fk_turns.specs.Moved.Told.{IsMadeTo, IsStored}
-use Rattle.fk_turns.specs.Next.Goings.{locks_by, mutex_by, was_locked, HasRow}
+use Rattle.fk_turns.specs.Next.Goings.{locks_by, mutex_by, own_by, was_locked, HasRow}
 use Rattle.fk_turns.specs.Steps.Classes.{IsMildTo, IsSpared}
 use Rattle.fk_turns.specs.Whys.Whys.{IsAt, IsLoudly, IsStill, IsWhy}
 use Rattle.fk_turns.proofs.InMoved.Told.{same_name, stays, taken_off, user_there}
@@ -30,15 +31,16 @@ use Rattle.fk_turns.proofs.InWhys.Apart.{key_there}
 use Rattle.fk_turns.proofs.InWhys.Mildly.{mutex_lone, why_mild, IsSparedAt}
 use Rattle.fk_waits.proofs.InCauses.Numbers.{clash}
 use Rattle.fk_waits.specs.Causes.Names.{is_same}
+use Rattle.laws_waits.specs.Touching.{is_loud, IsThreadEdit}
 
 -- a thread whose call has one stage
-record IsAtOne (w : World) (x : Path) (stage : Stage) : Type 0 where
-  thread : Thread
-  rest : List ℕ
-  there : thread_at w x ≡ Some thread
-  mode : thread.mode ≡ Calling (stage ∷ []) rest
+pub record IsAtOne (w : World) (x : Path) (stage : Stage) : Type 0 where
+  pub thread : Thread
+  pub rest : List ℕ
+  pub there : thread_at w x ≡ Some thread
+  pub mode : thread.mode ≡ Calling (stage ∷ []) rest
 
-at_one : (w : World) (x : Path) (stage : Stage) → todo_at w x ≡ stage ∷ [] → IsAtOne w x stage
+pub at_one : (w : World) (x : Path) (stage : Stage) → todo_at w x ≡ stage ∷ [] → IsAtOne w x stage
 unfolding todo_at
 at_one w x stage is = by (thread_at w x) refl is
   where
@@ -53,7 +55,7 @@ at_one w x stage is = by (thread_at w x) refl is
     by (Some t) there h = by_mode t t.mode there refl h
 
 -- a user's thread
-user_thread : (o : Option Thread) → holds (λ (t : Thread). not (is_porter t.mode)) o ≡ true → (t : Thread) × (o ≡ Some t)
+pub user_thread : (o : Option Thread) → holds (λ (t : Thread). not (is_porter t.mode)) o ≡ true → (t : Thread) × (o ≡ Some t)
 user_thread None is = absurd (cc)
 user_thread (Some t) is = (t, refl)
 
@@ -75,6 +77,17 @@ module _ (m n : Contents) (mover : Who) (what : What) (old : IsStored m) (new : 
   setter : IsAtOne (world m) (place_of m mover) row.begins.stage
   setter = at_one (world m) (place_of m mover) row.begins.stage row.begins.alone
 
+  -- what becomes of the setter is nothing that others wait for
+  quiet_own : (what : What) → is_loud (own_by what) setter.thread ≡ false
+  quiet_own (whats.Locks mutex) = rw setter.mode refl
+  quiet_own (whats.Unlocks mutex) = rw setter.mode refl
+  quiet_own (whats.Sleeps cond mutex) = rw setter.mode refl
+
+  plain_own : (what : What) → IsThreadEdit (own_by what)
+  plain_own (whats.Locks mutex) = (refl, refl, refl)
+  plain_own (whats.Unlocks mutex) = (refl, refl, refl)
+  plain_own (whats.Sleeps cond mutex) = (refl, refl, refl)
+
   other_place : (a b : Who) → is_same b a ≡ false → IsSome ((world m).body (place_of m a)) → same_path (place_of m a) (place_of m b) ≡ false
   other_place a b off there = by (same_path (place_of m a) (place_of m b)) refl
     where
@@ -94,7 +107,7 @@ module _ (m n : Contents) (mover : Who) (what : What) (old : IsStored m) (new : 
       IsWhy (world m) (path m) (place_of m who) why → IsWhy (world n) (path n) (place_of n who) why
   left who why off user spared is = by why spared is
       (why_mild (world m) (place_of m mover) (place_of m (mutex_by what)) (locks_by what) (was_locked what) setter.thread row.begins.stage setter.rest
-      setter.there setter.mode row.begins.lock row.found (place_of m who) here.0 here.1 (other_place who mover off there) None asks.Run row.changes
+      setter.there setter.mode row.begins.lock row.found (own_by what) (quiet_own what) (plain_own what) (place_of m who) here.0 here.1 (other_place who mover off there) None asks.Run row.changes
       (path m) why (spared_at who why spared is) is)
     where
       there : IsSome ((world m).body (place_of m who))

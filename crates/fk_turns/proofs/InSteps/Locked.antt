@@ -172,13 +172,16 @@ kept_locked n mover mutex waits marks from user =
     (λ x key here some at_key. inl refl)
 
 -- an unlock frees who waits for the mutex
-pub kept_unlocked : (n : Contents) (mover mutex : Who) (waits marks roused roused_marks : Lists) → ComesMildly n mover (whats.Unlocks mutex) waits marks →
-    is_user_at n mover ≡ true → IsRoused waits roused → AreMet marks roused_marks roused → IsFreed mutex (all_marks waits marks) roused →
+pub kept_unlocked : (n : Contents) (mover : Who) (what : What) (waits marks roused roused_marks : Lists) → ComesMildly n mover what waits marks →
+    is_user_at n mover ≡ true → IsRoused waits roused → AreMet marks roused_marks roused → IsFreed (mutex_by what) (all_marks waits marks) roused →
     IsSound roused roused_marks → AreKept n roused roused_marks
-kept_unlocked n mover mutex waits marks roused roused_marks from user wakes met freed sound =
-    kept_by n mover (whats.Unlocks mutex) waits marks from user roused roused_marks wakes met sound
+kept_unlocked n mover what waits marks roused roused_marks from user wakes met freed sound =
+    kept_by n mover what waits marks from user roused roused_marks wakes met sound
     (λ x key here some at_key. inr (far x key here some at_key))
   where
+    mutex : Who
+    mutex = mutex_by what
+
     far : (x key : Who) → is_queued x roused.queued ≡ true → is_same free_cause key ≡ false → waits_at key x (all_marks waits marks).queued ≡ true →
         is_same mutex key ≡ false
     far x key here some at_key = of (is_same mutex key) refl
@@ -210,6 +213,17 @@ kept_last n mover waits marks now then_marks kept turned user sound =
 -- a thread that is somewhere is a user's
 pub then_user : (n : Contents) (who : Who) (at : Then) → IsThen n who at → is_user_at n who ≡ true
 then_user n who thens.Runs is = under_way_user n who is
+then_user n who thens.Asleep is = by (thread_at (world n) (place_of n who)) is.user
+  where
+    no_porter : (k : Mode) → is_user k ≡ true → not (is_porter k) ≡ true
+    no_porter (Running g) is = refl
+    no_porter (Calling todo rest) is = refl
+    no_porter (Halted g code) is = absurd (cc)
+    no_porter (Native g) is = absurd (cc)
+
+    by : (o : Option Thread) → holds (λ (t : Thread). is_user t.mode) o ≡ true → holds (λ (t : Thread). not (is_porter t.mode)) o ≡ true
+    by None is = absurd (cc)
+    by (Some t) is = no_porter t.mode is
 
 -- who runs is under way
 pub then_runs : (n : Contents) (who : Who) (at : Then) → IsThen n who at → is_under_way_at n who ≡ true

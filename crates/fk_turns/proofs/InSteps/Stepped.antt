@@ -208,6 +208,15 @@ no_seat n (Few first second third) waits marks none = tt
 no_seat n Any waits marks none = tt
 no_seat n (Dies object) waits marks none = tt
 
+-- ---- a move that makes nothing
+
+module _ (m n : Contents) (move : Move) (ask : Ask) (valid : IsValid (world m)) (few : (world m).next ≤ depth) (fit : is_fit_move m move ask ≡ true)
+    (born : path m ≡ space_born (world m)) (born_new : path n ≡ space_born (world n)) (few_new : (world n).next ≤ depth) (touched : Touched) where
+  pub comes_asked : (waits marks : Lists) (said : Said) → AreKept m waits marks → is_making touched ≡ false → IsReadyMove m move ask →
+      IsStepTo m move ask n said → TellsTouched m move ask touched → ComesAfter n move.who touched waits marks
+  comes_asked waits marks said kept none ready step tells =
+      comes m n move ask valid few fit born born_new few_new touched waits marks kept (no_seat n touched waits marks none) said ready step tells
+
 -- ---- an instruction, by which nobody else is touched
 
 module _ (m n : Contents) (move : Move) (valid : IsValid (world m)) (few : (world m).next ≤ depth) (fit : is_fit_move m move asks.Run ≡ true)

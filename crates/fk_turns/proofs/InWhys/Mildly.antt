@@ -1,11 +1,11 @@
--- Mildly: a mutex that is set, and the call of who sets it, which ends with that, leave every reason but those that look at the mutex.
+-- Mildly: a mutex that is set, and what becomes of who sets it, leave every reason but those that look at the mutex.
 use Rattle.std.proofs.Common.{◌≡◌, ◌⊎◌, ℕ, Bool, true, false, is_some, List, [], ◌∷◌, Option, Some, None, refl, ap, sym, subst, ◌∙◌, inl, inr}
 use Rattle.std.proofs.Common.{if◌then◌else◌, option_map}
 use Rattle.fk_calls.specs.Calls.Goings.{is_lock}
 use Rattle.fk_model.specs.declared.moves.Ask.{Ask}
 use Rattle.fk_model.specs.declared.names.Who.{Who}
 use Rattle.fk_model.specs.declared.stage.Stage.{Stage}
-use Rattle.fk_model.specs.declared.stage.Stage.TheVariants.{MutexLock, MutexTrylock, MutexUnlock}
+use Rattle.fk_model.specs.declared.stage.Stage.TheVariants.{CondWait, MutexLock, MutexTrylock, MutexUnlock}
 use Rattle.fk_model.specs.declared.thread.Turn.{Turn}
 use Rattle.fk_model.specs.declared.thread.Turn.TheVariants as turns
 use Rattle.fk_model.specs.Moves.{outcome, step}
@@ -16,9 +16,9 @@ use Rattle.fk_model.specs.Outcomes.{listed}
 use Rattle.fk_model.specs.Places.{Path, parent, same_path}
 use Rattle.fk_model.specs.Searches.{thread_at}
 use Rattle.fk_model.specs.Talks.{other_side}
-use Rattle.fk_model.specs.World.{World, Change, apply, edited}
+use Rattle.fk_model.specs.World.{World, Change, Edit, apply, edited}
 use Rattle.fk_model.specs.World.Change.{Alter}
-use Rattle.fk_model.specs.World.Edit.{Finish, SetLocked}
+use Rattle.fk_model.specs.World.Edit.{SetLocked}
 use Rattle.fk_model.proofs.walks.PlaceLaws.{same_path_eq}
 use Rattle.fk_store.specs.Store.Paths.{place}
 use Rattle.fk_turns.specs.declared.whys.whys.Why.{Why}
@@ -27,6 +27,7 @@ use Rattle.fk_turns.specs.Whys.Whys.{is_loud_reason, IsOwn, IsReadAt, IsWhy}
 use Rattle.fk_turns.proofs.InWhys.Apart.{loud_named, own_named, read_named}
 use Rattle.laws_waits.specs.Calm.{AreApartFrom, AreMild}
 use Rattle.laws_waits.specs.Complete.{is_barred}
+use Rattle.laws_waits.specs.Touching.{is_loud, IsThreadEdit}
 use Rattle.laws_waits.specs.Stuck.{awaits_on, AreUntouched, HasRoom, Reason, IsStuck}
 use Rattle.laws_waits.specs.Stuck.Reason.{Barred, Beneath, Connecting, Ending, Holding, Lacking, Locking, Passing, Receiving, Resting, Sending, Sleeping, Waiting}
 use Rattle.laws_waits.specs.Stuck.Reason.{WaitingOut}
@@ -59,9 +60,10 @@ IsSparedAt p at was whys.Loud = Unit {0}
 IsSparedAt p at was whys.Barred = ⊥
 
 module _ (w : World) (me at : Path) (locked was : Bool) (t : Thread) (stage : Stage) (rest : List ℕ) (there : thread_at w me ≡ Some t)
-    (mode : t.mode ≡ Calling (stage ∷ []) rest) (lock : is_lock stage ≡ true) (mutex : and_then mutex_of (w.body at) ≡ Some was) where
+    (mode : t.mode ≡ Calling (stage ∷ []) rest) (lock : is_lock stage ≡ true) (mutex : and_then mutex_of (w.body at) ≡ Some was) (own : Edit) (quiet : is_loud own t ≡ false)
+    (plain : IsThreadEdit own) where
   abbrev cs : List Change
-  cs = Alter at (SetLocked locked) ∷ Alter me (Finish []) ∷ []
+  cs = Alter at (SetLocked locked) ∷ Alter me own ∷ []
 
   -- the thread is there once the mutex is set
   there_still : thread_at (apply (Alter at (SetLocked locked)) w) me ≡ Some t
@@ -78,7 +80,7 @@ module _ (w : World) (me at : Path) (locked was : Bool) (t : Thread) (stage : St
   mild : AreMild w (at ∷ me ∷ []) cs
   mild = (
     inr (record { locked = locked; is = refl; there = ap is_some mutex }),
-    (inl (record { edit = Finish []; thread = t; is = refl; there = there_still; quiet = rw mode refl; plain = (refl, refl, refl) }), tt),
+    (inl (record { edit = own; thread = t; is = refl; there = there_still; quiet = quiet; plain = plain }), tt),
   )
 
   -- a thread isn't the mutex
@@ -102,9 +104,11 @@ module _ (w : World) (me at : Path) (locked was : Bool) (t : Thread) (stage : St
   no_receive turns.Client (MutexLock m) is = refl
   no_receive turns.Client (MutexTrylock m) is = refl
   no_receive turns.Client (MutexUnlock m) is = refl
+  no_receive turns.Client (CondWait c m) is = refl
   no_receive turns.Server (MutexLock m) is = refl
   no_receive turns.Server (MutexTrylock m) is = refl
   no_receive turns.Server (MutexUnlock m) is = refl
+  no_receive turns.Server (CondWait c m) is = refl
   no_receive side other is = absurd (cc)
 
   room_no_mover : (side : Turn) (y : Path) (into room : ℕ) → HasRoom w side y into room → same_path y me ≡ false

@@ -7,7 +7,7 @@ ghost use Rattle.fk_model.specs.Valid.{IsValid};
 ghost use Rattle.fk_store.specs.Store.Paths.{path};
 ghost use Rattle.fk_store.specs.Store.World.{world, place_of};
 ghost use Rattle.fk_turns.specs.Whys.Causes.{cause_at};
-ghost use Rattle.fk_turns.specs.Whys.Whys.{IsAt, IsLoudly, IsWhy};
+ghost use Rattle.fk_turns.specs.Whys.Whys.{IsAt, IsLoudly, IsStill, IsWhy};
 ghost use Rattle.fk_turns.specs.Moved.Kept.{is_user_at, AreKept};
 ghost use Rattle.fk_turns.specs.Moved.Settled as settled;
 ghost use Rattle.fk_turns.specs.Moved.Settled.{IsSettled};
@@ -62,6 +62,23 @@ pub fn settle_loud(turns: &mut Turns, store: &Store, who: Who, cause: Who)
 {
     store.names();
     settle_for(turns, store, who, cause, Why::Loud);
+}
+
+/// The same, where what it waits for may be told, and nothing else but what touches itself ends that.
+pub fn settle_still(turns: &mut Turns, store: &Store, who: Who, cause: Option<Who>)
+    requires valid { IsValid (world store.now) }
+    requires kept { AreKept store.now turns.old.waits turns.old.marks }
+    requires user { is_user_at store.now who ≡ true }
+    requires unready { (pick : Option Path) → IsReady (world store.now) (place_of store.now who) pick asks.Run → ⊥ }
+    requires why { IfSome cause (λ key. IsStill (world store.now) (place_of store.now who)) }
+    requires cause { IfSome cause (λ key. place_of store.now key ≡ cause_at (world store.now) (place_of store.now who)) }
+    ensures kept { AreKept store.now turns.new.waits turns.new.marks }
+    ensures settled { IsSettled store.now who turns.old.waits turns.new.waits }
+{
+    match cause {
+        Some(key) => settle_for(turns, store, who, key, Why::Still),
+        None => settle(turns, store, who),
+    }
 }
 
 /// The same at this cause, where it is known why no move of it is ready.

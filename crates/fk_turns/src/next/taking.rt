@@ -11,6 +11,7 @@ ghost use Rattle.fk_turns.specs.Next.Waiting.{IsMoveReady};
 
 use fk_calls::{Picks, may_pick};
 use fk_links::is_member;
+use fk_model::call::{WAIT, WAIT_RECEIVE};
 use fk_model::{Ask, Move, Who};
 use fk_store::Store;
 use fk_waits::turns::Turns;
@@ -65,14 +66,16 @@ fn takes_first_of(turns: &Turns, store: &Store, who: Who, set: u64) -> Option<Mo
     ensures ready { IfSome result (λ m. IsReadyMove store.now m asks.Run) }
     ensures who { IfSome result (λ m. m.who ≡ who) }
 {
-    for slot in 0..256u16 {
+    let mut from: u16 = 0;
+    while let Some(slot) = store.next_in(who.space, from) {
         let port = Who {
             space: who.space,
-            slot: slot as u8,
+            slot,
         };
         if let Some(m) = takes_first_at(turns, store, who, set, port) {
             return Some(m);
         }
+        from = u16::from(slot) + 1;
     }
     None
 }
@@ -89,6 +92,41 @@ fn takes_first_at(turns: &Turns, store: &Store, who: Who, set: u64, port: Who) -
     match turns.waits().first(port) {
         Some(other) => takes(store, who, other),
         None => None,
+    }
+}
+
+/// Who is queued first at a port of the set on which the user in a slot waits, if it is at a wait. It is a hint: nothing is said of it.
+pub fn first_to_take(turns: &Turns, store: &Store, who: Who) -> Option<Who> {
+    let thread = store.thread(who)?;
+    if !begins_with_wait(thread.regs[0]) {
+        return None;
+    }
+    let set = thread.regs[1];
+    let mut from: u16 = 0;
+    while let Some(slot) = store.next_in(who.space, from) {
+        let port = Who {
+            space: who.space,
+            slot,
+        };
+        if let Some(other) = first_at_member(turns, store, set, port) {
+            return Some(other);
+        }
+        from = u16::from(slot) + 1;
+    }
+    None
+}
+
+/// A call begins with a wait.
+fn begins_with_wait(code: u64) -> bool {
+    code == WAIT || code == WAIT_RECEIVE
+}
+
+/// Who is queued first at a port, if that is in a set.
+fn first_at_member(turns: &Turns, store: &Store, set: u64, port: Who) -> Option<Who> {
+    if is_member(store, set, port) {
+        turns.waits().first(port)
+    } else {
+        None
     }
 }
 

@@ -33,14 +33,16 @@ fn takes_by_handle(store: &Store, picker: Picker, handle: Who) -> Option<Who>
     ensures ready { IfSome result (λ found. IsPicked store.now picker (place (path store.now) found)) }
     ensures none { IfNone result ((q : Path) → ConnectsBy (world store.now) (place (path store.now) handle) q → IsPicked store.now picker q → ⊥) }
 {
-    for slot in 0..256u16 {
+    let mut from: u16 = 0;
+    while let Some(slot) = store.next_in(handle.space, from) {
         let other = Who {
             space: handle.space,
-            slot: slot as u8,
+            slot,
         };
         if let Some(found) = takes_connecting(store, picker, handle, other) {
             return Some(found);
         }
+        from = u16::from(slot) + 1;
     }
     None
 }
@@ -127,14 +129,16 @@ pub fn takes_one(store: &Store, who: Who, set: u64) -> Option<Who>
     ensures ready { IfSome result (λ found. IsPicked store.now (Picker.User who) (place (path store.now) found)) }
     ensures none { IfNone result ((q : Path) → StandsIn (world store.now) (path store.now who.space) set q → IsPicked store.now (Picker.User who) q → ⊥) }
 {
-    for slot in 0..256u16 {
+    let mut from: u16 = 0;
+    while let Some(slot) = store.next_in(who.space, from) {
         let port = Who {
             space: who.space,
-            slot: slot as u8,
+            slot,
         };
         if let Some(found) = takes_in(store, Picker::User(who), set, port) {
             return Some(found);
         }
+        from = u16::from(slot) + 1;
     }
     None
 }

@@ -6,17 +6,19 @@ ghost use Rattle.fk_model.specs.declared.moves.Ask.TheVariants as asks;
 ghost use Rattle.fk_model.specs.Valid.{IsValid};
 ghost use Rattle.fk_store.specs.Store.World.{world, place_of};
 ghost use Rattle.fk_turns.specs.Moved.Kept.{is_user_at, AreKept};
-ghost use Rattle.fk_turns.specs.Next.Goings.{run_of, IsThen};
+ghost use Rattle.fk_turns.specs.Next.Goings.{run_of, IsSleeper, IsThen};
 ghost use Rattle.fk_turns.specs.Next.Judgements.{IsEnded, IsReadyMove, IsStepTo};
 ghost use Rattle.fk_turns.specs.Next.Runs.{is_under_way_at};
 ghost use Rattle.fk_turns.specs.Next.Waiting.{standing, IsMoveReady, IsPlaced};
 ghost use Rattle.fk_turns.specs.Steps.Classes.{is_made, ComesMildly};
 ghost use Rattle.fk_turns.specs.Steps.Steps.{IsPut};
 
+use crate::moved::settle_still;
 use crate::next::put;
 use crate::steps::plain::turns_on;
 use crate::steps::steps::proceed_stage;
 use crate::steps::talking::after_talk;
+use crate::whys::asleep_at;
 use fk_calls::{Then, Went, What};
 use fk_model::{Said, Who};
 use fk_store::Store;
@@ -123,6 +125,7 @@ fn after_class(turns: &mut Turns, store: &Store, mover: Who, what: What, at: The
     rouse_by(turns, store, mover, what);
     match at {
         Then::Runs => go_last(turns, store, mover),
+        Then::Asleep => go_to_sleep(turns, store, mover),
     }
 }
 
@@ -136,12 +139,13 @@ fn rouse_by(turns: &mut Turns, store: &Store, mover: Who, what: What)
     match what {
         What::Locks { .. } => {}
         What::Unlocks { mutex } => turns.rouse_at(mutex),
+        What::Sleeps { mutex, .. } => turns.rouse_at(mutex),
     }
 }
 
 /// A thread that runs goes from first to last.
 #[inline(always)]
-fn go_last(turns: &mut Turns, store: &Store, mover: Who)
+pub fn go_last(turns: &mut Turns, store: &Store, mover: Who)
     requires valid { IsValid (world store.now) }
     requires kept { AreKept store.now turns.old.waits turns.old.marks }
     requires on { is_under_way_at store.now mover ≡ true }
@@ -152,4 +156,17 @@ fn go_last(turns: &mut Turns, store: &Store, mover: Who)
         return;
     }
     put(turns, store, mover);
+}
+
+/// A thread that sleeps is queued at its condition.
+#[inline(always)]
+fn go_to_sleep(turns: &mut Turns, store: &Store, mover: Who)
+    requires valid { IsValid (world store.now) }
+    requires kept { AreKept store.now turns.old.waits turns.old.marks }
+    requires asleep { IsSleeper store.now mover }
+    ensures kept { AreKept store.now turns.new.waits turns.new.marks }
+    ensures placed { IsPlaced store.now (standing turns.new.waits) mover }
+{
+    let cond = asleep_at(store, mover);
+    settle_still(turns, store, mover, cond);
 }

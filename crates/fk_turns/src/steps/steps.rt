@@ -98,7 +98,7 @@ fn is_made(tried: &Result<Option<Told>, NoMemory>) -> bool
 
 /// The lists after a move, if one was made.
 #[inline(never)]
-fn after_plain_if(
+pub fn after_plain_if(
     turns: &mut Turns,
     store: &Store,
     made: bool,

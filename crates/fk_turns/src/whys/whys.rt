@@ -15,7 +15,7 @@ ghost use Rattle.fk_store.specs.Store.World.{world};
 ghost use Rattle.laws_waits.specs.Stuck as stuck;
 ghost use Rattle.laws_waits.specs.Stuck.{IsAtStage};
 ghost use Rattle.fk_turns.specs.Whys.Causes.{cause_at};
-ghost use Rattle.fk_turns.specs.Whys.Whys.{is_lock_stage, IsAt, IsKnown, IsLocked, IsThere, IsWhy};
+ghost use Rattle.fk_turns.specs.Whys.Whys.{is_lock_stage, IsAt, IsKnown, IsLocked, IsStill, IsThere, IsWhy};
 
 use crate::whys::causes::{named, outermost_held};
 use crate::whys::stages::{first_stage, is_user};
@@ -110,6 +110,86 @@ fn locked_named(store: &Store, who: Who, thread: &Thread, mutex: u64) -> Option<
         }),
         None => None,
     }
+}
+
+/// The condition on which the thread in a slot sleeps, while nothing is held. No move of it is ready then, and the condition is its cause.
+pub fn asleep_at(store: &Store, who: Who) -> Option<Who>
+    ensures why { IfSome result (λ key. IsStill (world store.now) (place (path store.now) who)) }
+    ensures cause { IfSome result (λ key. place (path store.now) key ≡ cause_at (world store.now) (place (path store.now) who)) }
+{
+    if store.is_any_held() {
+        return None;
+    }
+    match store.thread(who) {
+        Some(thread) => asleep_before(store, who, thread),
+        None => None,
+    }
+}
+
+/// The same of this thread.
+fn asleep_before(store: &Store, who: Who, thread: &Thread) -> Option<Who>
+    requires unheld { (q : Path) → decider (world store.now) q ≡ None }
+    requires there { Some (thread_by (path store.now) thread.now) ≡ thread_at (world store.now) (place (path store.now) who) }
+    ensures why { IfSome result (λ key. IsStill (world store.now) (place (path store.now) who)) }
+    ensures cause { IfSome result (λ key. place (path store.now) key ≡ cause_at (world store.now) (place (path store.now) who)) }
+{
+    if is_resting(thread) {
+        return None;
+    }
+    match first_stage(thread) {
+        Some(stage) => asleep_in(store, who, thread, stage),
+        None => None,
+    }
+}
+
+/// The same at this stage of it.
+fn asleep_in(store: &Store, who: Who, thread: &Thread, stage: Stage) -> Option<Who>
+    requires unheld { (q : Path) → decider (world store.now) q ≡ None }
+    requires there { Some (thread_by (path store.now) thread.now) ≡ thread_at (world store.now) (place (path store.now) who) }
+    requires awake { stuck.is_resting (thread_by (path store.now) thread.now) ≡ false }
+    requires stage { talks.first_stage (thread_by (path store.now) thread.now).mode ≡ Some stage }
+    ensures why { IfSome result (λ key. IsStill (world store.now) (place (path store.now) who)) }
+    ensures cause { IfSome result (λ key. place (path store.now) key ≡ cause_at (world store.now) (place (path store.now) who)) }
+{
+    match stage {
+        Stage::CondAsleep { c, m } => asleep_named(store, who, thread, c, m),
+        _ => None,
+    }
+}
+
+/// The same of this condition and this mutex.
+fn asleep_named(store: &Store, who: Who, thread: &Thread, cond: u64, mutex: u64) -> Option<Who>
+    requires unheld { (q : Path) → decider (world store.now) q ≡ None }
+    requires there { Some (thread_by (path store.now) thread.now) ≡ thread_at (world store.now) (place (path store.now) who) }
+    requires awake { stuck.is_resting (thread_by (path store.now) thread.now) ≡ false }
+    requires stage { talks.first_stage (thread_by (path store.now) thread.now).mode ≡ Some (Stage.CondAsleep cond mutex) }
+    ensures why { IfSome result (λ key. IsStill (world store.now) (place (path store.now) who)) }
+    ensures cause { IfSome result (λ key. place (path store.now) key ≡ cause_at (world store.now) (place (path store.now) who)) }
+{
+    if !is_mutex(store, who.space, mutex) {
+        return None;
+    }
+    match cond_slot(store, who.space, cond) {
+        Some(slot) => Some(Who {
+            space: who.space,
+            slot,
+        }),
+        None => None,
+    }
+}
+
+/// The slot of a condition of a space, if one is there.
+fn cond_slot(store: &Store, space: u32, cond: u64) -> Option<u8>
+    ensures slot { IfSome result (λ slot. slot ≡ cond) }
+    ensures there { IfSome result (λ slot. IsThere (world store.now) (path store.now space) cond kinds.Cond) }
+{
+    if !is_cond(store, space, cond) {
+        return None;
+    }
+    if cond > LAST_USER_SLOT {
+        return None;
+    }
+    Some(cond as u8)
 }
 
 /// Why no move of this thread is ready: it rests, it lies beneath a hold, or it waits in a call.

@@ -170,6 +170,11 @@ impl Waits {
         self.threads.behind(thread)
     }
 
+    /// A thread was queued, and nobody was moved after it, as far as is known. It is a hint: nothing is said of it.
+    pub fn has_parked(&self, thread: Who) -> bool {
+        is_known(self.last, thread) && self.cause.is_some()
+    }
+
     /// A thread is known to be the last of the ready: nobody was moved after it.
     pub fn is_last(&self, thread: Who) -> bool
         ensures { OnTrue result (IsLast thread self.now.ready) }

@@ -2,7 +2,7 @@
 use crate::hunt::random::Random;
 use fk_core::Core;
 use fk_model::{Ask, Mode, Move, Stage, Who};
-use fk_natives::{Native, Service};
+use fk_natives::{Native, ask};
 use fk_porters::Porter;
 use lens_text::next_stage;
 
@@ -89,7 +89,7 @@ pub fn server_move(core: &Run, random: &mut Random, place: usize) -> Option<Move
         return None;
     };
     let who = *port;
-    match native.ask() {
+    match ask(native) {
         Some(Ask::Accept) => {
             let pick = core.kernel().ready_accept(who);
             match pick {

@@ -2,7 +2,7 @@
 use crate::steps::sides::other_side;
 use fk_first::Seen;
 use fk_model::{Ask, Body, Mode, Move, Stage, Thread};
-use fk_natives::Service;
+use fk_natives::ask;
 use fk_store::Store;
 use lens_text::{Sheet, next_stage, push_asked, push_call, push_instruction, push_named, word_at};
 
@@ -10,7 +10,7 @@ use lens_text::{Sheet, next_stage, push_asked, push_call, push_instruction, push
 fn push_native_act(sheet: &Sheet, seen: &Seen<'_>, one: &Move) {
     for (port, native) in seen.services {
         if *port == one.who {
-            match native.ask() {
+            match ask(native) {
                 Some(Ask::Accept) => {
                     sheet.put(b"accept");
                     push_named(sheet, seen.store, b" of ", one.pick);

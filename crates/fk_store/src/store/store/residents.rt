@@ -1,7 +1,8 @@
 //! What stands in a space.
-ghost use Rattle.std.specs.Prelude.{◌≡◌, ◌<◌, ◌∷◌, false, IfSome, option_map};
+ghost use Rattle.std.specs.Prelude.{◌≡◌, ◌<◌, ◌≤◌, ◌∷◌, ℕ, None, false, IfSome, option_map};
 ghost use Rattle.fk_model.specs.declared.names.Who.{Who};
 ghost use Rattle.fk_model.specs.Searches as searches;
+ghost use Rattle.fk_store.specs.Store.Names.{at};
 ghost use Rattle.fk_store.specs.Store.Paths.{path};
 ghost use Rattle.fk_store.specs.Store.World.{world, place_of, IsLive};
 
@@ -14,6 +15,14 @@ impl Store {
         ensures { result ≡ searches.first_resident (world self.now) (path self.now space) }
     {
         self.bodies.first_in(space)
+    }
+
+    /// The first taken slot of a space from a slot on.
+    pub fn next_in(&self, space: u32, slot: u16) -> Option<u8>
+        ensures some { IfSome result (λ next. (slot ≤ next) × ((k : ℕ) → IsLive self.now (at space k) → slot ≤ k → next ≤ k)) }
+        ensures none { result ≡ None → (k : ℕ) → IsLive self.now (at space k) → k < slot }
+    {
+        self.bodies.next_in(space, slot)
     }
 
     /// Something stands in an object.

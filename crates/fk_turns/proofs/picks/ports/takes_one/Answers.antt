@@ -1,22 +1,28 @@
-use Rattle.std.proofs.Common.{◌≡◌, ◌∷◌, true, arith}
+use Rattle.std.proofs.Common.{◌≡◌, ℕ, ◌∷◌, true}
 use Rattle.fk_model.specs.LinkRows.{is_member}
 use Rattle.fk_model.specs.Places.{Path}
+use Rattle.fk_store.specs.Store.Names.{at}
 use Rattle.fk_store.specs.Store.Paths.{path}
-use Rattle.fk_store.specs.Store.World.{world}
+use Rattle.fk_store.specs.Store.World.{world, IsLive}
 use Rattle.fk_turns.specs.Picks.Stands.{StandsAt, IsPicked}
 use Rattle.fk_turns.specs.declared.picks.moves.Picker.TheVariants.{User}
-use Rattle.fk_turns.proofs.InPicks.Slots.{member_low, one_more}
+use Rattle.fk_turns.proofs.InPicks.Slots.{all_slots, member_there, up_to}
 use Rattle.fk_turns.proofs.picks.ports.takes_one.Goals as goal
+
+pub loop-from-preserved : goal.loop-from-preserved
+loop-from-preserved c =
+    let m = c.args.store.now in
+    let s = path m c.args.who.space in
+    up_to (λ k. is_member c.args.set ((world m).body (k ∷ s)) ≡ true → (q : Path) → StandsAt (world m) (k ∷ s) q → IsPicked m (User c.args.who) q → ⊥)
+    (λ k. IsLive m (at c.args.who.space k)) c.loop-from.from c.in-Some.slot
+    (λ k shown member. shown (member_there (world m) (k ∷ s) c.args.set member) member)
+    c.loop-from.invariant c.in-Some.ensures.1 c.in_default.ensures.none
 
 pub returns-clause-none : goal.returns-clause-none
 returns-clause-none c q stands picked =
     let m = c.args.store.now in
-    let low = member_low (world m) (path m c.args.who.space) stands.slot c.args.set c.requires.valid stands.member in
-    c.loop-slot.invariant stands.slot (omega (arith, low)) stands.member q stands.stands picked
-
-pub loop-slot-preserved : goal.loop-slot-preserved
-loop-slot-preserved c =
-    let m = c.args.store.now in
     let s = path m c.args.who.space in
-    one_more (λ k. is_member c.args.set ((world m).body (k ∷ s)) ≡ true → (q : Path) → StandsAt (world m) (k ∷ s) q → IsPicked m (User c.args.who) q → ⊥)
-    c.loop-slot.slot c.loop-slot.invariant c.in_default.ensures.none
+    all_slots (λ k. is_member c.args.set ((world m).body (k ∷ s)) ≡ true → (q : Path) → StandsAt (world m) (k ∷ s) q → IsPicked m (User c.args.who) q → ⊥)
+    (λ k. IsLive m (at c.args.who.space k)) c.loop-from.from
+    (λ k shown member. shown (member_there (world m) (k ∷ s) c.args.set member) member)
+    c.loop-from.invariant c.in_default.ensures.none stands.slot stands.member q stands.stands picked

@@ -1,4 +1,4 @@
-use Rattle.std.proofs.Common.{◌≡◌, ℕ, ◌<◌, ◌∷◌, true}
+use Rattle.std.proofs.Common.{◌≡◌, ℕ, ◌<◌, ◌-◌, ◌∷◌, true}
 use Rattle.fk_model.specs.LinkRows.{is_member}
 use Rattle.fk_model.specs.Places.{Path}
 use Rattle.fk_store.specs.Store.Paths.{path}
@@ -8,7 +8,10 @@ use Rattle.fk_turns.specs.declared.picks.moves.Picker.TheVariants.{User}
 use Rattle.fk_turns.proofs.picks.ports.takes_one.Given as goal
 
 -- nobody at the ports in the slots so far
-abbrev pub invariant-loop-slot : goal.invariant-loop-slot
-invariant-loop-slot l = let s = path l.store l.who.space in
-    (k : ℕ) → k < l.slot → is_member l.set ((world l.store).body (k ∷ s)) ≡ true →
+abbrev pub invariant-loop-from : goal.invariant-loop-from
+invariant-loop-from l = let s = path l.store l.who.space in
+    (k : ℕ) → k < l.from → is_member l.set ((world l.store).body (k ∷ s)) ≡ true →
     (q : Path) → StandsAt (world l.store) (k ∷ s) q → IsPicked l.store (User l.who) q → ⊥
+
+abbrev pub decreases-loop-from : goal.decreases-loop-from
+decreases-loop-from l = 256 - l.from

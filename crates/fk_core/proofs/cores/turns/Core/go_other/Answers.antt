@@ -1,13 +1,9 @@
-use Rattle.std.proofs.lemmas.Bool.{OnTrue_at}
+use Rattle.std.proofs.Common.{◌∙◌, sym}
 use Rattle.fk_core.specs.Rounds.Kernels.{world_of as world}
-use Rattle.fk_core.proofs.InRounds.Asking.{ready_asked}
+use Rattle.fk_core.proofs.InRounds.Acts.{unserved_runs}
 use Rattle.fk_core.proofs.cores.turns.Core.go_other.Goals as goal
 
-pub returns-then-go_said-clause-tried : goal.returns-then-go_said-clause-tried
-returns-then-go_said-clause-tried g c =
+pub go_user-requires-clause-runs : goal.go_user-requires-clause-runs
+go_user-requires-clause-runs g c =
     let self = c.args.self.now in
-    let made = OnTrue_at c.if-go_said.true c.go_said.ensures.made in
-    (ready_asked self.jobs (world self.kernel) self.services.list self.events c.args.m.now c.requires.other made.1, made.2, made.3)
-
-pub returns-then-go_said-clause-fits : goal.returns-then-go_said-clause-fits
-returns-then-go_said-clause-fits g c = c.go_said.ensures.fits _ c.requires.fits
+    unserved_runs self.services.list (world self.kernel) c.args.m.now.who (sym c.is_served.ensures ∙ c.if-is_served.false)

@@ -1,4 +1,6 @@
 use Rattle.std.proofs.Common.{IsSome, refl, sym, subst}
+use Rattle.fk_core.specs.Rounds.Kernels.{Kept}
+use Rattle.fk_core.specs.Cores.Cores.{core_at, run_core, IsAdvanced}
 use Rattle.fk_core.proofs.InCores.Proceeding.{proceeded, none-left, no-porter}
 use Rattle.fk_core.proofs.cores.turns.Core.proceed.Goals as goal
 
@@ -11,3 +13,13 @@ returns-in-Made-clause-advanced g c =
     (rw c.in-Made.is at c.proceed_on.ensures.made)
     (rw c.in-Made.is at c.proceed_on.ensures.ended)
     (none-left self.jobs _ refl c.requires.none) refl
+
+pub pick_on-requires-clause-few : goal.pick_on-requires-clause-few
+pick_on-requires-clause-few g c = c.same_thread.ensures (subst (λ o. IsSome o) (sym c.in_ok-who.was) refl)
+
+pub returns-in-Not-clause-advanced : goal.returns-in-Not-clause-advanced
+returns-in-Not-clause-advanced g c =
+    let self = c.args.self.now in
+    let same = rw c.in-Not.is at c.proceed_on.ensures.same in
+    subst (λ (k : Kept). IsAdvanced self.jobs.jobs self.budget (core_at k self.services.list self.jobs self.events) c.pick_on.result
+    (run_core c.pick_on.new.self)) same c.pick_on.ensures.advanced

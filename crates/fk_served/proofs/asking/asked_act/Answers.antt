@@ -1,7 +1,7 @@
 use Rattle.std.proofs.Common.{◌∙◌, sym}
 use Rattle.fk_kernel.specs.Kernels.{world_of as world}
 use Rattle.fk_served.proofs.Idle.{no-act, if-none}
-use Rattle.fk_served.proofs.asking.ready_act.Goals as goal
+use Rattle.fk_served.proofs.asking.asked_act.Goals as goal
 
 pub returns-in_default-clause-none : goal.returns-in_default-clause-none
 returns-in_default-clause-none g c =

@@ -1,11 +1,11 @@
 use Rattle.std.proofs.Common.{◌∙◌, sym}
 use Rattle.fk_served.proofs.Lists.{served-here, served-next, served-none}
-use Rattle.fk_served.proofs.services.ask_in.Goals as goal
+use Rattle.fk_served.proofs.services.server_in.Goals as goal
 
 pub returns-then-eq : goal.returns-then-eq
 returns-then-eq g c =
-    c.ask.ensures ∙ (sym (served-here g.S.Service.meaning c.args.list.now c.loop-port.port-index c.loop-port-item.result c.args.who
-    c.loop-port-test.true c.loop-port-item.is (sym c.eq.ensures ∙ c.if-eq.true)) ∙ c.loop-port.invariant)
+    sym (served-here g.S.Service.meaning c.args.list.now c.loop-port.port-index c.loop-port-item.result c.args.who
+    c.loop-port-test.true c.loop-port-item.is (sym c.eq.ensures ∙ c.if-eq.true)) ∙ c.loop-port.invariant
 
 pub loop-port-preserved : goal.loop-port-preserved
 loop-port-preserved g c =

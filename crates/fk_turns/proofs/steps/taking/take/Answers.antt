@@ -1,0 +1,60 @@
+use Rattle.std.proofs.Common.{Some}
+use Rattle.fk_model.specs.declared.moves.Ask.TheVariants as asks
+use Rattle.fk_model.specs.declared.moves.Move.{Move}
+use Rattle.fk_model.specs.declared.moves.Said.TheVariants as says
+use Rattle.fk_turns.proofs.InSteps.Stepped.{comes_true, kept_wider, never_quiet, put_true, run_fit, same_wider, still_then, still_true, valid_true}
+use Rattle.fk_turns.proofs.steps.taking.take.Goals as goal
+
+pub after_plain_if-requires : goal.after_plain_if-requires
+after_plain_if-requires c =
+    let m = c.args.store.now in
+    let n = c.take_up-made.new.store in
+    let run : Move = record { who = c.args.who; pick = Some c.args.other } in
+    let was = c.args.turns.now in
+    let now = c.seat_for.new.turns in
+    let kept = kept_wider m was.waits was.marks now.waits now.marks c.requires.kept c.seat_for.ensures.wider in
+    let room = rw c.if-not-seat_for.false at c.seat_for.ensures.room in
+    record {
+      valid = valid_true m n run asks.Run c.requires.valid c.names.ensures.few (run_fit m run) says.Nothing c.take_up-made.result c.take_up-made.ensures.made
+          c.take_up-made.ensures.same;
+      comes = comes_true m n run asks.Run c.requires.valid c.names.ensures.few (run_fit m run) c.names.ensures.born c.names-2.ensures.born
+          c.names-2.ensures.few c.take_up-made.new.touched now.waits now.marks says.Nothing c.take_up-made.result kept room c.take_up-made.ensures.made
+          c.take_up-made.ensures.touched;
+      quiet = never_quiet n c.args.who c.take_up-made.result c.take_up-made.new.touched now.waits now.marks;
+      kept = still_true m n run asks.Run c.requires.valid c.names.ensures.few (run_fit m run) now.waits now.marks c.take_up-made.result kept
+          c.take_up-made.ensures.same;
+    }
+
+pub returns-clause-placed : goal.returns-clause-placed
+returns-clause-placed c =
+    let m = c.args.store.now in
+    let run : Move = record { who = c.args.who; pick = Some c.args.other } in
+    put_true m c.take_up-made.new.store run asks.Run c.requires.valid c.names.ensures.few (run_fit m run) c.names.ensures.born c.names-2.ensures.born
+    c.names-2.ensures.few c.take_up-made.new.touched c.after_plain_if.new.turns.waits says.Nothing c.take_up-made.result c.take_up-made.ensures.made
+    c.take_up-made.ensures.touched c.after_plain_if.ensures.placed
+
+pub returns-clause-still : goal.returns-clause-still
+returns-clause-still c =
+    let was = c.args.turns.now in
+    let now = c.seat_for.new.turns in
+    still_then was.waits now.waits c.after_plain_if.new.turns.waits _ (same_wider was.waits was.marks now.waits now.marks c.seat_for.ensures.wider)
+    c.after_plain_if.ensures.still
+
+pub returns-then-not-seat_for-clause-kept : goal.returns-then-not-seat_for-clause-kept
+returns-then-not-seat_for-clause-kept c =
+    let was = c.args.turns.now in
+    let now = c.seat_for.new.turns in
+    kept_wider c.args.store.now was.waits was.marks now.waits now.marks c.requires.kept c.seat_for.ensures.wider
+
+pub returns-then-not-seat_for-clause-still : goal.returns-then-not-seat_for-clause-still
+returns-then-not-seat_for-clause-still c =
+    let was = c.args.turns.now in
+    let now = c.seat_for.new.turns in
+    same_wider was.waits was.marks now.waits now.marks c.seat_for.ensures.wider
+
+pub returns-clause-valid : goal.returns-clause-valid
+returns-clause-valid c =
+    let m = c.args.store.now in
+    let run : Move = record { who = c.args.who; pick = Some c.args.other } in
+    valid_true m c.take_up-made.new.store run asks.Run c.requires.valid c.names.ensures.few (run_fit m run) says.Nothing c.take_up-made.result
+    c.take_up-made.ensures.made c.take_up-made.ensures.same
