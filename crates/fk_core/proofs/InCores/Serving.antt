@@ -1,5 +1,5 @@
 -- Serving: an act of a native server that is made at once is a turn.
-use Rattle.std.proofs.Common.{◌≡◌, ℕ, zero, suc, ◌+◌, ◌-◌, ◌<◌, ◌≤◌, true, false, List, [], ◌∷◌, ◌++◌, length, map, replicate, Some, None}
+use Rattle.std.proofs.Common.{◌≡◌, ℕ, zero, suc, ◌+◌, ◌-◌, ◌<◌, ◌≤◌, ◌==◌, true, false, List, [], ◌∷◌, ◌++◌, length, map, replicate, Some, None}
 use Rattle.std.proofs.Common.{take_all, refl, sym, ap, ◌∙◌}
 use Rattle.std.proofs.lemmas.Bool.{and_parts}
 use Rattle.fk_model.specs.declared.moves.Ask.{Ask}
@@ -9,6 +9,7 @@ use Rattle.fk_model.specs.declared.moves.Said.TheVariants as says
 use Rattle.fk_model.specs.declared.names.Who.{Who}
 use Rattle.fk_model.specs.Answers.{reply_words}
 use Rattle.fk_model.specs.Whole.{are_words, is_word}
+use Rattle.fk_store.proofs.InStore.finding.Walks.{not_root}
 use Rattle.laws_moves.specs.Whole.Runnable.{has_all_words}
 use Rattle.laws_runs.specs.Cores.{Settles}
 use Rattle.fk_natives.specs.Natives.{gives_left}
@@ -39,9 +40,9 @@ served m n services new q budget events port ask said d few other asks_it words 
 padded_left : (left : List ℕ) → length left ≤ 64 → reply_words (padded left) ≡ left
 padded_left left few = ap (λ ws. reply_words (padded ws)) (sym (take_all 64 left few)) ∙ echoed left few
 
-pub given_left : (m n : Kept) (port : Who) (left : List ℕ) (count : ℕ) → length left ≤ 64 → (length left ≡ 0 → ⊥) → IsGiven m n port left count →
+pub given_left : (m n : Kept) (port : Who) (left : List ℕ) (count : ℕ) → length left ≤ 64 → (length left == 0) ≡ false → IsGiven m n port left count →
     IsActed m n port (gives_left left) (says.Given port count)
-given_left m n port [] count few some given = absurd (some refl)
+given_left m n port [] count few some given = absurd (cc)
 given_left m n port (word ∷ words) count few some given =
     given (padded (word ∷ words)).words (padded (word ∷ words)).len (padded_left (word ∷ words) few)
 
@@ -59,6 +60,6 @@ words_left [] all = refl
 words_left (word ∷ words) all = padded_words (word ∷ words) (64 - length (word ∷ words)) all
 
 -- nothing is left
-pub none_left : (left : List ℕ) → length left ≡ 0 → gives_left left ≡ asks.Over
+pub none_left : (left : List ℕ) → (length left == 0) ≡ true → gives_left left ≡ asks.Over
 none_left [] none = refl
-none_left (word ∷ words) none = absurd (cc)
+none_left (word ∷ words) none = let some = not_root (length (word ∷ words)) (omega arith) in absurd (cc)

@@ -10,7 +10,7 @@ use Rattle.fk_core.proofs.cores.turns.Core.act_on.Goals as goal
 
 pub pass_on-requires-clause-asked : goal.pass_on-requires-clause-asked
 pass_on-requires-clause-asked g c =
-    c.in-Some-left_by.ensures.asked ∙ ap Some (none_left c.in-Some-left_by.left.now (c.is_empty.ensures.0 c.if-is_empty.true))
+    c.in-Some-left_by.ensures.asked ∙ ap Some (none_left c.in-Some-left_by.left.now (sym c.is_empty.ensures ∙ c.if-is_empty.true))
 
 pub returns-clause-advanced : goal.returns-clause-advanced
 returns-clause-advanced g c =
@@ -21,7 +21,7 @@ returns-clause-advanced g c =
     let asked_for : asked self.services.list (world self.kernel) port ≡ Some (gives_left left) =
     rw (sym c.reserve.ensures.same) c.in-Some-left_by.ensures.asked in
     let acted = given_left self.kernel c.give.new.self port left c.in-Some-give.count c.in-Some-left_by.ensures.few
-    (λ none. c.if-is_empty.false) c.in-Some-give.ensures.gave in
+    (sym c.is_empty.ensures ∙ c.if-is_empty.false) c.in-Some-give.ensures.gave in
     served self.kernel c.give.new.self self.services.list c.hear_given.new.self.list self.jobs self.budget self.events port (gives_left left) said _
     (c.in-Some.ensures.few refl) c.in-Some.ensures.other asked_for (words_left left c.in-Some-left_by.ensures.words) acted
     (c.hear_given.ensures ∙ ap (map (told said None)) c.reserve.ensures.same) c.settle.ensures.settles c.settle.ensures.events
