@@ -10,5 +10,5 @@ returns c =
     let m = c.args.store.now in
     let n = c.falls.new.store in
     sleep_gone m n c.args.who c.mutex_at-mutex.result c.args.c c.args.m c.requires.valid c.names.ensures.few c.requires.unheld c.requires.free
-    c.mutex_at-mutex.ensures c.falls.ensures.paths c.requires.alone (c.in-Ok.ensures []) (rw c.if-not-locked.false at (c.in-Ok-2.ensures.locked []))
+    c.mutex_at-mutex.ensures c.falls.ensures.paths c.requires.alone (c.in-Ok.ensures []) (rw c.if-not-locked.false at (c.in-Ok-mutex_in.ensures.locked []))
     c.falls.ensures.world
