@@ -1,6 +1,6 @@
 -- Steps: an instruction of a burst that has all pages of a space.
 use Rattle.std.proofs.Common.{◌≡◌, ℕ, zero, suc, ◌+◌, ◌/◌, ◌%◌, ◌||◌, ◌&&◌, ◌==◌, Bool, true, false, cond, List, [], Option, Some, None, slice_index, slice_set}
-use Rattle.std.proofs.Common.{Bor, IfSome, IsSome, is_none, option_copied, unwrap_or, refl, sym, ap, subst, ◌∙◌, arith}
+use Rattle.std.proofs.Common.{Bor, IfSome, IsSome, is_some, not, option_copied, unwrap_or, refl, sym, ap, subst, ◌∙◌, arith}
 use Rattle.fk_model.specs.declared.instruction.Act.{Act}
 use Rattle.fk_model.specs.declared.instruction.Act.TheVariants.{Put, Jump, Load, Store, Halt, Call}
 use Rattle.fk_model.specs.Instructions.{act}
@@ -159,8 +159,8 @@ pub found : (o : Option (Bor (List ℕ))) (p q : Option (List ℕ)) → option_c
 found None p q is same = tt
 found (Some words) p q is same = is ∙ same
 
-pub found_some : (o : Option (Bor (List ℕ))) (p : Option (List ℕ)) (none : Bool) → option_copied o ≡ p → none ≡ is_none o → none ≡ false → IsSome p
-found_some None p none is so off = let no : true ≡ false = sym so ∙ off in absurd (cc)
+pub found_some : (o : Option (Bor (List ℕ))) (p : Option (List ℕ)) (none : Bool) → option_copied o ≡ p → is_some o ≡ not none → none ≡ false → IsSome p
+found_some None p none is so off = let no : false ≡ true = so ∙ ap not off in absurd (cc)
 found_some (Some words) p none is so off = subst (λ (o : Option (List ℕ)). IsSome o) is refl
 
 -- what is left to be done isn't nothing

@@ -16,8 +16,9 @@ returns-in_default c =
 pub returns-in_default-word_at : goal.returns-in_default-word_at
 returns-in_default-word_at c =
     let m = c.args.store.now in
-    begins (world m) (path m c.args.space) c.args.running.now c.begin-rest.new.self c.args.words.now c.begin-rest.result c.requires.there
-    c.begin-rest.ensures.rest c.begin-rest.ensures.begun
+    let begun = begins (world m) (path m c.args.space) c.args.running.now c.begin-rest.new.self c.args.words.now c.begin-rest.result c.requires.there
+    c.begin-rest.ensures.rest c.begin-rest.ensures.begun in
+    rw c.in-Loads.is at begun
 
 pub returns : goal.returns
 returns c =

@@ -68,8 +68,8 @@ after_still-requires c =
       };
     }
 
-pub invariant_of-self : goal.invariant_of-self
-invariant_of-self c =
+pub invariant_of-self-2 : goal.invariant_of-self-2
+invariant_of-self-2 c =
     let m = c.self.inside.store in
     let some : 0 < c.run-made.result = omega arith in
     let s : IsStretch (world m) (place (path m) c.args.thread) c.run-made.result (world c.run-made.new.store) = c.run-made.ensures.stretch some in
@@ -79,8 +79,8 @@ invariant_of-self c =
     }
 
 -- where none was made all is as before
-pub invariant_of-self-then-made-eq0 : goal.invariant_of-self-then-made-eq0
-invariant_of-self-then-made-eq0 c =
+pub invariant_of-self : goal.invariant_of-self
+invariant_of-self c =
     let was = c.self.inside.turns in
     subst (λ (n : Contents). IsHeld n was.waits was.marks) (sym (c.run-made.ensures.none c.if-made-eq0.true)) c.self.invariant
 
