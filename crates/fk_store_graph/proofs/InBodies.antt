@@ -4,6 +4,7 @@ pub use Rattle.fk_store_graph.proofs.InLinked.NameLaws
 pub use Rattle.fk_store_graph.proofs.InLinked.LedLaws
 pub use Rattle.fk_store_graph.proofs.InLinked.BirthLaws
 pub mod ScanLaws
+pub mod CopyLaws
 pub mod Lists
 pub mod Results
 pub mod FreshLaws

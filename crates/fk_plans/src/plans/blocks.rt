@@ -1,7 +1,6 @@
 //! Words that go from a page to a page: a block of them, or all.
-ghost use Rattle.std.specs.Prelude.{◌≡◌, ◌+◌, ◌≤◌, take, drop, IsSome};
+ghost use Rattle.std.specs.Prelude.{◌≡◌, ◌+◌, ◌≤◌, IsSome};
 ghost use Rattle.fk_model.specs.Reach.{words_at};
-ghost use Rattle.fk_model.specs.TransferRows.{overwritten};
 ghost use Rattle.fk_model.specs.World.{apply};
 ghost use Rattle.fk_model.specs.World.Change.{PutPage};
 ghost use Rattle.fk_model.specs.Valid.{kind_there};
@@ -21,18 +20,6 @@ pub struct Block {
     pub count: u8,
 }
 
-/// A block of another page is written into a page.
-fn write(page: &mut [u64; 64], from: &[u64; 64], at: u8, into: u8, count: u8)
-    requires at { at + count ≤ 64 }
-    requires into { into + count ≤ 64 }
-    ensures { page.new ≡ overwritten page.old into (take count (drop at from.now)) }
-{
-    let at = at as usize;
-    let into = into as usize;
-    let count = count as usize;
-    page[into..into + count].copy_from_slice(&from[at..at + count]);
-}
-
 /// Words of a page go to a page that is there, which may be the same one.
 pub fn send_block(store: &mut Store, block: Block)
     requires at { block.at + block.count ≤ 64 }
@@ -45,18 +32,7 @@ pub fn send_block(store: &mut Store, block: Block)
     ensures kinds { kind_there (world store.new) ≡ kind_there (world store.old) }
     ensures paths { path store.new ≡ path store.old }
 {
-    let Some(from) = store.page(block.from.0, block.from.1) else {
-        unreachable!()
-    };
-    let Some(to) = store.page(block.to.0, block.to.1) else {
-        unreachable!()
-    };
-    let mut words = *to;
-    write(&mut words, from, block.at, block.into, block.count);
-    match store.put_page(block.to.0, block.to.1, &words) {
-        Ok(()) => {}
-        Err(_) => unreachable!(),
-    }
+    store.copy_words(block.from, block.at, block.to, block.into, block.count);
 }
 
 /// The words of a page become those of another that is there.

@@ -1,8 +1,10 @@
 //! The pages of all spaces.
-ghost use Rattle.std.specs.Prelude.{◌≡◌, ℕ, ◌<◌, ◌==◌, if◌then◌else◌, None, [], unwrap_or, slice_set, OnOk, OnErr, IsSome, IsOk, IfOk};
+ghost use Rattle.std.specs.Prelude.{◌≡◌, ℕ, ◌+◌, ◌<◌, ◌≤◌, ◌==◌, if◌then◌else◌, None, [], take, drop, unwrap_or, slice_set, OnOk, OnErr, IsSome, IsOk, IfOk};
 ghost use Rattle.std.specs.Option.{option_copied};
 ghost use Rattle.std.specs.FinMap as map;
+ghost use Rattle.fk_model.specs.TransferRows.{overwritten};
 ghost use Rattle.fk_store_graph.specs.Linked.Births.{is_number};
+ghost use Rattle.fk_store_graph.specs.Linked.Cells.{cell};
 
 use fk_model::NoMemory;
 use fk_store_cells::slots::{Row, clear_row, lay_value, put_value, take_value, value_at};
@@ -57,6 +59,40 @@ impl Page {
         ensures { self.new ≡ slice_set self.old at word }
     {
         self.words[at as usize] = word;
+    }
+
+    /// Words of another page are written over its own, from a place on.
+    pub fn overwrite(&mut self, from: &[u64; 64], at: u8, into: u8, count: u8)
+        requires at { at + count ≤ 64 }
+        requires into { into + count ≤ 64 }
+        ensures { self.new ≡ overwritten self.old into (take count (drop at from.now)) }
+    {
+        let at = at as usize;
+        let into = into as usize;
+        let count = count as usize;
+        self.words[into..into + count].copy_from_slice(&from[at..at + count]);
+    }
+}
+
+/// Words of the page that these rows have under a name, else its own, are written over a page that was taken out of them.
+fn overwrite_of(
+    page: &mut Page,
+    rows: &Vec<Row<Page>>,
+    from: (u32, u8),
+    at: u8,
+    into: u8,
+    count: u8,
+)
+    requires at { at + count ≤ 64 }
+    requires into { into + count ≤ 64 }
+    ensures { page.new ≡ overwritten page.old into (take count (drop at (unwrap_or (cell rows.now.items from.0 from.1) page.old))) }
+{
+    match value_at(rows, from.0, from.1) {
+        Some(other) => page.overwrite(other.words(), at, into, count),
+        None => {
+            let own = *page.words();
+            page.overwrite(&own, at, into, count);
+        }
     }
 }
 
@@ -134,6 +170,21 @@ impl Pages {
         if let Some(mut there) = take_value(&mut self.rows, space, page) {
             there.put(at, word);
             lay_value(&mut self.rows, space, page, there);
+        }
+    }
+
+    /// Words of a page that is there are written over words of another that is there, or of the same, without a page beside them.
+    pub fn copy_words(&mut self, from: (u32, u8), at: u8, to: (u32, u8), into: u8, count: u8)
+        requires from { IsSome (map.get self.old (from.0, from.1)) }
+        requires to { IsSome (map.get self.old (to.0, to.1)) }
+        requires at { at + count ≤ 64 }
+        requires into { into + count ≤ 64 }
+        ensures { self.new ≡ map.insert self.old (to.0, to.1) (overwritten (unwrap_or (map.get self.old (to.0, to.1)) []) into
+            (take count (drop at (unwrap_or (map.get self.old (from.0, from.1)) [])))) }
+    {
+        if let Some(mut there) = take_value(&mut self.rows, to.0, to.1) {
+            overwrite_of(&mut there, &self.rows, from, at, into, count);
+            lay_value(&mut self.rows, to.0, to.1, there);
         }
     }
 

@@ -1,14 +1,17 @@
 -- Pages: a page put or taken away under a name is that at the path.
-use Rattle.std.proofs.Common.{◌≡◌, ℕ, Bool, true, false, cond, ◌&&◌, ◌==◌, List, [], ◌∷◌, Option, Some, None, unwrap_or, slice_set, option_map}
+use Rattle.std.proofs.Common.{◌≡◌, ◌+◌, ◌≤◌, ℕ, Bool, true, false, cond, ◌&&◌, ◌==◌, List, [], ◌∷◌, ◌++◌, take, drop, Option, Some, None, unwrap_or, slice_set}
+use Rattle.std.proofs.Common.{option_map}
 use Rattle.std.proofs.Common.{is_some, length, refl, sym, ap, subst, ◌∙◌, arith}
 use Rattle.fk_model.specs.declared.limits.TheConstants.{PAGE_WORDS}
 use Rattle.std.proofs.lemmas.Bool.Decides.{nat_tests}
-use Rattle.std.proofs.lemmas.List.{length-set}
+use Rattle.std.proofs.Math.Nat.{min-le_left}
+use Rattle.std.proofs.lemmas.List.{length-append, length-drop, length-set, length-take, length-take-le}
 use Rattle.std.specs.Ordering.{eq_by_cmp}
 use Rattle.std.specs.FinMap.{FinMap, get, insert, remove, get-insert, get-remove}
 use Rattle.fk_model.specs.declared.names.Who.{Who}
 use Rattle.fk_model.specs.Places.{Path, same_path}
 use Rattle.fk_model.specs.Objects.{kind_of, and_then}
+use Rattle.fk_model.specs.TransferRows.{overwritten}
 use Rattle.fk_model.specs.World.{apply}
 use Rattle.fk_model.specs.World.Change.{PutPage, DropPage}
 use Rattle.fk_model.specs.Valid.{kind_there}
@@ -108,6 +111,27 @@ module _ (m : Contents) (kept : IsWellFormed m) (space page : ℕ) where
       by : (o : Option (List ℕ)) → get m.pages (space, page) ≡ o → is_some o ≡ true → length (slice_set (unwrap_or o []) at word) ≡ PAGE_WORDS
       by None e some = absurd (cc)
       by (Some words) e some = length-set words at word ∙ kept.full space page words e
+
+  -- and so has one with other words
+  pub copy_words-long : (into at count : ℕ) (from : List ℕ) → into + count ≤ 64 → is_some (get m.pages (space, page)) ≡ true →
+      length (overwritten (unwrap_or (get m.pages (space, page)) []) into (take count (drop at from))) ≡ PAGE_WORDS
+  copy_words-long into at count from fits there = by (get m.pages (space, page)) refl there
+    where
+      long : (words new : List ℕ) → length words ≡ PAGE_WORDS → length new ≤ count → length (overwritten words into new) ≡ PAGE_WORDS
+      long words new full few =
+          let first = length-take-le into words (omega (arith, full, fits)) in
+          let second = length-append new (drop (into + length new) words) in
+          let third = length-drop (into + length new) words in
+          let both = length-append (take into words) (new ++ drop (into + length new) words) in
+          omega (arith, first, second, third, both, full, few, fits)
+
+      by : (o : Option (List ℕ)) → get m.pages (space, page) ≡ o → is_some o ≡ true →
+          length (overwritten (unwrap_or o []) into (take count (drop at from))) ≡ PAGE_WORDS
+      by None e some = absurd (cc)
+      by (Some words) e some =
+          let e2 = length-take count (drop at from) in
+          let least = min-le_left count (length (drop at from)) in
+          long words (take count (drop at from)) (kept.full space page words e) (omega (arith, e2, least))
 
   pub drop_page-world : world (with_pages m (remove m.pages (space, page))) ≡ apply (DropPage (path m space) page) (world m)
   unfolding world apply

@@ -1,7 +1,8 @@
 //! Where the words of a space are.
-ghost use Rattle.std.specs.Prelude.{◌≡◌, ◌<◌, ◌≤◌, ◌+◌, ℕ, None, true, IsSome, slice_set};
+ghost use Rattle.std.specs.Prelude.{◌≡◌, ◌<◌, ◌≤◌, ◌+◌, ℕ, None, true, take, drop, IsSome, slice_set};
 ghost use Rattle.fk_model.specs.Reach as definition;
 ghost use Rattle.fk_model.specs.Holds as holds;
+ghost use Rattle.fk_model.specs.TransferRows.{overwritten};
 ghost use Rattle.fk_model.specs.World.{apply};
 ghost use Rattle.fk_model.specs.World.Change.{PutPage};
 ghost use Rattle.fk_model.specs.Valid.{kind_there};
@@ -59,6 +60,22 @@ impl Store {
         ensures paths { path self.new ≡ path self.old }
     {
         self.pages.put_word(space, page, at, word);
+    }
+
+    /// Words of a page that is there are written over words of another that is there, or of the same, without a page beside them.
+    pub fn copy_words(&mut self, from: (u32, u8), at: u8, to: (u32, u8), into: u8, count: u8)
+        requires from { IsSome ((world self.old).page (path self.old from.0) from.1) }
+        requires space { IsSpace self.old to.0 }
+        requires to { IsSome ((world self.old).page (path self.old to.0) to.1) }
+        requires at { at + count ≤ 64 }
+        requires into { into + count ≤ 64 }
+        ensures world { let words = take count (drop at (definition.words_at (world self.old) (path self.old from.0) from.1)) in
+            world self.new ≡ apply (PutPage (path self.old to.0) to.1
+            (overwritten (definition.words_at (world self.old) (path self.old to.0) to.1) into words)) (world self.old) }
+        ensures kinds { kind_there (world self.new) ≡ kind_there (world self.old) }
+        ensures paths { path self.new ≡ path self.old }
+    {
+        self.pages.copy_words(from, at, to, into, count);
     }
 
     /// A space is held, or one above it, and somebody else than this thread decides there.
