@@ -31,6 +31,7 @@ use Rattle.fk_turns.specs.Moved.Moved.{is_it, is_named, IsMoved}
 use Rattle.fk_turns.specs.Moved.Told.{IsMadeTo, IsStored, IsToldOf}
 use Rattle.fk_turns.specs.Next.Goings.{mutex_by, run_of, touched_by, was_locked, was_made, HasRow, IfMade, IsThen}
 use Rattle.fk_turns.specs.Next.Judgements.{IsReadyMove, IsStepTo, TellsTouched}
+use Rattle.fk_turns.specs.Next.Runs.{is_under_way_at}
 use Rattle.fk_turns.specs.Next.Waiting.{standing, IsPlaced}
 use Rattle.fk_turns.specs.Steps.Classes.{ComesMildly}
 use Rattle.fk_turns.specs.Steps.Steps.{IsPut, IsTurned}
@@ -205,6 +206,10 @@ kept_last n mover waits marks now then_marks kept turned user sound =
       left = tt;
       stays = λ few x why off aside was is. is;
     }
+
+-- it runs
+pub then_runs : (n : Contents) (who : Who) (at : Then) → IsThen n who at → is_under_way_at n who ≡ true
+then_runs n who thens.Runs is = is
 
 -- a thread that is somewhere is a user's
 pub then_user : (n : Contents) (who : Who) (at : Then) → IsThen n who at → is_user_at n who ≡ true

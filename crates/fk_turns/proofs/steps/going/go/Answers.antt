@@ -49,23 +49,36 @@ returns-in-Made-clause-placed c =
 
 -- ---- nothing was made
 
-pub returns-in-Not : goal.returns-in-Not
-returns-in-Not c =
+pub returns-in-Not-clause-waits : goal.returns-in-Not-clause-waits
+returns-in-Not-clause-waits c is up = absurd (cc)
+
+pub returns-in-Not-clause-same : goal.returns-in-Not-clause-same
+returns-in-Not-clause-same c = rw c.in-Not.is at c.go-went.ensures.same
+
+pub returns-in-Not-clause-valid : goal.returns-in-Not-clause-valid
+returns-in-Not-clause-valid c =
+    let same = rw c.in-Not.is at c.go-went.ensures.same in
+    subst (λ (d : Contents). IsValid (world d)) (sym same) c.requires.valid
+
+pub returns-in-Not-clause-kept : goal.returns-in-Not-clause-kept
+returns-in-Not-clause-kept c =
     let same = rw c.in-Not.is at c.go-went.ensures.same in
     let was = c.args.turns.now in
-    record {
-      same = same;
-      valid = subst (λ (d : Contents). IsValid (world d)) (sym same) c.requires.valid;
-      kept = subst (λ (d : Contents). AreKept d was.waits was.marks) (sym same) c.requires.kept;
-    }
+    subst (λ (d : Contents). AreKept d was.waits was.marks) (sym same) c.requires.kept
 
-pub returns-in-Waits : goal.returns-in-Waits
-returns-in-Waits c =
+pub returns-in-Waits-clause-waits : goal.returns-in-Waits-clause-waits
+returns-in-Waits-clause-waits c is = c.go-went.ensures.waits c.in-Waits.is
+
+pub returns-in-Waits-clause-same : goal.returns-in-Waits-clause-same
+returns-in-Waits-clause-same c = rw c.in-Waits.is at c.go-went.ensures.same
+
+pub returns-in-Waits-clause-valid : goal.returns-in-Waits-clause-valid
+returns-in-Waits-clause-valid c =
+    let same = rw c.in-Waits.is at c.go-went.ensures.same in
+    subst (λ (d : Contents). IsValid (world d)) (sym same) c.requires.valid
+
+pub returns-in-Waits-clause-kept : goal.returns-in-Waits-clause-kept
+returns-in-Waits-clause-kept c =
     let same = rw c.in-Waits.is at c.go-went.ensures.same in
     let was = c.args.turns.now in
-    record {
-      waits = λ is. c.go-went.ensures.waits c.in-Waits.is;
-      same = same;
-      valid = subst (λ (d : Contents). IsValid (world d)) (sym same) c.requires.valid;
-      kept = subst (λ (d : Contents). AreKept d was.waits was.marks) (sym same) c.requires.kept;
-    }
+    subst (λ (d : Contents). AreKept d was.waits was.marks) (sym same) c.requires.kept

@@ -7,12 +7,14 @@ rouse_at-requires c = record { sound = c.requires.comes.kept.sound }
 pub returns-in-Locks : goal.returns-in-Locks
 returns-in-Locks c =
     let was = c.args.turns.now in
-    kept_locked c.args.store.now c.args.mover _ was.waits was.marks (rw c.in-Locks.is at c.requires.comes) c.requires.user
+    record { kept = kept_locked c.args.store.now c.args.mover _ was.waits was.marks (rw c.in-Locks.is at c.requires.comes) c.requires.user }
 
 pub returns-in-Unlocks : goal.returns-in-Unlocks
 returns-in-Unlocks c =
     let was = c.args.turns.now in
     let roused = c.rouse_at.new.self in
-    kept_unlocked c.args.store.now c.args.mover c.in-Unlocks.mutex was.waits was.marks roused.waits roused.marks
-    (rw c.in-Unlocks.is at c.requires.comes) c.requires.user c.rouse_at.ensures.roused c.rouse_at.ensures.met c.rouse_at.ensures.freed
-    c.rouse_at.ensures.sound
+    record {
+      kept = kept_unlocked c.args.store.now c.args.mover c.in-Unlocks.mutex was.waits was.marks roused.waits roused.marks
+          (rw c.in-Unlocks.is at c.requires.comes) c.requires.user c.rouse_at.ensures.roused c.rouse_at.ensures.met c.rouse_at.ensures.freed
+          c.rouse_at.ensures.sound;
+    }
