@@ -210,6 +210,10 @@ kept_last n mover waits marks now then_marks kept turned user sound =
       stays = λ few x why off aside was is. is;
     }
 
+-- it runs
+pub then_runs : (n : Contents) (who : Who) (at : Then) → IsThen n who at → is_under_way_at n who ≡ true
+then_runs n who thens.Runs is = is
+
 -- a thread that is somewhere is a user's
 pub then_user : (n : Contents) (who : Who) (at : Then) → IsThen n who at → is_user_at n who ≡ true
 then_user n who thens.Runs is = under_way_user n who is

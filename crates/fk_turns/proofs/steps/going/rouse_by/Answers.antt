@@ -17,14 +17,18 @@ pub returns-in-Unlocks : goal.returns-in-Unlocks
 returns-in-Unlocks c =
     let was = c.args.turns.now in
     let roused = c.rouse_at.new.self in
-    kept_unlocked c.args.store.now c.args.mover (whats.Unlocks c.in-Unlocks.mutex) was.waits was.marks roused.waits roused.marks
-    (rw c.in-Unlocks.is at c.requires.comes) c.requires.user c.rouse_at.ensures.roused c.rouse_at.ensures.met c.rouse_at.ensures.freed
-    c.rouse_at.ensures.sound
+    record {
+      kept = kept_unlocked c.args.store.now c.args.mover (whats.Unlocks c.in-Unlocks.mutex) was.waits was.marks roused.waits roused.marks
+          (rw c.in-Unlocks.is at c.requires.comes) c.requires.user c.rouse_at.ensures.roused c.rouse_at.ensures.met c.rouse_at.ensures.freed
+          c.rouse_at.ensures.sound;
+    }
 
 pub returns-in-Sleeps : goal.returns-in-Sleeps
 returns-in-Sleeps c =
     let was = c.args.turns.now in
     let roused = c.rouse_at-in-Sleeps.new.self in
-    kept_unlocked c.args.store.now c.args.mover _ was.waits was.marks roused.waits roused.marks
-    (rw c.in-Sleeps.is at c.requires.comes) c.requires.user c.rouse_at-in-Sleeps.ensures.roused c.rouse_at-in-Sleeps.ensures.met
-    c.rouse_at-in-Sleeps.ensures.freed c.rouse_at-in-Sleeps.ensures.sound
+    record {
+      kept = kept_unlocked c.args.store.now c.args.mover _ was.waits was.marks roused.waits roused.marks
+          (rw c.in-Sleeps.is at c.requires.comes) c.requires.user c.rouse_at-in-Sleeps.ensures.roused c.rouse_at-in-Sleeps.ensures.met
+          c.rouse_at-in-Sleeps.ensures.freed c.rouse_at-in-Sleeps.ensures.sound;
+    }
