@@ -1,6 +1,6 @@
 -- Serving: an act of a native server that is made at once is a turn.
 use Rattle.std.proofs.Common.{◌≡◌, ℕ, zero, suc, ◌+◌, ◌-◌, ◌<◌, true, false, List, [], ◌∷◌, ◌++◌, length, map, replicate, Some, None}
-use Rattle.std.proofs.Common.{refl}
+use Rattle.std.proofs.Common.{refl, eqb-true, suc-ne-zero}
 use Rattle.std.specs.Prelude.{◌==◌}
 use Rattle.std.proofs.lemmas.Bool.{and_parts}
 use Rattle.fk_model.specs.declared.moves.Ask.{Ask}
@@ -58,4 +58,4 @@ words_left (word ∷ words) all = padded_words (word ∷ words) (64 - length (wo
 -- nothing is left
 pub none_left : (left : List ℕ) → (length left == 0) ≡ true → gives_left left ≡ asks.Over
 none_left [] none = refl
-none_left (word ∷ words) none = absurd (cc)
+none_left (word ∷ words) none = let long : length (word ∷ words) ≡ 0 = eqb-true (length (word ∷ words)) 0 none in absurd (suc-ne-zero (length words) long)

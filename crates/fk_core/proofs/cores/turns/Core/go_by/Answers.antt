@@ -27,11 +27,11 @@ attempt-made-requires g c =
 pub hear-requires-clause-room : goal.hear-requires-clause-room
 hear-requires-clause-room g c unready =
     let self = c.args.self.now in
-    let what = c.in-Some-tried.told in
+    let what = c.in-Some.told in
     let same = c.lacks_room.ensures.kernel in
-    let made = rw c.in-Some-tried.is at (rw c.in-Ok.is at c.attempt-made.ensures.made) in
-    let ended = rw c.in-Some-tried.is at (rw c.in-Ok.is at c.attempt-made.ensures.ended) in
-    let tells = rw c.in-Some-tried.is at (rw c.in-Ok.is at c.attempt-made.ensures.told) in
+    let made = rw c.in-Some.is at (rw c.in-Ok.is at c.attempt-made.ensures.made) in
+    let ended = rw c.in-Some.is at (rw c.in-Ok.is at c.attempt-made.ensures.ended) in
+    let tells = rw c.in-Some.is at (rw c.in-Ok.is at c.attempt-made.ensures.told) in
     let still = c.lacks_room.ensures.still c.if-lacks_room.false unready in
     rw c.lacks_room.ensures.services
     (still-told self.kernel c.attempt-made.new.self (event_of (world self.kernel) c.args.ask.now c.args.m.now) what.said what.ended self.services.list
@@ -58,17 +58,17 @@ returns-clause-tried g c =
     let n = c.attempt-made.new.self in
     let list = self.services.list in
     let ask = c.args.ask.now in
-    let what = c.in-Some-tried.told in
+    let what = c.in-Some.told in
     let same = c.lacks_room.ensures.kernel in
-    let made = rw same at (rw c.in-Some-tried.is at (rw c.in-Ok.is at c.attempt-made.ensures.made)) in
+    let made = rw same at (rw c.in-Some.is at (rw c.in-Ok.is at c.attempt-made.ensures.made)) in
     let words = c.requires.words in
     let asked_for : asked list (world m) c.args.m.now.who ≡ Some ask = c.requires.asked in
     let asks = asks_other self.jobs (world m) list self.events c.args.m.now.who ask c.requires.other asked_for words in (
       ready_asked self.jobs (world m) list self.events c.args.m.now c.requires.other
           (others_ready self.jobs (world m) list self.events c.args.m.now (ask, asks, made.0)),
       turned m n list c.hear.new.self.list self.jobs self.events c.args.m.now ask what.said what.ended _ asks made.1
-          (rw same at (rw c.in-Some-tried.is at (rw c.in-Ok.is at c.attempt-made.ensures.ended)))
-          (rw same at (rw c.in-Some-tried.is at (rw c.in-Ok.is at c.attempt-made.ensures.told)))
+          (rw same at (rw c.in-Some.is at (rw c.in-Ok.is at c.attempt-made.ensures.ended)))
+          (rw same at (rw c.in-Some.is at (rw c.in-Ok.is at c.attempt-made.ensures.told)))
           (c.hear.ensures ∙ ap (map (told what.said what.ended)) c.lacks_room.ensures.services)
           (rw (c.lacks_room.ensures.events, c.lacks_room.ensures.queue) at c.settle.ensures.settles),
       c.settle.ensures.events ∙ ap (λ n. n + 1) c.lacks_room.ensures.events,
