@@ -141,15 +141,18 @@ module _ (w : World) (me at : Path) (locked was : Bool) (t : Thread) (stage : St
     apart : (r : Reason) → IsStuck w x r → is_barred r ≡ false → IsApartOf at x r → AreApartFrom (at ∷ me ∷ []) cs x r
     apart (Locking m) stuck named spared = ((no_mutex x u here, spared m refl), (own_from (Locking m) stuck other, tt))
     apart (Lacking side address count far client y into room) stuck named spared =
-        ((no_mutex x u here, room_no_mutex side y into room stuck.4), (own_from (Lacking side address count far client y into room) stuck (other, room_no_mover side y into room stuck.4), tt))
+        ((no_mutex x u here, room_no_mutex side y into room stuck.4),
+          (own_from (Lacking side address count far client y into room) stuck (other, room_no_mover side y into room stuck.4), tt))
     apart Barred stuck named spared = absurd (cc)
     apart Resting stuck named spared = (no_mutex x u here, (own_from Resting stuck other, tt))
     apart (Beneath space) stuck named spared = (no_mutex x u here, (own_from (Beneath space) stuck other, tt))
     apart (Sleeping c m) stuck named spared = (no_mutex x u here, (own_from (Sleeping c m) stuck other, tt))
     apart (Connecting h port) stuck named spared = (no_mutex x u here, (own_from (Connecting h port) stuck other, tt))
-    apart (Receiving side into room reference far client) stuck named spared = (no_mutex x u here, (own_from (Receiving side into room reference far client) stuck other, tt))
+    apart (Receiving side into room reference far client) stuck named spared =
+        (no_mutex x u here, (own_from (Receiving side into room reference far client) stuck other, tt))
     apart (Passing side reference client end) stuck named spared = (no_mutex x u here, (own_from (Passing side reference client end) stuck other, tt))
-    apart (Sending side address count far client end) stuck named spared = (no_mutex x u here, (own_from (Sending side address count far client end) stuck other, tt))
+    apart (Sending side address count far client end) stuck named spared =
+        (no_mutex x u here, (own_from (Sending side address count far client end) stuck other, tt))
     apart (Ending y space) stuck named spared = (no_mutex x u here, (own_from (Ending y space) stuck other, tt))
     apart (Holding s y space) stuck named spared = (no_mutex x u here, (own_from (Holding s y space) stuck other, tt))
     apart (Waiting set) stuck named spared = (no_mutex x u here, (own_from (Waiting set) stuck other, tt))
