@@ -25,7 +25,7 @@ use Rattle.fk_turns.specs.declared.whys.whys.Why.{Why}
 use Rattle.fk_turns.specs.declared.whys.whys.Why.TheVariants as whys
 use Rattle.fk_turns.specs.Whys.Whys.{is_loud_reason, IsOwn, IsReadAt, IsWhy}
 use Rattle.fk_turns.proofs.InWhys.Apart.{loud_named, own_named, read_named}
-use Rattle.laws_waits.specs.Calm.{AreApartFrom, AreMild}
+use Rattle.laws_waits.specs.Calm.{AreApartFrom, AreMild, IsApart, IsApartFrom}
 use Rattle.laws_waits.specs.Complete.{is_barred}
 use Rattle.laws_waits.specs.Touching.{is_loud, IsThreadEdit}
 use Rattle.laws_waits.specs.Stuck.{awaits_on, AreUntouched, HasRoom, Reason, IsStuck}
@@ -123,22 +123,40 @@ module _ (w : World) (me at : Path) (locked was : Bool) (t : Thread) (stage : St
           ∙ no_receive (other_side side) stage lock) ∙ has.0)
 
   module _ (x : Path) (u : Thread) (here : thread_at w x ≡ Some u) (other : same_path x me ≡ false) where
+    -- who sets the mutex is no mutex
+    no_lock : (m : ℕ) → IsStuck w x (Locking m) → same_path (m ∷ parent x) me ≡ false
+    no_lock m stuck = by (same_path (m ∷ parent x) me) refl
+      where
+        by : (b : Bool) → same_path (m ∷ parent x) me ≡ b → same_path (m ∷ parent x) me ≡ false
+        by false e = e
+        by true e = absurd (mutex_lone (w.body (m ∷ parent x)) true t stuck.2 (ap (thread_at w) (same_path_eq (m ∷ parent x) me e) ∙ there))
+
+    own_from : (r : Reason) → IsStuck w x r → IsApart me x r → IsApartFrom me (Alter me own) x r
+    own_from r stuck apart = by own r stuck apart
+      where
+        by : (e : Edit) (r : Reason) → IsStuck w x r → IsApart me x r → IsApartFrom me (Alter me e) x r
+        by (SetLocked locked) (Locking m) stuck apart = (apart, no_lock m stuck)
+        by e r stuck apart = apart
+
     apart : (r : Reason) → IsStuck w x r → is_barred r ≡ false → IsApartOf at x r → AreApartFrom (at ∷ me ∷ []) cs x r
-    apart (Locking m) stuck named spared = ((no_mutex x u here, spared m refl), (other, tt))
+    apart (Locking m) stuck named spared = ((no_mutex x u here, spared m refl), (own_from (Locking m) stuck other, tt))
     apart (Lacking side address count far client y into room) stuck named spared =
-        ((no_mutex x u here, room_no_mutex side y into room stuck.4), ((other, room_no_mover side y into room stuck.4), tt))
+        ((no_mutex x u here, room_no_mutex side y into room stuck.4),
+          (own_from (Lacking side address count far client y into room) stuck (other, room_no_mover side y into room stuck.4), tt))
     apart Barred stuck named spared = absurd (cc)
-    apart Resting stuck named spared = (no_mutex x u here, (other, tt))
-    apart (Beneath space) stuck named spared = (no_mutex x u here, (other, tt))
-    apart (Sleeping c m) stuck named spared = (no_mutex x u here, (other, tt))
-    apart (Connecting h port) stuck named spared = (no_mutex x u here, (other, tt))
-    apart (Receiving side into room reference far client) stuck named spared = (no_mutex x u here, (other, tt))
-    apart (Passing side reference client end) stuck named spared = (no_mutex x u here, (other, tt))
-    apart (Sending side address count far client end) stuck named spared = (no_mutex x u here, (other, tt))
-    apart (Ending y space) stuck named spared = (no_mutex x u here, (other, tt))
-    apart (Holding s y space) stuck named spared = (no_mutex x u here, (other, tt))
-    apart (Waiting set) stuck named spared = (no_mutex x u here, (other, tt))
-    apart (WaitingOut set) stuck named spared = (no_mutex x u here, (other, tt))
+    apart Resting stuck named spared = (no_mutex x u here, (own_from Resting stuck other, tt))
+    apart (Beneath space) stuck named spared = (no_mutex x u here, (own_from (Beneath space) stuck other, tt))
+    apart (Sleeping c m) stuck named spared = (no_mutex x u here, (own_from (Sleeping c m) stuck other, tt))
+    apart (Connecting h port) stuck named spared = (no_mutex x u here, (own_from (Connecting h port) stuck other, tt))
+    apart (Receiving side into room reference far client) stuck named spared =
+        (no_mutex x u here, (own_from (Receiving side into room reference far client) stuck other, tt))
+    apart (Passing side reference client end) stuck named spared = (no_mutex x u here, (own_from (Passing side reference client end) stuck other, tt))
+    apart (Sending side address count far client end) stuck named spared =
+        (no_mutex x u here, (own_from (Sending side address count far client end) stuck other, tt))
+    apart (Ending y space) stuck named spared = (no_mutex x u here, (own_from (Ending y space) stuck other, tt))
+    apart (Holding s y space) stuck named spared = (no_mutex x u here, (own_from (Holding s y space) stuck other, tt))
+    apart (Waiting set) stuck named spared = (no_mutex x u here, (own_from (Waiting set) stuck other, tt))
+    apart (WaitingOut set) stuck named spared = (no_mutex x u here, (own_from (WaitingOut set) stuck other, tt))
 
     module _ (pick : Option Path) (ask : Ask) (row : listed (outcome w me pick ask) ≡ cs) where
       stuck_after : (r : Reason) → IsStuck w x r → is_barred r ≡ false → IsApartOf at x r → IsStuck (step w me pick ask).world x r

@@ -61,11 +61,10 @@ pub fn signal(store: &mut Store, turns: &mut Turns, who: Who) -> Option<Who>
 
 /// The slot of who is queued first at a condition.
 fn first_at(turns: &Turns, space: u32, cond: u64) -> Option<u8> {
-    let key = Who {
-        space,
-        slot: cond as u8,
+    let Ok(slot) = u8::try_from(cond) else {
+        return None;
     };
-    let first = turns.waits().first(key)?;
+    let first = turns.waits().first(Who { space, slot })?;
     Some(first.slot)
 }
 

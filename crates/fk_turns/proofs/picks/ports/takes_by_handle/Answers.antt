@@ -6,14 +6,14 @@ use Rattle.fk_turns.specs.Picks.Stands.{ConnectsBy, IsPicked}
 use Rattle.fk_turns.proofs.InPicks.Slots.{all_slots, connecting_slot, connecting_there, each_slot, up_to}
 use Rattle.fk_turns.proofs.picks.ports.takes_by_handle.Goals as goal
 
-pub loop-from-preserved : goal.loop-from-preserved
-loop-from-preserved c =
+pub loop-slot-preserved : goal.loop-slot-preserved
+loop-slot-preserved c =
     let m = c.args.store.now in
     let s = path m c.args.handle.space in
     up_to (λ k. ConnectsBy (world m) (place (path m) c.args.handle) (k ∷ s) → IsPicked m c.args.picker (k ∷ s) → ⊥)
-    (λ k. IsLive m (at c.args.handle.space k)) c.loop-from.from c.in-Some.slot
+    (λ k. IsLive m (at c.args.handle.space k)) c.loop-slot.from c.in-Some.slot
     (λ k shown connects picked. shown (connecting_there (world m) (k ∷ s) c.args.handle.slot connects.0) connects picked)
-    c.loop-from.invariant c.in-Some.ensures.1 c.in_default.ensures.none
+    c.loop-slot.invariant c.in-Some.ensures.1 c.in_default.ensures.none
 
 pub returns-clause-none : goal.returns-clause-none
 returns-clause-none c q connects picked =
@@ -22,6 +22,6 @@ returns-clause-none c q connects picked =
     each_slot (λ x. ConnectsBy (world m) (place (path m) c.args.handle) x → IsPicked m c.args.picker x → ⊥) q s
     (connecting_slot (world m) q c.args.handle.slot c.requires.valid connects.0) connects.1
     (λ k low. all_slots (λ k. ConnectsBy (world m) (place (path m) c.args.handle) (k ∷ s) → IsPicked m c.args.picker (k ∷ s) → ⊥)
-    (λ k. IsLive m (at c.args.handle.space k)) c.loop-from.from
+    (λ k. IsLive m (at c.args.handle.space k)) c.loop-slot.from
     (λ k shown connects picked. shown (connecting_there (world m) (k ∷ s) c.args.handle.slot connects.0) connects picked)
-    c.loop-from.invariant c.in_default.ensures.none k) connects picked
+    c.loop-slot.invariant c.in_default.ensures.none k) connects picked

@@ -9,20 +9,20 @@ use Rattle.fk_turns.specs.declared.picks.moves.Picker.TheVariants.{User}
 use Rattle.fk_turns.proofs.InPicks.Slots.{all_slots, member_there, up_to}
 use Rattle.fk_turns.proofs.picks.ports.takes_one.Goals as goal
 
-pub loop-from-preserved : goal.loop-from-preserved
-loop-from-preserved c =
+pub loop-slot-preserved : goal.loop-slot-preserved
+loop-slot-preserved c =
     let m = c.args.store.now in
     let s = path m c.args.who.space in
     up_to (λ k. is_member c.args.set ((world m).body (k ∷ s)) ≡ true → (q : Path) → StandsAt (world m) (k ∷ s) q → IsPicked m (User c.args.who) q → ⊥)
-    (λ k. IsLive m (at c.args.who.space k)) c.loop-from.from c.in-Some.slot
+    (λ k. IsLive m (at c.args.who.space k)) c.loop-slot.from c.in-Some.slot
     (λ k shown member. shown (member_there (world m) (k ∷ s) c.args.set member) member)
-    c.loop-from.invariant c.in-Some.ensures.1 c.in_default.ensures.none
+    c.loop-slot.invariant c.in-Some.ensures.1 c.in_default.ensures.none
 
 pub returns-clause-none : goal.returns-clause-none
 returns-clause-none c q stands picked =
     let m = c.args.store.now in
     let s = path m c.args.who.space in
     all_slots (λ k. is_member c.args.set ((world m).body (k ∷ s)) ≡ true → (q : Path) → StandsAt (world m) (k ∷ s) q → IsPicked m (User c.args.who) q → ⊥)
-    (λ k. IsLive m (at c.args.who.space k)) c.loop-from.from
+    (λ k. IsLive m (at c.args.who.space k)) c.loop-slot.from
     (λ k shown member. shown (member_there (world m) (k ∷ s) c.args.set member) member)
-    c.loop-from.invariant c.in_default.ensures.none stands.slot stands.member q stands.stands picked
+    c.loop-slot.invariant c.in_default.ensures.none stands.slot stands.member q stands.stands picked

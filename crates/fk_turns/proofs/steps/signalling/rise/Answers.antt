@@ -18,5 +18,7 @@ pub returns : goal.returns
 returns c =
     let was = c.args.turns.now in
     let now = c.wake.new.self in
-    kept_risen c.args.store.now c.args.mover c.args.other was.waits was.marks c.requires.comes c.requires.user now.waits now.marks c.wake.ensures.waits
-    c.wake.ensures.met c.wake.ensures.less c.wake.ensures.away c.wake.ensures.sound
+    record {
+      kept = kept_risen c.args.store.now c.args.mover c.args.other was.waits was.marks c.requires.comes c.requires.user now.waits now.marks
+          c.wake.ensures.waits c.wake.ensures.met c.wake.ensures.less c.wake.ensures.away c.wake.ensures.sound;
+    }
