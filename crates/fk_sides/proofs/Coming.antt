@@ -1,6 +1,6 @@
 -- A piece more among those that have come.
-use Rattle.std.proofs.Common.{◌≡◌, ℕ, zero, suc, ◌+◌, ◌<◌, ◌≤◌, Bool, true, false, cond, eqb-true, eq-eqb, ◌==◌, List, [], ◌∷◌, ◌++◌, length, replicate}
-use Rattle.std.proofs.Common.{Option, Some, None, option_map, is_some, ◌⊎◌, inl, inr, refl, sym, ap, subst, ◌∙◌, arith, append-nil, append_assoc, drop, drop-cons, get_or}
+use Rattle.std.proofs.Common.{◌≡◌, ℕ, zero, suc, ◌+◌, ◌<◌, ◌≤◌, Bool, true, false, cond, eqb-true, eq-eqb, ◌==◌, List, [], ◌∷◌, ◌++◌, length}
+use Rattle.std.proofs.Common.{Option, Some, None, option_map, is_some, ◌⊎◌, inl, inr, refl, sym, ap, subst, ◌∙◌, arith, append_assoc, drop, drop-cons, get_or}
 use Rattle.std.specs.List.{slice_get, slice_set}
 use Rattle.laws_handover.specs.Pieces.{Piece, content, found, behind, joined_from, joined, read_from}
 use Rattle.laws_migrate.specs.Images.{read_bytes, valid_image}

@@ -1,10 +1,8 @@
 -- Where a restore stands after an answer.
-use Rattle.std.proofs.Common.{◌≡◌, ℕ, zero, suc, ◌-◌, arith, Bool, true, false, List, [], ◌∷◌, Some, refl, sym, ap, ◌∙◌}
+use Rattle.std.proofs.Common.{◌≡◌, ℕ, zero, suc, ◌-◌, arith, Bool, true, false, List, [], ◌∷◌, Some, refl, sym, ap}
 use Rattle.fk_finish.specs.declared.finish.Finish.{Finish}
-use Rattle.fk_finish.specs.declared.finish.Finish.TheVariants as finishes
 use Rattle.fk_image.specs.declared.image.image.Image.{Image}
-use Rattle.fk_restore.specs.declared.restore.restore.Restore.{Restore}
-use Rattle.fk_restore.specs.Restore.Restores.{end_of, is_built, state_of}
+use Rattle.fk_restore.specs.Restore.Restores.{end_of, is_built}
 use Rattle.laws_jobs.specs.Machines.{IsAtCall}
 use Rattle.laws_jobs.specs.Machines.Head.{Asks, Stops}
 use Rattle.laws_restore.specs.Restore.Restore as restores
@@ -12,9 +10,7 @@ use Rattle.laws_restore.specs.Rooms.Restoring.{restore_of}
 use Rattle.laws_handover.specs.FarSide as far
 use Rattle.laws_handover.specs.FarSide.{Made}
 use Rattle.laws_migrate.specs.Migration.{Why, Job, made, made_end, of_job}
-use Rattle.fk_sides.specs.declared.far.Look.{Look}
-use Rattle.fk_sides.specs.Fars.{job_of, look_of}
-use Rattle.fk_sides.specs.Sides.{FarSide, made_so, undone_so, restored, far_heard}
+use Rattle.fk_sides.specs.Sides.{FarSide, far_heard}
 
 abbrev Standing : Type 0
 Standing = Made Job Why

@@ -14,7 +14,7 @@ use Rattle.laws_checkpoint.specs.Checkpoint as checks
 use Rattle.laws_handover.specs.NearSide as near
 use Rattle.fk_image.specs.Format.Spelling.{spelling}
 use Rattle.fk_checkpoint.specs.declared.checkpoint.checkpoint.Checkpoint.{Checkpoint}
-use Rattle.laws_handover.specs.Handover.{near_told, gives_up}
+use Rattle.laws_handover.specs.Handover.{near_told}
 use Rattle.laws_handover.specs.Packets.{Packet}
 use Rattle.laws_handover.specs.Pieces.{Piece, pieces}
 use Rattle.laws_handover.specs.Sent.{sent_near}

@@ -1,5 +1,5 @@
 -- Each call for which a porter asks is fit.
-use Rattle.std.proofs.Common.{◌≡◌, ℕ, ◌≤◌, true, List, [], ◌∷◌, Option, Some, None, refl, sym, subst}
+use Rattle.std.proofs.Common.{◌≡◌, ℕ, ◌≤◌, true, List, [], ◌∷◌, Option, None, refl, sym, subst}
 use Rattle.fk_model.specs.declared.limits.TheConstants.{LAST_USER_SLOT, LAST_PORTER_SLOT}
 use Rattle.fk_model.specs.declared.moves.Ask.TheVariants as asks
 use Rattle.fk_model.specs.Valid.{is_fit}
@@ -15,16 +15,12 @@ use Rattle.laws_restore.specs.Rooms.Rooms.{rooms_of}
 use Rattle.laws_restore.specs.Rooms.Restoring.{bound_by}
 use Rattle.laws_restore.proofs.InRestore.Owing.{is_tidy}
 use Rattle.laws_restore.proofs.InRooms.Restored.{roomed}
-use Rattle.laws_handover.specs.Packets.{Codec}
 use Rattle.laws_handover.specs.NearSide.{Near}
 use Rattle.laws_handover.specs.FarSide.{Far}
 use Rattle.laws_handover.specs.Handover.{first}
-use Rattle.laws_migrate.specs.Migration.{Why, Job, top, kernels, Step, AreReady, MayMigrate}
-use Rattle.laws_migrate.specs.Laws.{IsGoodCodec, pair_after}
+use Rattle.laws_migrate.specs.Migration.{Why, Job, top, kernels}
 use Rattle.laws_migrate.specs.Fits.{IsCallFit, IsNearFit, IsFarFit, CallsAreFit}
-use Rattle.laws_migrate.proofs.Nears as nears
 use Rattle.laws_migrate.proofs.Nears.{NearAt, image_job}
-use Rattle.laws_migrate.proofs.Fars as fars
 use Rattle.laws_migrate.proofs.Fars.{FarAt, MakesAt}
 use Rattle.laws_migrate.proofs.Migrates.{first_stands, run_stands}
 

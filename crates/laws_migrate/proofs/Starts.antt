@@ -1,14 +1,14 @@
 -- Between two sound starts a subtree may move in which users alone live.
-use Rattle.std.proofs.Common.{◌≡◌, ℕ, ◌≤◌, Bool, true, false, not, ◌&&◌, ◌||◌, is_some, List, [], ◌∷◌, ◌++◌, refl, sym, ap, subst, ◌∙◌}
+use Rattle.std.proofs.Common.{◌≡◌, ℕ, Bool, true, false, not, ◌||◌, is_some, List, [], ◌∷◌, ◌++◌, refl, ap, subst, ◌∙◌}
 use Rattle.std.proofs.lemmas.Bool.{and_parts}
 use Rattle.std.specs.List.{list_any}
-use Rattle.fk_model.specs.declared.limits.TheConstants.{LAST_USER_SLOT, LAST_PORTER_SLOT}
+use Rattle.fk_model.specs.declared.limits.TheConstants.{LAST_PORTER_SLOT}
 use Rattle.fk_model.specs.Objects.{holds, is_served}
 use Rattle.fk_model.specs.Places.{Path, same_path, is_within, parent}
 use Rattle.fk_model.specs.Sound.{Start, IsSoundStart, has_users_alone}
 use Rattle.fk_model.specs.StateRows.{is_native}
 use Rattle.fk_model.proofs.walks.PlaceLaws.{same_path_eq, strip-append}
-use Rattle.laws_migrate.specs.Migration.{top, MayMigrate}
+use Rattle.laws_migrate.specs.Migration.{top}
 use Rattle.laws_migrate.specs.Starts.{SoundStartsMayMigrate}
 
 not_true : (b : Bool) → not b ≡ true → b ≡ false

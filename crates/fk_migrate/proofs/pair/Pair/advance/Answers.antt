@@ -21,5 +21,5 @@ returns-in_err-make_room-clause-lacking g c =
 
 pub returns-in_err-make-clause-lacking : goal.returns-in_err-make-clause-lacking
 returns-in_err-make-clause-lacking g c =
-    let p = err_from_is_err_and c.from_residual.result c.from_residual.ensures.1 in rw p.1
+    let p = err_from_is_err_and c.from_residual-in_err-make.result c.from_residual-in_err-make.ensures.1 in rw p.1
     (subst (λ (s : Shown). IsSame s (shown c.make.new.self)) c.make_room.ensures.same c.in_err-make.ensures.lacking)

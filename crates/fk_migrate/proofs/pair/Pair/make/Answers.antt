@@ -10,13 +10,13 @@ pub far_move-requires-clause-ready : goal.far_move-requires-clause-ready
 far_move-requires-clause-ready g c = subst (IsReady (shown c.args.self.now)) c.in-Far.is c.requires.ready
 
 pub to_far-requires : goal.to_far-requires
-to_far-requires g c = subst (IsReady (shown c.args.self.now)) c.in-ToFar.is c.requires.ready
+to_far-requires g c = record { ready = subst (IsReady (shown c.args.self.now)) c.in-ToFar.is c.requires.ready }
 
 pub to_near-requires : goal.to_near-requires
-to_near-requires g c = subst (IsReady (shown c.args.self.now)) c.in-ToNear.is c.requires.ready
+to_near-requires g c = record { ready = subst (IsReady (shown c.args.self.now)) c.in-ToNear.is c.requires.ready }
 
 pub give_up-requires : goal.give_up-requires
-give_up-requires g c = subst (IsReady (shown c.args.self.now)) c.in-GiveUp.is c.requires.ready
+give_up-requires g c = record { ready = subst (IsReady (shown c.args.self.now)) c.in-GiveUp.is c.requires.ready }
 
 pub returns-in-Near-clause-leads : goal.returns-in-Near-clause-leads
 returns-in-Near-clause-leads g c = rw c.in-Near.is c.near_move.ensures.leads

@@ -21,7 +21,7 @@ returns-in_err-packet-clause-lacking g c =
 
 pub returns-in_err-take-in-Some-clause-lacking : goal.returns-in_err-take-in-Some-clause-lacking
 returns-in_err-take-in-Some-clause-lacking g c =
-    let p = err_from_is_err_and c.from_residual.result c.from_residual.ensures.1 in rw p.1
+    let p = err_from_is_err_and c.from_residual-in_err-take-in-Some.result c.from_residual-in_err-take-in-Some.ensures.1 in rw p.1
     (record {
       slot = c.packet.ensures.slot;
       far_slot = c.take.ensures.slot;
