@@ -49,9 +49,8 @@ use Rattle.fk_calls.specs.Acts.Endings.{IsLeft}
 use Rattle.fk_calls.specs.declared.calls.going.Talked.TheVariants as talkeds
 use Rattle.fk_calls.specs.declared.calls.judging.Judgement.{Judgement}
 use Rattle.fk_calls.specs.Calls.Doings.{first_of, IsAtStage}
-use Rattle.fk_calls.specs.Calls.Goings.{is_lock, is_orderly, receive_on, run_of, HasPassed, HasSent, HasTalked, IsAnyReady, IsAtOrderly}
-use Rattle.fk_calls.specs.Calls.Judgements.{outcome_of, IsJudged, IsMoving, IsReadyMove, IsStepTo}
-use Rattle.fk_calls.proofs.InCalls.Doings.{does_call}
+use Rattle.fk_calls.specs.Calls.Goings.{is_lock, is_orderly, receive_on, run_of, HasSent, HasTalked, IsAnyReady, IsAtOrderly}
+use Rattle.fk_calls.specs.Calls.Judgements.{IsJudged, IsMoving, IsReadyMove, IsStepTo}
 use Rattle.fk_calls.proofs.InCalls.Judged.{quiet_judged, stage_judged, staged_user, step_judged, user}
 use Rattle.fk_calls.proofs.InCalls.Locking.{named_alone}
 use Rattle.fk_calls.proofs.InCalls.Touches as touches

@@ -1,5 +1,5 @@
 -- Talking: a stage in which two threads meet leaves the reasons of all others, and the same are users' threads.
-use Rattle.std.proofs.Common.{◌≡◌, ◌≤◌, ◌&&◌, ℕ, Bool, true, false, List, [], ◌∷◌, Option, Some, None, IsSome, if◌then◌else◌, option_map}
+use Rattle.std.proofs.Common.{◌≡◌, ◌&&◌, ℕ, Bool, true, false, List, [], ◌∷◌, Option, Some, None, IsSome, if◌then◌else◌, option_map}
 use Rattle.std.proofs.Common.{refl, sym, ap, subst, ◌∙◌}
 use Rattle.std.proofs.lemmas.Bool.{and_parts}
 use Rattle.fk_model.specs.declared.moves.Ask.TheVariants as asks
@@ -10,7 +10,7 @@ use Rattle.fk_model.specs.Objects.{Body, Talk, Thread, and_then, thread_of}
 use Rattle.fk_model.specs.Outcomes.{Outcome, listed}
 use Rattle.fk_model.specs.Outcomes.Outcome.{Goes, Refused, Waits}
 use Rattle.fk_model.specs.Places.{Path, same_path}
-use Rattle.fk_model.specs.Searches.{depth, talk_at, thread_at}
+use Rattle.fk_model.specs.Searches.{talk_at, thread_at}
 use Rattle.fk_model.specs.Talks.{other_side}
 use Rattle.fk_model.specs.World.{World, Change, Edit, apply, apply_all, edited}
 use Rattle.fk_model.specs.World.Change.{Alter, PutPage}
@@ -33,7 +33,7 @@ use Rattle.fk_turns.specs.Whys.Whys.{IsAt, IsLoudly, IsStill, IsWhy}
 use Rattle.fk_turns.proofs.InMoved.Told.{same_name, stays, taken_off, user_there}
 use Rattle.fk_turns.proofs.InWhys.Apart.{is_barred_why, key_there}
 use Rattle.fk_turns.proofs.InWhys.Passing.{alone_before, parted, passes, why_passed}
-use Rattle.fk_turns.proofs.InWhys.Talking.{anywhere, in_call, is_at, is_sender, is_sending, pair, sent, why_sent, IsIn}
+use Rattle.fk_turns.proofs.InWhys.Talking.{anywhere, in_call, is_at, is_sender, is_sending, pair, why_sent, IsIn}
 use Rattle.fk_waits.proofs.InCauses.Numbers.{clash}
 use Rattle.fk_waits.specs.Causes.Names.{is_same}
 use Rattle.laws_moves.proofs.InFrozen.Edited.{same-native}

@@ -1,5 +1,5 @@
 -- Hearing: a thread at its Receive waits for the other end, at the port of its talk.
-use Rattle.std.proofs.Common.{◌≡◌, ◌||◌, ◌==◌, ℕ, Bool, true, false, not, is_some, [], ◌∷◌, Option, Some, None, IfSome, refl, sym, ap, ◌∙◌}
+use Rattle.std.proofs.Common.{◌≡◌, ◌||◌, ◌==◌, ℕ, true, false, not, is_some, [], ◌∷◌, Option, Some, None, IfSome, refl, sym, ap, ◌∙◌}
 use Rattle.std.proofs.lemmas.Bool.{or_from, or_parts}
 use Rattle.fk_model.specs.declared.stage.Stage.{Stage}
 use Rattle.fk_model.specs.declared.thread.Mode.TheVariants as modes
@@ -18,7 +18,7 @@ use Rattle.fk_model.specs.World.{World, serves}
 use Rattle.fk_model.proofs.walks.Members.{find_some}
 use Rattle.fk_store.specs.Store.Bodies.{talk_by, thread_by}
 use Rattle.fk_store.specs.Store.Paths.{place}
-use Rattle.laws_waits.specs.Stuck.{is_resting, is_talk_of, receive_stage, talk_place, IsStuck}
+use Rattle.laws_waits.specs.Stuck.{is_resting, is_talk_of, receive_stage}
 use Rattle.laws_waits.specs.Stuck.Reason.{Receiving}
 use Rattle.laws_moves.specs.Users.Stood.{is_users_at}
 use Rattle.fk_turns.specs.Whys.Causes.{cause_at, fault_port, is_at_rest, outermost_held, port_of, stage_cause, thread_cause}

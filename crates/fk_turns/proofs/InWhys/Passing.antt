@@ -1,6 +1,6 @@
 -- Passing: a turn that a thread hands to another leaves the reason of every other, where neither is in another talk.
-use Rattle.std.proofs.Common.{◌≡◌, ◌≤◌, ◌⊎◌, ◌&&◌, ◌||◌, ◌==◌, ℕ, Bool, true, false, not, is_none, is_some, List, [], ◌∷◌, Option, Some, None, refl, ap, sym, subst, ◌∙◌}
-use Rattle.std.proofs.Common.{inl, inr, cond, option_map}
+use Rattle.std.proofs.Common.{◌≡◌, ◌≤◌, ◌&&◌, ◌||◌, ◌==◌, ℕ, Bool, true, false, not, is_none, is_some, List, [], ◌∷◌, Option, Some, None, refl, ap, sym, subst, ◌∙◌}
+use Rattle.std.proofs.Common.{cond, option_map}
 use Rattle.std.proofs.lemmas.Bool.{and_parts}
 use Rattle.fk_calls.specs.Calls.Goings.{is_behind_over, is_orderly, is_receive, over_on, IsAtOrderly, IsReceiver}
 use Rattle.fk_model.specs.declared.moves.Ask.{Ask}
@@ -18,7 +18,7 @@ use Rattle.fk_model.specs.Objects.Peer.{Server}
 use Rattle.fk_model.specs.Outcomes.{listed}
 use Rattle.fk_model.specs.Places.{Path, parent, same_path}
 use Rattle.fk_model.specs.Places.Ptr.{At}
-use Rattle.fk_model.specs.Searches.{depth, fault_at, talk_at, thread_at}
+use Rattle.fk_model.specs.Searches.{depth, talk_at, thread_at}
 use Rattle.fk_model.specs.Talks.{first_stage, other_side, receive_on}
 use Rattle.fk_model.specs.Valid.{IsValid}
 use Rattle.fk_model.specs.World.{World, Change, Edit, apply, edited, finished_in, serves}

@@ -1,8 +1,8 @@
 -- Talking: words that go from a thread to one that receives them leave the reason of every other.
-use Rattle.std.proofs.Common.{◌≡◌, ◌≤◌, ◌⊎◌, ◌&&◌, ◌==◌, ℕ, Bool, true, false, is_some, List, [], ◌∷◌, Option, Some, None, Result, Ok, Err, refl, ap, sym, subst, ◌∙◌, inl, inr}
+use Rattle.std.proofs.Common.{◌≡◌, ◌≤◌, ◌&&◌, ℕ, Bool, true, false, is_some, List, [], ◌∷◌, Option, Some, None, Ok, Err, refl, ap, sym, subst, ◌∙◌, inl}
 use Rattle.std.proofs.Common.{if◌then◌else◌, cond, option_map}
 use Rattle.std.proofs.lemmas.Bool.{and_parts}
-use Rattle.fk_calls.specs.Calls.Goings.{is_behind_send, is_orderly, is_over, sending, IsAtOrderly, IsReceiver, Meets}
+use Rattle.fk_calls.specs.Calls.Goings.{is_behind_send, is_orderly, is_over, sending, IsReceiver, Meets}
 use Rattle.fk_model.specs.declared.moves.Ask.{Ask}
 use Rattle.fk_model.specs.declared.stage.Stage.{Stage}
 use Rattle.fk_model.specs.declared.stage.Stage.TheVariants.{ClientOver, ClientReceive, ClientReceiveRef, ClientSend, Create, ServerOver, ServerSend}
@@ -10,18 +10,18 @@ use Rattle.fk_model.specs.declared.statuses.status.TheConstants.{WRONGTURN}
 use Rattle.fk_model.specs.declared.thread.Turn.{Turn}
 use Rattle.fk_model.specs.declared.thread.Turn.TheVariants as turns
 use Rattle.fk_model.specs.Moves.{outcome, step}
-use Rattle.fk_model.specs.Objects.{Body, Mode, Peer, Talk, Thread, and_then, holds, thread_of}
+use Rattle.fk_model.specs.Objects.{Body, Mode, Talk, Thread, and_then, holds, thread_of}
 use Rattle.fk_model.specs.Objects.Body.{Cond, Mapping, Mutex, Port, Portset, Reference, Region, Space, Thread_of}
 use Rattle.fk_model.specs.Objects.Mode.{Calling, Halted, Native, Running}
 use Rattle.fk_model.specs.Objects.Peer.{Server}
 use Rattle.fk_model.specs.Outcomes.{listed}
-use Rattle.fk_model.specs.Places.{Path, parent, same_path}
+use Rattle.fk_model.specs.Places.{Path, same_path}
 use Rattle.fk_model.specs.Places.Ptr.{At}
 use Rattle.fk_model.specs.Searches.{client_of, depth, objects, talk_at, thread_at}
-use Rattle.fk_model.specs.Talks.{first_stage, line, line_from, other_side, receive_on, same_side, Line}
+use Rattle.fk_model.specs.Talks.{line, line_from, other_side, receive_on, same_side, Line}
 use Rattle.fk_model.specs.TransferRows.{at_turn}
 use Rattle.fk_model.specs.Valid.{IsValid}
-use Rattle.fk_model.specs.World.{World, Change, Edit, apply, edited, finished_in, serves, shifted, shifted_in}
+use Rattle.fk_model.specs.World.{World, Change, Edit, apply, edited, finished_in, serves, shifted_in}
 use Rattle.fk_model.specs.World.Change.{Alter, PutPage}
 use Rattle.fk_model.specs.World.Edit.{CountMoved, Finish, Shift}
 use Rattle.fk_model.proofs.walks.Members.{find_some}
@@ -35,7 +35,7 @@ use Rattle.fk_turns.proofs.InWhys.Apart.{is_barred_why, loud_named, own_named, r
 use Rattle.fk_waits.proofs.InCauses.Numbers.{clash}
 use Rattle.laws_waits.specs.Calm.{AreApartFrom, AreMild, IsApart, IsMild}
 use Rattle.laws_waits.specs.Complete.{is_barred}
-use Rattle.laws_waits.specs.Stuck.{awaits_on, has_other, is_talk_of, is_with, talk_place, AreUntouched, End, HasRoom, IsTalkingTo, Reason, IsStuck}
+use Rattle.laws_waits.specs.Stuck.{awaits_on, is_talk_of, is_with, AreUntouched, HasRoom, IsTalkingTo, Reason, IsStuck}
 use Rattle.laws_waits.specs.Stuck.End.{Absent}
 use Rattle.laws_waits.specs.Stuck.Reason.{Barred, Beneath, Connecting, Ending, Holding, Lacking, Locking, Passing, Receiving, Resting, Sending, Sleeping, Waiting}
 use Rattle.laws_waits.specs.Stuck.Reason.{WaitingOut}

@@ -1,5 +1,5 @@
 -- Hearings: a thread at its Receive, and the talk in which it is there.
-use Rattle.std.specs.Prelude.{◌≡◌, ◌⊎◌, ◌==◌, ℕ, Bool, true, Option, Some, None}
+use Rattle.std.specs.Prelude.{◌≡◌, ◌⊎◌, ◌==◌, ℕ, Bool, true, Option, Some}
 use Rattle.fk_model.specs.declared.thread.Talk.{Talk as StoredTalk}
 use Rattle.fk_model.specs.declared.thread.Turn.{Turn}
 use Rattle.fk_model.specs.declared.thread.Turn.TheVariants as turns

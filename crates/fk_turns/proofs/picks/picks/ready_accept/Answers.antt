@@ -1,13 +1,11 @@
-use Rattle.std.proofs.Common.{◌≡◌, Bool, true, false, ◌&&◌, is_none, Option, Some, None}
+use Rattle.std.proofs.Common.{Bool, true, false, ◌&&◌, is_none, Option, Some, None}
 use Rattle.fk_model.specs.declared.moves.Ask.TheVariants as asks
-use Rattle.fk_model.specs.declared.names.Who.{Who}
 use Rattle.fk_model.specs.Moves.{outcome, GoesAllowed, IsReady}
 use Rattle.fk_model.specs.NativeRows.{accept_row, is_serving_port, takes_client}
 use Rattle.fk_model.specs.Outcomes.{when}
 use Rattle.fk_model.specs.Places.{Path}
 use Rattle.fk_model.specs.Searches.{client_at}
 use Rattle.fk_model.specs.World.{World}
-use Rattle.fk_store.specs.Store.Contents.{Contents}
 use Rattle.fk_store.specs.Store.Paths.{path, place}
 use Rattle.fk_store.specs.Store.World.{world}
 use Rattle.fk_turns.specs.Picks.Stands.{StandsAt}

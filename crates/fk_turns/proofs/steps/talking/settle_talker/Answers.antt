@@ -1,4 +1,3 @@
-use Rattle.fk_store.specs.Store.World.{world, place_of}
 use Rattle.fk_waits.proofs.InCauses.Numbers.{clash}
 use Rattle.fk_waits.specs.Waits.Lists.{stands}
 use Rattle.std.proofs.Common.{◌∙◌}
