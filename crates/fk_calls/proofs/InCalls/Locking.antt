@@ -173,9 +173,10 @@ module _ (m : Contents) (who : Who) (what : What) (stage : Stage) (unheld : (q :
   pub goes_so : allowed_row w (user_at me) None stage ≡ done (user_at me) (Alter at (SetLocked (locks_by what)) ∷ []) [] →
       IsReadyMove m (run_of who) asks.Run
   goes_so row =
-      subst (λ (o : Outcome). GoesAllowed w me o) (sym (judged (sym row)).outcome)
-      (record { object = rw (unheld at) refl; changed = none_led (w.body at); made = refl },
-      (record { object = rw (unheld me) refl; changed = none_led (w.body me); made = refl }, tt))
+      subst (λ (o : Outcome). GoesAllowed w me o) (sym (judged (sym row)).outcome) (
+        record { object = rw (unheld at) refl; changed = none_led (w.body at); made = refl },
+        (record { object = rw (unheld me) refl; changed = none_led (w.body me); made = refl }, tt),
+      )
 
   pub has_gone : (n : Contents) → IsValid (world m) → (world m).next ≤ depth →
       allowed_row w (user_at me) None stage ≡ done (user_at me) (Alter at (SetLocked (locks_by what)) ∷ []) [] →

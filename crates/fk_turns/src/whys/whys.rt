@@ -151,7 +151,13 @@ fn in_call(store: &Store, who: Who, thread: &Thread) -> Why
     ensures { IsKnown (world store.now) (path store.now) (place (path store.now) who) result }
 {
     match first_stage(thread) {
-        Some(stage) => known_or(store, who, thread, stage, at_stage(store, who, thread, stage)),
+        Some(stage) => known_or(
+            store,
+            who,
+            thread,
+            stage,
+            at_stage(store, who, thread, stage),
+        ),
         None => Why::Barred,
     }
 }
