@@ -7,8 +7,8 @@ ghost use Rattle.fk_stretch.specs.Acts.{begun, fields, rest_of, IsRest};
 
 use fk_model::halt::UNKNOWN_OPERATION;
 use fk_model::operation::{
-    ADD, ADDI, AND, CALL, DIV, HALT, JLT, JMP, JNZ, JZ, LOAD, MOV, MUL, OR, REM, SET, SHL, SHR, STORE,
-    SUB, XOR,
+    ADD, ADDI, AND, CALL, DIV, HALT, JLT, JMP, JNZ, JZ, LOAD, MOV, MUL, OR, REM, SET, SHL, SHR,
+    STORE, SUB, XOR,
 };
 
 /// The registers and the counter of a thread while it runs.

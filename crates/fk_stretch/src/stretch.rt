@@ -104,13 +104,7 @@ fn instruct(store: &Store, space: u32, words: &[u64; 64], running: &mut Running)
 /// Makes instructions whose words stand in the page of the counter, which has these words: at most so many, up to one that stores, halts,
 /// is a call or needs a page that isn't there.
 #[inline(always)]
-fn run_in(
-    store: &Store,
-    space: u32,
-    words: &[u64; 64],
-    running: &mut Running,
-    most: u64,
-) -> Come
+fn run_in(store: &Store, space: u32, words: &[u64; 64], running: &mut Running, most: u64) -> Come
     requires there { Some words.now ≡ (world store.now).page (path store.now space) (running.old.counter / PAGE_WORDS) }
     ensures made { bursts.made result.made (burst_in (world store.now) (path store.now space) running.old)
         ≡ Some (burst_in (world store.now) (path store.now space) running.new) }

@@ -260,6 +260,7 @@ read_set g locked same (Thread thread) = refl
 read_set g locked same (Reference to) = refl
 
 pub quiet_locking : (locked : Bool) → IsQuiet (on_mutex locked)
+unfolding led
 quiet_locking locked = record {
   leads = λ b i. read_set (λ b. led b i) locked (λ old. refl) b;
   birth = read_set (λ b. stored_birth b) locked (λ old. refl);

@@ -4,7 +4,7 @@ pub use Rattle.fk_store_cells.specs.declared.objects.entry.Told.{Told}
 pub use Rattle.fk_store_cells.specs.declared.objects.entry.Told.TheVariants.{Many, Nobody, One}
 pub use Rattle.fk_store_graph.specs.declared.links.links.Link.{Link}
 pub use Rattle.fk_store_graph.specs.declared.leads.nudges.Nudge.{Nudge}
-pub use Rattle.fk_store_graph.specs.declared.leads.nudges.Nudge.TheVariants.{Counts, Passes, Stops}
+pub use Rattle.fk_store_graph.specs.declared.leads.nudges.Nudge.TheVariants.{Counts, Locks, Passes, Stops}
 pub use Rattle.fk_store_graph.specs.declared.leads.parts.Part.{Part}
 pub use Rattle.fk_store_graph.specs.declared.leads.parts.Part.TheVariants.{Client, Faulter, Guest}
 pub use Rattle.fk_store_graph.specs.declared.leads.sweeps.Sweep.{Sweep}
