@@ -13,10 +13,10 @@ pub loop-slot-preserved : goal.loop-slot-preserved
 loop-slot-preserved c =
     let m = c.args.store.now in
     let s = path m c.args.who.space in
-    up_to (λ k. is_member c.args.set ((world m).body (k ∷ s)) ≡ true → (q : Path) → StandsAt (world m) (k ∷ s) q → IsPicked m (User c.args.who) q → ⊥)
+    rw c.from-from.ensures (up_to (λ k. is_member c.args.set ((world m).body (k ∷ s)) ≡ true → (q : Path) → StandsAt (world m) (k ∷ s) q → IsPicked m (User c.args.who) q → ⊥)
     (λ k. IsLive m (at c.args.who.space k)) c.loop-slot.from c.in-Some.slot
     (λ k shown member. shown (member_there (world m) (k ∷ s) c.args.set member) member)
-    c.loop-slot.invariant c.in-Some.ensures.some.1 c.in_default-takes_in.ensures.none
+    c.loop-slot.invariant c.in-Some.ensures.some.1 c.in_default-takes_in.ensures.none)
 
 pub returns-clause-none : goal.returns-clause-none
 returns-clause-none c q stands picked =
