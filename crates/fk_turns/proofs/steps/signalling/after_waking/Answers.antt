@@ -5,4 +5,4 @@ pub rise-requires : goal.rise-requires
 rise-requires c = record { comes = c.requires.comes; user = under_way_user c.args.store.now c.args.mover c.requires.on }
 
 pub rest_locked-requires : goal.rest_locked-requires
-rest_locked-requires c = record { valid = c.requires.valid; kept = c.rise.ensures; user = c.requires.comes.is }
+rest_locked-requires c = record { valid = c.requires.valid; kept = c.rise.ensures.kept; user = c.requires.comes.is }
