@@ -96,11 +96,7 @@ fn unpicked(kernel: &Kernel, port: Who, ask: &Ask) -> Option<Move>
 
 /// A ready act of the server of a port, by what it asks for. There is none exactly where it has none.
 #[inline(never)]
-fn asked_act<S: Service + Drop>(
-    kernel: &Kernel,
-    services: &Services<S>,
-    port: Who,
-) -> Option<Move>
+fn asked_act<S: Service + Drop>(kernel: &Kernel, services: &Services<S>, port: Who) -> Option<Move>
     ensures who { IfSome result (λ m. m.who ≡ port) }
     ensures ready { IfSome result (λ m. IsReadyAsked services.now.list (world kernel.now) m) }
     ensures words { IfSome result (λ m. IfSome (asked services.now.list (world kernel.now) m.who) (λ ask. has_all_words ask ≡ true)) }

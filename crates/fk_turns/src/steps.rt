@@ -12,8 +12,8 @@ mod room;
 mod serving;
 mod signalling;
 mod steps;
-mod talking;
 mod taking;
+mod talking;
 
 pub use fk_calls::{Sent, Told, is_fit, ready};
 pub use going::Gone;

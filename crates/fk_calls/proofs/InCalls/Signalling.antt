@@ -175,9 +175,10 @@ module _ (m n : Contents) (who : Who) (cond mutex slot : ℕ) (valid : IsValid (
       let row = sym (signal_row w me x cond mutex (sym first) (same_path_refl (path m who.space)) (sym sleeps)) in
       let is = judged asleep row in
       let ready : IsReadyMove m (picking who other) asks.Run =
-      subst (λ (o : Outcome). GoesAllowed w me o) (sym is.outcome)
-      (record { object = rw (unheld x) refl; changed = none_led (w.body x); made = refl },
-      (record { object = rw (unheld me) refl; changed = none_led (w.body me); made = refl }, tt)) in
+      subst (λ (o : Outcome). GoesAllowed w me o) (sym is.outcome) (
+        record { object = rw (unheld x) refl; changed = none_led (w.body x); made = refl },
+        (record { object = rw (unheld me) refl; changed = none_led (w.body me); made = refl }, tt),
+      ) in
       let step : IsStepTo m (picking who other) asks.Run n says.Nothing =
       step_judged m (picking who other) asks.Run judgement is ready ∙ ap (λ (u : World). record { world = u; said = outcomes.Said.Nothing }) (sym world_is) in
       record {

@@ -224,9 +224,10 @@ module _ (m n : Contents) (who mutex : Who) (c k : ℕ) (valid : IsValid (world 
   sleep_gone first second world_is =
       let row = row_is first second in
       let is_judged = judged row in
-      let ready : IsReadyMove m (run_of who) asks.Run = subst (λ (o : Outcome). GoesAllowed w me o) (sym is_judged.outcome)
-      (record { object = rw (unheld at) refl; changed = none_led (w.body at); made = refl },
-      (record { object = rw (unheld me) refl; changed = none_led (w.body me); made = refl }, tt)) in
+      let ready : IsReadyMove m (run_of who) asks.Run = subst (λ (o : Outcome). GoesAllowed w me o) (sym is_judged.outcome) (
+        record { object = rw (unheld at) refl; changed = none_led (w.body at); made = refl },
+        (record { object = rw (unheld me) refl; changed = none_led (w.body me); made = refl }, tt),
+      ) in
       let now : world n ≡ apply (Alter me (Replace (CondAsleep c mutex.slot))) (apply (Alter at (SetLocked false)) w) =
       subst (λ (j : ℕ). world n ≡ apply (Alter me (Replace (CondAsleep c j))) (apply (Alter at (SetLocked false)) w)) (sym slot_is) world_is in
       let step : IsStepTo m (run_of who) asks.Run n says.Nothing =

@@ -62,7 +62,14 @@ fn head_by_fault(objects: &Objects, fault: Option<Fault>, field: u8) -> Option<u
 }
 
 /// A field of a thread leads where its new fault says, of the fields 3 and 4.
-fn link_fault(objects: &Objects, links: &mut Links, key: u32, field: u8, old: Option<Fault>, fault: Option<Fault>)
+fn link_fault(
+    objects: &Objects,
+    links: &mut Links,
+    key: u32,
+    field: u8,
+    old: Option<Fault>,
+    fault: Option<Fault>,
+)
     requires low { 3 ≤ field }
     requires field { field < 5 }
     requires small { key < 858993458 }
@@ -73,10 +80,7 @@ fn link_fault(objects: &Objects, links: &mut Links, key: u32, field: u8, old: Op
         → AreRings links.new (put_at owner (nodes.node_of key field) (head_led_by_fault objects.now fault field)) }
     ensures long { length links.new ≡ length links.old }
 {
-    if !is_same(
-        target_of_fault(old, field),
-        target_of_fault(fault, field),
-    ) {
+    if !is_same(target_of_fault(old, field), target_of_fault(fault, field)) {
         links.point(node_of(key, field), head_by_fault(objects, fault, field));
     }
 }

@@ -140,9 +140,10 @@ module _ (w : World) (me at : Path) (locked was : Bool) (t : Thread) (stage : St
 
     apart : (r : Reason) → IsStuck w x r → is_barred r ≡ false → IsApartOf at x r → AreApartFrom (at ∷ me ∷ []) cs x r
     apart (Locking m) stuck named spared = ((no_mutex x u here, spared m refl), (own_from (Locking m) stuck other, tt))
-    apart (Lacking side address count far client y into room) stuck named spared =
-        ((no_mutex x u here, room_no_mutex side y into room stuck.4),
-          (own_from (Lacking side address count far client y into room) stuck (other, room_no_mover side y into room stuck.4), tt))
+    apart (Lacking side address count far client y into room) stuck named spared = (
+      (no_mutex x u here, room_no_mutex side y into room stuck.4),
+      (own_from (Lacking side address count far client y into room) stuck (other, room_no_mover side y into room stuck.4), tt),
+    )
     apart Barred stuck named spared = absurd (cc)
     apart Resting stuck named spared = (no_mutex x u here, (own_from Resting stuck other, tt))
     apart (Beneath space) stuck named spared = (no_mutex x u here, (own_from (Beneath space) stuck other, tt))

@@ -85,9 +85,10 @@ module _ (w : World) (me x : Path) (cond c mutex : ℕ) (t u : Thread) (rest res
 
   module _ (z : Path) (off : same_path z me ≡ false) (off_x : same_path z x ≡ false) where
     apart : (r : Reason) → IsStuck w z r → is_barred r ≡ false → AreApartFrom (x ∷ me ∷ []) cs z r
-    apart (Lacking side address count far client y into room) stuck named =
-        ((off_x, room_not w x u (CondAsleep c mutex ∷ []) rest_x side there_x mode_x (no_receive_x (other_side side)) y into room stuck.4),
-        ((off, room_not w me t (CondSignal cond ∷ []) rest side there mode (no_receive (other_side side)) y into room stuck.4), tt))
+    apart (Lacking side address count far client y into room) stuck named = (
+      (off_x, room_not w x u (CondAsleep c mutex ∷ []) rest_x side there_x mode_x (no_receive_x (other_side side)) y into room stuck.4),
+      ((off, room_not w me t (CondSignal cond ∷ []) rest side there mode (no_receive (other_side side)) y into room stuck.4), tt),
+    )
     apart Barred stuck named = absurd (cc)
     apart (Locking m) stuck named = (off_x, (off, tt))
     apart Resting stuck named = (off_x, (off, tt))
