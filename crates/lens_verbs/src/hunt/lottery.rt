@@ -185,7 +185,9 @@ impl<'a> Lottery<'a> {
         let mut most = 0;
         for entrant in &self.entrants {
             let number = match *entrant {
-                Entrant::Thread(who) => u64::from(who.space) * 256 + u64::from(who.slot),
+                Entrant::Thread(who) => u64::from(who.space)
+                    .wrapping_mul(256)
+                    .wrapping_add(u64::from(who.slot)),
                 Entrant::Server(place) => FIRST_SERVER.wrapping_add(place as u64),
                 Entrant::Job(_) => JOB,
             };
