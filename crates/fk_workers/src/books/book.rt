@@ -335,7 +335,7 @@ impl<C: Playable + Drop> Book<C> {
         Ok(true)
     }
 
-    /// Makes moves until none is left.
+    /// Makes moves until none is left, by turns as `go_on` makes them.
     ///
     /// # Errors
     ///
