@@ -13,7 +13,7 @@ use fk_commands::{Prepared, Report, Status};
 use fk_core::Core;
 use fk_finish::ValidImage;
 use fk_history::Moves;
-use fk_job_ends::{Tells, images_of, told_in};
+use fk_job_ends::{images_of, told_in};
 use fk_jobs::Worker;
 use fk_model::{JobSpec, List as Items, NoMemory};
 use fk_natives::Service;
@@ -99,7 +99,7 @@ fn outs_of<S: Service + Drop, W: Worker + Drop>(
 }
 
 /// The report and the text of a run of jobs that has come to a core.
-pub fn prepared<S: Service + Drop, W: Tells + Drop>(
+pub fn prepared<S: Service + Drop, W: Worker + Drop>(
     alloc: Global,
     core: Core<S, W>,
     specs: &[JobSpec],
@@ -124,7 +124,7 @@ pub fn prepared<S: Service + Drop, W: Tells + Drop>(
 }
 
 /// The report of a run of jobs without images, and the line of `soak` in place of its text: so many servers are counted.
-pub fn soaked<S: Service + Drop, W: Tells + Drop>(
+pub fn soaked<S: Service + Drop, W: Worker + Drop>(
     alloc: Global,
     count: u32,
     core: Core<S, W>,
