@@ -339,9 +339,9 @@ fn open(alloc: Global, slot: u8, phase: &mut Phase) -> Result<(), NoMemory>
 }
 
 /// Makes room in a phase for one answer, and changes nothing else.
-fn ready(slot: u8, phase: &mut Phase) -> Result<(), NoMemory>
+fn ready(phase: &mut Phase) -> Result<(), NoMemory>
     requires { IsOpened phase.old }
-    ensures same { phase_of slot phase.new ≡ phase_of slot phase.old }
+    ensures same { (slot : _) → phase_of slot phase.new ≡ phase_of slot phase.old }
     ensures room { OnOk result (HasRoomIn phase.new) }
 {
     match phase {
@@ -390,7 +390,7 @@ impl Checkpoint {
         ensures room { OnOk result (HasRoom self.new) }
     {
         open(self.alloc, self.slot, &mut self.phase)?;
-        ready(self.slot, &mut self.phase)
+        ready(&mut self.phase)
     }
 
     /// Takes the answer to its next call. That uses up its room.
