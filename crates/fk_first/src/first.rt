@@ -12,10 +12,9 @@ use crate::plans::plans_of;
 use fk_boot::boot;
 use fk_core::Core;
 use fk_finish::ValidImage;
-use fk_jobs::Jobs;
+use fk_jobs::{Jobs, Porter};
 use fk_model::NoMemory;
 use fk_natives::Native;
-use fk_porters::Porter;
 use fk_scenario::Scenario;
 use std::alloc::Global;
 

@@ -1,9 +1,8 @@
 //! What is seen of a run, who watches it, and who has images for it.
 use fk_finish::ValidImage;
-use fk_jobs::Jobs;
+use fk_jobs::{Jobs, Porter};
 use fk_model::{Move, NoMemory, Stage, Who};
 use fk_natives::Native;
-use fk_porters::Porter;
 use fk_store::Store;
 use std::collections::BTreeMap;
 

@@ -6,11 +6,9 @@ use Rattle.fk_model.specs.declared.moves.Ask.TheVariants as asks
 use Rattle.fk_model.specs.declared.stage.Stage.{Stage}
 use Rattle.laws_jobs.specs.Machines.{Head}
 use Rattle.laws_jobs.specs.Machines.Head.{Stops, Asks}
-use Rattle.laws_checkpoint.specs.Checkpoint.End.{Gone}
 use Rattle.laws_house.specs.Houses as houses
 use Rattle.laws_house.specs.Houses.{Job, State, End, machine, begins}
 use Rattle.laws_house.specs.Houses.State.{Checking, Restoring}
-use Rattle.laws_house.specs.Houses.End.{Checked}
 use Rattle.laws_restore.specs.Restore.Restore.State.{Makes}
 use Rattle.laws_runs.specs.Cores as runs
 use Rattle.laws_runs.specs.Cores.{JobEnd, Work, work_of}
@@ -20,10 +18,6 @@ use Rattle.fk_jobs.specs.declared.plan.Task.{Task}
 use Rattle.fk_jobs.specs.declared.plan.Task.TheVariants as tasks
 use Rattle.fk_jobs.specs.declared.plan.Source.{Source}
 use Rattle.fk_jobs.specs.declared.plan.Source.TheVariants as sources
-use Rattle.fk_jobs.specs.declared.jobs.Ended.{Ended}
-use Rattle.fk_jobs.specs.declared.jobs.Ended.TheVariants as ended
-use Rattle.fk_jobs.specs.declared.jobs.Unmoved.{Unmoved}
-use Rattle.fk_jobs.specs.declared.jobs.Unmoved.TheVariants as unmoved
 
 -- ---- what is planned
 
@@ -90,11 +84,6 @@ abbrev pub grows_by : Option State → Bool
 grows_by None = false
 grows_by (Some s) = grows s
 
--- with what a machine ends
-abbrev pub end_at : Head End → End
-end_at (Stops end) = end
-end_at (Asks stage words) = Checked Gone
-
 -- it goes on, or has ended with the move at this place of the history
 abbrev pub goes_on : Queue → ℕ → ℕ → State → Head End → Queue
 goes_on q begun events s (Asks stage words) =
@@ -112,11 +101,19 @@ hears_by q events status words (Some k) = hears_at q k.begun events (machine.nex
 abbrev pub hears : Queue → ℕ → ℕ → List ℕ → Queue
 hears q events status words = hears_by q events status words (work_of events q.work (first_of q.ends (current q)))
 
--- the one at work has ended with the move at this place: the next one's turn has come
+-- the one at work has ended
+abbrev pub HasStopped : Head End → Type 0
+HasStopped (Asks stage words) = ⊥
+HasStopped (Stops end) = Unit {0}
+
+abbrev pub HasEnded : Option (Work State) → Type 0
+HasEnded None = ⊥
+HasEnded (Some k) = HasStopped (machine.head k.state)
+
+-- with the move at this place: the next one's turn has come
 abbrev pub passed_by : Queue → ℕ → Option (Work State) → Queue
 passed_by q last None = q
-passed_by q last (Some k) =
-    record { jobs = q.jobs; ends = q.ends ++ Worked (end_at (machine.head k.state)) k.begun last ∷ []; work = None; ready = false }
+passed_by q last (Some k) = hears_at q k.begun last k.state
 
 abbrev pub passed : Queue → ℕ → Queue
 passed q last = passed_by q last q.work
@@ -126,18 +123,6 @@ abbrev pub with_idle : Queue → runs.Unmoved → Queue
 with_idle q why = record { jobs = q.jobs; ends = q.ends ++ Idle why ∷ []; work = q.work; ready = false }
 
 -- ---- the same as the code has it
-
-abbrev pub unmoved_of : Unmoved → runs.Unmoved
-unmoved_of unmoved.NoImage = runs.NoImage
-unmoved_of unmoved.Dead = runs.Dead
-
-abbrev pub shown_end : {W : Type 0} → (W → State) → Ended W → JobEnd End
-shown_end state (ended.Worked w begun last) = Worked (end_at (machine.head (state w))) begun last
-shown_end state ended.NoImage = Idle runs.NoImage
-shown_end state ended.Dead = Idle runs.Dead
-
-abbrev pub shown_ends : {W : Type 0} → (W → State) → List (Ended W) → List (JobEnd End)
-shown_ends state ends = map (shown_end state) ends
 
 abbrev pub shown_work : {W : Type 0} → (W → State) → Option W → Option ℕ → Option (Work State)
 shown_work state None begun = None

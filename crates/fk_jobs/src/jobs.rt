@@ -5,42 +5,25 @@ ghost use Rattle.std.specs.List.{slice_get};
 ghost use Rattle.fk_model.specs.declared.moves.Ask.TheVariants as asks;
 ghost use Rattle.laws_house.specs.Laws.{NameUsersSlots};
 ghost use Rattle.laws_jobs.specs.Machines.{no_words};
-ghost use Rattle.fk_jobs.specs.Jobs.{job_of, unmoved_of, current, first_of, state_of, grows_by, call_with, asked_by, begun_from, hears, passed, with_idle};
-ghost use Rattle.fk_jobs.specs.Jobs.{shown_end, shown_ends, made_state};
-ghost use Rattle.laws_runs.specs.Cores.JobEnd.{Idle};
+ghost use Rattle.fk_jobs.specs.Ended.{unmoved_of, shown_ends};
+ghost use Rattle.fk_jobs.specs.Jobs.{job_of, current, first_of, state_of, grows_by, call_with, asked_by, begun_from, hears, passed, with_idle};
+ghost use Rattle.fk_jobs.specs.Jobs.{made_state, HasEnded};
 ghost use Rattle.fk_jobs.specs.Plain.{picks_nobody};
 
 use crate::begins::{can_begin, first_call, make};
+use crate::ended::{Ended, Unmoved};
 use crate::plan::Plan;
 use crate::worker::Worker;
 use fk_model::{Answer, NoMemory, Stage};
 use std::alloc::Global;
 use std::marker::Model;
 
-/// How a job has ended.
-#[derive(Drop)]
-pub enum Ended<W: Drop> {
-    /// By its own moves, the first and the last of which stand at these places of the history. Its code says how.
-    Worked { worker: W, begun: u64, last: u64 },
-    /// Without a move, having no image.
-    NoImage,
-    /// Without a move, its nester being gone.
-    Dead,
-}
-
-/// Why a job ends without a move.
-#[derive(Clone, Copy)]
-pub enum Unmoved {
-    NoImage,
-    Dead,
-}
-
 /// Jobs, one after the other.
 #[derive(Drop)]
 pub struct Jobs<W: Worker + Drop> {
     alloc: Global,
     plans: Vec<Plan>,
-    ends: Vec<Ended<W>>,
+    ends: Vec<Ended>,
     /// The machine of the one whose turn it is, once it is made.
     worker: Option<W>,
     /// The place of its first move, once it has made one.
@@ -53,23 +36,24 @@ impl<W: Worker + Drop> Model for Jobs<W> {
     ghost use Rattle.std.specs.Prelude.{◌≡◌, ◌≤◌, false, not, map, length, vec_capacity};
     ghost use Rattle.std.specs.List.{slice_get};
     ghost use Rattle.laws_house.specs.Laws.{NameUsersSlots};
+    ghost use Rattle.fk_jobs.specs.Ended as ended;
     ghost use Rattle.fk_jobs.specs.Jobs as queues;
 
     ghost Value = { queues.Queue };
 
     ghost view = { λ s. record {
       jobs = map queues.job_of s.plans.items;
-      ends = queues.shown_ends W.state s.ends.items;
+      ends = ended.shown_ends s.ends.items;
       work = queues.shown_work W.state s.worker s.begun;
       ready = not s.used;
     } };
 
     ghost invariant = { λ s. (length s.plans.items ≤ vec_capacity s.ends)
         × NameUsersSlots (map queues.job_of s.plans.items)
-        × queues.IsSeated W.state s.worker s.begun (queues.shown_ends W.state s.ends.items)
-        (slice_get (map queues.job_of s.plans.items) (length (queues.shown_ends W.state s.ends.items)))
-        × (s.used ≡ false → queues.IsReadied W.has_room s.worker (queues.first_of (queues.shown_ends W.state s.ends.items)
-        (slice_get (map queues.job_of s.plans.items) (length (queues.shown_ends W.state s.ends.items))))) };
+        × queues.IsSeated W.state s.worker s.begun (ended.shown_ends s.ends.items)
+        (slice_get (map queues.job_of s.plans.items) (length (ended.shown_ends s.ends.items)))
+        × (s.used ≡ false → queues.IsReadied W.has_room s.worker (queues.first_of (ended.shown_ends s.ends.items)
+        (slice_get (map queues.job_of s.plans.items) (length (ended.shown_ends s.ends.items))))) };
 }
 
 /// The place of a job's first move, which is this one where it has made none.
@@ -83,7 +67,7 @@ fn begun_from(begun: Option<u64>, events: u64) -> u64
 }
 
 /// Adds how a job has ended.
-fn add_end<W: Worker + Drop>(ends: &mut Vec<Ended<W>>, end: Ended<W>)
+fn add_end(ends: &mut Vec<Ended>, end: Ended)
     requires { length ends.old.items < vec_capacity ends.old }
     ensures ends { ends.new.items ≡ ends.old.items ++ end ∷ [] }
     ensures room { vec_capacity ends.old ≤ vec_capacity ends.new }
@@ -91,30 +75,20 @@ fn add_end<W: Worker + Drop>(ends: &mut Vec<Ended<W>>, end: Ended<W>)
     ends.push(end).unwrap();
 }
 
-/// How a job has ended that made no move.
-fn idle_end<W: Worker + Drop>(why: Unmoved) -> Ended<W>
-    ensures { shown_end W.state result ≡ Idle (unmoved_of why) }
-{
-    match why {
-        Unmoved::NoImage => Ended::NoImage,
-        Unmoved::Dead => Ended::Dead,
-    }
-}
-
 /// Makes the machine of the job whose turn it is. It stands apart, since it is rare and takes much room.
 #[inline(never)]
 fn make_new<W: Worker + Drop>(
     alloc: Global,
     plans: &[Plan],
-    ends: &[Ended<W>],
+    ends: &[Ended],
     worker: &mut Option<W>,
 ) -> Result<(), NoMemory>
     requires { NameUsersSlots (map job_of plans.now) }
     ensures made { OnOk result (option_map W.state worker.new
-        ≡ first_of (shown_ends W.state ends.now) (slice_get (map job_of plans.now) (length (shown_ends W.state ends.now)))) }
+        ≡ first_of (shown_ends ends.now) (slice_get (map job_of plans.now) (length (shown_ends ends.now)))) }
     ensures lacking { OnErr result (worker.new ≡ worker.old) }
     ensures grows { OnErr result (grows_by
-        (first_of (shown_ends W.state ends.now) (slice_get (map job_of plans.now) (length (shown_ends W.state ends.now)))) ≡ true) }
+        (first_of (shown_ends ends.now) (slice_get (map job_of plans.now) (length (shown_ends ends.now)))) ≡ true) }
 {
     *worker = make(alloc, plans, ends)?;
     Ok(())
@@ -124,15 +98,15 @@ fn make_new<W: Worker + Drop>(
 fn make_in<W: Worker + Drop>(
     alloc: Global,
     plans: &[Plan],
-    ends: &[Ended<W>],
+    ends: &[Ended],
     worker: &mut Option<W>,
 ) -> Result<(), NoMemory>
     requires { NameUsersSlots (map job_of plans.now) }
     ensures made { OnOk result (option_map W.state worker.new
-        ≡ made_state W.state worker.old (first_of (shown_ends W.state ends.now) (slice_get (map job_of plans.now) (length (shown_ends W.state ends.now))))) }
+        ≡ made_state W.state worker.old (first_of (shown_ends ends.now) (slice_get (map job_of plans.now) (length (shown_ends ends.now))))) }
     ensures lacking { OnErr result (worker.new ≡ worker.old) }
     ensures grows { OnErr result (grows_by (made_state W.state worker.old
-        (first_of (shown_ends W.state ends.now) (slice_get (map job_of plans.now) (length (shown_ends W.state ends.now))))) ≡ true) }
+        (first_of (shown_ends ends.now) (slice_get (map job_of plans.now) (length (shown_ends ends.now))))) ≡ true) }
 {
     if worker.is_none() {
         make_new(alloc, plans, ends, worker)?;
@@ -268,13 +242,15 @@ impl<W: Worker + Drop> Jobs<W> {
     /// The one at work has ended with the move at this place. It stands apart, since it is rare and takes much room.
     #[inline(never)]
     fn pass(&mut self, last: u64)
-        requires { IsSome self.old.work }
+        requires work { IsSome self.old.work }
+        requires over { HasEnded self.old.work }
         ensures { self.new ≡ passed self.old last }
     {
         let worker = self.worker.take().unwrap();
         let begun = self.begun.take().unwrap();
+        let finish = worker.finish().unwrap();
         let ended = Ended::Worked {
-            worker,
+            finish,
             begun,
             last,
         };
@@ -291,20 +267,20 @@ impl<W: Worker + Drop> Jobs<W> {
     {
         self.begun = None;
         self.worker = None;
-        add_end(&mut self.ends, idle_end(why));
+        add_end(&mut self.ends, Ended::Idle(why));
         self.used = true;
     }
 
     /// How those have ended that have.
-    pub fn ends(&self) -> &[Ended<W>]
-        ensures { shown_ends W.state result.now ≡ self.now.ends }
+    pub fn ends(&self) -> &[Ended]
+        ensures { shown_ends result.now ≡ self.now.ends }
     {
         self.ends.as_slice()
     }
 
     /// The same, handed out.
-    pub fn into_ends(self) -> Vec<Ended<W>>
-        ensures { shown_ends W.state result.items ≡ self.ends }
+    pub fn into_ends(self) -> Vec<Ended>
+        ensures { shown_ends result.items ≡ self.ends }
     {
         self.ends
     }

@@ -1,16 +1,19 @@
 //! What a job's code has to promise.
-ghost use Rattle.std.specs.Prelude.{◌≡◌, true, Some, IfSome, OnOk, OnErr, is_some, option_map, take};
+ghost use Rattle.std.specs.Prelude.{◌≡◌, true, Some, IfSome, IfNone, OnOk, OnErr, is_some, take};
 ghost use Rattle.fk_model.specs.declared.moves.Ask.TheVariants as asks;
 ghost use Rattle.laws_checkpoint.specs.Checkpoint.State.{Holds};
-ghost use Rattle.laws_house.specs.Houses.{State, machine, image_of_end};
+ghost use Rattle.laws_house.specs.Houses.{State, machine};
 ghost use Rattle.laws_house.specs.Houses.State.{Checking, Restoring};
 ghost use Rattle.laws_restore.specs.Restore.Restore.State.{Makes};
 ghost use Rattle.laws_restore.specs.Rooms.Restoring.{IsRestoreJob};
-ghost use Rattle.laws_jobs.specs.Machines.{no_words};
-ghost use Rattle.fk_jobs.specs.Jobs.{call_at, call_with, end_at, grows};
+ghost use Rattle.laws_jobs.specs.Machines.{no_words, IsAtCall};
+ghost use Rattle.laws_jobs.specs.Machines.Head.{Stops};
+ghost use Rattle.fk_jobs.specs.Ended.{finish_of};
+ghost use Rattle.fk_jobs.specs.Jobs.{call_at, call_with, grows};
 ghost use Rattle.fk_jobs.specs.Plain.{CheckpointsAskPlainly, JobsPickNobody, PlainIsFit};
 ghost use Rattle.fk_jobs.specs.Turns.{JobMovesSo, JobEndsSo};
 
+use crate::ended::Finish;
 use fk_finish::ValidImage;
 use fk_model::{Answer, List, NoMemory, Stage};
 use std::alloc::Global;
@@ -43,10 +46,6 @@ pub trait Worker {
     fn is_at_call(&self) -> bool
         ensures { result ≡ is_some (call_at (machine.head (state self.now))) };
 
-    /// The image with which it is done, where it has ended so.
-    fn image(&self) -> Option<&ValidImage>
-        ensures { option_map (λ image. image.now) result ≡ image_of_end (end_at (machine.head (state self.now))) };
-
     /// Makes room for one answer, and changes nothing else.
     fn reserve(&mut self) -> Result<(), NoMemory>
         ensures same { state self.new ≡ state self.old }
@@ -57,6 +56,11 @@ pub trait Worker {
     fn absorb(&mut self, answer: &Answer)
         requires { has_room self.old }
         ensures { state self.new ≡ machine.next (state self.old) answer.now.status (take answer.now.len answer.now.words) };
+
+    /// How it has ended; nothing while it has a call to make.
+    fn finish(self) -> Option<Finish>
+        ensures some { IfSome result (λ finish. machine.head (state self) ≡ Stops (finish_of finish)) }
+        ensures none { IfNone result (IsAtCall machine (state self)) };
 }
 
 /// Each call of a checkpoint is plain.

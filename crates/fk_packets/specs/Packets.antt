@@ -1,7 +1,7 @@
 -- The one spelling of each packet, and what bytes say from left to right. A tag comes first; numbers are little-endian.
 use Rattle.std.specs.Prelude.{◌≡◌, ℕ, ◌^◌, ◌==◌, ◌&&◌, Bool, true, nat_lt, not, List, [], ◌∷◌, ◌++◌, length, take, drop, Result, Ok, if◌then◌else◌}
 use Rattle.std.specs.Int.{w16, w64, to_le_bytes}
-use Rattle.fk_finish.specs.declared.finish.Place.{Place}
+use Rattle.fk_finish.specs.declared.place.Place.{Place}
 use Rattle.fk_image.specs.declared.format.reasons.reason.TheConstants as reasons
 use Rattle.fk_image.specs.declared.format.stop.Stop.{Stop}
 use Rattle.fk_image.specs.Format.Fields.{◌>>=◌, refuse_field, expect, read_byte, read_number}

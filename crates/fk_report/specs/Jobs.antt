@@ -3,7 +3,7 @@ use Rattle.std.specs.Prelude.{ℕ, ◌+◌, Bool, true, false, List, [], ◌∷�
 use Rattle.std.specs.List.{slice_get}
 use Rattle.fk_model.specs.declared.job.JobSpec.{JobSpec}
 use Rattle.fk_model.specs.declared.job.JobSpec.TheVariants.{Checkpoint, Restore}
-use Rattle.fk_finish.specs.declared.finish.Place.{Place}
+use Rattle.fk_finish.specs.declared.place.Place.{Place}
 use Rattle.fk_report.specs.Paths.{down_text}
 use Rattle.fk_report.specs.declared.job_end.JobEnd.{JobEnd}
 use Rattle.fk_report.specs.declared.job_end.JobEnd.TheVariants.{Checkpointed, Foreign, Dead, Restored, NoImage, Occupied, NoPort}

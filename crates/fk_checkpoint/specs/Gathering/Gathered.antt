@@ -7,7 +7,7 @@ use Rattle.fk_checkpoint.specs.declared.gathering.content.Content.{Content as Co
 use Rattle.fk_checkpoint.specs.declared.gathering.gather.Gather.{Gather}
 use Rattle.fk_checkpoint.specs.declared.gathering.gather.Step.{Step}
 use Rattle.fk_checkpoint.specs.declared.gathering.gather.Step.TheVariants as steps
-use Rattle.fk_checkpoint.specs.Gathering.Fields.{fields_in}
+use Rattle.fk_checkpoint.specs.Seeking.Fields.{fields_in}
 use Rattle.fk_checkpoint.specs.Gathering.Gathering.{leads_of}
 use Rattle.fk_checkpoint.specs.Gathering.Todos.{place_of, task_of, behind}
 

@@ -9,7 +9,7 @@ use Rattle.fk_checkpoint.specs.Seeking.Seeking.{up}
 use Rattle.fk_checkpoint.specs.declared.gathering.content.Item.{Item as CodeItem}
 use Rattle.fk_checkpoint.specs.declared.gathering.content.Content.{Content as CodeContent}
 use Rattle.fk_checkpoint.specs.declared.gathering.todo.Todo.{Todo}
-use Rattle.fk_checkpoint.specs.Gathering.Fields.{fields_in}
+use Rattle.fk_checkpoint.specs.Seeking.Fields.{fields_in}
 use Rattle.fk_checkpoint.specs.Gathering.Gathering.{items_of, contents_of}
 
 abbrev pub path_of : Option CodeContent → List ℕ

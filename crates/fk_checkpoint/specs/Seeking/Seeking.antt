@@ -9,8 +9,7 @@ use Rattle.laws_checkpoint.specs.Walk as walks
 use Rattle.laws_checkpoint.specs.Walk.{Met}
 use Rattle.laws_checkpoint.specs.Assembly.{met_task}
 use Rattle.fk_checkpoint.specs.declared.seeking.met.Met.{Met as CodeMet}
-use Rattle.fk_checkpoint.specs.declared.seeking.fields.Fields.{Fields}
-use Rattle.fk_checkpoint.specs.declared.seeking.fields.Fields.TheVariants.{Nothing, Zero, Two, ZeroTwo}
+use Rattle.fk_checkpoint.specs.Seeking.Fields.{fields_in}
 use Rattle.fk_checkpoint.specs.declared.seeking.seek.Look.{Look}
 use Rattle.fk_checkpoint.specs.declared.seeking.seek.Look.TheVariants as looks
 use Rattle.fk_checkpoint.specs.declared.seeking.seek.Seek.{Seek}
@@ -73,12 +72,6 @@ abbrev pub HasRoom : Walk → Type 0
 HasRoom w = HasRoomFor w.step w
 
 -- ---- the search
-
-abbrev pub fields_in : Fields → List ℕ
-fields_in Nothing = []
-fields_in Zero = 0 ∷ []
-fields_in Two = 2 ∷ []
-fields_in ZeroTwo = 0 ∷ 2 ∷ []
 
 -- the root comes first, and then those that were met
 abbrev pub met_at : List CodeMet → ℕ → Option CodeMet

@@ -3,7 +3,8 @@ ghost use Rattle.std.specs.Prelude.{◌≡◌, ◌↔◌, ◌<◌, true, IsTrue,
 ghost use Rattle.laws_runs.specs.Cores as runs;
 ghost use Rattle.laws_runs.specs.Cores.{EndsNow};
 ghost use Rattle.laws_moves.specs.Whole.Runnable.{has_all_words};
-ghost use Rattle.fk_jobs.specs.Jobs.{current, unmoved_of};
+ghost use Rattle.fk_jobs.specs.Ended.{unmoved_of};
+ghost use Rattle.fk_jobs.specs.Jobs.{current};
 ghost use Rattle.fk_core.specs.Rounds.Moments.{seen, AreUsersIdle};
 ghost use Rattle.fk_core.specs.Rounds.Served.{asked};
 ghost use Rattle.fk_core.specs.Cores.Cores.{house, run_core, porter_of, is_porter, has_come, IsReadyMove, IsAnyMove, IsChoice, IsDue, IsOver};

@@ -2,7 +2,8 @@
 ghost use Rattle.std.specs.Prelude.{◌≡◌, ◌↔◌, Some, None, IsTrue, IfSome, IfNone};
 ghost use Rattle.laws_runs.specs.Cores as runs;
 ghost use Rattle.laws_runs.specs.Cores.{IsGone, IsOtherReady, EndsFor, EndsNow};
-ghost use Rattle.fk_jobs.specs.Jobs.{current, job_of, unmoved_of};
+ghost use Rattle.fk_jobs.specs.Ended.{unmoved_of};
+ghost use Rattle.fk_jobs.specs.Jobs.{current, job_of};
 ghost use Rattle.fk_served.specs.Kernels.{world_of as world};
 ghost use Rattle.fk_core.specs.Moment.Moments.{house, seen, IsDue};
 

@@ -13,7 +13,7 @@ use fk_commands::{Prepared, Report, Status};
 use fk_core::Core;
 use fk_finish::ValidImage;
 use fk_history::Moves;
-use fk_job_ends::{Tells, images_of, told_in};
+use fk_job_ends::{images_of, told_in};
 use fk_jobs::Worker;
 use fk_model::{JobSpec, List as Items, NoMemory};
 use fk_natives::Service;
@@ -103,7 +103,7 @@ fn outs_of<S: Service + Drop, W: Worker + Drop>(
 /// # Errors
 ///
 /// There is no memory for the report or the text.
-pub fn prepared<S: Service + Drop, W: Tells + Drop>(
+pub fn prepared<S: Service + Drop, W: Worker + Drop>(
     alloc: Global,
     core: Core<S, W>,
     specs: &[JobSpec],
@@ -132,7 +132,7 @@ pub fn prepared<S: Service + Drop, W: Tells + Drop>(
 /// # Errors
 ///
 /// There is no memory for the report or the line.
-pub fn soaked<S: Service + Drop, W: Tells + Drop>(
+pub fn soaked<S: Service + Drop, W: Worker + Drop>(
     alloc: Global,
     count: u32,
     core: Core<S, W>,

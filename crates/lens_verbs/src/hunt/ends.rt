@@ -1,11 +1,11 @@
 //! How a run has ended, in a line.
 use crate::hunt::drawing::Run;
-use fk_finish::Finish;
-use fk_jobs::{Ended, Task};
+use fk_checkpoint::CheckpointEnd;
+use fk_jobs::{Ended, Finish, Task, Unmoved};
 use fk_model::{Mode, NoMemory};
 use fk_natives::Service;
-use fk_porters::Porter;
 use fk_report::{End, ThreadState, end_word, threads_of};
+use fk_restore::RestoreEnd;
 use lens_text::Sheet;
 
 /// Adds the path of a thread, whose slots go outwards.
@@ -46,30 +46,33 @@ fn push_out<S: Service>(sheet: &Sheet, service: &S) {
 /// Adds how a job has ended by its own moves.
 fn push_finish(sheet: &Sheet, finish: &Finish) {
     match finish {
-        Finish::Image(_) | Finish::Restored => sheet.put(b" done"),
-        Finish::Foreign(place) => {
+        Finish::Checkpoint(CheckpointEnd::Done(_)) | Finish::Restore(RestoreEnd::Done) => sheet.put(
+            b" done",
+        ),
+        Finish::Checkpoint(CheckpointEnd::Foreign(place)) => {
             sheet.put(b" foreign ");
             for slot in place.path.as_slice() {
                 sheet.fill(b"/@", u64::from(*slot), 0, 0);
             }
             sheet.fill(b" @", u64::from(place.field), 0, 0);
         }
-        Finish::Dead => sheet.put(b" dead"),
-        Finish::Occupied => sheet.put(b" occupied"),
-        Finish::NoPort(port) => sheet.fill(b" noport @", u64::from(*port), 0, 0),
+        Finish::Checkpoint(CheckpointEnd::Gone) => sheet.put(b" dead"),
+        Finish::Restore(RestoreEnd::Occupied) => sheet.put(b" occupied"),
+        Finish::Restore(RestoreEnd::NoPort(port)) => sheet.fill(
+            b" noport @",
+            u64::from(*port),
+            0,
+            0,
+        ),
     }
 }
 
 /// Adds what has become of a job that has ended, or of one that hasn't.
-fn push_fate(sheet: &Sheet, ended: Option<&Ended<Porter>>) {
+fn push_fate(sheet: &Sheet, ended: Option<&Ended>) {
     match ended {
-        Some(Ended::Worked { worker, .. }) => {
-            if let Some(finish) = worker.end() {
-                push_finish(sheet, finish);
-            }
-        }
-        Some(Ended::NoImage) => sheet.put(b" noimage"),
-        Some(Ended::Dead) => sheet.put(b" dead"),
+        Some(Ended::Worked { finish, .. }) => push_finish(sheet, finish),
+        Some(Ended::Idle(Unmoved::NoImage)) => sheet.put(b" noimage"),
+        Some(Ended::Idle(Unmoved::Dead)) => sheet.put(b" dead"),
         None => sheet.put(b" waiting"),
     }
 }

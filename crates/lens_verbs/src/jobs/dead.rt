@@ -1,7 +1,6 @@
 //! Why a job is dead, finds its slot taken, or has no image.
 use crate::jobs::names::{end_at, push_space, site_of, slot_of};
-use fk_jobs::{Jobs, Plan, Source, Task};
-use fk_porters::Porter;
+use fk_jobs::{Jobs, Plan, Porter, Source, Task};
 use fk_store::Store;
 use lens_text::{Sheet, push_held_there};
 

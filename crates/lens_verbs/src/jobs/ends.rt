@@ -3,50 +3,44 @@ use crate::jobs::dead::{push_dead, push_noimage, push_slot};
 use crate::jobs::foreign::push_foreign;
 use crate::jobs::names::{end_word, push_job};
 use crate::jobs::noport::push_noport;
-use fk_finish::Finish;
-use fk_jobs::{Ended, Jobs, Plan};
-use fk_porters::Porter;
+use fk_checkpoint::CheckpointEnd;
+use fk_jobs::{Ended, Finish, Jobs, Plan, Porter, Unmoved};
+use fk_restore::RestoreEnd;
 use fk_store::Store;
 use lens_text::Sheet;
 
 /// Adds why a job has ended as it has by its own moves.
 fn push_finish(sheet: &Sheet, store: &Store, jobs: &Jobs<Porter>, plan: &Plan, finish: &Finish) {
     match finish {
-        Finish::Image(_) | Finish::Restored => {}
-        Finish::Foreign(place) => push_foreign(sheet, store, plan, place),
-        Finish::Dead => push_dead(sheet, store, plan, true),
-        Finish::Occupied => {
+        Finish::Checkpoint(CheckpointEnd::Done(_)) | Finish::Restore(RestoreEnd::Done) => {}
+        Finish::Checkpoint(CheckpointEnd::Foreign(place)) => push_foreign(
+            sheet, store, plan, place,
+        ),
+        Finish::Checkpoint(CheckpointEnd::Gone) => push_dead(sheet, store, plan, true),
+        Finish::Restore(RestoreEnd::Occupied) => {
             push_slot(sheet, store, plan);
             sheet.put(b", where the new space was to be made");
         }
-        Finish::NoPort(port) => push_noport(sheet, store, jobs, plan, *port),
+        Finish::Restore(RestoreEnd::NoPort(port)) => push_noport(sheet, store, jobs, plan, *port),
     }
 }
 
 /// Adds why a job has failed.
-fn push_cause(
-    sheet: &Sheet,
-    store: &Store,
-    jobs: &Jobs<Porter>,
-    plan: &Plan,
-    ended: &Ended<Porter>,
-) {
+fn push_cause(sheet: &Sheet, store: &Store, jobs: &Jobs<Porter>, plan: &Plan, ended: &Ended) {
     match ended {
         Ended::Worked {
-            worker,
+            finish,
             begun,
             last,
         } => {
             sheet.fill(b", moves @ to @: ", *begun, *last, 0);
-            if let Some(finish) = worker.end() {
-                push_finish(sheet, store, jobs, plan, finish);
-            }
+            push_finish(sheet, store, jobs, plan, finish);
         }
-        Ended::NoImage => {
+        Ended::Idle(Unmoved::NoImage) => {
             sheet.put(b": ");
             push_noimage(sheet, jobs, plan);
         }
-        Ended::Dead => {
+        Ended::Idle(Unmoved::Dead) => {
             sheet.put(b": ");
             push_dead(sheet, store, plan, false);
         }

@@ -1,8 +1,8 @@
 //! Jobs, nesters and how jobs have ended, by words.
-use fk_finish::Finish;
-use fk_jobs::{Ended, Jobs, Plan, Task};
+use fk_checkpoint::CheckpointEnd;
+use fk_jobs::{Ended, Finish, Jobs, Plan, Porter, Task, Unmoved};
 use fk_model::Who;
-use fk_porters::Porter;
+use fk_restore::RestoreEnd;
 use fk_store::Store;
 use lens_text::{Sheet, push_path};
 
@@ -44,22 +44,22 @@ pub fn push_job(sheet: &Sheet, store: &Store, number: usize, plan: &Plan) {
 }
 
 /// How a job has ended by its own moves, by the report's word.
-fn finish_word(finish: Option<&Finish>) -> &'static str {
+fn finish_word(finish: &Finish) -> &'static str {
     match finish {
-        Some(Finish::Image(_) | Finish::Restored) => "done",
-        Some(Finish::Foreign(_)) => "foreign",
-        Some(Finish::Occupied) => "occupied",
-        Some(Finish::NoPort(_)) => "noport",
-        Some(Finish::Dead) | None => "dead",
+        Finish::Checkpoint(CheckpointEnd::Done(_)) | Finish::Restore(RestoreEnd::Done) => "done",
+        Finish::Checkpoint(CheckpointEnd::Foreign(_)) => "foreign",
+        Finish::Checkpoint(CheckpointEnd::Gone) => "dead",
+        Finish::Restore(RestoreEnd::Occupied) => "occupied",
+        Finish::Restore(RestoreEnd::NoPort(_)) => "noport",
     }
 }
 
 /// How a job has ended, by the report's word.
-pub fn end_word(ended: &Ended<Porter>) -> &'static str {
+pub fn end_word(ended: &Ended) -> &'static str {
     match ended {
-        Ended::Worked { worker, .. } => finish_word(worker.end()),
-        Ended::NoImage => "noimage",
-        Ended::Dead => "dead",
+        Ended::Worked { finish, .. } => finish_word(finish),
+        Ended::Idle(Unmoved::NoImage) => "noimage",
+        Ended::Idle(Unmoved::Dead) => "dead",
     }
 }
 

@@ -2,9 +2,8 @@
 use crate::jobs::names::push_space;
 use fk_finish::ValidImage;
 use fk_image::{Link, Rec, SpaceRec};
-use fk_jobs::{Ended, Jobs, Plan, Source, Task, Worker};
+use fk_jobs::{Jobs, Plan, Porter, Source, Task};
 use fk_model::Who;
-use fk_porters::Porter;
 use fk_store::Store;
 use lens_text::{Sheet, path_in, push_held_there};
 
@@ -111,10 +110,7 @@ fn image_of<'a>(jobs: &'a Jobs<Porter>, source: &'a Source) -> Option<&'a ValidI
     match source {
         Source::Given(Some(image)) => Some(image),
         Source::Given(None) => None,
-        Source::MadeBy(maker) => match jobs.ends().get(*maker)? {
-            Ended::Worked { worker, .. } => worker.image(),
-            _ => None,
-        },
+        Source::MadeBy(maker) => jobs.ends().get(*maker)?.image(),
     }
 }
 
