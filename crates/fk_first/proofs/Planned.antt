@@ -1,29 +1,15 @@
 -- Jobs that are planned, and those that are yet to be.
-use Rattle.std.proofs.Common.{◌≡◌, ℕ, zero, suc, ◌+◌, ◌<◌, ◌≤◌, List, [], ◌∷◌, ◌++◌, map, length, length-append, take, drop, Option, Some, None, refl, sym, ap, subst, ◌∙◌, append-nil, arith}
+use Rattle.std.proofs.Common.{◌≡◌, ℕ, zero, suc, ◌+◌, List, [], ◌∷◌, ◌++◌, map, length, length-append, take, drop, Option, Some, None, refl, sym, ◌∙◌}
+use Rattle.std.proofs.Common.{append-nil, arith}
 use Rattle.std.specs.List.{slice_get}
 use Rattle.std.proofs.lemmas.List.{append_assoc, map-append}
 use Rattle.fk_image.specs.declared.image.image.Image.{Image}
 use Rattle.fk_jobs.specs.declared.plan.Plan.{Plan}
 use Rattle.fk_jobs.specs.Jobs.{job_of}
 use Rattle.fk_model.specs.declared.job.JobSpec.{JobSpec}
+use Rattle.fk_first.proofs.Places.{split, none-left}
 use Rattle.laws_house.specs.Houses as houses
 use Rattle.laws_house.specs.Houses.{given_first, jobs_from, jobs_of}
-
--- a list at a place
-split-suc : {X : Type 0} (xs : List X) (n : ℕ) (x : X) → slice_get xs n ≡ Some x → (drop n xs ≡ x ∷ drop (suc n) xs) × (take (suc n) xs ≡ take n xs ++ x ∷ []) × (n < length xs)
-split-suc [] n x got = absurd (cc)
-split-suc (y ∷ ys) zero x got = let same : y ≡ x = cc in (ap (λ z. z ∷ ys) same, ap (λ z. z ∷ []) same, omega arith)
-split-suc (y ∷ ys) (suc n) x got =
-    let (left, right, within) = split-suc ys n x got in (left, ap (λ zs. y ∷ zs) right, omega (arith, within))
-
-split : {X : Type 0} (xs : List X) (n : ℕ) (x : X) → slice_get xs n ≡ Some x → (drop n xs ≡ x ∷ drop (n + 1) xs) × (take (n + 1) xs ≡ take n xs ++ x ∷ []) × (n < length xs)
-split xs n x got = let more : n + 1 ≡ suc n = omega arith in rw more (split-suc xs n x got)
-
-none-left : {X : Type 0} (xs : List X) (n : ℕ) → slice_get xs n ≡ None → drop n xs ≡ []
-none-left [] zero got = refl
-none-left [] (suc n) got = refl
-none-left (y ∷ ys) zero got = absurd (cc)
-none-left (y ∷ ys) (suc n) got = none-left ys n got
 
 drop-suc : {X : Type 0} (n : ℕ) (xs : List X) → drop 1 (drop n xs) ≡ drop (suc n) xs
 drop-suc zero xs = refl

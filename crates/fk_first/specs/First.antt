@@ -26,7 +26,7 @@ pub record IsFirst (s : Scenario) (c : RunCore) : Type 0 where
   pub work : c.work ≡ None
   pub events : c.events ≡ 0
 
--- the same with others in the place of these servers
+-- a core that differs from one with which the scenario begins in its servers alone, which come of that one's by a function
 pub record IsFirstWith (s : Scenario) (with : Services → Services) (c : RunCore) : Type 0 where
   pub first : RunCore
   pub is_first : IsFirst s first

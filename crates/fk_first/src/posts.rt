@@ -45,7 +45,7 @@ pub fn tapped_core(
     Ok(Core::new(first.kernel, posts, jobs, first.budget))
 }
 
-/// The same with a replay in the place of each server that is no console, by these lists of replies in order.
+/// The core with which a scenario begins, with a replay in the place of each server that is no console, by these lists of replies in order.
 ///
 /// # Errors
 ///

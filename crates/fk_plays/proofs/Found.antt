@@ -1,5 +1,6 @@
 -- The images that are found so far, and those of the jobs that are left.
-use Rattle.std.proofs.Common.{◌≡◌, ◌≤◌, ◌<◌, ℕ, zero, suc, ◌+◌, Bool, true, false, List, [], ◌∷◌, ◌++◌, length, take, drop, Option, Some, None, Result, Ok, Err, IfErr, IsSome, inl, inr, refl, sym, ap, subst, ◌∙◌, append-nil, arith}
+use Rattle.std.proofs.Common.{◌≡◌, ◌≤◌, ℕ, ◌+◌, Bool, true, false, List, [], ◌∷◌, ◌++◌, take, drop, Option, Some, None, Result, Ok, Err, IfErr, IsSome}
+use Rattle.std.proofs.Common.{inl, inr, sym, subst, append-nil}
 use Rattle.std.specs.Bool.{OnFalse}
 use Rattle.std.specs.List.{slice_get}
 use Rattle.std.proofs.lemmas.List.{append_assoc}
@@ -13,6 +14,7 @@ use Rattle.fk_commands.specs.Status.{Failed, Nothing, Source, Sink, Shelf, Memor
 use Rattle.fk_image.specs.declared.image.image.Image.{Image}
 use Rattle.fk_model.specs.declared.job.JobSpec.{JobSpec}
 use Rattle.fk_commands.proofs.Rises.{rises}
+use Rattle.fk_runs.proofs.Places.{split, none-left}
 use Rattle.fk_plays.specs.Images.{needed, Finds, FindsImages, NeedImage, UnlessFailed}
 use Rattle.fk_plays.specs.Images.FindsImages.{NoJob, Found, Refused, Later}
 
@@ -52,22 +54,6 @@ refused-with old mid now S later s (Err status) h =
 
 -- ---- jobs in order
 
--- a list at a place
-split-suc : {X : Type 0} (xs : List X) (n : ℕ) (x : X) → slice_get xs n ≡ Some x → (drop n xs ≡ x ∷ drop (suc n) xs) × (take (suc n) xs ≡ take n xs ++ x ∷ []) × (n < length xs)
-split-suc [] n x got = absurd (cc)
-split-suc (y ∷ ys) zero x got = let same : y ≡ x = cc in (ap (λ z. z ∷ ys) same, ap (λ z. z ∷ []) same, omega arith)
-split-suc (y ∷ ys) (suc n) x got =
-    let (left, right, within) = split-suc ys n x got in (left, ap (λ zs. y ∷ zs) right, omega (arith, within))
-
-split : {X : Type 0} (xs : List X) (n : ℕ) (x : X) → slice_get xs n ≡ Some x → (drop n xs ≡ x ∷ drop (n + 1) xs) × (take (n + 1) xs ≡ take n xs ++ x ∷ []) × (n < length xs)
-split xs n x got = let more : n + 1 ≡ suc n = omega arith in rw more (split-suc xs n x got)
-
-none-left : {X : Type 0} (xs : List X) (n : ℕ) → slice_get xs n ≡ None → drop n xs ≡ []
-none-left [] zero got = refl
-none-left [] (suc n) got = refl
-none-left (y ∷ ys) zero got = absurd (cc)
-none-left (y ∷ ys) (suc n) got = none-left ys n got
-
 -- what is found of jobs behind those whose images these are
 abbrev pub behind : List (Option Image) → Result (List (Option Image)) Status → Result (List (Option Image)) Status
 behind images (Ok more) = Ok (images ++ more)
@@ -76,7 +62,8 @@ behind images (Err status) = Err status
 module _ (files : Option FileMap) (jobs : List JobSpec) where
   -- whatever is found of the jobs from a place on, with these images before, is found of all
   abbrev pub FindsFrom : ℕ → List (Option Image) → Type 0
-  FindsFrom n images = (rest : Result (List (Option Image)) Status) → FindsImages files (take n jobs) (drop n jobs) rest → FindsImages files [] jobs (behind images rest)
+  FindsFrom n images = (rest : Result (List (Option Image)) Status) → FindsImages files (take n jobs) (drop n jobs) rest
+      → FindsImages files [] jobs (behind images rest)
 
   abbrev pub NeedsFrom : ℕ → Type 0
   NeedsFrom n = NeedImage (take n jobs) (drop n jobs) → NeedImage [] jobs

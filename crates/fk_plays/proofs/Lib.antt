@@ -1,3 +1,4 @@
+pub use Rattle.fk_runs.proofs.Grounds
 pub use Rattle.fk_runs.proofs.InRecordings.Again
 pub use Rattle.fk_runs.proofs.InRecordings.Apart
 pub use Rattle.fk_runs.proofs.InRecordings.Records

@@ -5,7 +5,8 @@ use Rattle.fk_causes.specs.Causes.{Rose}
 use Rattle.fk_causes.specs.Shelf.{FileMap, HasAt}
 use Rattle.fk_commands.specs.declared.prepared.Prepared.{Prepared}
 use Rattle.fk_commands.specs.declared.status.Status.{Status}
-use Rattle.fk_commands.specs.declared.status.Status.TheVariants.{Ok as Done, Usage, TooLong, BadText, BadScenario, Absent, BadImage, BadTrace, JobRefused, Budget, ReadFault, WriteFault, ShelfFault, NoMemory, BadRecord}
+use Rattle.fk_commands.specs.declared.status.Status.TheVariants.{Ok as Done, Usage, TooLong, BadText, BadScenario, Absent, BadImage, BadTrace, JobRefused}
+use Rattle.fk_commands.specs.declared.status.Status.TheVariants.{Budget, ReadFault, WriteFault, ShelfFault, NoMemory, BadRecord}
 use Rattle.fk_commands.specs.Files.{record_name, trace_name}
 use Rattle.fk_commands.specs.Outcomes.{without_report, IsRefused}
 use Rattle.fk_commands.specs.Prepared.{ComesTo, IsFileFail, IsRefusal}

@@ -17,7 +17,7 @@ abbrev pub IsWith : (Images → Outcome → List ℕ → Type 0) → Result Imag
 IsWith Is (Err status) outcome text = IsRefused status outcome text
 IsWith Is (Ok images) outcome text = Is images outcome text
 
--- the same over the files of the shelf
+-- what is said of a scenario with the images that the files of the shelf give for its jobs
 pub record IsWithImages (files : Option FileMap) (s : Scenario) (Is : Images → Outcome → List ℕ → Type 0) (outcome : Outcome) (text : List ℕ) : Type 0 where
   pub found : Result Images Status
   pub finds : FindsImages files [] s.jobs found

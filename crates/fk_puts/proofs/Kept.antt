@@ -10,7 +10,8 @@ use Rattle.fk_report.specs.declared.job_end.JobEnd.{JobEnd}
 use Rattle.fk_report.specs.declared.job_end.JobEnd.TheVariants.{Checkpointed}
 use Rattle.fk_model.specs.declared.moves.Move.{Move}
 use Rattle.fk_words.specs.Commands.{Files, NoFiles, RunFiles, RecordFiles}
-use Rattle.fk_puts.specs.Puts.{IsImageName, IsTraceName, KeepsBut, KeepsButTrace, KeepsFiles, OpensEnd, PutImages, PutSomeImages, PutsEnd, PutsTrace, PutsRun, PutsSome, PutsRecord, PutsRecorded, PutsSomeRecorded, HasPut, HasPutSome}
+use Rattle.fk_puts.specs.Puts.{IsImageName, IsTraceName, KeepsBut, KeepsButTrace, KeepsFiles, OpensEnd, PutImages, PutSomeImages, PutsEnd, PutsTrace, PutsRun}
+use Rattle.fk_puts.specs.Puts.{PutsSome, PutsRecord, PutsRecorded, PutsSomeRecorded, HasPut, HasPutSome}
 
 module _ (May : List ℕ → Type 0) where
   same : (old new : Option FileMap) → new ≡ old → KeepsBut May old new
@@ -34,7 +35,8 @@ module _ (May : List ℕ → Type 0) where
     one name (Some (Checkpointed hold release image)) old new h = but_one (image_name name) old new (images name) h.2.1
     one name other old new h = same old new h
 
-    all : (ends : List (Option JobEnd)) (place : ℕ) (names : List (List ℕ)) (old new : Option FileMap) → PutImages ends place names old new → KeepsBut May old new
+    all : (ends : List (Option JobEnd)) (place : ℕ) (names : List (List ℕ)) (old new : Option FileMap) → PutImages ends place names old new
+        → KeepsBut May old new
     all ends place [] old new h = same old new h
     all ends place (name ∷ names) old new h =
         then_ old h.0 new (one name (end_in (slice_get ends place)) old h.0 h.1) (all ends (place + 1) names h.0 new h.2)

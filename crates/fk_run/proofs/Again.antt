@@ -1,5 +1,6 @@
 -- A run that left its trace plays again.
-use Rattle.std.proofs.Common.{◌≡◌, ℕ, Bool, true, false, List, [], ◌∷◌, ◌++◌, Option, Some, None, IfSome, Result, Ok, Err, OnOk, All, nat_lt, length, refl, ap, inr, ◌⊎◌}
+use Rattle.std.proofs.Common.{◌≡◌, ℕ, Bool, true, false, List, [], ◌∷◌, ◌++◌, Option, Some, None, IfSome, Result, Ok, Err, OnOk, All, nat_lt, length, refl, ap}
+use Rattle.std.proofs.Common.{inr, ◌⊎◌}
 use Rattle.std.specs.Bool.{MatchBool}
 use Rattle.std.specs.Prelude.{⊤}
 use Rattle.fk_causes.specs.declared.whole.TheConstants.{LIMIT}
@@ -57,7 +58,8 @@ module _ (these those : Option FileMap) (same : (image : List ℕ) → HasSame t
   finds-images _ _ _ (Later before job jobs image status one more) =
       Later before job jobs image status (finds (needed before job) (Ok image) one) (finds-images (before ++ job ∷ []) jobs (Err status) more)
 
-module _ (name : List ℕ) (before later : Option FileMap) (same : (image : List ℕ) → HasSame before later (image_name image)) (status : Status) (text : List ℕ) where
+module _ (name : List ℕ) (before later : Option FileMap) (same : (image : List ℕ) → HasSame before later (image_name image)) (status : Status)
+    (text : List ℕ) where
   by_itself : (report : Option Report) (s : Scenario) (given : Images) → HasTrace name report later → IfSome report (λ r. All IsMove r.history)
       → IsRunFrom s given (record { status = status; report = report }) text → IsPlayedBy name later s given (record { status = status; report = report }) text
   by_itself None s given has small is = absurd is.ran
@@ -74,7 +76,8 @@ module _ (name : List ℕ) (before later : Option FileMap) (same : (image : List
   with_ report s (Ok given) has small is = by_itself report s given has small is
 
   read : (report : Option Report) → HasTrace name report later → IfSome report (λ r. All IsMove r.history) → (reading : Result Scenario ScenarioError)
-      → IsWholeRun before reading (record { status = status; report = report }) text → IsPlay name later reading (record { status = status; report = report }) text
+      → IsWholeRun before reading (record { status = status; report = report }) text
+      → IsPlay name later reading (record { status = status; report = report }) text
   read report has small (Err e) is = is
   read report has small (Ok s) is = record {
     found = is.found;
@@ -83,8 +86,10 @@ module _ (name : List ℕ) (before later : Option FileMap) (same : (image : List
   }
 
   unless_long : (report : Option Report) → HasTrace name report later → IfSome report (λ r. All IsMove r.history) → (reading : Result Scenario ScenarioError)
-      → (b : Bool) → MatchBool b (IsRefused TooLong (record { status = status; report = report }) text) (IsWholeRun before reading (record { status = status; report = report }) text)
-      → MatchBool b (IsRefused TooLong (record { status = status; report = report }) text) (IsPlay name later reading (record { status = status; report = report }) text)
+      → (b : Bool) → MatchBool b (IsRefused TooLong (record { status = status; report = report }) text)
+          (IsWholeRun before reading (record { status = status; report = report }) text)
+      → MatchBool b (IsRefused TooLong (record { status = status; report = report }) text)
+          (IsPlay name later reading (record { status = status; report = report }) text)
   unless_long report has small reading true is = is
   unless_long report has small reading false is = read report has small reading is
 
@@ -138,7 +143,8 @@ module _ (rules : Rules) (name : List ℕ) (watch : ℕ) (sees : (watch ≡ 0) �
   with_record s (Err refusal) keeps is = absurd (no-refusal refusal is)
   with_record s (Ok given) keeps is = by_record s given keeps is
 
-  read_record : (reading : Result Scenario ScenarioError) → ((s : Scenario) → reading ≡ Ok s → KeepsScenario s) → IsWholeRecord watch before reading before-it text
+  read_record : (reading : Result Scenario ScenarioError) → ((s : Scenario) → reading ≡ Ok s → KeepsScenario s)
+      → IsWholeRecord watch before reading before-it text
       → IsReplay name later reading behind-it text
   read_record (Err e) keeps is = absurd (no-refusal (BadScenario e.rule e.section e.index) is)
   read_record (Ok s) keeps is = record {
@@ -161,7 +167,8 @@ record_again rules name watch now report small = λ sees before later bytes stat
     (scenario_reading rules bytes) (λ s reading. read-keeps rules bytes s reading) (nat_lt LIMIT (length bytes)) called
 
 -- what a command has put
-put : (rules : Rules) (command : Option Command) (report : Option Report) (old now : Option FileMap) → HasPut (leaves command) report old now → AreSmall (leaves command) report
+put : (rules : Rules) (command : Option Command) (report : Option Report) (old now : Option FileMap) → HasPut (leaves command) report old now
+    → AreSmall (leaves command) report
     → PlaysAgain rules command now report
 put rules (Some (Run (Some name))) None old now has small = again rules name now None tt tt
 put rules (Some (Run (Some name))) (Some report) old now has small = again rules name now (Some report) has.2.0 small

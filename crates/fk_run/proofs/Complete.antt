@@ -221,7 +221,8 @@ module _ (outcome : Outcome) (text : List ℕ) where
       subst (λ (r : Result Scenario ScenarioError). IsReplay name files r outcome text → progress_of outcome.status ≡ Finished) (sym right.1)
       (of right.0 (keeps right.0 right.1) right.2)
     where
-      of : (s : Scenario) → KeepsScenario s → HasImages files [] s.jobs × HasReplay files name s → IsWithImages files s (IsReplayedWith name files s) outcome text
+      of : (s : Scenario) → KeepsScenario s → HasImages files [] s.jobs × HasReplay files name s
+          → IsWithImages files s (IsReplayedWith name files s) outcome text
           → progress_of outcome.status ≡ Finished
       of s keeps has is =
           let found = with-images files s (IsReplayedWith name files s) outcome text has.0 is in

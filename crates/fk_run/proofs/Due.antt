@@ -1,5 +1,6 @@
 -- What is due, from what the parts of a call come to.
-use Rattle.std.proofs.Common.{◌≡◌, ℕ, Bool, true, false, List, [], Option, Some, None, IsSome, Result, Ok, Err, IfErr, refl, sym, subst, append-nil, string_bytes}
+use Rattle.std.proofs.Common.{◌≡◌, ℕ, Bool, true, false, List, [], Option, Some, None, IsSome, Result, Ok, Err, IfErr, refl, sym, subst, append-nil}
+use Rattle.std.proofs.Common.{string_bytes}
 use Rattle.std.specs.Bool.{OnFalse}
 use Rattle.std.specs.Io.KnownBytes.{Appends}
 use Rattle.fk_causes.specs.Causes.{MayHold, AppendsPrefix, Rose}

@@ -42,7 +42,8 @@ PlaysAgain rules (Some (Run (Some name))) now report = (before later : Option Fi
 -- whatever they call for of `record` with an observer that sees the replies, and with this report, the same is what they call for of `replay` over files that
 -- have its trace and its record, and the images as they were before: the status, the report but for the record, and the text
 PlaysAgain rules (Some (Record name watch)) now (Some report) = SeesReplies watch → (before later : Option FileMap) (bytes : List ℕ) (status : Status)
-    (text told : List ℕ) → report.recorded ≡ Some told → HasAt later (trace_name name) (Some (trace_text report.history)) → HasAt later (record_name name) (Some told)
+    (text told : List ℕ) → report.recorded ≡ Some told → HasAt later (trace_name name) (Some (trace_text report.history))
+    → HasAt later (record_name name) (Some told)
     → ((image : List ℕ) → HasSame before later (image_name image))
     → IsCalledFor rules (Some (Record name watch)) before bytes (record { status = status; report = Some report }) text
     → IsCalledFor rules (Some (Replay name)) later bytes (record { status = status; report = Some (without_record report) }) text

@@ -46,7 +46,7 @@ IsImageFile (Some bytes) = (image : Image) × (image_reading bytes ≡ Ok image)
 abbrev pub HasImage : Option FileMap → List ℕ → Type 0
 HasImage files name = (file : Option (List ℕ)) → HasAt files (image_name name) file → IsImageFile file
 
--- the same of each image that jobs behind others need of the shelf
+-- whatever the shelf may have under the name of an image that jobs behind others need is one
 abbrev pub HasImages : Option FileMap → List JobSpec → List JobSpec → Type 0
 HasImages files before [] = ⊤
 HasImages files before (job ∷ jobs) = IfSome (needed before job) (HasImage files) × HasImages files (before ++ job ∷ []) jobs
@@ -103,7 +103,7 @@ IsRight rules (Some (Record name watch)) files bytes =
 IsRight rules (Some (Replay name)) files bytes =
     (length bytes ≤ LIMIT) × IsScenarioWith (λ s. HasImages files [] s.jobs × HasReplay files name s) (scenario_reading rules bytes)
 
--- the same of whatever bytes the source may hold
+-- whatever bytes the source may hold are right for the command
 abbrev pub AreRight : Rules → Option Command → Option (List ℕ) → Option FileMap → Type 0
 AreRight rules command left files = (bytes : List ℕ) → MayHold left bytes → IsRight rules command files bytes
 

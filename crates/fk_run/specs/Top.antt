@@ -41,7 +41,7 @@ IsCalledFor rules (Some (Record name watch)) files bytes outcome text =
     IsUnlessTooLong bytes (IsWholeRecord (watch_place watch) files (scenario_reading rules bytes)) outcome text
 IsCalledFor rules (Some (Replay name)) files bytes outcome text = IsUnlessTooLong bytes (IsReplay name files (scenario_reading rules bytes)) outcome text
 
--- the same over whatever the source holds: where it tells its bytes, these
+-- what a command calls for over some bytes that the source may hold: where it tells its bytes, these
 pub record IsDue (rules : Rules) (command : Option Command) (left : Option (List ℕ)) (files : Option FileMap) (outcome : Outcome) (text : List ℕ) : Type 0 where
   pub bytes : List ℕ
   pub held : MayHold left bytes
@@ -84,7 +84,7 @@ AsksShelf rules (Some (Soak count)) bytes = ⊥
 AsksShelf rules (Some (Record name watch)) bytes = (length bytes ≤ LIMIT) × IsScenarioWithImages (scenario_reading rules bytes)
 AsksShelf rules (Some (Replay name)) bytes = (length bytes ≤ LIMIT) × IsScenario (scenario_reading rules bytes)
 
--- the same over whatever the source holds
+-- whether a command gets to the shelf over some bytes that the source may hold
 abbrev pub GetsToShelf : Rules → Option Command → Option (List ℕ) → Type 0
 GetsToShelf rules command left = (bytes : List ℕ) × MayHold left bytes × AsksShelf rules command bytes
 

@@ -1,5 +1,4 @@
 pub use Rattle.fk_recorded.specs.Following
-pub use Rattle.fk_recorded.specs.Notes
 pub use Rattle.fk_recorded.specs.Pair
 pub use Rattle.fk_record_text.specs.Record
 pub use Rattle.fk_trace.specs.Posts

@@ -70,7 +70,7 @@ fn status_by<T: Threads + Wait + Sync>(rt: &HostRuntime, threads: &T, table: &Ta
     status
 }
 
-/// The same, with a table of the three responders and the three observers.
+/// Makes the call with a table of the three responders and the three observers.
 fn status_of_call<T: Threads + Wait + Sync>(
     rt: &HostRuntime,
     threads: &T,

@@ -40,8 +40,10 @@ use Rattle.fk_recorded.proofs.Noting.{replays_run}
 
 -- ---- a run that replays go on with
 
-module _ (s : Scenario) (given : Images) (first : RunCore) (report : Report) (text : List ℕ) (written : IsWritten (IsText s.jobs) s.jobs given first s.budget report text)
-    (u v : Services) (with : IsRunWith written.0.run servers u v) (same : printed_of v ≡ printed_of written.0.last.servers) (ranges : All IsMove report.history) where
+module _ (s : Scenario) (given : Images) (first : RunCore) (report : Report) (text : List ℕ)
+    (written : IsWritten (IsText s.jobs) s.jobs given first s.budget report text)
+    (u v : Services) (with : IsRunWith written.0.run servers u v) (same : printed_of v ≡ printed_of written.0.last.servers)
+        (ranges : All IsMove report.history) where
   abbrev there : RunCore
   there = core_with first u
 
@@ -82,7 +84,8 @@ replays_play_again s given first trace status report text is_first played =
 -- ---- a run that was recorded
 
 -- the report without its record
-bare-written : (s : Scenario) (given : Images) (first : RunCore) (report : Report) (text : List ℕ) → IsWritten (IsText s.jobs) s.jobs given first s.budget report text
+bare-written : (s : Scenario) (given : Images) (first : RunCore) (report : Report) (text : List ℕ)
+    → IsWritten (IsText s.jobs) s.jobs given first s.budget report text
     → IsWritten (IsText s.jobs) s.jobs given first s.budget (without_record report) text
 bare-written s given first report text w = (
   record { last = w.0.last; run = w.0.run; within = w.0.within; end = w.0.end; jobs = w.0.jobs; images = w.0.images },

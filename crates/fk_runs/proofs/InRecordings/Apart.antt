@@ -1,5 +1,6 @@
 -- The ports of a scenario's servers are apart, and so are their texts.
-use Rattle.std.proofs.Common.{◌≡◌, ℕ, ◌<◌, ◌≤◌, ◌^◌, ◌==◌, Bool, true, false, not, ◌&&◌, ◌||◌, cond, List, [], ◌∷◌, ◌++◌, map, Option, Some, None, Ok, decimal, refl, sym, ap, subst, ◌∙◌, append-nil, arith}
+use Rattle.std.proofs.Common.{◌≡◌, ℕ, ◌<◌, ◌≤◌, ◌^◌, ◌==◌, Bool, true, false, not, ◌&&◌, ◌||◌, cond, List, [], ◌∷◌, ◌++◌, map, Option, Some, None, Ok, decimal}
+use Rattle.std.proofs.Common.{refl, sym, ap, subst, ◌∙◌, append-nil, arith}
 use Rattle.std.proofs.lemmas.Bool.{and_parts}
 use Rattle.std.proofs.lemmas.List.Elements.{All-nil, All-cons, All-head, All-tail, All-append, All-weaker}
 use Rattle.std.proofs.lemmas.List.Kept.{AllPairs-cons}
@@ -114,7 +115,8 @@ not-among (d ∷ ds) port none = by (bytes_eq d port) (bytes_eq-Decides d port) 
     by true same none rest = absurd (cc)
     by false same none rest = All-cons (λ d. d ≡ port → ⊥) d ds (λ is. (let no : false ≡ true = same.1 is in cc)) (rest none)
 
-are-new : (spaces : List SpaceEntry) (objects : List ObjectEntry) (done aliases : List (List ℕ)) (servers : List ServerEntry) → EachAfter (KeepsObject spaces) [] objects
+are-new : (spaces : List SpaceEntry) (objects : List ObjectEntry) (done aliases : List (List ℕ)) (servers : List ServerEntry)
+    → EachAfter (KeepsObject spaces) [] objects
     → serving_from objects done aliases servers ≡ Ok tt → AreNew done servers
 unfolding serving_from
 are-new spaces objects done aliases [] keeps e = tt
@@ -169,10 +171,12 @@ texts done (s ∷ ss) slots new =
   where
     by : (service : ServiceSpec) → AllPairs Differ (ports_of ss) × All (IsNone (done ++ s.port ∷ [])) (ports_of ss)
         → AllPairs Differ (with_port service (down_text s.port) (ports_of ss)) × All (IsNone done) (with_port service (down_text s.port) (ports_of ss))
-    by (Console alias) later = (later.0, All-weaker (IsNone (done ++ s.port ∷ [])) (IsNone done) (λ text none. others-differ done s.port text none) (ports_of ss) later.1)
+    by (Console alias) later =
+        (later.0, All-weaker (IsNone (done ++ s.port ∷ [])) (IsNone done) (λ text none. others-differ done s.port text none) (ports_of ss) later.1)
     by (Listed index rule config) later = (
       AllPairs-cons Differ (down_text s.port) (ports_of ss)
-          (All-weaker (IsNone (done ++ s.port ∷ [])) (Differ (down_text s.port)) (λ text none. last-differs done s.port text none) (ports_of ss) later.1) later.0,
+          (All-weaker (IsNone (done ++ s.port ∷ [])) (Differ (down_text s.port)) (λ text none. last-differs done s.port text none)
+              (ports_of ss) later.1) later.0,
       All-cons (IsNone done) (down_text s.port) (ports_of ss) (none-same done s.port slots new.0 new.1)
           (All-weaker (IsNone (done ++ s.port ∷ [])) (IsNone done) (λ text none. others-differ done s.port text none) (ports_of ss) later.1),
     )

@@ -24,7 +24,8 @@ lines (e ∷ es) = ap (λ xs. out_line e.1 ++ xs) (lines es)
 same-lines : (es ds : Services) → printed_of es ≡ printed_of ds → flat_map out_line (map (λ e. e.1) es) ≡ flat_map out_line (map (λ e. e.1) ds)
 same-lines es ds same = lines es ∙ (ap (flat_map (λ p. out_of p.0 p.1)) same ∙ sym (lines ds))
 
-module _ (specs : List JobSpec) (given : Images) (first : RunCore) (budget : ℕ) (report : Report) (text : List ℕ) (is : IsReported specs given first budget report)
+module _ (specs : List JobSpec) (given : Images) (first : RunCore) (budget : ℕ) (report : Report) (text : List ℕ)
+    (is : IsReported specs given first budget report)
     (written : IsText specs is.last report text) (u v : Services) (with : IsRunWith is.run servers u v) (same : printed_of v ≡ printed_of is.last.servers) where
   pub ends-so : (end : End) → IsEnd (jobs_of specs given) budget is.last end → IsEnd (jobs_of specs given) budget (core_with is.last v) end
   ends-so ends.Halted e = (λ any. e.0 (any.0, with.as_ready any.0 any.1), e.1)

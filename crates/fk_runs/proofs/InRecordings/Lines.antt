@@ -60,8 +60,10 @@ module _ (ports : List (List ℕ)) (watch : ℕ) (port : Who → List ℕ) (told
   abbrev AreLines : Services → ℕ → Type 0
   AreLines es place = drop place ports ≡ whole.ports_of (recorded port seen-at es) → lines_from ports place (come-to es) ≡ all_lines (recorded port seen-at es)
 
-  tapped-lines : (who : Who) (s : State) (es : Services) (place : ℕ) → drop place ports ≡ port who ∷ whole.ports_of (recorded port seen-at es) → AreLines es (place + 1)
-      → lines_from ports place ((who, after (OfTap watch [] s) (told who)) ∷ come-to es) ≡ port_lines (port who) (seen-at (who, s)) ++ all_lines (recorded port seen-at es)
+  tapped-lines : (who : Who) (s : State) (es : Services) (place : ℕ) → drop place ports ≡ port who ∷ whole.ports_of (recorded port seen-at es)
+      → AreLines es (place + 1)
+      → lines_from ports place ((who, after (OfTap watch [] s) (told who)) ∷ come-to es)
+      ≡ port_lines (port who) (seen-at (who, s)) ++ all_lines (recorded port seen-at es)
   tapped-lines who s es place is rest =
       let ahead = whole.ports_of (recorded port seen-at es) in
       let one : place + 1 ≡ suc place = omega arith in

@@ -111,14 +111,17 @@ module _ (s : Scenario) (given : Images) (watch : ℕ) (first : RunCore) (is_fir
       let with : IsRunWith run servers first.servers own.0 = own.1 in
       let told_same : told_in run ≡ told_in with.same = sym with.told in
       let written : IsWritten (IsText s.jobs) s.jobs given first s.budget report (string_bytes plain.output) =
-      carried s.jobs given (core_with first (all_tapped watch first.servers)) s.budget report (string_bytes plain.output) tapped-reported tapped-text first.servers own.0 with own.3 in
+      carried s.jobs given (core_with first (all_tapped watch first.servers)) s.budget report
+          (string_bytes plain.output) tapped-reported tapped-text first.servers own.0 with own.3 in
       let not_listed : ¬ (is.end ≡ ends.Listed) = λ listed. (
       let open_ : IsEnd (jobs_of s.jobs given) s.budget last ends.Listed = subst (λ (e : End). IsEnd (jobs_of s.jobs given) s.budget last e) listed is.ends in
       over open_.1 open_.0
       ) in
       let kept : IsRecord watch s.jobs given first s.budget report written.0 = record {
-        text = ap Some (is-record ∙ ap (λ (ts : List Told). record_of (recorded (port_of first.world) (λ e. seen_of watch (noted_of e.1 (heard_by e.0 ts))) first.servers)) told_same);
-        small = subst (λ (ts : List Told). All (λ n. All IsNote n.1) (recorded (port_of first.world) (λ e. seen_of watch (noted_of e.1 (heard_by e.0 ts))) first.servers)) told_same is-small;
+        text = ap Some (is-record ∙ ap
+            (λ (ts : List Told). record_of (recorded (port_of first.world) (λ e. seen_of watch (noted_of e.1 (heard_by e.0 ts))) first.servers)) told_same);
+        small = subst (λ (ts : List Told). All (λ n. All IsNote n.1)
+            (recorded (port_of first.world) (λ e. seen_of watch (noted_of e.1 (heard_by e.0 ts))) first.servers)) told_same is-small;
       } in
       (record { first = first; is_first = is_first; ran = rw is.report (written, not_listed, is.status, kept) }, is.finished)
 

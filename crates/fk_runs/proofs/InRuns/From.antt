@@ -10,7 +10,8 @@ use Rattle.fk_runs.specs.RunReports.Made.{IsText, IsLine, Images}
 use Rattle.fk_runs.specs.Runs.Runs.{IsPlayed, IsAlone, IsPlayedFrom, IsRunFrom, IsSoakFrom}
 use Rattle.fk_scenario.specs.declared.scenario.scenario.Scenario.{Scenario}
 
-pub played-from : (s : Scenario) (given : Images) (trace : List ℕ) (first : RunCore) (budget : ℕ) (r : Result Prepared Status) → IsFirst s first → budget ≡ s.budget
+pub played-from : (s : Scenario) (given : Images) (trace : List ℕ) (first : RunCore) (budget : ℕ) (r : Result Prepared Status) → IsFirst s first
+    → budget ≡ s.budget
     → ComesTo (λ outcome. IsPlayed s.jobs given first budget trace outcome.status outcome.report) r → ComesTo (IsPlayedFrom s given trace) r
 played-from s given trace first budget r is same comes =
     comes-also (λ outcome. IsPlayed s.jobs given first budget trace outcome.status outcome.report) (IsPlayedFrom s given trace)

@@ -21,7 +21,8 @@ back : {X : Type 0} (P : X → Type 0) (xs ys : List X) → All P (xs ++ ys) →
 back P [] ys all = all
 back P (x ∷ xs) ys all = back P xs ys (All-tail P x (xs ++ ys) all)
 
-pub legal : (specs : List JobSpec) (given : Images) (budget : ℕ) (first : RunCore) (moves : List Move) (last : RunCore) → IsRun (house (jobs_of specs given)) first moves last
+pub legal : (specs : List JobSpec) (given : Images) (budget : ℕ) (first : RunCore) (moves : List Move) (last : RunCore)
+    → IsRun (house (jobs_of specs given)) first moves last
     → All IsMove moves → length moves ≤ budget → AreLegal (MayPlay (begun specs given budget first)) moves
 legal specs given budget first _ _ Begins ranges few = none_are_legal (MayPlay (begun specs given budget first))
 legal specs given budget first _ _ (Goes past c m d run ready settles) ranges few =

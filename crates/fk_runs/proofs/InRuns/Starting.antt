@@ -35,7 +35,8 @@ has_made_none jobs first _ _ (Goes past c m d run ready settles) none =
     let one : 0 ≡ c.events + 1 = sym none ∙ (settled jobs _ d settles ∙ counts jobs c m (asker (house jobs) c m.who) ready) in
     absurd (let no : 1 ≤ 0 = omega (arith, one) in omega (arith, no))
 
-pub may_begin : (jobs : List Job) (budget : ℕ) (c : RunCore) → HasCome jobs budget c → c.events ≡ 0 → IsSound (record { jobs = jobs; budget = budget; core = c })
+pub may_begin : (jobs : List Job) (budget : ℕ) (c : RunCore) → HasCome jobs budget c → c.events ≡ 0
+    → IsSound (record { jobs = jobs; budget = budget; core = c })
 may_begin jobs budget c come none =
     let same : c ≡ come.first = has_made_none jobs come.first c come.past come.run none in
     subst (λ (d : RunCore). IsFirstCore jobs budget d) (sym same) come.begins

@@ -26,7 +26,7 @@ ReplaysPlayAgain = (s : Scenario) (given : Images) (first : RunCore) (trace : Li
     IsFirst s first → (played : IsPlayed s.jobs given first s.budget trace status (Some report) text) →
     IsReplayedFrom s given (noted_replies s given first trace status report text played) trace (record { status = status; report = Some report }) text
 
--- the same report without its record
+-- a report without its record
 abbrev pub without_record : Report → Report
 without_record report = record report { recorded = None }
 

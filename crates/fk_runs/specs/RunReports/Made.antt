@@ -45,7 +45,8 @@ Images = List (Option Image)
 
 -- what is told of a run that has come to a core with this history
 abbrev pub report_of : List JobSpec → RunCore → List Move → End → Report
-report_of specs last history end = record { history = history; jobs = told_in (length specs) last.ends; images = map image_of specs; end = end; recorded = None }
+report_of specs last history end =
+    record { history = history; jobs = told_in (length specs) last.ends; images = map image_of specs; end = end; recorded = None }
 
 -- ---- what is written of a run that has come to a core
 

@@ -61,7 +61,7 @@ pub record IsRunFrom (s : Scenario) (given : Images) (outcome : Outcome) (text :
   pub is_first : IsFirst s first
   pub ran : IsAlone (IsText s.jobs) s.jobs given first s.budget outcome.status outcome.report text
 
--- the same without images, of which the line of `soak` is written
+-- a run of a scenario by itself without images, of which the line of `soak` is written
 pub record IsSoakFrom (count : ℕ) (s : Scenario) (outcome : Outcome) (text : List ℕ) : Type 0 where
   pub first : RunCore
   pub is_first : IsFirst s first

@@ -69,7 +69,7 @@ pub fn run_first<R: Threads + Wait + Sync, G: Gate + Sync>(
     )
 }
 
-/// The same without images for its jobs, of which it prepares the line of `soak`: so many servers are counted.
+/// Runs the first core of a scenario as `run_first` does, without images for its jobs, and prepares the line of `soak`: so many servers are counted.
 ///
 /// # Errors
 ///

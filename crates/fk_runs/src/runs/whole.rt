@@ -36,7 +36,7 @@ fn prepared_of<S: Service + Drop>(
     Ok(prepared(alloc, core, specs, images, history)?)
 }
 
-/// And with the line of `soak`.
+/// The report of the run in a book, with the line of `soak` as its text: so many servers are counted.
 fn soaked_of<S: Service + Drop>(
     alloc: Global,
     count: u32,

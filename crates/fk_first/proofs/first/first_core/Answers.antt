@@ -25,10 +25,12 @@ returns-clause-first c =
 pub returns-clause-come : goal.returns-clause-come
 returns-clause-come c =
     let core = c.new.result in
-    let jobs : core.jobs.jobs ≡ jobs_of c.args.scenario.now.jobs c.args.images.now = ap (λ (q : Queue). q.jobs) c.new.ensures.jobs ∙ c.in_ok-jobs.ensures.jobs in
+    let jobs : core.jobs.jobs ≡ jobs_of c.args.scenario.now.jobs c.args.images.now = ap (λ (q : Queue). q.jobs) c.new.ensures.jobs
+        ∙ c.in_ok-jobs.ensures.jobs in
     has-come c.args.scenario.now c.args.images.now (run_core core) core.jobs.jobs core.budget (returns-clause-first c) jobs
     (c.new.ensures.budget ∙ c.in_ok-first.ensures.budget)
 
 pub returns-clause-fits : goal.returns-clause-fits
-returns-clause-fits c = λ table has. rw c.new.ensures.services (all-fit table (world c.in_ok-first.first.kernel) c.in_ok-first.first.services.items c.args.scenario.now.servers
+returns-clause-fits c = λ table has. rw c.new.ensures.services
+    (all-fit table (world c.in_ok-first.first.kernel) c.in_ok-first.first.services.items c.args.scenario.now.servers
     c.in_ok-first.ensures.services has)

@@ -18,17 +18,21 @@ returns-clause-first c =
     let same : run_core c.new.result ≡ core_at first.kernel ((all_replaying (words_of_all c.args.lists.items)) (plain_seen first.services.items)) jobs 0 =
     rw (made.kernel, made.services, made.jobs, made.events, c.in_ok-posts.ensures) refl in
     first-with c.args.scenario.now first.kernel first.services.items jobs (all_replaying (words_of_all c.args.lists.items)) (run_core c.new.result) is.world
-    (shown-sound c.args.scenario.now (world first.kernel) first.services.items (plain_seen first.services.items) first.budget refl is.budget is.sound) is.services c.in_ok-jobs.ensures.ends c.in_ok-jobs.ensures.work same
+    (shown-sound c.args.scenario.now (world first.kernel) first.services.items
+        (plain_seen first.services.items) first.budget refl is.budget is.sound) is.services c.in_ok-jobs.ensures.ends c.in_ok-jobs.ensures.work same
 
 pub returns-clause-come : goal.returns-clause-come
 returns-clause-come c =
     let core = c.new.result in
     let jobs : core.jobs.jobs ≡ jobs_of c.args.scenario.now.jobs c.args.images.now = ap (λ q. q.jobs) c.new.ensures.jobs ∙ c.in_ok-jobs.ensures.jobs in
-    let begun = begun-with c.args.scenario.now (all_replaying (words_of_all c.args.lists.items)) (run_core core) (replays-stand (words_of_all c.args.lists.items)) (returns-clause-first c) in
+    let begun = begun-with c.args.scenario.now (all_replaying (words_of_all c.args.lists.items)) (run_core core)
+        (replays-stand (words_of_all c.args.lists.items)) (returns-clause-first c) in
     begins-soundly c.args.scenario.now c.args.images.now (run_core core) core.jobs.jobs core.budget begun.sound begun.ends begun.work begun.events jobs
     (c.new.ensures.budget ∙ c.in_ok-first.ensures.budget)
 
 pub returns-clause-fits : goal.returns-clause-fits
 returns-clause-fits c = λ rules has.
-    let plain = all-fit rules (world c.in_ok-first.first.kernel) c.in_ok-first.first.services.items c.args.scenario.now.servers c.in_ok-first.ensures.services has in
-    subst (λ list. AllFit rules list) (sym (c.new.ensures.services ∙ c.in_ok-posts.ensures)) (fits-replaying rules (words_of_all c.args.lists.items) (plain_seen c.in_ok-first.first.services.items) plain)
+    let plain = all-fit rules
+        (world c.in_ok-first.first.kernel) c.in_ok-first.first.services.items c.args.scenario.now.servers c.in_ok-first.ensures.services has in
+    subst (λ list. AllFit rules list) (sym (c.new.ensures.services ∙ c.in_ok-posts.ensures))
+        (fits-replaying rules (words_of_all c.args.lists.items) (plain_seen c.in_ok-first.first.services.items) plain)

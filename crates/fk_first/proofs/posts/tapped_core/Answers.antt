@@ -18,7 +18,8 @@ returns-clause-first c =
     let same : run_core c.new.result ≡ core_at first.kernel ((all_tapped c.args.watch) (plain_seen first.services.items)) jobs 0 =
     rw (made.kernel, made.services, made.jobs, made.events, c.in_ok-posts.ensures) refl in
     first-with c.args.scenario.now first.kernel first.services.items jobs (all_tapped c.args.watch) (run_core c.new.result) is.world
-    (shown-sound c.args.scenario.now (world first.kernel) first.services.items (plain_seen first.services.items) first.budget refl is.budget is.sound) is.services c.in_ok-jobs.ensures.ends c.in_ok-jobs.ensures.work same
+    (shown-sound c.args.scenario.now (world first.kernel) first.services.items
+        (plain_seen first.services.items) first.budget refl is.budget is.sound) is.services c.in_ok-jobs.ensures.ends c.in_ok-jobs.ensures.work same
 
 pub returns-clause-come : goal.returns-clause-come
 returns-clause-come c =
@@ -30,5 +31,7 @@ returns-clause-come c =
 
 pub returns-clause-fits : goal.returns-clause-fits
 returns-clause-fits c = λ rules has.
-    let plain = all-fit rules (world c.in_ok-first.first.kernel) c.in_ok-first.first.services.items c.args.scenario.now.servers c.in_ok-first.ensures.services has in
-    subst (λ list. AllFit rules list) (sym (c.new.ensures.services ∙ c.in_ok-posts.ensures)) (fits-tapped rules c.args.watch (plain_seen c.in_ok-first.first.services.items) plain)
+    let plain = all-fit rules
+        (world c.in_ok-first.first.kernel) c.in_ok-first.first.services.items c.args.scenario.now.servers c.in_ok-first.ensures.services has in
+    subst (λ list. AllFit rules list) (sym (c.new.ensures.services ∙ c.in_ok-posts.ensures))
+        (fits-tapped rules c.args.watch (plain_seen c.in_ok-first.first.services.items) plain)

@@ -34,7 +34,8 @@ loop-job-preserved g c =
     let before = c.loop-job.invariant.later in
     let after = c.image_for.ensures.later in
     rw c.in_ok-push.ensures.ok (record {
-      found = subst (λ n. FindsFrom files jobs n (images ++ image ∷ [])) (sym long) (finds-on files jobs (length images) images job image got found c.loop-job.invariant.found);
+      found = subst (λ n. FindsFrom files jobs n (images ++ image ∷ [])) (sym long)
+          (finds-on files jobs (length images) images job image got found c.loop-job.invariant.found);
       need = subst (NeedsFrom files jobs) (sym long) (needs-on files jobs (length images) job got c.loop-job.invariant.need);
       within = omega (arith, long, within);
       later = omega (arith, before, after);

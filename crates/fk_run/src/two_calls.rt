@@ -1,11 +1,6 @@
 //! Two calls of the top: what the run of one has left on the shelf, and the run of another has made again. Each law is the contract of a
-//! function that does nothing.
-//!
-//! It stands on `fk_run` for what a call says of its report and of the shelf, and on `laws_two_runs` for what a subtree and its copy do in
-//! two runs.
-#![tactic(auto)]
-
-ghost use Rattle.laws_two_calls.specs.TwoCalls.{CallsGoOn, ReportsAreOfRuns, SavedGoesOnInAnotherCall};
+//! function that does nothing. It supposes of a call what `Theorem` promises, and no more.
+ghost use Rattle.fk_run.specs.TwoCalls.{CallsGoOn, ReportsAreOfRuns, SavedGoesOnInAnotherCall};
 
 /// A call of `run` or `play` that did what its words call for, over files that the shelf tells: its report is of a run of the scenario that
 /// it read, with the images that the files have, and that run has the headline.

@@ -3,17 +3,17 @@ use Rattle.std.proofs.Common.{◌≡◌, ℕ, zero, suc, List, [], ◌∷◌, �
 use Rattle.std.specs.List.{slice_get}
 use Rattle.fk_causes.specs.Shelf.{FileMap}
 use Rattle.fk_commands.specs.declared.status.Status.{Status}
-use Rattle.fk_run.specs.Files.{image_name}
+use Rattle.fk_commands.specs.Files.{image_name}
 use Rattle.fk_image.specs.declared.image.image.Image.{Image}
 use Rattle.fk_image.specs.Format.Spells.{SpellsImage}
 use Rattle.fk_image.specs.Format.Reading.{image_reading}
 use Rattle.fk_image.proofs.InFormat.RoundTrip.{reading_again}
 use Rattle.fk_model.specs.declared.job.JobSpec.{JobSpec}
 use Rattle.fk_model.specs.declared.job.JobSpec.TheVariants.{Restore}
-use Rattle.fk_run.specs.Images.{unmade, needed, read_bytes, read_file, Finds, FindsImages}
-use Rattle.fk_run.specs.Images.FindsImages.{NoJob, Found, Refused, Later}
-use Rattle.fk_run.specs.Made.{Images}
-use Rattle.laws_first.specs.Entries.{given_at}
+use Rattle.fk_plays.specs.Images.{unmade, needed, read_bytes, read_file, Finds, FindsImages}
+use Rattle.fk_plays.specs.Images.FindsImages.{NoJob, Found, Refused, Later}
+use Rattle.fk_plays.specs.Made.{Images}
+use Rattle.fk_plays.specs.Entries.{given_at}
 use Rattle.laws_house.specs.Houses.{maker_from}
 
 -- what is found for the job with an index

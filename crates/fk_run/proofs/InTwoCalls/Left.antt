@@ -4,11 +4,11 @@ use Rattle.std.proofs.lemmas.List.{reverse-append, reverse-reverse}
 use Rattle.std.specs.List.{slice_get}
 use Rattle.fk_causes.specs.Shelf.{FileMap, HasAt, KeepsOthers}
 use Rattle.fk_commands.specs.declared.outcome.Report.{Report}
-use Rattle.fk_run.specs.Files.{image_name, trace_name}
+use Rattle.fk_commands.specs.Files.{image_name, trace_name}
 use Rattle.fk_image.specs.declared.image.image.Image.{Image}
 use Rattle.fk_image.specs.Format.Spells.{SpellsImage}
 use Rattle.fk_model.specs.declared.moves.Move.{Move}
-use Rattle.fk_run.specs.Puts.{PutsEnd, PutImages, PutsTrace, PutsRun}
+use Rattle.fk_puts.specs.Puts.{PutsEnd, PutImages, PutsTrace, PutsRun}
 use Rattle.fk_report.specs.Jobs.{end_in}
 use Rattle.fk_report.specs.declared.job_end.JobEnd.{JobEnd}
 use Rattle.fk_report.specs.declared.job_end.JobEnd.TheVariants.{Checkpointed, Foreign, Dead, Restored, NoImage, Occupied, NoPort}
@@ -137,9 +137,11 @@ module _ (name : List ℕ) (hold release : ℕ) (image : Image) where
   put_last ends place [] index old new told named done last h = absurd (cc)
   put_last ends place (first ∷ names) zero old new told named done last h =
       let same : first ≡ name = cc in
-      let at : slice_get ends place ≡ Some (Some (Checkpointed hold release image)) = ap (slice_get ends) (let e : place ≡ place + 0 = omega arith in e) ∙ done in
+      let at : slice_get ends place ≡ Some (Some (Checkpointed hold release image)) = ap (slice_get ends) (let e : place ≡ place + 0 = omega arith in e)
+          ∙ done in
       let put : PutsEnd name (Some (Checkpointed hold release image)) old h.0 =
-      subst (λ (o : Option JobEnd). PutsEnd name o old h.0) (ap end_in at) (subst (λ (n : List ℕ). PutsEnd n (end_in (slice_get ends place)) old h.0) same h.1) in
+      subst (λ (o : Option JobEnd). PutsEnd name o old h.0) (ap end_in at)
+          (subst (λ (n : List ℕ). PutsEnd n (end_in (slice_get ends place)) old h.0) same h.1) in
       let now : AreTold h.0 = others_told old h.0 (image_name name) told put.2.1 in (
         put.0,
         put.1,

@@ -8,16 +8,16 @@ use Rattle.fk_image.specs.declared.image.image.Image.{Image}
 use Rattle.fk_model.specs.declared.job.JobSpec.TheVariants.{Checkpoint, Restore}
 use Rattle.fk_model.specs.declared.moves.Rule.{Rule}
 use Rattle.fk_report.specs.declared.job_end.JobEnd.TheVariants as told
-use Rattle.fk_run.specs.Commands.{Command, Run, Play}
-use Rattle.fk_run.specs.Cores.{RunCore}
-use Rattle.fk_run.specs.Files.{image_name}
-use Rattle.fk_run.specs.Headline.{HasReportHeadline}
-use Rattle.fk_run.specs.Images.{FindsImages}
+use Rattle.fk_words.specs.Commands.{Command, Run, Play}
+use Rattle.fk_plays.specs.Cores.{RunCore}
+use Rattle.fk_commands.specs.Files.{image_name}
+use Rattle.fk_plays.specs.Headline.{HasReportHeadline}
+use Rattle.fk_plays.specs.Images.{FindsImages}
 use Rattle.fk_run.specs.Jobs.{HoldsOf}
-use Rattle.fk_run.specs.Made.{Images}
-use Rattle.fk_run.specs.Puts.{PutsRun}
-use Rattle.fk_run.specs.Runs.{IsReported}
-use Rattle.fk_run.specs.Status.{was_cut_short, has_put_all}
+use Rattle.fk_plays.specs.Made.{Images}
+use Rattle.fk_puts.specs.Puts.{PutsRun}
+use Rattle.fk_plays.specs.Runs.{IsReported}
+use Rattle.fk_commands.specs.Status.{was_cut_short, has_put_all}
 use Rattle.fk_run.specs.Theorem.{Outside, Theorem}
 use Rattle.fk_run.specs.Top.{IsDue}
 use Rattle.fk_scenario.specs.declared.scenario.scenario.Scenario.{Scenario}

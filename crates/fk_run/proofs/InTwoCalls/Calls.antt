@@ -8,21 +8,21 @@ use Rattle.fk_causes.specs.Shelf.{FileMap}
 use Rattle.fk_commands.specs.declared.outcome.Outcome.{Outcome}
 use Rattle.fk_commands.specs.declared.outcome.Report.{Report}
 use Rattle.fk_model.specs.declared.moves.Rule.{Rule}
-use Rattle.fk_run.specs.Commands.{Command, Run, RunFiles}
+use Rattle.fk_words.specs.Commands.{Command, Run, RunFiles}
 use Rattle.fk_run.specs.Jobs.{HoldsOf}
-use Rattle.fk_run.specs.Puts.{HasPut, PutsRun}
-use Rattle.fk_run.specs.Status.{has_put_all}
+use Rattle.fk_puts.specs.Puts.{HasPut, PutsRun}
+use Rattle.fk_commands.specs.Status.{has_put_all}
 use Rattle.fk_run.specs.Theorem.{Outside}
 use Rattle.fk_run.specs.Top.{IsDue}
-use Rattle.laws_first.specs.Entries.{given_at, IsFrom}
-use Rattle.laws_first.specs.Entries.IsFrom.{Made, Given}
+use Rattle.fk_plays.specs.Entries.{given_at, IsFrom}
+use Rattle.fk_plays.specs.Entries.IsFrom.{Made, Given}
 use Rattle.laws_restore.specs.Rooms.Restoring.{bound_by}
 use Rattle.laws_runs.specs.Headline.{Restored}
 use Rattle.laws_two_runs.proofs.Between.{copies_go_on}
-use Rattle.laws_two_calls.specs.TwoCalls.{ReportedRun, RunsJobs, TakesImage, WholeCall, SavedGoesOnInAnotherCall, CallsGoOn}
-use Rattle.laws_two_calls.proofs.Left.{put_by_run}
-use Rattle.laws_two_calls.proofs.Found.{given_is}
-use Rattle.laws_two_calls.proofs.Reported.{reports_are_of_runs}
+use Rattle.fk_run.specs.TwoCalls.{ReportedRun, RunsJobs, TakesImage, WholeCall, SavedGoesOnInAnotherCall, CallsGoOn}
+use Rattle.fk_run.proofs.InTwoCalls.Left.{put_by_run}
+use Rattle.fk_run.proofs.InTwoCalls.Found.{given_is}
+use Rattle.fk_run.proofs.InTwoCalls.Reported.{reports_are_of_runs}
 
 -- what a list has at a place, another has of it
 mapped_at : {A B : Type 0} (f : A → B) (xs : List A) (index : ℕ) (x : A) → slice_get xs index ≡ Some x → slice_get (map f xs) index ≡ Some (f x)
@@ -31,7 +31,8 @@ mapped_at f (y ∷ xs) zero x e = let same : y ≡ x = cc in ap (λ z. Some (f z
 mapped_at f (y ∷ xs) (suc index) x e = mapped_at f xs index x e
 
 -- what no earlier job makes was given
-was_given : (found : FileMap) (report : Report) (run : ReportedRun found report) (birth slot make done : ℕ) (name : List ℕ) (bind : List (ℕ × ℕ)) (image : Image)
+was_given : (found : FileMap) (report : Report) (run : ReportedRun found report) (birth slot make done : ℕ) (name : List ℕ) (bind : List (ℕ × ℕ))
+    (image : Image)
     (takes : TakesImage run birth slot make done name bind) → IsFrom run.scenario.jobs run.given run.is.last.ends takes.index name image
     → given_at takes.index run.given ≡ Some image
 was_given found report run birth slot make done name bind image takes (Made from hold release maker before ended) =

@@ -7,23 +7,18 @@ use Rattle.fk_commands.specs.declared.outcome.Outcome.{Outcome}
 use Rattle.fk_commands.specs.declared.outcome.Report.{Report}
 use Rattle.fk_commands.specs.declared.status.Status.{Status}
 use Rattle.fk_model.specs.declared.moves.Rule.{Rule}
-use Rattle.fk_run.specs.Commands.{Exec, Check, Run, Play, Show, Soak, Record, Replay}
-use Rattle.fk_run.specs.Cores.{RunCore}
-use Rattle.fk_run.specs.First.{IsBegun, IsFirst}
-use Rattle.fk_run.specs.Images.{FindsImages}
+use Rattle.fk_words.specs.Commands.{Exec, Check, Run, Play, Show, Soak, Record, Replay}
+use Rattle.fk_plays.proofs.Grounds.{first-begun}
+use Rattle.fk_plays.specs.Images.{FindsImages}
 use Rattle.fk_run.specs.Jobs.{HoldsOf}
-use Rattle.fk_run.specs.Made.{Images, IsText}
-use Rattle.fk_run.specs.Outcomes.{IsRefused}
-use Rattle.fk_run.specs.Play.{IsWith, IsTraced, IsPlayedBy, IsPlay, IsWholeRun}
-use Rattle.fk_run.specs.Runs.{IsAlone, IsPlayed, IsRunFrom, IsPlayedFrom}
+use Rattle.fk_plays.specs.Made.{Images, IsText}
+use Rattle.fk_commands.specs.Outcomes.{IsRefused}
+use Rattle.fk_plays.specs.Play.{IsWith, IsTraced, IsPlayedBy, IsPlay, IsWholeRun}
+use Rattle.fk_plays.specs.Runs.{IsAlone, IsPlayed, IsRunFrom, IsPlayedFrom}
 use Rattle.fk_scenario.specs.declared.fields.fail.ScenarioError.{ScenarioError}
 use Rattle.fk_scenario.specs.declared.scenario.scenario.Scenario.{Scenario}
 use Rattle.fk_scenario.specs.Scenario.Reading.{scenario_reading}
-use Rattle.laws_two_calls.specs.TwoCalls.{ReportedRun, ReportsAreOfRuns}
-
--- a first core is one in which a run begins
-begun : (s : Scenario) (c : RunCore) → IsFirst s c → IsBegun s c
-begun s c is = record { world = is.world; sound = is.sound; ends = is.ends; work = is.work; events = is.events }
+use Rattle.fk_run.specs.TwoCalls.{ReportedRun, ReportsAreOfRuns}
 
 -- a refusal has no report
 refused : (status : Status) (outcome : Outcome) (text : List ℕ) (report : Report) → outcome.report ≡ Some report → IsRefused status outcome text → ⊥
@@ -35,7 +30,8 @@ module _ (rules : List (List ℕ × Rule)) (bytes : List ℕ) (files : FileMap) 
   not_refused status is = absurd (refused status outcome text report has is)
 
   -- what came of a scenario with images
-  of_run : (s : Scenario) (given : Images) → scenario_reading rules bytes ≡ Ok s → FindsImages (Some files) [] s.jobs (Ok given) → IsRunFrom s given outcome text
+  of_run : (s : Scenario) (given : Images) → scenario_reading rules bytes ≡ Ok s → FindsImages (Some files) [] s.jobs (Ok given)
+      → IsRunFrom s given outcome text
       → ReportedRun files report
   of_run s given read found is =
       let ran : IsAlone (IsText s.jobs) s.jobs given is.first s.budget outcome.status (Some report) text =
@@ -46,7 +42,7 @@ module _ (rules : List (List ℕ × Rule)) (bytes : List ℕ) (files : FileMap) 
         found = found;
         first = is.first;
         is = ran.0.0;
-        headline = headline bytes s given is.first read (begun s is.first is.is_first) ran.0.0;
+        headline = headline bytes s given is.first read (first-begun s is.first is.is_first) ran.0.0;
       }
 
   of_play : (s : Scenario) (given : Images) (trace : List ℕ) → scenario_reading rules bytes ≡ Ok s → FindsImages (Some files) [] s.jobs (Ok given)
@@ -60,7 +56,7 @@ module _ (rules : List (List ℕ × Rule)) (bytes : List ℕ) (files : FileMap) 
         found = found;
         first = is.first;
         is = played.1.0;
-        headline = headline bytes s given is.first read (begun s is.first is.is_first) played.1.0;
+        headline = headline bytes s given is.first read (first-begun s is.first is.is_first) played.1.0;
       }
 
   of_trace : (name : List ℕ) (s : Scenario) (given : Images) → scenario_reading rules bytes ≡ Ok s → FindsImages (Some files) [] s.jobs (Ok given)
@@ -90,7 +86,8 @@ module _ (rules : List (List ℕ × Rule)) (bytes : List ℕ) (files : FileMap) 
   play_read name (Err e) read is = not_refused _ is
   play_read name (Ok s) read is = play_found name s read is.found is.finds is.is
 
-  run_long : (long : Bool) (status : Status) → MatchBool long (IsRefused status outcome text) (IsWholeRun (Some files) (scenario_reading rules bytes) outcome text)
+  run_long : (long : Bool) (status : Status) → MatchBool long (IsRefused status outcome text)
+      (IsWholeRun (Some files) (scenario_reading rules bytes) outcome text)
       → ReportedRun files report
   run_long true status is = not_refused status is
   run_long false status is = run_read (scenario_reading rules bytes) refl is

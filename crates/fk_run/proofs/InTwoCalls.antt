@@ -1,0 +1,4 @@
+pub mod Left
+pub mod Found
+pub mod Reported
+pub mod Calls

@@ -1,4 +1,0 @@
-mod Left
-mod Found
-pub mod Calls
-pub mod Reported
