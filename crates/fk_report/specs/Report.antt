@@ -54,10 +54,6 @@ out_line state = out_of (alias_of state) (printed_by state)
 abbrev pub states : {S : Type 0} → (S → State) → List (Who × S) → List State
 states meaning services = map (λ e. meaning e.1) services
 
--- the report of a run without servers and jobs
-abbrev pub report_text : ℕ → End → List ThreadState → List ℕ
-report_text events end threads = end_lines events end ++ flat_map thread_line threads
-
 -- the lines of consoles and of user threads
 abbrev pub outs_text : List State → List ThreadState → List ℕ
 outs_text states threads = flat_map out_line states ++ flat_map thread_line threads

@@ -9,10 +9,8 @@
 mod aims;
 mod jobs;
 mod reading;
-mod rules;
 mod scenario;
 mod servers;
 
 pub use reading::read_scenario;
-pub use rules::server_rules;
 pub use scenario::Scenario;
