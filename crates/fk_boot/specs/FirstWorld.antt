@@ -1,7 +1,7 @@
 -- The first world of a scenario: what its entries make, in the order of the file.
-use Rattle.std.specs.Prelude.{ℕ, ◌*◌, ◌-◌, Bool, not, ◌&&◌, ◌==◌, nat_lt, is_none, List, [], ◌∷◌, ◌++◌, map, length, take, drop, reverse, replicate}
+use Rattle.std.specs.Prelude.{ℕ, ◌*◌, ◌-◌, Bool, ◌&&◌, ◌==◌, nat_lt, is_none, List, [], ◌∷◌, ◌++◌, map, length, take, drop, reverse, replicate}
 use Rattle.std.specs.Prelude.{Option, Some, None, if◌then◌else◌}
-use Rattle.std.specs.List.{flat_map, list_all, slice_get}
+use Rattle.std.specs.List.{flat_map, slice_get}
 use Rattle.fk_model.specs.declared.limits.TheConstants.{PAGES, PAGE_WORDS, LAST_PORTER_SLOT}
 use Rattle.fk_model.specs.Places.{Path}
 use Rattle.fk_model.specs.Places.Ptr.{Null, At}
@@ -100,10 +100,7 @@ aims (specs.Mapping region first count offset write) = points_to region
 aims (specs.Region first count write keeper) = points_to keeper
 aims (specs.Reference to) = points_to to
 aims (specs.Port set) = belongs_to set
-aims (specs.Thread entry regs stops) = []
-aims (specs.Mutex locked) = []
-aims specs.Cond = []
-aims specs.Portset = []
+aims other = []
 
 abbrev pub aim_changes : ObjectEntry → List Change
 aim_changes o = map (Alter (reverse o.path)) (aims o.spec)

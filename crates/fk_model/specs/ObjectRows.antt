@@ -174,11 +174,7 @@ way_down q = outermost q ∷ (if nat_le (length q) 1 then 0 else 1) ∷ []
 
 abbrev pub way_to : Path → Ptr → Option (List ℕ)
 way_to space (At x) = option_map way_down (strip space x)
-way_to space (Out slot) = None
-way_to space Null = None
-way_to space Dead = None
-way_to space Outside = None
-way_to space Far = None
+way_to space other = None
 
 abbrev pub kind_number : Option Kind → ℕ
 kind_number None = 0

@@ -49,8 +49,4 @@ pub data Ptr : Type 0 where
 
 abbrev pub leads_to : Path → Ptr → Bool
 leads_to x (At y) = same_path y x
-leads_to x Null = false
-leads_to x Dead = false
-leads_to x (Out slot) = false
-leads_to x Outside = false
-leads_to x Far = false
+leads_to x other = false

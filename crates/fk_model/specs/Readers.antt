@@ -49,10 +49,7 @@ object_in w c view s k = and_read (slot_for c k) (λ k. seen_as view (w.body (k 
 abbrev pub kind_at : World → Ptr → Option Kind
 kind_at w (At x) = and_then (λ b. Some (kind_of b)) (w.body x)
 kind_at w (Out slot) = Some kinds.Port
-kind_at w Null = None
-kind_at w Dead = None
-kind_at w Outside = None
-kind_at w Far = None
+kind_at w other = None
 
 abbrev pub is_kind : Kind → Option Kind → Bool
 is_kind wanted None = false

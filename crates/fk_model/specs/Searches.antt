@@ -7,7 +7,7 @@ use Rattle.std.specs.List.{flat_map}
 use Rattle.fk_model.specs.declared.limits.TheConstants.{SLOTS}
 use Rattle.fk_model.specs.Places.{Path, Ptr, leads_to}
 use Rattle.fk_model.specs.Objects.{Peer, Talk, Fault, Thread, Body, thread_of, and_then, or_else, holds}
-use Rattle.fk_model.specs.Objects.Body.{Mutex, Cond, Mapping, Region, Port, Portset, Space, Thread_of, Reference}
+use Rattle.fk_model.specs.Objects.Body.{Mapping, Region, Space, Thread_of, Reference}
 use Rattle.fk_model.specs.Objects.Peer.{Server, Service, Parked}
 use Rattle.fk_model.specs.World.{World, serves}
 
@@ -120,10 +120,7 @@ pointers (Region r) = r.keeper ∷ []
 pointers (Space birth holder) = option_list (λ p. p ∷ []) holder
 pointers (Thread_of t) = option_list talk_pointers t.talk ++ option_list fault_pointers t.fault
 pointers (Reference to) = to ∷ []
-pointers (Mutex locked) = []
-pointers Cond = []
-pointers (Port set served) = []
-pointers Portset = []
+pointers other = []
 
 -- how many pointers of an object lead to x
 abbrev pub pointers_to : Path → Option Body → ℕ

@@ -9,7 +9,7 @@ use Rattle.fk_model.specs.Places.{Path, Ptr}
 use Rattle.fk_model.specs.Places.Ptr.{Null, Dead, At, Out, Outside, Far}
 use Rattle.fk_model.specs.Objects.{Peer, Talk, Fault, Thread, Body, same_kind, reference_of, and_then}
 use Rattle.fk_model.specs.Objects.Peer.{Server, Service, Parked}
-use Rattle.fk_model.specs.Objects.Body.{Mutex, Cond, Mapping, Region, Port, Portset, Space, Thread_of, Reference}
+use Rattle.fk_model.specs.Objects.Body.{Mapping, Region, Space, Thread_of, Reference}
 use Rattle.fk_model.specs.World.{World}
 use Rattle.fk_model.specs.World.Change.{Alter, PutPage}
 use Rattle.fk_model.specs.World.Edit.{SetPointer}
@@ -107,10 +107,7 @@ field_of n (Region r) = first_field n (Pointer r.keeper)
 field_of n (Reference to) = first_field n (Pointer to)
 field_of n (Space birth holder) = first_field n (or_null (and_then (λ p. Some (Pointer p)) holder))
 field_of n (Thread_of t) = thread_field t n
-field_of n (Mutex locked) = None
-field_of n Cond = None
-field_of n (Port set served) = None
-field_of n Portset = None
+field_of n other = None
 
 -- a space's and a thread's fields aren't for users
 abbrev pub is_inner : Body → Bool

@@ -10,7 +10,7 @@ use Rattle.fk_model.specs.StageFacts.{facts_of}
 use Rattle.fk_model.specs.declared.thread.Turn.{Turn}
 use Rattle.fk_model.specs.declared.thread.Turn.TheVariants as turns
 use Rattle.fk_model.specs.Places.{Path, parent, Ptr}
-use Rattle.fk_model.specs.Places.Ptr.{Null, Dead, At, Out, Outside, Far}
+use Rattle.fk_model.specs.Places.Ptr.{At}
 use Rattle.fk_model.specs.Objects.{Mode, Peer, Talk, Thread, thread_of, reference_of, and_then, holds}
 use Rattle.fk_model.specs.Objects.Mode.{Calling}
 use Rattle.fk_model.specs.Objects.Peer.{Server, Service, Parked}
@@ -95,11 +95,7 @@ is_talking side mode = holds (talks_on side) (first_stage mode)
 
 abbrev pub path_to : Ptr → Option Path
 path_to (At x) = Some x
-path_to Null = None
-path_to Dead = None
-path_to (Out slot) = None
-path_to Outside = None
-path_to Far = None
+path_to other = None
 
 -- the thread at the other end, with its path
 abbrev pub thread_led_to : World → Ptr → Option (Path × Thread)

@@ -9,7 +9,7 @@ use Rattle.fk_model.specs.declared.moves.Said.TheVariants as says
 use Rattle.fk_model.specs.declared.names.Who.{Who}
 use Rattle.fk_model.specs.Endings.{has_ended}
 use Rattle.fk_model.specs.Outcomes as outcomes
-use Rattle.fk_model.specs.Outcomes.Said.{Nothing, Answered, Taken, Words, Given, Full, Passed, Ended}
+use Rattle.fk_model.specs.Outcomes.Said.{Taken, Words, Given, Passed}
 use Rattle.fk_model.specs.Places.{Path, leads_to}
 use Rattle.fk_model.specs.Runs.{Event, after}
 use Rattle.fk_model.specs.Places.Ptr.{At}
@@ -66,14 +66,11 @@ gives_words other = true
 
 -- what a move tells the server of the port at a path
 abbrev pub said_at : outcomes.Said → Path → Option News
-said_at Nothing port = None
-said_at (Answered status words) port = None
 said_at (Taken to client resumed turn moved) port = if leads_to port to then Some (natives.Taken turn moved) else None
 said_at (Words to words) port = if leads_to port to then Some (natives.Words words) else None
 said_at (Given to count) port = if leads_to port to then Some (natives.Given count) else None
-said_at (Full to) port = None
 said_at (Passed to) port = if leads_to port to then Some natives.Over else None
-said_at (Ended to) port = None
+said_at other port = None
 
 -- a server that had a client before the move and has none after it hears that the talk has ended, whoever moved; any other what the
 -- move tells it

@@ -8,7 +8,7 @@ use Rattle.fk_image.specs.declared.image.image.Link.TheVariants.{Null, Dead, In,
 use Rattle.fk_image.specs.declared.image.image.TalkRec.{TalkRec}
 use Rattle.fk_image.specs.declared.image.image.FaultRec.{FaultRec}
 use Rattle.fk_image.specs.declared.image.image.Rec.{Rec}
-use Rattle.fk_image.specs.declared.image.image.Rec.TheVariants.{Mutex, Cond, Portset, Mapping, Region, Port, Thread, Reference}
+use Rattle.fk_image.specs.declared.image.image.Rec.TheVariants.{Mapping, Region, Port, Thread, Reference}
 use Rattle.fk_image.specs.declared.image.image.ObjectRec.{ObjectRec}
 use Rattle.fk_image.specs.declared.image.image.SpaceRec.{SpaceRec}
 use Rattle.fk_image.specs.Image.Objects.{kind_in}
@@ -135,9 +135,7 @@ body_leads spaces objects (Region first count write keeper) = leads_to_keeper sp
 body_leads spaces objects (Port set) = is_set_of objects set
 body_leads spaces objects (Thread t) = talk_leads spaces t.talk && fault_leads spaces t.fault
 body_leads spaces objects (Reference to) = may_refer spaces to
-body_leads spaces objects (Mutex locked) = true
-body_leads spaces objects Cond = true
-body_leads spaces objects Portset = true
+body_leads spaces objects other = true
 
 abbrev pub space_leads : List SpaceRec → ℕ → SpaceRec → Bool
 space_leads spaces number s = may_hold spaces number s.holder && list_all (λ (o : ObjectRec). body_leads spaces s.objects o.body) s.objects
