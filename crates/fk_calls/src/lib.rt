@@ -12,6 +12,6 @@ pub mod acts;
 pub mod calls;
 
 pub use calls::{
-    Picks, Ran, Saying, Sent, Told, attempt, call, foretell, is_fit, may_move, may_pick, ready,
-    run, say, stage, take,
+    Picks, Ran, Saying, Sent, Told, attempt, call, first_stage, foretell, is_fit, is_user,
+    may_move, may_pick, ready, run, say, stage, take,
 };

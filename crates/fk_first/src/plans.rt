@@ -6,17 +6,8 @@ ghost use Rattle.laws_house.specs.Houses as houses;
 use fk_finish::ValidImage;
 use fk_jobs::{Plan, Source, Task};
 use fk_model::{JobSpec, NoMemory};
+use fk_scenario::makes_image;
 use std::alloc::Global;
-
-/// Whether a job makes an image.
-fn makes(job: &JobSpec, image: &str) -> bool
-    ensures { result ≡ houses.makes image.now job.now }
-{
-    match job {
-        JobSpec::Checkpoint { image: made, .. } => made.as_str() == image,
-        JobSpec::Restore { .. } => false,
-    }
-}
 
 /// The place of the first of some jobs that makes an image.
 #[tactic(auto, unfolding(laws_house::specs::Houses::maker_from))]
@@ -25,7 +16,7 @@ pub fn maker_of(jobs: &[JobSpec], image: &str) -> Option<usize>
 {
     let mut place: usize = 0;
     while let Some(job) = jobs.get(place) {
-        if makes(job, image) {
+        if makes_image(image, job) {
             return Some(place);
         }
         place += 1;

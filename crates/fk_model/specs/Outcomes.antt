@@ -1,6 +1,7 @@
 -- Outcomes: what a stage, an instruction or a native act comes to.
-use Rattle.std.specs.Prelude.{ℕ, Bool, List, [], ◌∷◌, ◌++◌, Option, Some, None, Result, Ok, Err, if◌then◌else◌}
+use Rattle.std.specs.Prelude.{ℕ, Bool, List, [], ◌∷◌, ◌++◌, take, Option, Some, None, Result, Ok, Err, if◌then◌else◌}
 use Rattle.fk_model.specs.declared.limits.TheConstants.{LAST_USER_SLOT, LAST_PORTER_SLOT}
+use Rattle.fk_model.specs.declared.moves.Answer.{Answer}
 use Rattle.fk_model.specs.declared.statuses.status.TheConstants.{OK}
 use Rattle.fk_model.specs.declared.thread.Turn.{Turn}
 use Rattle.fk_model.specs.Places.{Path, Ptr}
@@ -92,3 +93,9 @@ abbrev pub listed : Outcome → List Change
 listed (Goes changes said) = changes
 listed (Refused status) = []
 listed Waits = []
+
+-- ---- answers in code
+
+-- the words of an answer
+abbrev pub answered : Answer → List ℕ
+answered a = take a.len a.words

@@ -12,5 +12,6 @@ mod reading;
 mod scenario;
 mod servers;
 
+pub use jobs::makes_image;
 pub use reading::read_scenario;
 pub use scenario::Scenario;

@@ -1,5 +1,5 @@
 -- Lines: a talk by paths, and who is at which end of it.
-use Rattle.std.specs.Prelude.{◌≡◌, ◌≤◌, ℕ, Bool, false, List, [], ◌∷◌, Option, ⊤}
+use Rattle.std.specs.Prelude.{◌≡◌, ◌≤◌, ℕ, Bool, false, Option}
 use Rattle.fk_model.specs.declared.stage.Stage.{Stage}
 use Rattle.fk_model.specs.declared.stage.Stage.TheVariants.{ClientSend, ServerSend}
 use Rattle.fk_model.specs.declared.thread.Turn.{Turn}
@@ -18,6 +18,7 @@ use Rattle.fk_plans.specs.declared.plans.plan.Plan.TheVariants as plans
 use Rattle.fk_plans.specs.declared.plans.plan.Verdict.{Verdict}
 use Rattle.fk_plans.specs.declared.plans.plan.Verdict.TheVariants as verdicts
 use Rattle.fk_transfer.specs.declared.lines.Line.{Line}
+pub use Rattle.fk_changes.specs.Threads.Firsts.{IsFirst}
 
 abbrev pub line_by : (ℕ → Path) → Line → talks.Line
 line_by p line = record { client = place p line.client; talk = talk_by p line.talk; other = peer_by p line.other }
@@ -26,11 +27,6 @@ line_by p line = record { client = place p line.client; talk = talk_by p line.ta
 abbrev pub sending : Turn → ℕ → ℕ → Stage
 sending turns.Client address count = ClientSend address count
 sending turns.Server address count = ServerSend address count
-
--- a stage is the first of these, if there are any
-abbrev pub IsFirst : Stage → List Stage → Type 0
-IsFirst stage [] = ⊤
-IsFirst stage (first ∷ later) = first ≡ stage
 
 -- a thread is in no call, or at its Send on this side
 abbrev pub IsSender : World → Path → Turn → ℕ → ℕ → Type 0

@@ -1,7 +1,6 @@
 -- What the code's walk and its search stand for.
-use Rattle.std.specs.Prelude.{◌≡◌, ℕ, zero, suc, ◌<◌, List, [], ◌∷◌, map, take, drop, reverse, slice_index, slice_get, vec_len, vec_capacity, Bool, true, false, Option, Some, None}
+use Rattle.std.specs.Prelude.{◌≡◌, ℕ, zero, suc, ◌<◌, List, [], ◌∷◌, map, drop, reverse, slice_index, slice_get, vec_len, vec_capacity, Bool, true, false, Option, Some, None}
 use Rattle.fk_model.specs.declared.limits.TheConstants.{OWN_SPACE}
-use Rattle.fk_model.specs.declared.moves.Answer.{Answer}
 use Rattle.fk_model.specs.Places.{Path}
 use Rattle.laws_checkpoint.specs.Foreign.{PLACES, Task, place_of}
 use Rattle.laws_checkpoint.specs.Foreign as seeks
@@ -18,10 +17,7 @@ use Rattle.fk_checkpoint.specs.declared.seeking.seek.Sought.TheVariants as sough
 use Rattle.fk_checkpoint.specs.declared.seeking.walk.Step.{Step}
 use Rattle.fk_checkpoint.specs.declared.seeking.walk.Step.TheVariants as steps
 use Rattle.fk_checkpoint.specs.declared.seeking.walk.Walk.{Walk}
-
--- the words that an answer has
-abbrev pub answered : Answer → List ℕ
-answered a = take a.len a.words
+pub use Rattle.fk_model.specs.Outcomes.{answered}
 
 -- ---- places: the slots from the root down, and the path from the object outwards
 

@@ -1,6 +1,5 @@
 -- A restore in code as a state of the machine.
-use Rattle.std.specs.Prelude.{◌≡◌, ℕ, Bool, true, false, not, ◌&&◌, ◌==◌, suc, List, [], take, drop, Option, Some, None, if◌then◌else◌}
-use Rattle.fk_model.specs.declared.moves.Answer.{Answer}
+use Rattle.std.specs.Prelude.{◌≡◌, ℕ, Bool, true, false, not, ◌&&◌, ◌==◌, suc, List, [], drop, Option, Some, None, if◌then◌else◌}
 use Rattle.fk_restore.specs.declared.restore.end.RestoreEnd.{RestoreEnd}
 use Rattle.fk_restore.specs.declared.restore.end.RestoreEnd.TheVariants as code_ends
 use Rattle.fk_image.specs.declared.image.image.Image.{Image}
@@ -16,14 +15,11 @@ use Rattle.fk_restore.specs.Positions.Positions.{rest, order_at, IsPosition}
 use Rattle.fk_restore.specs.Orders.Left.{is_empty}
 use Rattle.fk_restore.specs.declared.restore.restore.Phase.{Phase}
 use Rattle.fk_restore.specs.declared.restore.restore.Phase.TheVariants.{Makes, Works, Clears, Over}
+pub use Rattle.fk_model.specs.Outcomes.{answered}
 
 -- a space of an image that isn't the first is one more
 abbrev pub inner : ℕ → ℕ
 inner n = if n == 0 then 0 else 1
-
--- the words that an answer has
-abbrev pub answered : Answer → List ℕ
-answered a = take a.len a.words
 
 -- so many of the scratch references are gone, and so many more than one stages of destroying are left
 abbrev pub clears : ℕ → ℕ → ℕ → State
