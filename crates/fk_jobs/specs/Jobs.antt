@@ -140,10 +140,10 @@ made_state state None first = first
 made_state state (Some w) first = Some (state w)
 
 -- the machine of the one whose turn it is, at its first state where it has made no move
-pub record IsSeated {W : Type 0} (state : W → State) (worker : Option W) (begun : Option ℕ) (ends : List (JobEnd End)) (job : Option Job) : Type 0 where
-  pub there : is_some worker ≡ true → is_some job ≡ true
-  pub going : is_some begun ≡ true → is_some worker ≡ true
-  pub fresh : begun ≡ None → made_state state worker (first_of ends job) ≡ first_of ends job
+pub record IsSeated {W : Type 0} (state : W → State) (porter : Option W) (begun : Option ℕ) (ends : List (JobEnd End)) (job : Option Job) : Type 0 where
+  pub there : is_some porter ≡ true → is_some job ≡ true
+  pub going : is_some begun ≡ true → is_some porter ≡ true
+  pub fresh : begun ≡ None → made_state state porter (first_of ends job) ≡ first_of ends job
 
 -- it is made, where it can begin, and has room for an answer
 abbrev pub IsReadied : {W : Type 0} → (W → Type 0) → Option W → Option State → Type 0

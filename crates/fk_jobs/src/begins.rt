@@ -12,8 +12,8 @@ ghost use Rattle.fk_jobs.specs.Ended.{shown_ends};
 ghost use Rattle.fk_jobs.specs.Jobs.{job_of, source_of, task_of, call_with, asked_by, first_of, grows_by};
 
 use crate::ended::Ended;
+use crate::job_machine::JobMachine;
 use crate::plan::{Plan, Source, Task};
-use crate::worker::Worker;
 use fk_finish::ValidImage;
 use fk_model::limits::OWN_SPACE;
 use fk_model::{List, NoMemory, Stage};
@@ -101,7 +101,7 @@ pub fn first_call(plans: &[Plan], ends: &[Ended]) -> Option<Stage>
 }
 
 /// A restore that is about to begin, of an image that is shared.
-fn restore<W: Worker>(slot: u8, image: &ValidImage, pairs: &List<(u8, u8)>) -> Result<W, NoMemory>
+fn restore<W: JobMachine>(slot: u8, image: &ValidImage, pairs: &List<(u8, u8)>) -> Result<W, NoMemory>
     requires low { slot ≤ LAST_USER_SLOT }
     requires users { are_user_pairs pairs.now ≡ true }
     ensures { IfOk result (λ made. W.state made ≡ Restoring slot pairs.now image.now Makes) }
@@ -111,7 +111,7 @@ fn restore<W: Worker>(slot: u8, image: &ValidImage, pairs: &List<(u8, u8)>) -> R
 }
 
 /// The machine of a job that is planned so, where it can begin.
-fn make_so<W: Worker + Drop>(
+fn make_so<W: JobMachine + Drop>(
     alloc: Global,
     plan: &Plan,
     ends: &[Ended],
@@ -138,7 +138,7 @@ fn make_so<W: Worker + Drop>(
 /// # Errors
 ///
 /// There is no memory for it.
-pub fn make<W: Worker + Drop>(
+pub fn make<W: JobMachine + Drop>(
     alloc: Global,
     plans: &[Plan],
     ends: &[Ended],

@@ -12,27 +12,27 @@ ghost use Rattle.fk_jobs.specs.Plain.{picks_nobody};
 
 use crate::begins::{can_begin, first_call, make};
 use crate::ended::{Ended, Unmoved};
+use crate::job_machine::JobMachine;
 use crate::plan::Plan;
-use crate::worker::Worker;
 use fk_model::{Answer, NoMemory, Stage};
 use std::alloc::Global;
 use std::marker::Model;
 
 /// Jobs, one after the other.
 #[derive(Drop)]
-pub struct Jobs<W: Worker + Drop> {
+pub struct Jobs<W: JobMachine + Drop> {
     alloc: Global,
     plans: Vec<Plan>,
     ends: Vec<Ended>,
     /// The machine of the one whose turn it is, once it is made.
-    worker: Option<W>,
+    porter: Option<W>,
     /// The place of its first move, once it has made one.
     begun: Option<u64>,
     /// It may lack its machine, or room.
     used: bool,
 }
 
-impl<W: Worker + Drop> Model for Jobs<W> {
+impl<W: JobMachine + Drop> Model for Jobs<W> {
     ghost use Rattle.std.specs.Prelude.{◌≡◌, ◌≤◌, false, not, map, length, vec_capacity};
     ghost use Rattle.std.specs.List.{slice_get};
     ghost use Rattle.laws_house.specs.Laws.{NameUsersSlots};
@@ -44,15 +44,15 @@ impl<W: Worker + Drop> Model for Jobs<W> {
     ghost view = { λ s. record {
       jobs = map queues.job_of s.plans.items;
       ends = ended.shown_ends s.ends.items;
-      work = queues.shown_work W.state s.worker s.begun;
+      work = queues.shown_work W.state s.porter s.begun;
       ready = not s.used;
     } };
 
     ghost invariant = { λ s. (length s.plans.items ≤ vec_capacity s.ends)
         × NameUsersSlots (map queues.job_of s.plans.items)
-        × queues.IsSeated W.state s.worker s.begun (ended.shown_ends s.ends.items)
+        × queues.IsSeated W.state s.porter s.begun (ended.shown_ends s.ends.items)
         (slice_get (map queues.job_of s.plans.items) (length (ended.shown_ends s.ends.items)))
-        × (s.used ≡ false → queues.IsReadied W.has_room s.worker (queues.first_of (ended.shown_ends s.ends.items)
+        × (s.used ≡ false → queues.IsReadied W.has_room s.porter (queues.first_of (ended.shown_ends s.ends.items)
         (slice_get (map queues.job_of s.plans.items) (length (ended.shown_ends s.ends.items))))) };
 }
 
@@ -77,56 +77,56 @@ fn add_end(ends: &mut Vec<Ended>, end: Ended)
 
 /// Makes the machine of the job whose turn it is. It stands apart, since it is rare and takes much room.
 #[inline(never)]
-fn make_new<W: Worker + Drop>(
+fn make_new<W: JobMachine + Drop>(
     alloc: Global,
     plans: &[Plan],
     ends: &[Ended],
-    worker: &mut Option<W>,
+    porter: &mut Option<W>,
 ) -> Result<(), NoMemory>
     requires { NameUsersSlots (map job_of plans.now) }
-    ensures made { OnOk result (option_map W.state worker.new
+    ensures made { OnOk result (option_map W.state porter.new
         ≡ first_of (shown_ends ends.now) (slice_get (map job_of plans.now) (length (shown_ends ends.now)))) }
-    ensures lacking { OnErr result (worker.new ≡ worker.old) }
+    ensures lacking { OnErr result (porter.new ≡ porter.old) }
     ensures grows { OnErr result (grows_by
         (first_of (shown_ends ends.now) (slice_get (map job_of plans.now) (length (shown_ends ends.now)))) ≡ true) }
 {
-    *worker = make(alloc, plans, ends)?;
+    *porter = make(alloc, plans, ends)?;
     Ok(())
 }
 
 /// Makes the machine of the job whose turn it is, where it isn't made yet.
-fn make_in<W: Worker + Drop>(
+fn make_in<W: JobMachine + Drop>(
     alloc: Global,
     plans: &[Plan],
     ends: &[Ended],
-    worker: &mut Option<W>,
+    porter: &mut Option<W>,
 ) -> Result<(), NoMemory>
     requires { NameUsersSlots (map job_of plans.now) }
-    ensures made { OnOk result (option_map W.state worker.new
-        ≡ made_state W.state worker.old (first_of (shown_ends ends.now) (slice_get (map job_of plans.now) (length (shown_ends ends.now))))) }
-    ensures lacking { OnErr result (worker.new ≡ worker.old) }
-    ensures grows { OnErr result (grows_by (made_state W.state worker.old
+    ensures made { OnOk result (option_map W.state porter.new
+        ≡ made_state W.state porter.old (first_of (shown_ends ends.now) (slice_get (map job_of plans.now) (length (shown_ends ends.now))))) }
+    ensures lacking { OnErr result (porter.new ≡ porter.old) }
+    ensures grows { OnErr result (grows_by (made_state W.state porter.old
         (first_of (shown_ends ends.now) (slice_get (map job_of plans.now) (length (shown_ends ends.now))))) ≡ true) }
 {
-    if worker.is_none() {
-        make_new(alloc, plans, ends, worker)?;
+    if porter.is_none() {
+        make_new(alloc, plans, ends, porter)?;
     }
     Ok(())
 }
 
 /// Makes room for an answer to a machine, where there is one.
-fn reserve_in<W: Worker>(worker: &mut Option<W>) -> Result<(), NoMemory>
-    ensures same { option_map W.state worker.new ≡ option_map W.state worker.old }
-    ensures room { OnOk result (IfSome worker.new W.has_room) }
-    ensures grows { OnErr result (grows_by (option_map W.state worker.old) ≡ true) }
+fn reserve_in<W: JobMachine>(porter: &mut Option<W>) -> Result<(), NoMemory>
+    ensures same { option_map W.state porter.new ≡ option_map W.state porter.old }
+    ensures room { OnOk result (IfSome porter.new W.has_room) }
+    ensures grows { OnErr result (grows_by (option_map W.state porter.old) ≡ true) }
 {
-    match worker {
-        Some(worker) => worker.reserve(),
+    match porter {
+        Some(porter) => porter.reserve(),
         None => Ok(()),
     }
 }
 
-impl<W: Worker + Drop> Jobs<W> {
+impl<W: JobMachine + Drop> Jobs<W> {
     /// Jobs of which none has begun.
     ///
     /// # Errors
@@ -146,7 +146,7 @@ impl<W: Worker + Drop> Jobs<W> {
             alloc,
             plans,
             ends,
-            worker: None,
+            porter: None,
             begun: None,
             used: true,
         })
@@ -163,7 +163,7 @@ impl<W: Worker + Drop> Jobs<W> {
     pub fn is_at_work(&self) -> bool
         ensures { result ≡ is_some self.now.work }
     {
-        self.worker.is_some() && self.begun.is_some()
+        self.porter.is_some() && self.begun.is_some()
     }
 
     /// Whether it can begin, as a restore can that has an image.
@@ -179,8 +179,8 @@ impl<W: Worker + Drop> Jobs<W> {
         ensures next { call_with result words.new ≡ asked_by (state_of self.now) }
         ensures plain { IfSome (call_with result words.new) (λ ask. picks_nobody ask ≡ true) }
     {
-        match &self.worker {
-            Some(worker) => worker.next(words),
+        match &self.porter {
+            Some(porter) => porter.next(words),
             None => first_call(self.plans.as_slice(), self.ends.as_slice()),
         }
     }
@@ -189,8 +189,8 @@ impl<W: Worker + Drop> Jobs<W> {
     pub fn bare(&self) -> Option<Stage>
         ensures { IfSome result (λ stage. asked_by (state_of self.now) ≡ Some (asks.Call stage no_words)) }
     {
-        match &self.worker {
-            Some(worker) => worker.bare(),
+        match &self.porter {
+            Some(porter) => porter.bare(),
             None => None,
         }
     }
@@ -213,9 +213,9 @@ impl<W: Worker + Drop> Jobs<W> {
                 self.alloc,
                 self.plans.as_slice(),
                 self.ends.as_slice(),
-                &mut self.worker,
+                &mut self.porter,
             )?;
-            reserve_in(&mut self.worker)?;
+            reserve_in(&mut self.porter)?;
             self.used = false;
         }
         Ok(())
@@ -226,11 +226,11 @@ impl<W: Worker + Drop> Jobs<W> {
         requires { self.old.ready ≡ true }
         ensures { self.new ≡ hears self.old events answer.now.status (take answer.now.len answer.now.words) }
     {
-        let Some(worker) = &mut self.worker else {
+        let Some(porter) = &mut self.porter else {
             return;
         };
-        worker.absorb(answer);
-        let goes_on = worker.is_at_call();
+        porter.absorb(answer);
+        let goes_on = porter.is_at_call();
         self.begun = Some(begun_from(self.begun, events));
         self.used = true;
         if goes_on {
@@ -246,9 +246,9 @@ impl<W: Worker + Drop> Jobs<W> {
         requires over { HasEnded self.old.work }
         ensures { self.new ≡ passed self.old last }
     {
-        let worker = self.worker.take().unwrap();
+        let porter = self.porter.take().unwrap();
         let begun = self.begun.take().unwrap();
-        let finish = worker.finish().unwrap();
+        let finish = porter.finish().unwrap();
         let ended = Ended::Worked {
             finish,
             begun,
@@ -266,7 +266,7 @@ impl<W: Worker + Drop> Jobs<W> {
         ensures { self.new ≡ with_idle self.old (unmoved_of why) }
     {
         self.begun = None;
-        self.worker = None;
+        self.porter = None;
         add_end(&mut self.ends, Ended::Idle(why));
         self.used = true;
     }

@@ -2,7 +2,7 @@
 //!
 //! It stands on `laws_house` for what jobs are, on `laws_runs` for what a run makes of them, and on `fk_checkpoint` and `fk_restore`, which do
 //! them. It knows nothing of worlds: who has it says when an answer comes, and when a job has ended without a move. `Jobs` is generic in the code of
-//! a job, of which it wants a machine's contract (`Worker`); `Porter` is that code, at a checkpoint or at a restore (`specs/Porters.antt`).
+//! a job, of which it wants a machine's contract (`JobMachine`); `Porter` is that code, at a checkpoint or at a restore (`specs/Porters.antt`).
 //!
 //! It promises that what it asks for is the next call of the job whose turn it is, that an answer brings that job on, or to its end
 //! with the places of its first move and its last, and that the next one's turn has come then; that no call picks anybody, and that a
@@ -13,15 +13,15 @@
 
 mod begins;
 mod ended;
+mod job_machine;
 mod jobs;
 mod plan;
 mod porter;
-mod worker;
 
 pub use ended::{Ended, Finish, Unmoved};
+pub use job_machine::{
+    JobMachine, checkpoints_ask_plainly, jobs_end_so, jobs_move_so, jobs_pick_nobody, plain_is_fit,
+};
 pub use jobs::Jobs;
 pub use plan::{Plan, Source, Task};
 pub use porter::Porter;
-pub use worker::{
-    Worker, checkpoints_ask_plainly, jobs_end_so, jobs_move_so, jobs_pick_nobody, plain_is_fit,
-};

@@ -12,7 +12,7 @@ ghost use Rattle.fk_jobs.specs.Jobs.{call_at, call_with};
 ghost use Rattle.fk_jobs.specs.Porters.{state_of, has_room};
 
 use crate::ended::Finish;
-use crate::worker::Worker;
+use crate::job_machine::JobMachine;
 use fk_checkpoint::Checkpoint;
 use fk_finish::ValidImage;
 use fk_model::{Answer, List, NoMemory, Stage};
@@ -28,7 +28,7 @@ pub enum Porter {
     Restore(Restore),
 }
 
-impl Worker for Porter {
+impl JobMachine for Porter {
     ghost state = { state_of };
 
     ghost has_room = { has_room };

@@ -6,12 +6,12 @@ ghost use Rattle.fk_core.specs.Cores.Goings.{IsGoing};
 ghost use Rattle.fk_jobs.specs.Jobs.{current};
 
 use crate::cores::turns::Core;
-use fk_jobs::Worker;
+use fk_jobs::JobMachine;
 use fk_model::{Move, NoMemory};
 use fk_natives::Service;
 use fk_responders::Table;
 
-impl<S: Service + Drop, W: Worker + Drop> Core<S, W> {
+impl<S: Service + Drop, W: JobMachine + Drop> Core<S, W> {
     /// Makes the next move of the thread that moved last, where that is an instruction or a stage that tells nobody of anything, is
     /// ready, and no job is left. What others' moves tell takes much room; this needs none.
     fn proceed(&mut self) -> Option<Move>

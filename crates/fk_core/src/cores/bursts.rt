@@ -9,7 +9,7 @@ ghost use Rattle.fk_core.specs.Cores.Cores.{core_at, house, run_core};
 ghost use Rattle.fk_core.specs.Cores.Goings.{HasCome, IsGoing};
 
 use crate::cores::turns::Core;
-use fk_jobs::Worker;
+use fk_jobs::JobMachine;
 use fk_model::Who;
 use fk_natives::Service;
 use fk_served::Kernel;
@@ -29,7 +29,7 @@ fn let_make<F: FnOnce(&mut Kernel) -> bool>(
     f(kernel)
 }
 
-impl<S: Service + Drop, W: Worker + Drop> Core<S, W> {
+impl<S: Service + Drop, W: JobMachine + Drop> Core<S, W> {
     /// So many moves of a thread, which no server hears, were made in the kernel: they count, and the jobs end that are due and can't begin.
     fn went(&mut self, thread: Who, count: u64)
         requires few { self.old.events + count ≤ self.old.budget }

@@ -13,12 +13,12 @@ ghost use Rattle.fk_core.specs.Rounds.Kernels.{world_of as world};
 
 use crate::cores::turns::Core;
 use crate::moment::Moment;
-use fk_jobs::{Unmoved, Worker};
+use fk_jobs::{JobMachine, Unmoved};
 use fk_model::{Ask, Move, Who};
 use fk_natives::Service;
 use fk_report::End;
 
-impl<S: Service + Drop, W: Worker + Drop> Core<S, W> {
+impl<S: Service + Drop, W: JobMachine + Drop> Core<S, W> {
     /// What there is to look at.
     pub(crate) fn moment(&self) -> Moment<'_, S, W>
         ensures seen { seen result ≡ run_core self.now }

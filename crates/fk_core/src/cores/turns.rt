@@ -17,7 +17,7 @@ use crate::cores::given::Given;
 use crate::cores::lacking::unmade;
 use crate::cores::room::Room;
 use crate::rounds::Rounds;
-use fk_jobs::{Jobs, Worker};
+use fk_jobs::{JobMachine, Jobs};
 use fk_model::{Answer, Ask, Move, NoMemory, Reply, Said, Who};
 use fk_natives::Service;
 use fk_responders::Table;
@@ -25,7 +25,7 @@ use fk_served::{Kernel, Services};
 
 /// A kernel with its native servers and its jobs, and how many moves it has made of how many.
 #[derive(Drop)]
-pub struct Core<S: Service + Drop, W: Worker + Drop> {
+pub struct Core<S: Service + Drop, W: JobMachine + Drop> {
     /// What each move writes stands together, and first: where workers take turns it passes from one processor to another.
     pub(crate) events: u64,
     /// The thread that has moved last, after which the next is sought.
@@ -63,7 +63,7 @@ fn hearer(said: &Said) -> Option<Who> {
 
 /// The jobs hear that a move of theirs told nothing. It stands apart, since it is rare and takes much room.
 #[inline(never)]
-fn tell_nothing<W: Worker + Drop>(jobs: &mut Jobs<W>, events: u64)
+fn tell_nothing<W: JobMachine + Drop>(jobs: &mut Jobs<W>, events: u64)
     requires { jobs.old.ready ≡ true }
     ensures { jobs.new ≡ hears jobs.old events 0 [] }
 {
@@ -78,7 +78,7 @@ fn tell_nothing<W: Worker + Drop>(jobs: &mut Jobs<W>, events: u64)
 }
 
 /// The jobs hear what a move of theirs tells.
-fn tell_jobs<W: Worker + Drop>(jobs: &mut Jobs<W>, events: u64, said: &Said)
+fn tell_jobs<W: JobMachine + Drop>(jobs: &mut Jobs<W>, events: u64, said: &Said)
     requires { jobs.old.ready ≡ true }
     ensures { jobs.new ≡ hears jobs.old events (reply_to said.now).status (reply_to said.now).words }
 {
@@ -88,7 +88,7 @@ fn tell_jobs<W: Worker + Drop>(jobs: &mut Jobs<W>, events: u64, said: &Said)
     }
 }
 
-impl<S: Service + Drop, W: Worker + Drop> Core<S, W> {
+impl<S: Service + Drop, W: JobMachine + Drop> Core<S, W> {
     /// A kernel with its servers, each by its port, and its jobs, before the first of so many moves. It goes on where these are a sound start.
     pub fn new(kernel: Kernel, services: Vec<(Who, S)>, jobs: Jobs<W>, budget: u64) -> Core<S, W>
         ensures kernel { result.kernel ≡ kernel }

@@ -8,10 +8,10 @@ ghost use Rattle.fk_served.specs.Kernels.{world_of as world};
 ghost use Rattle.fk_core.specs.Moment.Moments.{house, seen, IsDue};
 
 use crate::moment::moment::Moment;
-use fk_jobs::{Plan, Unmoved, Worker};
+use fk_jobs::{JobMachine, Plan, Unmoved};
 use fk_natives::Service;
 
-impl<'a, S: Service + Drop, W: Worker + Drop> Moment<'a, S, W> {
+impl<'a, S: Service + Drop, W: JobMachine + Drop> Moment<'a, S, W> {
     /// Whether a user or a server has a ready move.
     fn is_other_ready(&self) -> bool
         ensures { IsTrue result ↔ IsOtherReady (house self.now.jobs.now.jobs) (seen self.now) }

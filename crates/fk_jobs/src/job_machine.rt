@@ -19,7 +19,7 @@ use fk_model::{Answer, List, NoMemory, Stage};
 use std::alloc::Global;
 
 /// A job's machine in code.
-pub trait Worker {
+pub trait JobMachine {
     ghost state: { Self → State };
 
     ghost has_room: { Self → Type 0 };
