@@ -23,6 +23,7 @@ is_port body = holds (λ (port : Option ℕ × Bool). true) (and_then port_of bo
 abbrev pub ports_of : World → Path → ℕ → ℕ → Bool
 ports_of w nester slot i = not (i == slot) && is_port (w.body (i ∷ nester))
 
+-- a pointer that leads out of the subtree, as the subtree sees it: to a port of its nester by the port's slot, else far
 abbrev pub cut_out : (ℕ → Bool) → Path → Path → Ptr
 cut_out ports nester [] = Far
 cut_out ports nester (i ∷ x) = if same_path x nester && ports i then Out i else Far
@@ -37,6 +38,7 @@ cut_ptr ports nester slot Null = Null
 cut_ptr ports nester slot Dead = Dead
 cut_ptr ports nester slot other = Far
 
+-- a pointer leads to a port of the nester
 abbrev pub is_out : Ptr → Bool
 is_out (Out i) = true
 is_out other = false

@@ -20,6 +20,7 @@ pub data Said : Type 0 where
   Passed : (port : Ptr) → Said
   Ended : (port : Ptr) → Said
 
+-- what a stage, an instruction or an act comes to
 pub data Outcome : Type 0 where
   -- it is refused at once, with this status
   Refused : (status : ℕ) → Outcome
@@ -71,6 +72,7 @@ abbrev pub done_at : Path → Caller → List Change → List ℕ → Outcome
 done_at me c changes answers =
     if c.is_porter then Goes changes (Answered OK answers) else Goes (changes ++ Alter me (Finish answers) ∷ []) Nothing
 
+-- a stage is done, with these changes and answers
 abbrev pub done : Caller → List Change → List ℕ → Outcome
 done c changes answers = done_at (path_of c) c changes answers
 

@@ -65,6 +65,7 @@ reach_within (suc n) w s page write =
     at_home (Home s page) (mapped (λ m. followed (λ t other. reach_within n w t other write) (led_by w m page write m.region))
     (Missing s page (keeper w s page)) (mapping_at w s page)) (w.page s page)
 
+-- what an access to a page of a space meets: a page that is home, one that is missing, or none that it may reach
 unfoldable pub reach : World → Path → ℕ → Bool → Reach
 reach w s page write = reach_within MAPPINGS w s page write
 

@@ -14,12 +14,14 @@ use Rattle.fk_model.specs.Objects.{and_then}
 
 -- ---- the record of an object
 
+-- what a thread is at, by its number in a record
 abbrev pub mode_number : Mode → ℕ
 mode_number (Running g) = 0
 mode_number (Calling todo rest) = 1
 mode_number (Halted g code) = 2
 mode_number (Native g) = 3
 
+-- with what code a thread has halted, 0 where it hasn't
 abbrev pub halt_code : Mode → ℕ
 halt_code (Halted g code) = code
 halt_code other = 0
@@ -51,11 +53,13 @@ state_words other = []
 abbrev pub padded : ℕ → List ℕ → List ℕ
 padded n words = words ++ replicate (n - length words) 0
 
+-- the record of an object: its kind's number, its state, and zeros behind that
 unfoldable pub record_of : Body → List ℕ
 record_of b = padded RECORD_WORDS (number_of_kind (kind_of b) ∷ state_words b)
 
 -- ---- what a record sets. The words that show the talk and the fault are not set
 
+-- one word of a record
 abbrev pub word : List ℕ → ℕ → ℕ
 word words i = slice_index words i
 
@@ -73,6 +77,7 @@ is_member_word w space served n = n == 0 || (not served && nat_le n SLOTS && is_
 abbrev pub member_by : ℕ → Option ℕ
 member_by n = if n == 0 then None else Some (n - 1)
 
+-- the registers in a thread's record
 abbrev pub record_registers : List ℕ → List ℕ
 record_registers words = take 16 (drop 1 words)
 
@@ -115,5 +120,6 @@ is_state w space (Port set served) words = is_member_word w space served (word w
 is_state w space (Thread_of t) words = is_mode (record_registers words) (word words 18) (word words 19) && nat_le (word words 20) MOST_STOPS
 is_state w space other words = true
 
+-- an object may take the state that a record has: it is of that kind, and each number is in its range
 unfoldable pub takes_state : World → Path → Body → List ℕ → Bool
 takes_state w space b words = word words 0 == number_of_kind (kind_of b) && is_state w space b words

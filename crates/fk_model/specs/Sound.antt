@@ -111,6 +111,8 @@ abbrev pub MayWork : Start → Errand → Type 0
 MayWork s (Saves birth slot told name) = (its : HasNester s birth told) × (slot ≤ LAST_USER_SLOT) × (has_users_alone s (slot ∷ its.nester) ≡ true)
 MayWork s (Makes birth slot pairs) = HasNester s birth None × (slot ≤ LAST_USER_SLOT) × (are_user_pairs pairs ≡ true) × (are_apart bind_same pairs ≡ true)
 
+-- a run may begin so: the world can be saved and is nobody's cut, nothing is under way in it, the servers stand exactly at the served ports and porters exactly
+-- in the nesters, and each job may work
 pub record IsSoundStart (s : Start) : Type 0 where
   pub whole : IsWhole s.world
   -- among others: slots above 239 are for porters and their scratch

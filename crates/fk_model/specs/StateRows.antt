@@ -32,6 +32,7 @@ abbrev pub shows_to : World → Caller → Body → ℕ → Outcome
 shows_to w c b address =
     if c.is_porter then done c [] (record_of b) else own_page w c address true (shows w c b address)
 
+-- get_state: the record of an object goes to the caller's memory
 unfoldable pub get_state : World → Caller → ℕ → ℕ → ℕ → Outcome
 get_state w c s x address = do
   space ← space_argument w c s
@@ -64,6 +65,7 @@ sets_from w c space x b address =
     if c.is_porter then sets_record w c space x b c.words
     else own_page w c address false (λ s page. sets_record w c space x b (record_at (words_at w s page) address))
 
+-- set_state: an object takes the state that a record in the caller's memory has
 unfoldable pub set_state : World → Caller → ℕ → ℕ → ℕ → Outcome
 set_state w c s x address = do
   space ← space_argument w c s
@@ -125,10 +127,12 @@ field_number (Pointer Outside) = 3
 field_number (Pointer Far) = 2
 field_number NoThread = 3
 
+-- where a field leads; nowhere, where it is that of a talk without a thread
 abbrev pub field_pointer : Field → Ptr
 field_pointer (Pointer to) = to
 field_pointer NoThread = Null
 
+-- get_ptr: a reference of the caller's leads where a field of an object does
 unfoldable pub get_ptr : World → Caller → ℕ → ℕ → ℕ → ℕ → Outcome
 get_ptr w c s x field reference = do
   space ← space_argument w c s
@@ -153,6 +157,7 @@ abbrev pub is_of_kinds : List Kind → Option Kind → Bool
 is_of_kinds wanted None = true
 is_of_kinds wanted (Some kind) = list_any (same_kind kind) wanted
 
+-- set_ptr: a field of an object leads where a reference of the caller's does
 unfoldable pub set_ptr : World → Caller → ℕ → ℕ → ℕ → ℕ → Outcome
 set_ptr w c s x field reference = do
   space ← space_argument w c s

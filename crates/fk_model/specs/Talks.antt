@@ -46,6 +46,7 @@ line w me turns.Server = and_then (λ client. line_from client (λ talk. Server 
 
 -- ---- what a thread is at
 
+-- the stage that a thread in a call makes next
 abbrev pub first_stage : Mode → Option Stage
 first_stage (Calling (stage ∷ todo) rest) = Some stage
 first_stage other = None
@@ -113,6 +114,7 @@ if_talking side (Some e) = if is_talking side e.1.mode then e.0 ∷ [] else []
 abbrev pub talking_end : World → Turn → Ptr → List Path
 talking_end w side p = if_talking side (thread_led_to w p)
 
+-- the client of a talk that ends with the thread that serves it
 abbrev pub served_end : World → Peer → List Path
 served_end w (Server thread) = talking_end w turns.Server thread
 served_end w Service = []

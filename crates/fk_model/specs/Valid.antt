@@ -129,9 +129,11 @@ pub record HasPlace (w : World) (s : Path) (page : ℕ) : Type 0 where
   pub space : kind_there w s ≡ Some kinds.Space
   pub number : page < PAGES
 
+-- where a page stands there is a space, and the page is one that it can have
 abbrev pub IsPaged : World → Type 0
 IsPaged w = (s : Path) (page : ℕ) → IsSome (w.page s page) → HasPlace w s page
 
+-- a world as a store can stand for it: pointers lead to what their fields may hold, the root stands, pages lie in spaces
 pub record IsValid (w : World) : Type 0 where
   pub consistent : IsConsistent w
   pub rooted : IsRooted w
@@ -142,9 +144,11 @@ pub record IsValid (w : World) : Type 0 where
 abbrev pub is_turn_word : ℕ → Bool
 is_turn_word n = n == 1 || n == 2
 
+-- what a porter gives with a talk is in range: whose turn it is, and how many words were moved
 abbrev pub are_talk_words : List ℕ → Bool
 are_talk_words words = is_turn_word (slice_index words 0) && nat_le (slice_index words 1) MOST_MOVED
 
+-- what a porter gives with a fault is in range: its page, and whether it was a write
 abbrev pub are_fault_words : List ℕ → Bool
 are_fault_words words = nat_lt (slice_index words 0) PAGES && nat_le (slice_index words 1) 1
 
