@@ -48,6 +48,7 @@ abbrev pub words_in : Option Program → List ℕ
 words_in None = []
 words_in (Some program) = program.words
 
+-- the words of the program with an index, none where there is none
 abbrev pub words_of_program : List Program → Option ℕ → List ℕ
 words_of_program programs index = words_in (and_then (slice_get programs) index)
 
@@ -102,6 +103,7 @@ aims (specs.Reference to) = points_to to
 aims (specs.Port set) = belongs_to set
 aims other = []
 
+-- the changes by which an object comes to lead where its entry says
 abbrev pub aim_changes : ObjectEntry → List Change
 aim_changes o = map (Alter (reverse o.path)) (aims o.spec)
 

@@ -17,6 +17,7 @@ turn_text turns.Server = codes "server"
 abbrev pub words_text : List ℕ → List ℕ
 words_text words = flat_map (λ word. codes " " ++ decimal word) words
 
+-- a note
 abbrev pub note_text : Note → List ℕ
 note_text (Taken turn moved) = codes "taken " ++ (turn_text turn ++ (codes " " ++ decimal moved))
 note_text (Said words) = codes "said" ++ words_text words

@@ -39,6 +39,7 @@ abbrev pub fate_text : JobSpec → Option JobEnd → List ℕ
 fate_text job None = codes " waiting\n"
 fate_text job (Some end) = codes " " ++ (kind_word job ++ (end_text (nester_of job) end ++ codes "\n"))
 
+-- how the job at a place has ended, if it is there and has
 abbrev pub end_in : Option (Option JobEnd) → Option JobEnd
 end_in None = None
 end_in (Some end) = end

@@ -28,6 +28,7 @@ thread_line_of path mode = codes "thread " ++ (path ++ mode_text mode)
 abbrev pub thread_line : ThreadState → List ℕ
 thread_line thread = thread_line_of (path_text thread.path) thread.mode
 
+-- how a run has ended, as a word
 abbrev pub end_word : End → List ℕ
 end_word ends.Halted = codes "halted"
 end_word ends.Quiet = codes "quiet"

@@ -50,6 +50,7 @@ asked_of (Some state) = asks_for state
 abbrev pub asked_at : Bool → Services → Who → Option Ask
 asked_at is_port services who = if is_port then asked_of (serving services who) else Some asks.Run
 
+-- what a mover asks for: what the server does whose port it is, or to run
 abbrev pub asked : Services → World → Who → Option Ask
 asked services w who = asked_at (is_served_port w (At (named w who))) services who
 
@@ -90,6 +91,7 @@ servers = record { asks = asked; hears = λ services w e. map (hears_of w e) ser
 
 -- ---- the same by names
 
+-- what a server hears of what a move told
 abbrev pub said_to : says_of.Said → Who → Option News
 said_to says.Nothing who = None
 said_to (says.Answer answer) who = None
@@ -100,9 +102,11 @@ said_to (says.Full port) who = None
 said_to (says.Over port) who = if same_who who port then Some natives.Over else None
 said_to (says.Ended port) who = None
 
+-- and where it lost its client, that alone
 abbrev pub news_to : says_of.Said → Option Who → Who → Option News
 news_to said ended who = if is_who ended who then Some natives.Ended else said_to said who
 
+-- what becomes of a server
 abbrev pub told : says_of.Said → Option Who → Who × State → Who × State
 told said ended served = (served.0, after_news (news_to said ended served.0) served.1)
 
@@ -134,6 +138,7 @@ some_grow w e (s ∷ ss) = grows_at w e s || some_grow w e ss
 abbrev pub grows_told : says_of.Said → Option Who → Who × State → Bool
 grows_told said ended served = grows_by (said_to said served.0) served.1 || (is_who ended served.0 && natives.grows served.1 natives.Ended)
 
+-- some server grows by it
 abbrev pub some_told : says_of.Said → Option Who → Services → Bool
 some_told said ended [] = false
 some_told said ended (s ∷ ss) = grows_told said ended s || some_told said ended ss

@@ -27,6 +27,7 @@ kind_in_space spaces space slot = elim (slice_get spaces space) [
 abbrev pub lies_in : ℕ → ℕ → SpaceRec → Bool
 lies_in space slot s = s.parent == space && s.slot == slot
 
+-- a space that isn't the first lies in this slot of this space
 unfoldable pub has_space_at : List SpaceRec → ℕ → ℕ → Bool
 has_space_at spaces space slot = list_any (lies_in space slot) (drop 1 spaces)
 
@@ -72,12 +73,14 @@ may_hold spaces space Null = true
 may_hold spaces space (In slot other) = is_thread_kind (kind_in_space spaces other slot) && not (is_space_within spaces space other)
 may_hold spaces space other = false
 
+-- what a mapping's pointer may be
 abbrev pub leads_to_region : List SpaceRec → Link → Bool
 leads_to_region spaces Null = true
 leads_to_region spaces Dead = true
 leads_to_region spaces (In slot space) = is_region_kind (kind_in_space spaces space slot)
 leads_to_region spaces other = false
 
+-- what a region's pointer may be
 abbrev pub leads_to_keeper : List SpaceRec → Link → Bool
 leads_to_keeper spaces Null = true
 leads_to_keeper spaces Dead = true

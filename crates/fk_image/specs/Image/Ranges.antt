@@ -24,6 +24,7 @@ is_byte n = nat_lt n 256
 abbrev pub is_half : ℕ → Bool
 is_half n = nat_lt n (2 ^ 16)
 
+-- the numbers of a pointer are in range
 abbrev pub fits_link : Link → Bool
 fits_link (In slot space) = nat_lt space (2 ^ 32) && is_slot slot
 fits_link (Out slot) = is_slot slot
