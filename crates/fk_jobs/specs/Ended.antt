@@ -24,9 +24,11 @@ abbrev pub unmoved_of : Unmoved → runs.Unmoved
 unmoved_of unmoved.NoImage = runs.NoImage
 unmoved_of unmoved.Dead = runs.Dead
 
+-- how a job has ended
 abbrev pub shown_end : Ended → JobEnd End
 shown_end (ended.Worked finish begun last) = Worked (finish_of finish) begun last
 shown_end (ended.Idle why) = Idle (unmoved_of why)
 
+-- how jobs have ended
 abbrev pub shown_ends : List Ended → List (JobEnd End)
 shown_ends ends = map shown_end ends

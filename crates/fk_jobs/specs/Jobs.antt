@@ -29,6 +29,7 @@ abbrev pub task_of : Task → houses.Task
 task_of (tasks.Checkpoint slot) = houses.Checkpoint slot
 task_of (tasks.Restore slot pairs source) = houses.Restore slot pairs (source_of source)
 
+-- a job that is planned so
 abbrev pub job_of : Plan → Job
 job_of p = record { nester = p.nester; at = p.at; task = task_of p.task }
 
@@ -45,6 +46,7 @@ pub record Queue : Type 0 where
 abbrev pub current : Queue → Option Job
 current q = slice_get q.jobs (length q.ends)
 
+-- the first state of the next job, where it can begin
 abbrev pub first_of : List (JobEnd End) → Option Job → Option State
 first_of ends None = None
 first_of ends (Some j) = begins j ends
@@ -69,6 +71,7 @@ abbrev pub call_with : Option Stage → List ℕ → Option Ask
 call_with None words = None
 call_with (Some stage) words = Some (asks.Call stage words)
 
+-- the call for which a job in this state asks
 abbrev pub asked_by : Option State → Option Ask
 asked_by None = None
 asked_by (Some s) = call_at (machine.head s)
@@ -80,6 +83,7 @@ grows (Checking slot s) = true
 grows (Restoring slot pairs image Makes) = true
 grows (Restoring slot pairs image other) = false
 
+-- by the answer to it the job's memory grows
 abbrev pub grows_by : Option State → Bool
 grows_by None = false
 grows_by (Some s) = grows s

@@ -30,9 +30,11 @@ abbrev pub is_plain : Ask → Bool
 is_plain (asks.Call stage words) = is_plain_stage stage
 is_plain other = false
 
+-- a checkpoint asks for plain calls alone
 abbrev pub CheckpointsAskPlainly : Type 0
 CheckpointsAskPlainly = (slot : ℕ) (s : checkpoints.State) (ask : Ask) → call_at (machine.head (Checking slot s)) ≡ Some ask → is_plain ask ≡ true
 
+-- a plain call is fit wherever it is made
 abbrev pub PlainIsFit : Type 0
 PlainIsFit = (w : World) (x : Path) (ask : Ask) → is_plain ask ≡ true → is_fit w x ask ≡ true
 
@@ -45,5 +47,6 @@ picks_nobody other = false
 abbrev pub AsksPlainly : Queue → Type 0
 AsksPlainly q = IfSome (asked_by (state_of q)) (λ ask. picks_nobody ask ≡ true)
 
+-- no job picks anybody
 abbrev pub JobsPickNobody : Type 0
 JobsPickNobody = (q : Queue) → AsksPlainly q

@@ -91,6 +91,7 @@ HasRoomIn (phases.Drops scratch end) = Unit {0}
 HasRoomIn (phases.Releases end) = Unit {0}
 HasRoomIn (phases.Over end) = Unit {0}
 
+-- a checkpoint has room for an answer
 abbrev pub HasRoom : Checkpoint → Type 0
 HasRoom c = HasRoomIn c.phase
 
@@ -108,6 +109,7 @@ IsOpened (phases.Drops scratch end) = Unit {0}
 IsOpened (phases.Releases end) = Unit {0}
 IsOpened (phases.Over end) = Unit {0}
 
+-- a part has come to its end
 abbrev pub IsOver : Phase → Type 0
 IsOver (phases.Over end) = Unit {0}
 IsOver (phases.Closed walk) = ⊥

@@ -3,6 +3,7 @@ use Rattle.std.specs.Prelude.{ℕ, List, [], ◌∷◌}
 use Rattle.fk_checkpoint.specs.declared.seeking.fields.Fields.{Fields}
 use Rattle.fk_checkpoint.specs.declared.seeking.fields.Fields.TheVariants.{Nothing, Zero, Two, Three, ZeroTwo, TwoThree, OneToThree, ZeroToThree}
 
+-- which they are
 abbrev pub fields_in : Fields → List ℕ
 fields_in Nothing = []
 fields_in Zero = 0 ∷ []

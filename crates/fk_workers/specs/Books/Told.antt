@@ -45,6 +45,7 @@ module _ {C : Type 0} (shown : C → Shown) where
     pub moved : MovesSo (shown b.core) ms (shown d.core)
     pub history : d.history ≡ b.history ++ ms
 
+  -- a book has one move more than another
   abbrev pub HasOneMore : Told C → Told C → Type 0
   HasOneMore b d = (m : Move) × IsOneMore b m d
 
