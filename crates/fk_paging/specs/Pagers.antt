@@ -30,6 +30,7 @@ phase_of (phases.Evicting old page) = pagers.Evicting old page
 phase_of (phases.Giving page) = pagers.Giving page
 phase_of (phases.Ending page) = pagers.Ending page
 
+-- what a pager has come to
 abbrev pub state_of : Pager → State
 state_of p = record { backing = backing_of p.pages.items; inside = p.inside.items; faults = p.faults; phase = phase_of p.phase }
 

@@ -20,6 +20,7 @@ use Rattle.fk_plans.specs.declared.plans.plan.Verdict.TheVariants as verdicts
 use Rattle.fk_transfer.specs.declared.lines.Line.{Line}
 pub use Rattle.fk_changes.specs.Threads.Firsts.{IsFirst}
 
+-- a talk with who is at its ends, by paths
 abbrev pub line_by : (ℕ → Path) → Line → talks.Line
 line_by p line = record { client = place p line.client; talk = talk_by p line.talk; other = peer_by p line.other }
 

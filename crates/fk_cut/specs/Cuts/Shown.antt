@@ -70,6 +70,7 @@ fields_of Cond = alone shows.Null
 fields_of (Port set served) = alone shows.Null
 fields_of Portset = alone shows.Null
 
+-- the pointers of what stands somewhere, of nothing where nothing does
 abbrev pub fields_there : Option Body → List CutPtr
 fields_there None = alone shows.Null
 fields_there (Some b) = fields_of b

@@ -50,6 +50,7 @@ abbrev pub IsHeard : (ℕ → Path) → outcomes.Said → says_of.Said → Type 
 IsHeard p said told = (who : Who) → says_to said (place p who) ≡ says_to_who told who
 
 -- ---- what is told has no words past its length: they are 0
+-- behind the words that are told there are zeros
 abbrev pub IsPadded : says_of.Said → Type 0
 IsPadded (says.Answer answer) = drop answer.len answer.words ≡ replicate (PAGE_WORDS - answer.len) 0
 IsPadded (says.Words port words len) = drop len words ≡ replicate (PAGE_WORDS - len) 0

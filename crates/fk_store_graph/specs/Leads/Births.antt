@@ -12,6 +12,7 @@ abbrev pub stored_birth : Body → Option ℕ
 stored_birth (Space birth holder) = Some birth
 stored_birth other = None
 
+-- a birth number is there, and it is this
 abbrev pub is_number : ℕ → Option ℕ → Bool
 is_number n None = false
 is_number n (Some b) = b == n

@@ -21,6 +21,7 @@ abbrev pub or_dead : Option Who → Ptr
 or_dead None = Dead
 or_dead (Some who) = At who
 
+-- what becomes of a pointer
 abbrev pub pointer_after : Sweep → Ptr → Ptr
 pointer_after sweep Null = Null
 pointer_after sweep Dead = Dead

@@ -37,11 +37,13 @@ pub record IsStill (w : World) (x : Path) : Type 0 where
   pub stuck : IsStuck w x reason
   pub own : IsOwn reason
 
+-- a thread is blocked for a reason that is read at this object
 pub record IsAt (w : World) (x key : Path) : Type 0 where
   pub reason : Reason
   pub stuck : IsStuck w x reason
   pub read : IsReadAt x key reason
 
+-- why a thread is blocked, as the code has it
 abbrev pub IsWhy : World → (ℕ → Path) → Path → Why → Type 0
 IsWhy w p x whys.Still = IsStill w x
 IsWhy w p x (whys.At key) = IsAt w x (place p key)
