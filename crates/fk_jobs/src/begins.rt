@@ -101,7 +101,11 @@ pub fn first_call(plans: &[Plan], ends: &[Ended]) -> Option<Stage>
 }
 
 /// A restore that is about to begin, of an image that is shared.
-fn restore<W: JobMachine>(slot: u8, image: &ValidImage, pairs: &List<(u8, u8)>) -> Result<W, NoMemory>
+fn restore<W: JobMachine>(
+    slot: u8,
+    image: &ValidImage,
+    pairs: &List<(u8, u8)>,
+) -> Result<W, NoMemory>
     requires low { slot ≤ LAST_USER_SLOT }
     requires users { are_user_pairs pairs.now ≡ true }
     ensures { IfOk result (λ made. W.state made ≡ Restoring slot pairs.now image.now Makes) }

@@ -100,14 +100,7 @@ fn report_of(alloc: Global, store: &Store, events: u64) -> Result<String, NoMemo
     let threads = threads_of(alloc, store)?;
     let none: [(Who, Native); 0] = [];
     let outs = outs_text(alloc, &none, threads.as_slice())?;
-    Ok(run_text(
-        alloc,
-        events,
-        End::Halted,
-        &[],
-        &[],
-        outs.as_str(),
-    )?)
+    Ok(run_text(alloc, events, End::Halted, &[], &[], outs.as_str())?)
 }
 
 /// The length of that report, and the numbers of a short one, if all user threads have halted.

@@ -119,7 +119,10 @@ impl Rounds {
     }
 
     /// A ready act of the server that heard of the last move, but where the look goes round.
-    fn answer<S: Service + Drop, W: JobMachine + Drop>(&self, moment: &Moment<'_, S, W>) -> Option<Move>
+    fn answer<S: Service + Drop, W: JobMachine + Drop>(
+        &self,
+        moment: &Moment<'_, S, W>,
+    ) -> Option<Move>
         ensures { IfSome result (λ m. IsReadyNow moment.now m) }
     {
         if self.is_round(moment) {
