@@ -87,9 +87,9 @@ module _ (name : List ℕ) (before later : Option FileMap) (same : (image : List
 
   unless_long : (report : Option Report) → HasTrace name report later → IfSome report (λ r. All IsMove r.history) → (reading : Result Scenario ScenarioError)
       → (b : Bool) → MatchBool b (IsRefused TooLong (record { status = status; report = report }) text)
-          (IsWholeRun before reading (record { status = status; report = report }) text)
+      (IsWholeRun before reading (record { status = status; report = report }) text)
       → MatchBool b (IsRefused TooLong (record { status = status; report = report }) text)
-          (IsPlay name later reading (record { status = status; report = report }) text)
+      (IsPlay name later reading (record { status = status; report = report }) text)
   unless_long report has small reading true is = is
   unless_long report has small reading false is = read report has small reading is
 

@@ -137,10 +137,10 @@ module _ (name : List ℕ) (hold release : ℕ) (image : Image) where
   put_last ends place (first ∷ names) zero old new told named done last h =
       let same : first ≡ name = cc in
       let at : slice_get ends place ≡ Some (Some (Checkpointed hold release image)) = ap (slice_get ends) (let e : place ≡ place + 0 = omega arith in e)
-          ∙ done in
+      ∙ done in
       let put : PutsEnd name (Some (Checkpointed hold release image)) old h.0 =
       subst (λ (o : Option JobEnd). PutsEnd name o old h.0) (ap end_in at)
-          (subst (λ (n : List ℕ). PutsEnd n (end_in (slice_get ends place)) old h.0) same h.1) in
+      (subst (λ (n : List ℕ). PutsEnd n (end_in (slice_get ends place)) old h.0) same h.1) in
       let now : AreTold h.0 = others_told old h.0 (image_name name) told put.2.1 in (
         put.0,
         put.1,

@@ -43,7 +43,7 @@ use Rattle.fk_recorded.proofs.Noting.{replays_run}
 module _ (s : Scenario) (given : Images) (first : RunCore) (report : Report) (text : List ℕ)
     (written : IsWritten (IsText s.jobs) s.jobs given first s.budget report text)
     (u v : Services) (with : IsRunWith written.0.run servers u v) (same : printed_of v ≡ printed_of written.0.last.servers)
-        (ranges : All IsMove report.history) where
+    (ranges : All IsMove report.history) where
   abbrev there : RunCore
   there = core_with first u
 

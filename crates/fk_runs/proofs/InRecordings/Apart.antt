@@ -176,7 +176,7 @@ texts done (s ∷ ss) slots new =
     by (Listed index rule config) later = (
       AllPairs-cons Differ (down_text s.port) (ports_of ss)
           (All-weaker (IsNone (done ++ s.port ∷ [])) (Differ (down_text s.port)) (λ text none. last-differs done s.port text none)
-              (ports_of ss) later.1) later.0,
+          (ports_of ss) later.1) later.0,
       All-cons (IsNone done) (down_text s.port) (ports_of ss) (none-same done s.port slots new.0 new.1)
           (All-weaker (IsNone (done ++ s.port ∷ [])) (IsNone done) (λ text none. others-differ done s.port text none) (ports_of ss) later.1),
     )

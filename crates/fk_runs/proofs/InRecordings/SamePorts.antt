@@ -41,9 +41,9 @@ module _ (w : World) (notes : Who × State → List Note) where
   same-ports (e ∷ es) [] same = absurd (cc)
   same-ports ((who, state) ∷ es) (s ∷ ss) same =
       let here = first-same {X = Path × State} (named w who, state) (reverse s.port, first_state s.service) (map (λ e. (named w e.0, e.1)) es)
-          (first_services ss) same in
+      (first_services ss) same in
       let rest = rest-same {X = Path × State} (named w who, state) (reverse s.port, first_state s.service) (map (λ e. (named w e.0, e.1)) es)
-          (first_services ss) same in
+      (first_services ss) same in
       one who state s.service s.port (recorded (port_of w) notes es) (ports_of ss) (ap (λ (p : Path × State). p.1) here) (ap (λ (p : Path × State). p.0) here)
       (same-ports es ss rest)
 
@@ -57,7 +57,7 @@ are-fresh w [] servers same = tt
 are-fresh w (e ∷ es) [] same = absurd (cc)
 are-fresh w (e ∷ es) (s ∷ ss) same =
     let here = first-same {X = Path × State} (named w e.0, e.1) (reverse s.port, first_state s.service) (map (λ e. (named w e.0, e.1)) es)
-        (first_services ss) same in
+    (first_services ss) same in
     let rest = rest-same {X = Path × State} (named w e.0, e.1) (reverse s.port, first_state s.service) (map (λ e. (named w e.0, e.1)) es)
-        (first_services ss) same in
+    (first_services ss) same in
     (subst IsFresh (sym (ap (λ (p : Path × State). p.1) here)) (fresh-one s.service), are-fresh w es ss rest)

@@ -112,7 +112,7 @@ module _ (s : Scenario) (given : Images) (watch : ℕ) (first : RunCore) (is_fir
       let told_same : told_in run ≡ told_in with.same = sym with.told in
       let written : IsWritten (IsText s.jobs) s.jobs given first s.budget report (string_bytes plain.output) =
       carried s.jobs given (core_with first (all_tapped watch first.servers)) s.budget report
-          (string_bytes plain.output) tapped-reported tapped-text first.servers own.0 with own.3 in
+      (string_bytes plain.output) tapped-reported tapped-text first.servers own.0 with own.3 in
       let not_listed : ¬ (is.end ≡ ends.Listed) = λ listed. (
       let open_ : IsEnd (jobs_of s.jobs given) s.budget last ends.Listed = subst (λ (e : End). IsEnd (jobs_of s.jobs given) s.budget last e) listed is.ends in
       over open_.1 open_.0

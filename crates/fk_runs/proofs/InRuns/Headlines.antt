@@ -51,5 +51,5 @@ reports_have_the_headline s given first report keeps is_first is =
       goes_on = λ from index moment birth path slot saves later other place name bind image hold release make done at told at_there told_there maker before.
           entries_go_on s.jobs given servers first is.last report.history is.run run from index moment birth path slot saves later other place name bind image
           hold release make done at (saved s given first report is from hold release image told) at_there
-              (made s given first report is index make done told_there) maker before;
+          (made s given first report is index make done told_there) maker before;
     }

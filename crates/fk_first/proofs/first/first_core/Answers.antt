@@ -34,7 +34,7 @@ returns-clause-come c =
     let jobs : core.jobs.jobs ≡ jobs_of c.args.scenario.now.jobs c.args.images.now = ap (λ (q : Queue). q.jobs) made.jobs ∙ c.in_ok-jobs.ensures.jobs in
     begins-soundly c.args.scenario.now c.args.images.now (run_core core) core.jobs.jobs core.budget
     (rw made.kernel (shown-sound c.args.scenario.now (world first.kernel) first.services.items core.services.list first.budget made.services
-        c.in_ok-first.ensures.budget c.in_ok-first.ensures.sound)) is.ends is.work is.events jobs (made.budget ∙ c.in_ok-first.ensures.budget)
+    c.in_ok-first.ensures.budget c.in_ok-first.ensures.sound)) is.ends is.work is.events jobs (made.budget ∙ c.in_ok-first.ensures.budget)
 
 pub returns-clause-fits : goal.returns-clause-fits
 returns-clause-fits c = λ table has. rw c.new.ensures.services

@@ -19,7 +19,7 @@ returns-clause-first c =
     rw (made.kernel, made.services, made.jobs, made.events, c.in_ok-posts.ensures) refl in
     first-with c.args.scenario.now first.kernel first.services.items jobs (all_replaying (words_of_all c.args.lists.items)) (run_core c.new.result) is.world
     (shown-sound c.args.scenario.now (world first.kernel) first.services.items
-        (plain_seen first.services.items) first.budget refl is.budget is.sound) is.services c.in_ok-jobs.ensures.ends c.in_ok-jobs.ensures.work same
+    (plain_seen first.services.items) first.budget refl is.budget is.sound) is.services c.in_ok-jobs.ensures.ends c.in_ok-jobs.ensures.work same
 
 pub returns-clause-come : goal.returns-clause-come
 returns-clause-come c =
@@ -34,13 +34,13 @@ returns-clause-come c =
     let begun = begun-with c.args.scenario.now (all_replaying (words_of_all c.args.lists.items)) (run_core core) (returns-clause-first c) in
     begins-soundly c.args.scenario.now c.args.images.now (run_core core) core.jobs.jobs core.budget
     (sound-with c.args.scenario.now first.kernel first.services.items queue (all_replaying (words_of_all c.args.lists.items)) (run_core core)
-        (replays-stand (words_of_all c.args.lists.items))
-        (shown-sound c.args.scenario.now (world first.kernel) first.services.items (plain_seen first.services.items) first.budget refl is.budget is.sound)
-        same) begun.ends begun.work begun.events jobs (made.budget ∙ is.budget)
+    (replays-stand (words_of_all c.args.lists.items))
+    (shown-sound c.args.scenario.now (world first.kernel) first.services.items (plain_seen first.services.items) first.budget refl is.budget is.sound)
+    same) begun.ends begun.work begun.events jobs (made.budget ∙ is.budget)
 
 pub returns-clause-fits : goal.returns-clause-fits
 returns-clause-fits c = λ rules has.
     let plain = all-fit rules
-        (world c.in_ok-first.first.kernel) c.in_ok-first.first.services.items c.args.scenario.now.servers c.in_ok-first.ensures.services has in
+    (world c.in_ok-first.first.kernel) c.in_ok-first.first.services.items c.args.scenario.now.servers c.in_ok-first.ensures.services has in
     subst (λ list. AllFit rules list) (sym (c.new.ensures.services ∙ c.in_ok-posts.ensures))
-        (fits-replaying rules (words_of_all c.args.lists.items) (plain_seen c.in_ok-first.first.services.items) plain)
+    (fits-replaying rules (words_of_all c.args.lists.items) (plain_seen c.in_ok-first.first.services.items) plain)

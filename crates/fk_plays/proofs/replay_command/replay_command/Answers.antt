@@ -21,5 +21,5 @@ pub returns-clause-refusal : goal.returns-clause-refusal
 returns-clause-refusal g c =
     let table = map (λ r. (string_bytes r.name, r.rule)) c.args.table.now.list.items in
     refused-with (g.H.Shelf.failed_gets c.args.shelf.now) _ (g.H.Shelf.failed_gets c.replay_with.new.shelf)
-        (IsScenario (scenario_reading table c.args.text.now))
+    (IsScenario (scenario_reading table c.args.text.now))
     c.in_ok-images.ensures.later (c.in_ok-scenario.scenario, c.in_ok-scenario.ensures.read) c.replay_with.result c.replay_with.ensures.refusal

@@ -24,7 +24,7 @@ returns-in_err-told-clause-comes g c =
     let p = err_from_is_err_and c.from_residual-in_err-told.result c.from_residual-in_err-told.ensures.1 in
     rw p.1 (rw p.2
     (no-record c.args.name.now files (g.H.Shelf.failed_gets c.spelled_trace.new.shelf)
-        (g.H.Shelf.failed_gets c.record_of.new.shelf) c.args.scenario.now c.args.images.now c.in_ok-trace.trace.items found.1.0 found.0 found.1.1 _
+    (g.H.Shelf.failed_gets c.record_of.new.shelf) c.args.scenario.now c.args.images.now c.in_ok-trace.trace.items found.1.0 found.0 found.1.1 _
     (rw (← c.in_ok-trace.ensures.same_files) c.in_err-told.ensures.fail)))
 
 pub returns-clause-comes : goal.returns-clause-comes

@@ -13,5 +13,5 @@ returns-clause-comes g c =
     let core = c.in_ok-core.ensures in
     let first = rw c.place_of.ensures.place at core.first in
     recorded-first c.args.scenario.now c.args.images.now (watch_place c.args.watch) (shown c.in_ok-core.core)
-        (shown c.in_ok-book.book.core) c.in_ok-book.book.history
+    (shown c.in_ok-book.book.core) c.in_ok-book.book.history
     c.in_ok-made.made first core.jobs core.budget (rw book.boot at book.kept) book.ended (rw book.boot at c.in_ok-made.ensures)

@@ -18,5 +18,5 @@ returns-clause-comes g c =
     let core = c.in_ok-core.core in
     let found = c.in_ok-lists.ensures.found in
     replayed-by c.args.scenario.now c.args.images.now c.args.trace.now c.args.told.now found.0 (words_of_all c.in_ok-lists.lists.items)
-        (run_core core) core.budget
+    (run_core core) core.budget
     c.play_core.result found.1 found.2 c.in_ok-core.ensures.first c.in_ok-core.ensures.budget (rw c.as_slice.ensures at c.play_core.ensures.comes)

@@ -5,7 +5,7 @@ use Rattle.fk_runs.proofs.run_reports.made.prepared.Goals as goal
 pub returns : goal.returns
 returns g c =
     let told : c.in_ok-jobs.jobs ≡ told_in (length c.args.specs.now) c.args.core.jobs.ends =
-        rw (c.into_ends.ensures, c.into_jobs.ensures) at c.in_ok-jobs.ensures in
+    rw (c.into_ends.ensures, c.into_jobs.ensures) at c.in_ok-jobs.ensures in
     let made = c.in_ok-concluded.ensures in
     record {
       within = c.requires.few;

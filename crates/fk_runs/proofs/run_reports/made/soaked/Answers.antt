@@ -10,7 +10,7 @@ returns g c =
     let states = states-taken g.S.Service.meaning c.args.count c.services.result.now
     ∙ ap (λ list. take c.args.count (map (λ (e : Who × State). e.1) list)) c.services.ensures in
     let told : c.in_ok-jobs.jobs ≡ told_in (length c.args.specs.now) c.args.core.jobs.ends =
-        rw (c.into_ends.ensures, c.into_jobs.ensures) at c.in_ok-jobs.ensures in
+    rw (c.into_ends.ensures, c.into_jobs.ensures) at c.in_ok-jobs.ensures in
     let made = c.in_ok-concluded.ensures in
     record {
       within = c.requires.few;
