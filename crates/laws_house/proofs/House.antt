@@ -53,7 +53,7 @@ use Rattle.laws_runs.specs.Composed.{IsComposed, job_moves, WorksSo, HasWorked, 
 use Rattle.laws_runs.specs.Turning.{asker_at, MovesAt}
 use Rattle.laws_runs.proofs.Composing.{composed}
 use Rattle.laws_runs.proofs.Turning.{moves_in_history}
-use Rattle.laws_runs.proofs.Headline.{checkpoints_hold, restores_hold, restored_go_on}
+use Rattle.laws_runs.proofs.Transparency.{checkpoints_hold, restores_hold, restored_go_on}
 use Rattle.laws_house.specs.Houses.{Job, Task, Source, State, End, machine, image_made, sourced, valid_one, begins_by, house}
 use Rattle.laws_house.specs.Houses.Source.{Given, MadeBy}
 use Rattle.laws_house.specs.Houses.Task.{Checkpoint, Restore}

@@ -32,7 +32,7 @@ use Rattle.laws_runs.specs.Cores.Asker.{Job as Asked_by_job}
 use Rattle.laws_runs.specs.Composed.{AskAsUsers, AreTidy, IsStart, job_moves, HasWorked}
 use Rattle.laws_runs.specs.Turning.{asker_at}
 use Rattle.laws_runs.specs.Onwards.{GoesOnAs}
-use Rattle.laws_runs.specs.Headline.{Checkpointed, Restored as Restored_there}
+use Rattle.laws_runs.specs.Transparency.{Checkpointed, Restored as Restored_there}
 use Rattle.laws_house.specs.Houses.{Job, Task, Source, State, End, valid_one, sourced, house}
 use Rattle.laws_house.specs.Houses.Source.{MadeBy}
 use Rattle.laws_house.specs.Houses.Task.{Checkpoint, Restore}

@@ -8,7 +8,7 @@ ghost use Rattle.laws_house.specs.Laws.{HouseIsTidy, RunStaysUncut, CheckpointsA
 ghost use Rattle.laws_house.specs.Laws.{CheckpointsSave, RestoresMake, SavedGoesOn};
 ghost use Rattle.laws_house.specs.Moves.{RestoresLeaveTheRest, JobsAreReady, JobsAskFitly, RestoresEndSo, LastCallIsKnown, GoneLeavesAll};
 ghost use Rattle.laws_house.specs.Parts.{PartsWork, PartsAreTidy};
-ghost use Rattle.laws_house.specs.Headline.{JobsNameUsersSlots, HeadlineHolds};
+ghost use Rattle.laws_house.specs.Transparency.{JobsNameUsersSlots, RunsAreTransparent};
 ghost use Rattle.laws_house.specs.Places.{CheckpointsMoveSo, RestoresMoveSo, JobsEndClean, CheckpointsRelease, RestoresWantAnImage, RestoresWantTheirMaker};
 ghost use Rattle.laws_house.specs.Places.{GoneAtOnce, OccupiedAtOnce};
 
@@ -152,6 +152,6 @@ pub fn jobs_name_users_slots()
 /// All together, over any run from a first world that is grounded: its history is legal; each checkpoint and each restore ends as
 /// it should, by its own moves, at their places, and leaves the rest; and what was saved and made again goes on exactly as it would
 /// have.
-pub fn the_headline_holds<V>()
-    ensures { HeadlineHolds V }
+pub fn runs_are_transparent<V>()
+    ensures { RunsAreTransparent V }
 {}

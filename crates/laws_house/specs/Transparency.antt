@@ -30,7 +30,7 @@ use Rattle.laws_runs.specs.Ended.{EndIs}
 use Rattle.laws_runs.specs.Turning.{asker_at}
 use Rattle.laws_runs.specs.Onwards.{between, GoesOn}
 use Rattle.laws_runs.specs.Events.{core_at, IsItsEvents}
-use Rattle.laws_runs.specs.Headline.{Checkpointed, Restored as Restored_there}
+use Rattle.laws_runs.specs.Transparency.{Checkpointed, Restored as Restored_there}
 use Rattle.laws_house.specs.Houses.{Job, Source, State, End, valid_one, sourced, house, jobs_of}
 use Rattle.laws_house.specs.Houses.Source.{MadeBy}
 use Rattle.laws_house.specs.Houses.Task.{Checkpoint, Restore}
@@ -116,7 +116,7 @@ pub record HasRestores {V : Type 0} {jobs : List Job} {servers : Servers V} {fir
 
 -- ---- the run
 
-pub record HasHeadline {V : Type 0} {jobs : List Job} {servers : Servers V} {first c : Core State End V} {past : List Move}
+pub record IsTransparent {V : Type 0} {jobs : List Job} {servers : Servers V} {first c : Core State End V} {past : List Move}
     (run : IsRun (house jobs servers) first past c) : Type 0 where
   -- one legal history, through sound worlds
   pub events : IsItsEvents run
@@ -141,6 +141,6 @@ pub record HasHeadline {V : Type 0} {jobs : List Job} {servers : Servers V} {fir
       j.task ≡ Restore place pairs (MadeBy from) → slice_get c.ends to ≡ Some (Worked (Restored restores.Done) made done) → from < to →
       GoesOnAgain i.nester slot (world_at run hold) j.nester place (world_at run made) (world_at run (done + 1)) (bound_by pairs)
 
-abbrev pub HeadlineHolds : Type 0 → Type 0
-HeadlineHolds V = (jobs : List Job) (servers : Servers V) (first c : Core State End V) (past : List Move) (run : IsRun (house jobs servers) first past c) →
-    IsGrounded jobs servers first past → HasHeadline run
+abbrev pub RunsAreTransparent : Type 0 → Type 0
+RunsAreTransparent V = (jobs : List Job) (servers : Servers V) (first c : Core State End V) (past : List Move) (run : IsRun (house jobs servers) first past c) →
+    IsGrounded jobs servers first past → IsTransparent run

@@ -1,4 +1,4 @@
--- Reports have the headline.
+-- Reports are transparent.
 use Rattle.std.proofs.Common.{◌≡◌, ℕ, List, length, Some, ap, ◌∙◌}
 use Rattle.std.specs.List.{slice_get}
 use Rattle.fk_commands.specs.declared.outcome.Report.{Report}
@@ -6,7 +6,7 @@ use Rattle.fk_first.specs.Cores.{RunCore}
 use Rattle.fk_workers.specs.Workers.Served.{servers}
 use Rattle.fk_image.specs.declared.image.image.Image.{Image}
 use Rattle.fk_report.specs.declared.job_end.JobEnd.TheVariants as told
-use Rattle.fk_runs.specs.Runs.Headline.{ReportsHaveTheHeadline}
+use Rattle.fk_runs.specs.Runs.Transparency.{ReportsAreTransparent}
 use Rattle.fk_runs.specs.RunReports.Made.{Images}
 use Rattle.fk_runs.specs.Runs.Runs.{IsReported}
 use Rattle.fk_job_ends.proofs.Ended.{told-end, is-saved, is-made}
@@ -14,7 +14,7 @@ use Rattle.fk_scenario.specs.declared.scenario.scenario.Scenario.{Scenario}
 use Rattle.laws_checkpoint.specs.Checkpoint as checkpoints
 use Rattle.laws_restore.specs.Restore.Restore as restores
 use Rattle.fk_first.proofs.Entries.{entries_are_saved, entries_are_plain, entries_are_made, entries_go_on}
-use Rattle.fk_first.proofs.Programs.{programs_are_grounded, programs_have_the_headline}
+use Rattle.fk_first.proofs.Programs.{programs_are_grounded, programs_run_transparently}
 use Rattle.laws_house.specs.Houses.End.{Checked, Restored}
 use Rattle.laws_runs.specs.Cores.JobEnd.{Worked}
 
@@ -31,9 +31,9 @@ module _ (s : Scenario) (given : Images) (first : RunCore) (report : Report) (is
       let (e, at, tells) = told-end (length s.jobs) is.last.ends index (told.Restored make release) (rw is.jobs at got) in
       at ∙ ap Some (is-made e make release tells)
 
-pub reports_have_the_headline : ReportsHaveTheHeadline
-reports_have_the_headline s given first report keeps is_first is =
-    let run = programs_have_the_headline s given first is.last report.history is.run keeps is_first.world
+pub reports_are_transparent : ReportsAreTransparent
+reports_are_transparent s given first report keeps is_first is =
+    let run = programs_run_transparently s given first is.last report.history is.run keeps is_first.world
     (record { whole = is_first.sound.whole; savable = is_first.sound.savable }) is_first.ends is_first.work is_first.events is.within in
     let grounded = programs_are_grounded s given first report.history keeps is_first.world
     (record { whole = is_first.sound.whole; savable = is_first.sound.savable }) is_first.ends is_first.work is_first.events is.within in

@@ -11,7 +11,7 @@ use Rattle.laws_runs.proofs.Events.{its_events}
 use Rattle.laws_runs.proofs.Seen.{run_goes_on}
 use Rattle.laws_house.specs.Houses.{Job, house, job_of, given_first, jobs_from}
 use Rattle.laws_house.specs.Laws.{NamesUsersSlots}
-use Rattle.laws_house.specs.Headline.{NamesSlots, JobsNameUsersSlots, HeadlineHolds}
+use Rattle.laws_house.specs.Transparency.{NamesSlots, JobsNameUsersSlots, RunsAreTransparent}
 use Rattle.laws_house.proofs.House.{checkpoints_are_brief, restores_are_brief}
 use Rattle.laws_house.proofs.House.{house_is_tidy, checkpoints_end_as_it_was, checkpoints_save, checkpoints_leave_the_rest, restores_make, saved_goes_on}
 use Rattle.laws_house.proofs.Moving.{restores_leave_the_rest, jobs_are_ready, restores_end_so}
@@ -39,8 +39,8 @@ jobs_name_users_slots specs images names index j got = jobs_name [] specs images
 
 -- ---- the run
 
-pub headline_holds : {V : Type 0} → HeadlineHolds V
-headline_holds jobs servers first c past run grounded = record {
+pub runs_transparent : {V : Type 0} → RunsAreTransparent V
+runs_transparent jobs servers first c past run grounded = record {
   events = its_events (house jobs servers) first run;
   composed = composed (house jobs servers) first c past run grounded.users (house_is_tidy jobs servers grounded.slots) grounded.start grounded.few;
   ended = ends_are_so (house jobs servers) first c past run grounded.start;

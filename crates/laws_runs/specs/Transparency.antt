@@ -18,7 +18,7 @@ use Rattle.laws_runs.specs.Cores.JobEnd.{Worked}
 use Rattle.laws_runs.specs.Composed.{AskAsUsers, AreTidy, IsStart}
 use Rattle.laws_runs.specs.Onwards.{GoesOnAs}
 
--- ---- the headline's clauses
+-- ---- the clauses of transparency
 
 -- a checkpoint that is done, made at a place of the history
 pub record Checkpointed {J S A V : Type 0} {h : House J S A V} {first c : Core S A V} {past : List Move} (run : IsRun h first past c)

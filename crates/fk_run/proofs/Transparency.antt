@@ -1,9 +1,9 @@
--- A report of a scenario that was read has the headline.
+-- A report of a scenario that was read is transparent.
 use Rattle.std.proofs.Common.{◌≡◌, ℕ, List, Option, Some, None, Ok}
 use Rattle.fk_commands.specs.declared.outcome.Report.{Report}
-use Rattle.fk_run.specs.Jobs.{HasHeadline, HoldsOf}
+use Rattle.fk_run.specs.Jobs.{ReportIsTransparent, MadeReportIsTransparent}
 use Rattle.fk_commands.specs.Tables.{Rules}
-use Rattle.fk_plays.proofs.Headlines.{reports_have_the_headline}
+use Rattle.fk_plays.proofs.Transparencies.{reports_are_transparent}
 use Rattle.fk_scenario.proofs.InScenario.Kept.{scenario_kept}
 use Rattle.fk_scenario.specs.declared.scenario.scenario.Scenario.{Scenario}
 use Rattle.fk_scenario.specs.Scenario.Kept.{KeepsScenario}
@@ -17,9 +17,9 @@ read-keeps rules bytes s read = by (tree_of bytes) read
     by None read = absurd (cc)
     by (Some ms) read = scenario_kept rules ms s read
 
-has : (rules : Rules) (report : Report) → HasHeadline rules report
-has rules report = λ bytes s given first read is_begun is. reports_have_the_headline s given first report (read-keeps rules bytes s read) is_begun is
+has : (rules : Rules) (report : Report) → ReportIsTransparent rules report
+has rules report = λ bytes s given first read is_begun is. reports_are_transparent s given first report (read-keeps rules bytes s read) is_begun is
 
-pub holds : (rules : Rules) (report : Option Report) → HoldsOf rules report
+pub holds : (rules : Rules) (report : Option Report) → MadeReportIsTransparent rules report
 holds rules None = tt
 holds rules (Some report) = has rules report

@@ -1,4 +1,4 @@
--- The headline's clauses, from the composed run and the jobs' own laws.
+-- The clauses of transparency, from the composed run and the jobs' own laws.
 use Rattle.std.proofs.Common.{◌≡◌, ℕ, ◌+◌, ◌<◌, ◌≤◌, arith, Bool, true, false, nat_le, take, Some, refl, ap, ◌∙◌, subst, ◌⊎◌, inl, inr}
 use Rattle.std.proofs.lemmas.Bool.{leb-true, leb-false}
 use Rattle.fk_model.specs.Places.{Path}
@@ -7,7 +7,7 @@ use Rattle.fk_model.specs.Rebind.{rebound}
 use Rattle.laws_subtrees.proofs.InFurther.ClosedLaws.{closed_is_plain}
 use Rattle.laws_runs.specs.Cores.{world_at}
 use Rattle.laws_jobs.specs.Jobs.{MayBegin}
-use Rattle.laws_runs.specs.Headline.{CheckpointsHold, RestoresHold, RestoredGoOn}
+use Rattle.laws_runs.specs.Transparency.{CheckpointsHold, RestoresHold, RestoredGoOn}
 use Rattle.laws_runs.proofs.Composing.{composed}
 use Rattle.laws_runs.proofs.Onwards.{restored_goes_on}
 

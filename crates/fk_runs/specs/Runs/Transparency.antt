@@ -18,16 +18,16 @@ use Rattle.fk_scenario.specs.declared.scenario.scenario.Scenario.{Scenario}
 use Rattle.fk_scenario.specs.Scenario.Kept.{KeepsScenario}
 use Rattle.fk_first.specs.Entries.{IsFrom}
 use Rattle.laws_house.specs.Houses.{maker_from}
-use Rattle.laws_house.specs.Headline.{HasHeadline}
+use Rattle.laws_house.specs.Transparency.{IsTransparent}
 use Rattle.laws_house.specs.Laws.{GoesOnAgain}
 use Rattle.laws_restore.specs.Rooms.Restoring.{bound_by}
 use Rattle.laws_runs.specs.Cores.{world_at}
-use Rattle.laws_runs.specs.Headline.{Checkpointed, Restored}
+use Rattle.laws_runs.specs.Transparency.{Checkpointed, Restored}
 
 -- the report's history has all that the laws of jobs say of a run; and so have the jobs as the report tells their ends
-pub record HasReportHeadline (s : Scenario) (given : Images) (first : RunCore) (report : Report)
+pub record IsTransparentReport (s : Scenario) (given : Images) (first : RunCore) (report : Report)
     (is : IsReported s.jobs given first s.budget report) : Type 0 where
-  pub run : HasHeadline is.run
+  pub run : IsTransparent is.run
   -- a checkpoint that is told as done has a valid image, and from its hold to behind its release the subtree is what that shows
   pub saved : (index moment birth : ℕ) (path : List ℕ) (slot : ℕ) (name : List ℕ) (image : Image) (hold release : ℕ) →
       slice_get s.jobs index ≡ Some (Checkpoint moment birth path slot name) →
@@ -53,6 +53,6 @@ pub record HasReportHeadline (s : Scenario) (given : Images) (first : RunCore) (
       GoesOnAgain birth slot (world_at is.run hold) other place (world_at is.run make) (world_at is.run (done + 1)) (bound_by bind)
 
 -- of every scenario that was read, with whatever images and servers
-abbrev pub ReportsHaveTheHeadline : Type 0
-ReportsHaveTheHeadline = (s : Scenario) (given : Images) (first : RunCore) (report : Report) → KeepsScenario s → IsBegun s first →
-    (is : IsReported s.jobs given first s.budget report) → HasReportHeadline s given first report is
+abbrev pub ReportsAreTransparent : Type 0
+ReportsAreTransparent = (s : Scenario) (given : Images) (first : RunCore) (report : Report) → KeepsScenario s → IsBegun s first →
+    (is : IsReported s.jobs given first s.budget report) → IsTransparentReport s given first report is
