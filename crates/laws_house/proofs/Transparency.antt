@@ -13,7 +13,7 @@ use Rattle.laws_house.specs.Houses.{Job, house, job_of, given_first, jobs_from}
 use Rattle.laws_house.specs.Laws.{NamesUsersSlots}
 use Rattle.laws_house.specs.Transparency.{NamesSlots, JobsNameUsersSlots, RunsAreTransparent}
 use Rattle.laws_house.proofs.House.{checkpoints_are_brief, restores_are_brief}
-use Rattle.laws_house.proofs.House.{house_is_tidy, checkpoints_end_as_it_was, checkpoints_save, checkpoints_leave_the_rest, restores_make, saved_goes_on}
+use Rattle.laws_house.proofs.House.{jobs_meet_contract, checkpoints_end_as_it_was, checkpoints_save, checkpoints_leave_the_rest, restores_make, saved_goes_on}
 use Rattle.laws_house.proofs.Moving.{restores_leave_the_rest, jobs_are_ready, restores_end_so}
 use Rattle.laws_house.proofs.Places.{checkpoints_move_so, restores_move_so, restores_want_an_image, restores_want_their_maker, jobs_end_clean}
 use Rattle.laws_house.proofs.Places.{checkpoints_release}
@@ -42,7 +42,7 @@ jobs_name_users_slots specs images names index j got = jobs_name [] specs images
 pub runs_transparent : {V : Type 0} → RunsAreTransparent V
 runs_transparent jobs servers first c past run grounded = record {
   events = its_events (house jobs servers) first run;
-  composed = composed (house jobs servers) first c past run grounded.users (house_is_tidy jobs servers grounded.slots) grounded.start grounded.few;
+  composed = composed (house jobs servers) first c past run grounded.users (jobs_meet_contract jobs servers grounded.slots) grounded.start grounded.few;
   ended = ends_are_so (house jobs servers) first c past run grounded.start;
   checkpointed = record {
     moves = checkpoints_move_so jobs servers first c past run grounded.start;
@@ -65,6 +65,6 @@ runs_transparent jobs servers first c past run grounded = record {
   };
   clean = jobs_end_clean jobs servers first c past run grounded;
   ready = jobs_are_ready jobs servers first c past run grounded;
-  goes_on = run_goes_on (house jobs servers) first c past run grounded.users (house_is_tidy jobs servers grounded.slots) grounded.start grounded.few;
+  goes_on = run_goes_on (house jobs servers) first c past run grounded.users (jobs_meet_contract jobs servers grounded.slots) grounded.start grounded.few;
   goes_on_again = saved_goes_on jobs servers first c past run grounded;
 }

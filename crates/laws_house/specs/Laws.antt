@@ -48,8 +48,8 @@ abbrev pub NameUsersSlots : List Job → Type 0
 NameUsersSlots jobs = (index : ℕ) (j : Job) → slice_get jobs index ≡ Some j → NamesUsersSlots j.task
 
 -- such jobs are tidy, whatever native servers there are
-abbrev pub HouseIsTidy : Type 0 → Type 0
-HouseIsTidy V = (jobs : List Job) (servers : Servers V) → NameUsersSlots jobs → AreTidy (house jobs servers)
+abbrev pub JobsMeetTheirContract : Type 0 → Type 0
+JobsMeetTheirContract V = (jobs : List Job) (servers : Servers V) → NameUsersSlots jobs → AreTidy (house jobs servers)
 
 -- no porter and no served port lies beneath what stands in the slot of a nester
 pub record IsUnserved (w : World) (nester : Path) (slot : ℕ) : Type 0 where

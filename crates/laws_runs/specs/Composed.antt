@@ -13,7 +13,7 @@ use Rattle.laws_jobs.specs.Machines.{Machine, AtWork, calls_made}
 use Rattle.fk_model.specs.World.{World}
 use Rattle.fk_model.specs.Sound.{IsClean}
 use Rattle.laws_jobs.specs.Machines.Head.{Stops}
-use Rattle.laws_jobs.specs.Jobs.{MayBegin, IsTidyJob}
+use Rattle.laws_jobs.specs.Jobs.{MayBegin, MeetsContract}
 use Rattle.laws_runs.specs.Cores.{JobEnd, House, Work, Core, Asker, asker, IsRun, world_at}
 use Rattle.laws_runs.specs.Cores.Asker.{Job}
 use Rattle.laws_runs.specs.Cores.IsRun.{Begins, Goes}
@@ -27,7 +27,7 @@ module _ {J S A V : Type 0} where
   -- what is at work is one of the scenario's jobs, however those before it have ended
   abbrev pub AreTidy : House J S A V → Type 0
   AreTidy h = (index : ℕ) (j : J) (ends : List (JobEnd A)) (s : S) → slice_get h.jobs index ≡ Some j → h.begins j ends ≡ Some s →
-      IsTidyJob h.machine (h.nester j) s
+      MeetsContract h.machine (h.nester j) s
 
 -- a run may begin so
 pub record IsStart {S A V : Type 0} (c : Core S A V) : Type 0 where

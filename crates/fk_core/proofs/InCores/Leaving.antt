@@ -22,7 +22,7 @@ use Rattle.laws_house.specs.Houses.{Job, State, machine}
 use Rattle.laws_house.specs.Houses.End.{Checked, Restored}
 use Rattle.laws_house.specs.Houses.State.{Checking, Restoring}
 use Rattle.laws_house.specs.Laws.{NameUsersSlots}
-use Rattle.laws_house.proofs.House.{checkpoint_part, restore_part, house_is_tidy}
+use Rattle.laws_house.proofs.House.{checkpoint_part, restore_part, jobs_meet_contract}
 use Rattle.laws_house.proofs.Moving.{Starts, starts}
 use Rattle.laws_house.proofs.Moving.Starts.{AsCheckpoint, AsRestore}
 use Rattle.laws_house.proofs.Parts.{asks_part, works}
@@ -82,7 +82,7 @@ module _ (jobs : List Job) (c : RunCore) (m : Move) (d : RunCore) (ready : IsRea
   fewer = let all = few in omega (arith, all)
 
   tidy : AreTidy (house jobs)
-  tidy = house_is_tidy jobs servers slots
+  tidy = jobs_meet_contract jobs servers slots
 
   -- ---- before the move and after it
 

@@ -1,5 +1,5 @@
 use Rattle.examples_jobs.proofs.Wrong.{its_porter, a_mutex, scratch}
-use Rattle.examples_jobs.proofs.jobs_that_are_not_tidy.Goals as goal
+use Rattle.examples_jobs.proofs.jobs_that_break_the_contract.Goals as goal
 
 pub returns-clause-porter : goal.returns-clause-porter
 returns-clause-porter c = its_porter
