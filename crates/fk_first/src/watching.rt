@@ -1,6 +1,6 @@
 //! A run by a trace, watched.
 ghost use Rattle.std.specs.Prelude.{map};
-ghost use Rattle.fk_core.specs.Cores.Goings.{IsGoing};
+ghost use Rattle.fk_core.specs.Cores.Goings.{IsReachable};
 ghost use Rattle.fk_scenario.specs.Scenario.Kept.{KeepsScenario, HasRules};
 ghost use Rattle.fk_core.specs.Cores.Served.{AllFit};
 
@@ -63,7 +63,7 @@ fn play<V: Watcher>(
     watcher: &mut V,
 ) -> Result<Stop, NoMemory>
     requires fits { AllFit (map (λ r. r.rule) table.now.list.items) core.old.services.list }
-    requires come { IsGoing core.old }
+    requires come { IsReachable core.old }
 {
     let Some(mut rest) = after_first_line(trace.bytes) else {
         return Ok(Stop::NoTrace);
@@ -101,7 +101,7 @@ fn play_to_stop<V: Watcher>(
     watcher: &mut V,
 ) -> Result<Stop, NoMemory>
     requires fits { AllFit (map (λ r. r.rule) table.now.list.items) core.old.services.list }
-    requires come { IsGoing core.old }
+    requires come { IsReachable core.old }
 {
     let stop = match trace {
         Some(trace) => play(core, table, trace, watcher)?,

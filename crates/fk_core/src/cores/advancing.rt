@@ -2,7 +2,7 @@
 ghost use Rattle.std.specs.Prelude.{◌≡◌, ◌<◌, true, None, IfOk, OnErr, IfSome, IfNone, map};
 ghost use Rattle.fk_core.specs.Rounds.Served.{AllFit};
 ghost use Rattle.fk_core.specs.Cores.Cores.{run_core, is_porter, has_come, IsReadyMove, IsOver, IsAdvanced, IsAdvancedBy, IsAdvancedOrOver, IsChoice, IsFirstDue, IsLacking, is_timely};
-ghost use Rattle.fk_core.specs.Cores.Goings.{IsGoing};
+ghost use Rattle.fk_core.specs.Cores.Goings.{IsReachable};
 ghost use Rattle.fk_jobs.specs.Jobs.{current};
 
 use crate::cores::turns::Core;
@@ -35,7 +35,7 @@ impl<S: Service + Drop, W: JobMachine + Drop> Core<S, W> {
     #[inline(never)]
     fn go_on(&mut self, table: &Table) -> Result<Option<Move>, NoMemory>
         requires fits { AllFit (map (λ r. r.rule) table.now.list.items) self.old.services.list }
-        requires come { IsGoing self.old }
+        requires come { IsReachable self.old }
         ensures made { IsAdvancedBy self.old.jobs.jobs self.old.budget (run_core self.old) (run_core self.new) result }
         ensures fits { AllFit (map (λ r. r.rule) table.now.list.items) self.new.services.list }
         ensures budget { self.new.budget ≡ self.old.budget }
@@ -56,7 +56,7 @@ impl<S: Service + Drop, W: JobMachine + Drop> Core<S, W> {
     #[inline(never)]
     fn go_on_told(&mut self, table: &Table) -> Result<Option<Move>, NoMemory>
         requires fits { AllFit (map (λ r. r.rule) table.now.list.items) self.old.services.list }
-        requires come { IsGoing self.old }
+        requires come { IsReachable self.old }
         ensures made { IsAdvancedBy self.old.jobs.jobs self.old.budget (run_core self.old) (run_core self.new) result }
         ensures fits { AllFit (map (λ r. r.rule) table.now.list.items) self.new.services.list }
         ensures budget { self.new.budget ≡ self.old.budget }
@@ -77,7 +77,7 @@ impl<S: Service + Drop, W: JobMachine + Drop> Core<S, W> {
     #[inline(never)]
     fn go_next(&mut self, table: &Table) -> Result<Option<Move>, NoMemory>
         requires fits { AllFit (map (λ r. r.rule) table.now.list.items) self.old.services.list }
-        requires come { IsGoing self.old }
+        requires come { IsReachable self.old }
         ensures made { IsAdvancedOrOver self.old.jobs.jobs self.old.budget (run_core self.old) (run_core self.new) result }
         ensures fits { AllFit (map (λ r. r.rule) table.now.list.items) self.new.services.list }
         ensures budget { self.new.budget ≡ self.old.budget }
@@ -93,7 +93,7 @@ impl<S: Service + Drop, W: JobMachine + Drop> Core<S, W> {
     /// Makes any move that is ready: of the thread that moved last where it is ready, or else of whoever comes next.
     fn go_further(&mut self, table: &Table) -> Result<Option<Move>, NoMemory>
         requires fits { AllFit (map (λ r. r.rule) table.now.list.items) self.old.services.list }
-        requires come { IsGoing self.old }
+        requires come { IsReachable self.old }
         ensures made { IsAdvancedOrOver self.old.jobs.jobs self.old.budget (run_core self.old) (run_core self.new) result }
         ensures fits { AllFit (map (λ r. r.rule) table.now.list.items) self.new.services.list }
         ensures budget { self.new.budget ≡ self.old.budget }
@@ -111,7 +111,7 @@ impl<S: Service + Drop, W: JobMachine + Drop> Core<S, W> {
         requires few { self.old.events < self.old.budget }
         requires timely { is_timely self.old.jobs self.old.events ≡ true }
         requires fits { AllFit (map (λ r. r.rule) table.now.list.items) self.old.services.list }
-        requires come { IsGoing self.old }
+        requires come { IsReachable self.old }
         ensures made { IsAdvancedBy self.old.jobs.jobs self.old.budget (run_core self.old) (run_core self.new) result }
         ensures porter { IfOk result (λ made. IfSome made (λ m. is_porter self.old.jobs m.who ≡ true)) }
         ensures none { IfOk result (λ made. IfNone made ((m : _) → is_porter self.old.jobs m.who ≡ true
@@ -135,7 +135,7 @@ impl<S: Service + Drop, W: JobMachine + Drop> Core<S, W> {
     #[inline(always)]
     fn go_first(&mut self, table: &Table) -> Result<Option<Move>, NoMemory>
         requires fits { AllFit (map (λ r. r.rule) table.now.list.items) self.old.services.list }
-        requires come { IsGoing self.old }
+        requires come { IsReachable self.old }
         ensures made { IsAdvancedBy self.old.jobs.jobs self.old.budget (run_core self.old) (run_core self.new) result }
         ensures porter { IfOk result (λ made. IfSome made (λ m. is_porter self.old.jobs m.who ≡ true)) }
         ensures none { IfOk result (λ made. IfNone made (has_come self.old.jobs self.old.budget self.old.events ≡ true
@@ -154,7 +154,7 @@ impl<S: Service + Drop, W: JobMachine + Drop> Core<S, W> {
     #[inline(always)]
     fn go_timely(&mut self, table: &Table) -> Result<Option<Move>, NoMemory>
         requires fits { AllFit (map (λ r. r.rule) table.now.list.items) self.old.services.list }
-        requires come { IsGoing self.old }
+        requires come { IsReachable self.old }
         ensures made { IsAdvancedBy self.old.jobs.jobs self.old.budget (run_core self.old) (run_core self.new) result }
         ensures fits { AllFit (map (λ r. r.rule) table.now.list.items) self.new.services.list }
         ensures budget { self.new.budget ≡ self.old.budget }
@@ -170,7 +170,7 @@ impl<S: Service + Drop, W: JobMachine + Drop> Core<S, W> {
     #[inline(always)]
     fn go_late(&mut self, table: &Table) -> Result<Option<Move>, NoMemory>
         requires fits { AllFit (map (λ r. r.rule) table.now.list.items) self.old.services.list }
-        requires come { IsGoing self.old }
+        requires come { IsReachable self.old }
         ensures made { IsAdvancedOrOver self.old.jobs.jobs self.old.budget (run_core self.old) (run_core self.new) result }
         ensures fits { AllFit (map (λ r. r.rule) table.now.list.items) self.new.services.list }
         ensures budget { self.new.budget ≡ self.old.budget }
@@ -186,7 +186,7 @@ impl<S: Service + Drop, W: JobMachine + Drop> Core<S, W> {
     #[inline(never)]
     fn go_few_others(&mut self, table: &Table) -> Result<Option<Move>, NoMemory>
         requires fits { AllFit (map (λ r. r.rule) table.now.list.items) self.old.services.list }
-        requires come { IsGoing self.old }
+        requires come { IsReachable self.old }
         ensures made { IsAdvancedOrOver self.old.jobs.jobs self.old.budget (run_core self.old) (run_core self.new) result }
         ensures fits { AllFit (map (λ r. r.rule) table.now.list.items) self.new.services.list }
         ensures budget { self.new.budget ≡ self.old.budget }
@@ -203,7 +203,7 @@ impl<S: Service + Drop, W: JobMachine + Drop> Core<S, W> {
     #[inline(always)]
     fn go_few(&mut self, table: &Table) -> Result<Option<Move>, NoMemory>
         requires fits { AllFit (map (λ r. r.rule) table.now.list.items) self.old.services.list }
-        requires come { IsGoing self.old }
+        requires come { IsReachable self.old }
         ensures made { IsAdvancedOrOver self.old.jobs.jobs self.old.budget (run_core self.old) (run_core self.new) result }
         ensures fits { AllFit (map (λ r. r.rule) table.now.list.items) self.new.services.list }
         ensures budget { self.new.budget ≡ self.old.budget }
@@ -219,7 +219,7 @@ impl<S: Service + Drop, W: JobMachine + Drop> Core<S, W> {
     #[inline(always)]
     fn go_between(&mut self, table: &Table) -> Result<Option<Move>, NoMemory>
         requires fits { AllFit (map (λ r. r.rule) table.now.list.items) self.old.services.list }
-        requires come { IsGoing self.old }
+        requires come { IsReachable self.old }
         ensures made { IsAdvancedOrOver self.old.jobs.jobs self.old.budget (run_core self.old) (run_core self.new) result }
         ensures fits { AllFit (map (λ r. r.rule) table.now.list.items) self.new.services.list }
         ensures budget { self.new.budget ≡ self.old.budget }
@@ -238,7 +238,7 @@ impl<S: Service + Drop, W: JobMachine + Drop> Core<S, W> {
     #[inline(never)]
     fn go_among(&mut self, table: &Table) -> Result<Option<Move>, NoMemory>
         requires fits { AllFit (map (λ r. r.rule) table.now.list.items) self.old.services.list }
-        requires come { IsGoing self.old }
+        requires come { IsReachable self.old }
         ensures made { IsAdvancedOrOver self.old.jobs.jobs self.old.budget (run_core self.old) (run_core self.new) result }
         ensures first { IfOk result (λ made. IsFirstDue self.old.jobs self.old.budget (run_core self.old) made) }
         ensures fits { AllFit (map (λ r. r.rule) table.now.list.items) self.new.services.list }
@@ -255,7 +255,7 @@ impl<S: Service + Drop, W: JobMachine + Drop> Core<S, W> {
     fn go_alone(&mut self, table: &Table) -> Result<Option<Move>, NoMemory>
         requires none { current self.old.jobs ≡ None }
         requires fits { AllFit (map (λ r. r.rule) table.now.list.items) self.old.services.list }
-        requires come { IsGoing self.old }
+        requires come { IsReachable self.old }
         ensures made { IsAdvancedOrOver self.old.jobs.jobs self.old.budget (run_core self.old) (run_core self.new) result }
         ensures first { IfOk result (λ made. IsFirstDue self.old.jobs self.old.budget (run_core self.old) made) }
         ensures fits { AllFit (map (λ r. r.rule) table.now.list.items) self.new.services.list }
@@ -277,7 +277,7 @@ impl<S: Service + Drop, W: JobMachine + Drop> Core<S, W> {
     /// There is no memory for what a ready move may want: an object, a page, a server that grows, a job that grows by its answer. All is as before then.
     pub fn advance(&mut self, table: &Table) -> Result<Option<Move>, NoMemory>
         requires fits { AllFit (map (λ r. r.rule) table.now.list.items) self.old.services.list }
-        requires come { IsGoing self.old }
+        requires come { IsReachable self.old }
         ensures advanced { IfOk result (λ made. IsAdvanced self.old.jobs.jobs self.old.budget (run_core self.old) made (run_core self.new)) }
         ensures choice { IfOk result (λ made. IsChoice self.old.jobs self.old.budget (run_core self.old) made) }
         ensures none { IfOk result (λ made. IfNone made (IsOver self.old.jobs.jobs self.old.budget (run_core self.old))) }
@@ -287,7 +287,7 @@ impl<S: Service + Drop, W: JobMachine + Drop> Core<S, W> {
         ensures fits { AllFit (map (λ r. r.rule) table.now.list.items) self.new.services.list }
         ensures budget { self.new.budget ≡ self.old.budget }
         ensures jobs { self.new.jobs.jobs ≡ self.old.jobs.jobs }
-        ensures come { IsGoing self.new }
+        ensures come { IsReachable self.new }
     {
         if self.jobs.current().is_none() {
             self.go_alone(table)

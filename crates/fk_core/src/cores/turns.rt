@@ -8,7 +8,7 @@ ghost use Rattle.fk_core.specs.Rounds.Served.{AllFit, shown};
 ghost use Rattle.fk_core.specs.Cores.Cores.{run_core, is_porter, reply_to, IsReadyMove, IsAskedMove, IsCalledMove, IsTurned, IsTried, IsAdvanced, is_timely};
 ghost use Rattle.fk_core.specs.Cores.Memory.{may_lack, may_lack_asked, may_lack_called};
 ghost use Rattle.fk_core.specs.Cores.Cuts.{KeepsCuts, LeavesStrangers};
-ghost use Rattle.fk_core.specs.Cores.Goings.{start_at, IsGoing};
+ghost use Rattle.fk_core.specs.Cores.Goings.{start_at, IsReachable};
 ghost use Rattle.fk_core.specs.Cores.Leaves.{LeavesTheRest};
 ghost use Rattle.fk_core.specs.Rounds.Kernels.{world_of as world};
 ghost use Rattle.fk_jobs.specs.Jobs.{hears};
@@ -97,7 +97,7 @@ impl<S: Service + Drop, W: JobMachine + Drop> Core<S, W> {
         ensures budget { result.budget ≡ budget }
         ensures events { result.events ≡ 0 }
         ensures begins { (nesters : List Path) → IsSoundStart (start_at jobs.jobs budget nesters (run_core result)) → jobs.ends ≡ [] → jobs.work ≡ None →
-            IsGoing result }
+            IsReachable result }
     {
         Core {
             kernel,
@@ -170,7 +170,7 @@ impl<S: Service + Drop, W: JobMachine + Drop> Core<S, W> {
     pub fn turn(&mut self, table: &Table, m: &Move) -> Result<(), NoMemory>
         requires ready { IsReadyMove self.old.jobs.jobs (run_core self.old) m.now }
         requires few { self.old.events < self.old.budget }
-        requires come { IsGoing self.old }
+        requires come { IsReachable self.old }
         requires fits { AllFit (map (λ r. r.rule) table.now.list.items) self.old.services.list }
         ensures turned { OnOk result (IsTurned self.old.jobs.jobs (run_core self.old) m.now (run_core self.new)) }
         ensures lacking { OnErr result (run_core self.new ≡ run_core self.old) }
@@ -179,7 +179,7 @@ impl<S: Service + Drop, W: JobMachine + Drop> Core<S, W> {
         ensures fits { AllFit (map (λ r. r.rule) table.now.list.items) self.new.services.list }
         ensures budget { self.new.budget ≡ self.old.budget }
         ensures jobs { self.new.jobs.jobs ≡ self.old.jobs.jobs }
-        ensures come { IsGoing self.new }
+        ensures come { IsReachable self.new }
         ensures events { OnOk result (self.new.events ≡ self.old.events + 1) }
         ensures cut { OnOk result (KeepsCuts self.old.jobs.jobs (run_core self.old) m.now (world self.new.kernel)) }
         ensures strangers { OnOk result (LeavesStrangers self.old.jobs.jobs (run_core self.old) m.now (world self.new.kernel)) }
@@ -197,7 +197,7 @@ impl<S: Service + Drop, W: JobMachine + Drop> Core<S, W> {
     /// There is no memory for what the move may want: an object, a page, a server that grows, a job that grows by its answer. All is as before then.
     pub fn go(&mut self, table: &Table, m: &Move) -> Result<bool, NoMemory>
         requires few { self.old.events < self.old.budget }
-        requires come { IsGoing self.old }
+        requires come { IsReachable self.old }
         requires fits { AllFit (map (λ r. r.rule) table.now.list.items) self.old.services.list }
         ensures tried { IsTried (IsReadyMove self.old.jobs.jobs (run_core self.old) m.now)
             (may_lack self.old.jobs.jobs (run_core self.old) m.now ≡ true) self.old.jobs.jobs (run_core self.old) m.now (run_core self.new) result }
@@ -205,7 +205,7 @@ impl<S: Service + Drop, W: JobMachine + Drop> Core<S, W> {
         ensures fits { AllFit (map (λ r. r.rule) table.now.list.items) self.new.services.list }
         ensures budget { self.new.budget ≡ self.old.budget }
         ensures jobs { self.new.jobs.jobs ≡ self.old.jobs.jobs }
-        ensures come { IsGoing self.new }
+        ensures come { IsReachable self.new }
     {
         if self.go_plain(m) {
             return Ok(true);
@@ -241,7 +241,7 @@ impl<S: Service + Drop, W: JobMachine + Drop> Core<S, W> {
     /// The same of any move.
     pub(crate) fn go_told(&mut self, table: &Table, m: &Move) -> Result<bool, NoMemory>
         requires few { self.old.events < self.old.budget }
-        requires come { IsGoing self.old }
+        requires come { IsReachable self.old }
         requires fits { AllFit (map (λ r. r.rule) table.now.list.items) self.old.services.list }
         ensures tried { IsTried (IsReadyMove self.old.jobs.jobs (run_core self.old) m.now)
             (may_lack self.old.jobs.jobs (run_core self.old) m.now ≡ true) self.old.jobs.jobs (run_core self.old) m.now (run_core self.new) result }
@@ -354,7 +354,7 @@ impl<S: Service + Drop, W: JobMachine + Drop> Core<S, W> {
     pub(crate) fn go_job(&mut self, table: &Table, m: &Move) -> Result<bool, NoMemory>
         requires job { is_porter self.old.jobs m.now.who ≡ true }
         requires few { self.old.events < self.old.budget }
-        requires come { IsGoing self.old }
+        requires come { IsReachable self.old }
         requires fits { AllFit (map (λ r. r.rule) table.now.list.items) self.old.services.list }
         ensures tried { IsTried (IsReadyMove self.old.jobs.jobs (run_core self.old) m.now)
             (may_lack self.old.jobs.jobs (run_core self.old) m.now ≡ true) self.old.jobs.jobs (run_core self.old) m.now (run_core self.new) result }
@@ -376,7 +376,7 @@ impl<S: Service + Drop, W: JobMachine + Drop> Core<S, W> {
         requires job { is_porter self.old.jobs m.now.who ≡ true }
         requires few { self.old.events < self.old.budget }
         requires timely { is_timely self.old.jobs self.old.events ≡ true }
-        requires come { IsGoing self.old }
+        requires come { IsReachable self.old }
         requires fits { AllFit (map (λ r. r.rule) table.now.list.items) self.old.services.list }
         ensures tried { IsTried (IsReadyMove self.old.jobs.jobs (run_core self.old) m.now)
             (may_lack self.old.jobs.jobs (run_core self.old) m.now ≡ true) self.old.jobs.jobs (run_core self.old) m.now (run_core self.new) result }
@@ -393,7 +393,7 @@ impl<S: Service + Drop, W: JobMachine + Drop> Core<S, W> {
     fn go_call(&mut self, table: &Table, m: &Move) -> Result<bool, NoMemory>
         requires job { is_porter self.old.jobs m.now.who ≡ true }
         requires few { self.old.events < self.old.budget }
-        requires come { IsGoing self.old }
+        requires come { IsReachable self.old }
         requires fits { AllFit (map (λ r. r.rule) table.now.list.items) self.old.services.list }
         ensures tried { IsTried (IsCalledMove self.old.jobs (run_core self.old) m.now)
             (may_lack_called self.old.jobs (run_core self.old) m.now ≡ true) self.old.jobs.jobs (run_core self.old) m.now (run_core self.new) result }

@@ -2,7 +2,7 @@
 ghost use Rattle.std.specs.Prelude.{◌≡◌, ◌≤◌, map, IfOk, IfErr, OnOk};
 ghost use Rattle.fk_commands.specs.Prepared.{ComesTo, IsRefusal};
 ghost use Rattle.fk_first.specs.Cores.{run_core};
-ghost use Rattle.fk_first.specs.Goings.{IsGoing};
+ghost use Rattle.fk_first.specs.Goings.{IsReachable};
 ghost use Rattle.fk_first.specs.Served.{AllFit};
 ghost use Rattle.fk_runs.specs.Recordings.Recording.{watch_place, IsRecordedFrom};
 ghost use Rattle.fk_runs.specs.Recordings.Ports as definitions;
@@ -47,7 +47,7 @@ fn finished(
 ) -> Result<Book<Core<Post, Porter>>, NoMemory>
     requires fits { AllFit (map (λ r. r.rule) table.now.list.items) core.services.list }
     requires first { core.events ≡ 0 }
-    requires come { IsGoing core }
+    requires come { IsReachable core }
     ensures boot { IfOk result (λ book. book.boot ≡ core) }
     ensures kept { IfOk result (λ book. HasRun (shown book.boot) book.history (shown book.core)) }
     ensures ended { IfOk result (λ book. HasEnded (shown book.core)) }

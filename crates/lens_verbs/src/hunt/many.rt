@@ -1,6 +1,6 @@
 //! Many schedules of one scenario.
 ghost use Rattle.std.specs.Prelude.{map};
-ghost use Rattle.fk_core.specs.Cores.Goings.{IsGoing};
+ghost use Rattle.fk_core.specs.Cores.Goings.{IsReachable};
 ghost use Rattle.fk_core.specs.Cores.Served.{AllFit};
 ghost use Rattle.fk_scenario.specs.Scenario.Kept.{KeepsScenario, HasRules};
 
@@ -53,7 +53,7 @@ fn draw_all(
     moves: &mut Vec<Move>,
 ) -> Result<(), NoMemory>
     requires fits { AllFit (map (λ r. r.rule) table.now.list.items) core.old.services.list }
-    requires come { IsGoing core.old }
+    requires come { IsReachable core.old }
 {
     let mut lottery = Lottery::new(alloc, number);
     run_by(core, table, &mut lottery, moves)
@@ -68,7 +68,7 @@ fn end_from(
     moves: &mut Vec<Move>,
 ) -> Result<String, NoMemory>
     requires fits { AllFit (map (λ r. r.rule) table.now.list.items) core.old.services.list }
-    requires come { IsGoing core.old }
+    requires come { IsReachable core.old }
 {
     draw_all(alloc, core, table, number, moves)?;
     ending_of(alloc, core)

@@ -1,6 +1,6 @@
 //! The run of one schedule.
 ghost use Rattle.std.specs.Prelude.{map};
-ghost use Rattle.fk_core.specs.Cores.Goings.{IsGoing};
+ghost use Rattle.fk_core.specs.Cores.Goings.{IsReachable};
 ghost use Rattle.fk_core.specs.Cores.Served.{AllFit};
 
 use crate::hunt::drawing::Run;
@@ -14,9 +14,9 @@ const TRIES: u32 = 4;
 /// Makes a move that is drawn, or else one that the core chooses, and gives it; none where the run has ended.
 fn go(core: &mut Run, table: &Table, lottery: &mut Lottery) -> Result<Option<Move>, NoMemory>
     requires fits { AllFit (map (λ r. r.rule) table.now.list.items) core.old.services.list }
-    requires come { IsGoing core.old }
+    requires come { IsReachable core.old }
     ensures fits { AllFit (map (λ r. r.rule) table.now.list.items) core.new.services.list }
-    ensures come { IsGoing core.new }
+    ensures come { IsReachable core.new }
 {
     for _ in 0..TRIES {
         if let Some(one) = lottery.draw(core)? {
@@ -41,7 +41,7 @@ pub fn run_by(
     moves: &mut Vec<Move>,
 ) -> Result<(), NoMemory>
     requires fits { AllFit (map (λ r. r.rule) table.now.list.items) core.old.services.list }
-    requires come { IsGoing core.old }
+    requires come { IsReachable core.old }
 {
     for _ in 0..u64::MAX {
         let Some(one) = go(core, table, lottery)? else {
