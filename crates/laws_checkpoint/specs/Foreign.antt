@@ -20,7 +20,7 @@ use Rattle.fk_model.specs.Closed.{Place, led_to_from_outside, open_place}
 use Rattle.fk_model.specs.Cut.{cut, cut_ptr, ports_of}
 use Rattle.laws_moves.specs.Frozen.Holding.{IsHolding}
 use Rattle.laws_moves.specs.Savable.Savable.{IsSound}
-use Rattle.laws_jobs.specs.Calls.{IsCalm}
+use Rattle.laws_jobs.specs.Calls.{IsUnheldOutside}
 use Rattle.laws_jobs.specs.Machines.{no_words, Head, Machine, Interleaved, own_moves, call_of, IsReadyAt}
 use Rattle.laws_jobs.specs.Machines.Head.{Stops, Asks}
 
@@ -213,4 +213,4 @@ SeekerIsReady = (nester : Path) (slot : ℕ) (w v : World) (t : State) (es : Lis
     IsScratched nester w →
     Interleaved (seeker slot) nester w (begin slot (map (task_of (cut w nester slot)) ([] ∷ objects (cut w nester slot)))) es v t
     → head slot t ≡ Asks stage words →
-    IsCalm (slot ∷ nester) v → IsReadyAt v (call_of nester stage words)
+    IsUnheldOutside (slot ∷ nester) v → IsReadyAt v (call_of nester stage words)

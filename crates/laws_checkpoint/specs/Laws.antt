@@ -18,7 +18,7 @@ use Rattle.laws_jobs.specs.Machines.{call_of, IsReadyAt, AtWork}
 use Rattle.laws_jobs.specs.Machines.Head.{Stops, Asks}
 use Rattle.laws_jobs.specs.Jobs.{MayBegin, MeetsContract, Saves}
 use Rattle.laws_jobs.specs.Holds.{hold, IsSpaceAt}
-use Rattle.laws_jobs.specs.Calls.{IsCalm}
+use Rattle.laws_jobs.specs.Calls.{IsUnheldOutside}
 use Rattle.laws_moves.specs.Savable.Savable.{IsSound}
 use Rattle.laws_checkpoint.specs.Checkpoint.{End, State, checkpoint}
 use Rattle.laws_checkpoint.specs.Checkpoint.End.{Gone, Foreign, Done}
@@ -70,7 +70,7 @@ CheckpointSaves = (slot birth : ℕ) (w : World) (nester : Path) → slot ≤ LA
 abbrev pub CheckpointIsReady : Type 0
 CheckpointIsReady = (slot birth : ℕ) (w v : World) (nester : Path) (t : State) (stage : Stage) (words : List ℕ) → slot ≤ LAST_USER_SLOT
     → MayBegin w nester birth →
-    AtWork (checkpoint slot) nester w Holds v t → (checkpoint slot).head t ≡ Asks stage words → IsCalm (slot ∷ nester) v
+    AtWork (checkpoint slot) nester w Holds v t → (checkpoint slot).head t ≡ Asks stage words → IsUnheldOutside (slot ∷ nester) v
     → IsReadyAt v (call_of nester stage words)
 
 -- all but the porter's scratch and who holds the root
