@@ -13,7 +13,7 @@ use Rattle.laws_restore.specs.Restore.Restore.State.{Makes}
 use Rattle.laws_runs.specs.Cores as runs
 use Rattle.laws_runs.specs.Cores.{JobEnd, Work, work_of}
 use Rattle.laws_runs.specs.Cores.JobEnd.{Worked, Idle}
-use Rattle.fk_jobs.specs.declared.plan.Plan.{Plan}
+use Rattle.fk_jobs.specs.declared.plan.PlannedJob.{PlannedJob}
 use Rattle.fk_jobs.specs.declared.plan.Task.{Task}
 use Rattle.fk_jobs.specs.declared.plan.Task.TheVariants as tasks
 use Rattle.fk_jobs.specs.declared.plan.Source.{Source}
@@ -30,7 +30,7 @@ task_of (tasks.Checkpoint slot) = houses.Checkpoint slot
 task_of (tasks.Restore slot pairs source) = houses.Restore slot pairs (source_of source)
 
 -- a job that is planned so
-abbrev pub job_of : Plan → Job
+abbrev pub job_of : PlannedJob → Job
 job_of p = record { nester = p.nester; at = p.at; task = task_of p.task }
 
 -- ---- jobs one after the other

@@ -13,7 +13,7 @@ ghost use Rattle.fk_jobs.specs.Jobs.{job_of, source_of, task_of, call_with, aske
 
 use crate::ended::Ended;
 use crate::job_machine::JobMachine;
-use crate::plan::{Plan, Source, Task};
+use crate::plan::{PlannedJob, Source, Task};
 use fk_finish::ValidImage;
 use fk_model::limits::OWN_SPACE;
 use fk_model::{List, NoMemory, Stage};
@@ -48,7 +48,7 @@ fn sourced<'a>(ends: &'a [Ended], source: &'a Source) -> Option<&'a ValidImage>
 }
 
 /// Whether a job can begin that is planned so.
-fn can_begin_so(plan: &Plan, ends: &[Ended]) -> bool
+fn can_begin_so(plan: &PlannedJob, ends: &[Ended]) -> bool
     ensures { result ≡ is_some (begins (job_of plan.now) (shown_ends ends.now)) }
 {
     match &plan.task {
@@ -58,14 +58,14 @@ fn can_begin_so(plan: &Plan, ends: &[Ended]) -> bool
 }
 
 /// What is planned of the job whose turn it is.
-fn planned<'a>(plans: &'a [Plan], ends: &[Ended]) -> Option<&'a Plan>
+fn planned<'a>(plans: &'a [PlannedJob], ends: &[Ended]) -> Option<&'a PlannedJob>
     ensures { option_map (λ plan. job_of plan.now) result ≡ slice_get (map job_of plans.now) (length (shown_ends ends.now)) }
 {
     plans.get(ends.len())
 }
 
 /// Whether the job can begin whose turn it is.
-pub fn can_begin(plans: &[Plan], ends: &[Ended]) -> bool
+pub fn can_begin(plans: &[PlannedJob], ends: &[Ended]) -> bool
     ensures { result ≡ is_some (first_of (shown_ends ends.now) (slice_get (map job_of plans.now) (length (shown_ends ends.now)))) }
 {
     match plans.get(ends.len()) {
@@ -75,7 +75,7 @@ pub fn can_begin(plans: &[Plan], ends: &[Ended]) -> bool
 }
 
 /// The first call of a job that is planned so. It goes with no words.
-fn first_call_so(plan: &Plan, ends: &[Ended]) -> Option<Stage>
+fn first_call_so(plan: &PlannedJob, ends: &[Ended]) -> Option<Stage>
     ensures { call_with result no_words ≡ asked_by (begins (job_of plan.now) (shown_ends ends.now)) }
 {
     match &plan.task {
@@ -93,7 +93,7 @@ fn first_call_so(plan: &Plan, ends: &[Ended]) -> Option<Stage>
 }
 
 /// The first call of the job whose turn it is. It goes with no words.
-pub fn first_call(plans: &[Plan], ends: &[Ended]) -> Option<Stage>
+pub fn first_call(plans: &[PlannedJob], ends: &[Ended]) -> Option<Stage>
     ensures { call_with result no_words
         ≡ asked_by (first_of (shown_ends ends.now) (slice_get (map job_of plans.now) (length (shown_ends ends.now)))) }
 {
@@ -117,7 +117,7 @@ fn restore<W: JobMachine>(
 /// The machine of a job that is planned so, where it can begin.
 fn make_so<W: JobMachine + Drop>(
     alloc: Global,
-    plan: &Plan,
+    plan: &PlannedJob,
     ends: &[Ended],
 ) -> Result<Option<W>, NoMemory>
     requires { NamesUsersSlots (task_of plan.now.task) }
@@ -144,7 +144,7 @@ fn make_so<W: JobMachine + Drop>(
 /// There is no memory for it.
 pub fn make<W: JobMachine + Drop>(
     alloc: Global,
-    plans: &[Plan],
+    plans: &[PlannedJob],
     ends: &[Ended],
 ) -> Result<Option<W>, NoMemory>
     requires { NameUsersSlots (map job_of plans.now) }

@@ -13,7 +13,7 @@ ghost use Rattle.fk_jobs.specs.Plain.{picks_nobody};
 use crate::begins::{can_begin, first_call, make};
 use crate::ended::{Ended, Unmoved};
 use crate::job_machine::JobMachine;
-use crate::plan::Plan;
+use crate::plan::PlannedJob;
 use fk_model::{Answer, NoMemory, Stage};
 use std::alloc::Global;
 use std::marker::Model;
@@ -22,7 +22,7 @@ use std::marker::Model;
 #[derive(Drop)]
 pub struct Jobs<W: JobMachine + Drop> {
     alloc: Global,
-    plans: Vec<Plan>,
+    plans: Vec<PlannedJob>,
     ends: Vec<Ended>,
     /// The machine of the one whose turn it is, once it is made.
     porter: Option<W>,
@@ -79,7 +79,7 @@ fn add_end(ends: &mut Vec<Ended>, end: Ended)
 #[inline(never)]
 fn make_new<W: JobMachine + Drop>(
     alloc: Global,
-    plans: &[Plan],
+    plans: &[PlannedJob],
     ends: &[Ended],
     porter: &mut Option<W>,
 ) -> Result<(), NoMemory>
@@ -97,7 +97,7 @@ fn make_new<W: JobMachine + Drop>(
 /// Makes the machine of the job whose turn it is, where it isn't made yet.
 fn make_in<W: JobMachine + Drop>(
     alloc: Global,
-    plans: &[Plan],
+    plans: &[PlannedJob],
     ends: &[Ended],
     porter: &mut Option<W>,
 ) -> Result<(), NoMemory>
@@ -132,7 +132,7 @@ impl<W: JobMachine + Drop> Jobs<W> {
     /// # Errors
     ///
     /// There is no memory for their ends.
-    pub fn new(alloc: Global, plans: Vec<Plan>) -> Result<Jobs<W>, NoMemory>
+    pub fn new(alloc: Global, plans: Vec<PlannedJob>) -> Result<Jobs<W>, NoMemory>
         requires slots { NameUsersSlots (map job_of plans.items) }
         ensures jobs { IfOk result (λ jobs. jobs.jobs ≡ map job_of plans.items) }
         ensures ends { IfOk result (λ jobs. jobs.ends ≡ []) }
@@ -153,7 +153,7 @@ impl<W: JobMachine + Drop> Jobs<W> {
     }
 
     /// What is planned of the one whose turn it is.
-    pub fn current(&self) -> Option<&Plan>
+    pub fn current(&self) -> Option<&PlannedJob>
         ensures { option_map (λ plan. job_of plan.now) result ≡ current self.now }
     {
         self.plans.get(self.ends.len())
@@ -286,7 +286,7 @@ impl<W: JobMachine + Drop> Jobs<W> {
     }
 
     /// What is planned of all, in the order of the file.
-    pub fn plans(&self) -> &[Plan]
+    pub fn plans(&self) -> &[PlannedJob]
         ensures { map job_of result.now ≡ self.now.jobs }
     {
         self.plans.as_slice()

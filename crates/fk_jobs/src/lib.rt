@@ -23,5 +23,5 @@ pub use job_machine::{
     JobMachine, checkpoints_ask_plainly, jobs_end_so, jobs_move_so, jobs_pick_nobody, plain_is_fit,
 };
 pub use jobs::Jobs;
-pub use plan::{Plan, Source, Task};
+pub use plan::{PlannedJob, Source, Task};
 pub use porter::Porter;

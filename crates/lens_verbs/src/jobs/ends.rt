@@ -4,13 +4,13 @@ use crate::jobs::foreign::push_foreign;
 use crate::jobs::names::{end_word, push_job};
 use crate::jobs::noport::push_noport;
 use fk_checkpoint::CheckpointEnd;
-use fk_jobs::{Ended, Finish, Jobs, Plan, Porter, Unmoved};
+use fk_jobs::{Ended, Finish, Jobs, PlannedJob, Porter, Unmoved};
 use fk_restore::RestoreEnd;
 use fk_store::Store;
 use lens_text::Sheet;
 
 /// Adds why a job has ended as it has by its own moves.
-fn push_finish(sheet: &Sheet, store: &Store, jobs: &Jobs<Porter>, plan: &Plan, finish: &Finish) {
+fn push_finish(sheet: &Sheet, store: &Store, jobs: &Jobs<Porter>, plan: &PlannedJob, finish: &Finish) {
     match finish {
         Finish::Checkpoint(CheckpointEnd::Done(_)) | Finish::Restore(RestoreEnd::Done) => {}
         Finish::Checkpoint(CheckpointEnd::Foreign(place)) => push_foreign(
@@ -26,7 +26,7 @@ fn push_finish(sheet: &Sheet, store: &Store, jobs: &Jobs<Porter>, plan: &Plan, f
 }
 
 /// Adds why a job has failed.
-fn push_cause(sheet: &Sheet, store: &Store, jobs: &Jobs<Porter>, plan: &Plan, ended: &Ended) {
+fn push_cause(sheet: &Sheet, store: &Store, jobs: &Jobs<Porter>, plan: &PlannedJob, ended: &Ended) {
     match ended {
         Ended::Worked {
             finish,

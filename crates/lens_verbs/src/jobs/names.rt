@@ -1,6 +1,6 @@
 //! Jobs, nesters and how jobs have ended, by words.
 use fk_checkpoint::CheckpointEnd;
-use fk_jobs::{Ended, Finish, Jobs, Plan, Porter, Task, Unmoved};
+use fk_jobs::{Ended, Finish, Jobs, PlannedJob, Porter, Task, Unmoved};
 use fk_model::Who;
 use fk_restore::RestoreEnd;
 use fk_store::Store;
@@ -16,7 +16,7 @@ pub fn push_space(sheet: &Sheet, store: &Store, birth: u32) {
 }
 
 /// The slot of the nester in which a job saves or makes a subtree.
-pub fn slot_of(plan: &Plan) -> u8 {
+pub fn slot_of(plan: &PlannedJob) -> u8 {
     match plan.task {
         Task::Checkpoint { slot } => slot,
         Task::Restore { slot, .. } => slot,
@@ -24,7 +24,7 @@ pub fn slot_of(plan: &Plan) -> u8 {
 }
 
 /// Where that slot is.
-pub fn site_of(plan: &Plan) -> Who {
+pub fn site_of(plan: &PlannedJob) -> Who {
     Who {
         space: plan.nester,
         slot: slot_of(plan),
@@ -32,7 +32,7 @@ pub fn site_of(plan: &Plan) -> Who {
 }
 
 /// Adds which job has a number.
-pub fn push_job(sheet: &Sheet, store: &Store, number: usize, plan: &Plan) {
+pub fn push_job(sheet: &Sheet, store: &Store, number: usize, plan: &PlannedJob) {
     sheet.fill(b"job @, ", number as u64, 0, 0);
     match plan.task {
         Task::Checkpoint { .. } => sheet.put(b"checkpoint of slot "),

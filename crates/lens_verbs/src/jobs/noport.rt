@@ -2,7 +2,7 @@
 use crate::jobs::names::push_space;
 use fk_finish::ValidImage;
 use fk_image::{Link, Rec, SpaceRec};
-use fk_jobs::{Jobs, Plan, Porter, Source, Task};
+use fk_jobs::{Jobs, PlannedJob, Porter, Source, Task};
 use fk_model::Who;
 use fk_store::Store;
 use lens_text::{Sheet, path_in, push_held_there};
@@ -67,7 +67,7 @@ fn bound(pairs: &[(u8, u8)], slot: u8) -> u8 {
 }
 
 /// Adds what a slot of the image is bound to, and what stands there.
-fn push_bound(sheet: &Sheet, store: &Store, plan: &Plan, pairs: &[(u8, u8)], slot: u8) {
+fn push_bound(sheet: &Sheet, store: &Store, plan: &PlannedJob, pairs: &[(u8, u8)], slot: u8) {
     let stands = bound(pairs, slot);
     let who = Who {
         space: plan.nester,
@@ -80,7 +80,7 @@ fn push_bound(sheet: &Sheet, store: &Store, plan: &Plan, pairs: &[(u8, u8)], slo
 }
 
 /// Adds the slots of the nester to which an image leads out, each with the first object that does.
-fn push_outs(sheet: &Sheet, store: &Store, plan: &Plan, pairs: &[(u8, u8)], spaces: &[SpaceRec]) {
+fn push_outs(sheet: &Sheet, store: &Store, plan: &PlannedJob, pairs: &[(u8, u8)], spaces: &[SpaceRec]) {
     for slot in 0..240u8 {
         if let Some(path) = first_out(sheet, spaces, slot) {
             sheet.fill(b"; it leads out to slot @ by ", slot as u64, 0, 0);
@@ -115,7 +115,7 @@ fn image_of<'a>(jobs: &'a Jobs<Porter>, source: &'a Source) -> Option<&'a ValidI
 }
 
 /// Adds why a restore finds no port: where the image leads out, what stands for each slot there, and which pairs bind nothing.
-pub fn push_noport(sheet: &Sheet, store: &Store, jobs: &Jobs<Porter>, plan: &Plan, port: u8) {
+pub fn push_noport(sheet: &Sheet, store: &Store, jobs: &Jobs<Porter>, plan: &PlannedJob, port: u8) {
     sheet.fill(
         b"what stands for slot @ of the image is no port",
         port as u64,

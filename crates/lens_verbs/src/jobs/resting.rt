@@ -1,7 +1,7 @@
 //! The line of the job whose turn it is.
 use crate::jobs::names::push_job;
 use fk_first::Seen;
-use fk_jobs::Plan;
+use fk_jobs::PlannedJob;
 use fk_model::{Body, Who};
 use fk_store::Store;
 use lens_text::{Sheet, push_asked, push_between};
@@ -35,7 +35,7 @@ fn push_held(sheet: &Sheet, store: &Store, porter: Who) {
 }
 
 /// Adds since when the job whose turn it is has been at work, what it holds, and which call comes next; or when it begins.
-fn push_turn(sheet: &Sheet, seen: &Seen<'_>, plan: &Plan, begun: Option<u64>) {
+fn push_turn(sheet: &Sheet, seen: &Seen<'_>, plan: &PlannedJob, begun: Option<u64>) {
     match begun {
         Some(begun) => sheet.fill(b": at work since move @", begun, 0, 0),
         None => {
