@@ -10,7 +10,7 @@ ghost use Rattle.laws_jobs.specs.Machines.{no_words, IsAtCall};
 ghost use Rattle.laws_jobs.specs.Machines.Head.{Stops};
 ghost use Rattle.fk_jobs.specs.Ended.{finish_of};
 ghost use Rattle.fk_jobs.specs.Jobs.{call_at, call_with, grows};
-ghost use Rattle.fk_jobs.specs.Plain.{CheckpointsAskPlainly, JobsPickNobody, PlainIsFit};
+ghost use Rattle.fk_jobs.specs.Fitting.{CheckpointCallsFitAnywhere, JobsPickNobody, FitAnywhereIsFit};
 ghost use Rattle.fk_jobs.specs.Turns.{JobMovesSo, JobEndsSo};
 
 use crate::ended::Finish;
@@ -64,13 +64,13 @@ pub trait JobMachine {
 }
 
 /// Each call of a checkpoint is plain.
-pub fn checkpoints_ask_plainly()
-    ensures { CheckpointsAskPlainly }
+pub fn checkpoint_calls_fit_anywhere()
+    ensures { CheckpointCallsFitAnywhere }
 {}
 
 /// What is plain is fit wherever it is made.
-pub fn plain_is_fit()
-    ensures { PlainIsFit }
+pub fn fit_anywhere_is_fit()
+    ensures { FitAnywhereIsFit }
 {}
 
 /// No call of a job picks anybody.

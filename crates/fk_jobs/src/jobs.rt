@@ -8,7 +8,7 @@ ghost use Rattle.laws_jobs.specs.Machines.{no_words};
 ghost use Rattle.fk_jobs.specs.Ended.{unmoved_of, shown_ends};
 ghost use Rattle.fk_jobs.specs.Jobs.{job_of, current, first_of, state_of, grows_by, call_with, asked_by, begun_from, hears, passed, with_idle};
 ghost use Rattle.fk_jobs.specs.Jobs.{made_state, HasEnded};
-ghost use Rattle.fk_jobs.specs.Plain.{picks_nobody};
+ghost use Rattle.fk_jobs.specs.Fitting.{picks_nobody};
 
 use crate::begins::{can_begin, first_call, make};
 use crate::ended::{Ended, Unmoved};

@@ -6,7 +6,7 @@
 //!
 //! It promises that what it asks for is the next call of the job whose turn it is, that an answer brings that job on, or to its end
 //! with the places of its first move and its last, and that the next one's turn has come then; that no call picks anybody, and that a
-//! checkpoint's is fit wherever it is made (`specs/Plain.antt`). Taking an answer takes no memory: `reserve` makes room before, and the
+//! checkpoint's is fit wherever it is made (`specs/Fitting.antt`). Taking an answer takes no memory: `reserve` makes room before, and the
 //! job's machine, which shares its image with whoever has it. In the core of a run, what it has come to is what `laws_runs` says of a
 //! job's move, and of an end without one (`specs/Turns.antt`).
 #![tactic(auto)]
@@ -20,7 +20,7 @@ mod porter;
 
 pub use ended::{Ended, Finish, Unmoved};
 pub use job_machine::{
-    JobMachine, checkpoints_ask_plainly, jobs_end_so, jobs_move_so, jobs_pick_nobody, plain_is_fit,
+    JobMachine, checkpoint_calls_fit_anywhere, jobs_end_so, jobs_move_so, jobs_pick_nobody, fit_anywhere_is_fit,
 };
 pub use jobs::Jobs;
 pub use plan::{PlannedJob, Source, Task};

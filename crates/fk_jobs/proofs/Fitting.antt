@@ -22,25 +22,25 @@ use Rattle.laws_house.specs.Houses.{State, End, machine, ends_as}
 use Rattle.laws_house.specs.Houses.State.{Checking, Restoring}
 use Rattle.laws_house.specs.Houses.End.{Checked, Restored}
 use Rattle.fk_jobs.specs.Jobs.{call_at, asked_by, state_of}
-use Rattle.fk_jobs.specs.Plain.{is_plain, is_plain_stage, picks_nobody, CheckpointsAskPlainly, JobsPickNobody, PlainIsFit}
+use Rattle.fk_jobs.specs.Fitting.{is_fit_anywhere, is_stage_fit_anywhere, picks_nobody, CheckpointCallsFitAnywhere, JobsPickNobody, FitAnywhereIsFit}
 
 -- what a machine asks is plain and picks nobody, where it asks
 abbrev is_easy : Stage → Bool
-is_easy stage = is_plain_stage stage && not (chooses stage)
+is_easy stage = is_stage_fit_anywhere stage && not (chooses stage)
 
-abbrev plainly : {A : Type 0} → Head A → Bool
-plainly (Asks stage words) = is_easy stage
-plainly (Stops end) = true
+abbrev fits : {A : Type 0} → Head A → Bool
+fits (Asks stage words) = is_easy stage
+fits (Stops end) = true
 
-asks_as : {A : Type 0} (h : Head A) → plainly (checkpoints.asks_as h) ≡ plainly h
+asks_as : {A : Type 0} (h : Head A) → fits (checkpoints.asks_as h) ≡ fits h
 asks_as (Asks stage words) = refl
 asks_as (Stops end) = refl
 
-ends : {A B : Type 0} (made : A → B) (h : Head A) → plainly (ends_as made h) ≡ plainly h
+ends : {A B : Type 0} (made : A → B) (h : Head A) → fits (ends_as made h) ≡ fits h
 ends made (Asks stage words) = refl
 ends made (Stops end) = refl
 
-walk : (slot : ℕ) (s : walks.State) → plainly (walks.head slot s) ≡ true
+walk : (slot : ℕ) (s : walks.State) → fits (walks.head slot s) ≡ true
 walk slot (walks.Down from [] q k got) = refl
 walk slot (walks.Down from (way ∷ ways) q k got) = refl
 walk slot (walks.Searches q k got) = refl
@@ -54,7 +54,7 @@ field : (q : Path) (n : ℕ) → is_easy (seeks.reading q n) ≡ true
 field [] n = refl
 field (k ∷ q) n = refl
 
-seek : (slot : ℕ) (s : seeks.State) → plainly (seeks.head slot s) ≡ true
+seek : (slot : ℕ) (s : seeks.State) → fits (seeks.head slot s) ≡ true
 seek slot (seeks.Down from [] t ts) = refl
 seek slot (seeks.Down from (k ∷ ways) t ts) = refl
 seek slot (seeks.Fields [] t ts) = count slot t.path
@@ -63,7 +63,7 @@ seek slot (seeks.Inside n fs t ts) = refl
 seek slot (seeks.Beside n fs t ts) = refl
 seek slot (seeks.Over place) = refl
 
-reader : (slot : ℕ) (s : reads.State) → plainly (reads.head slot s) ≡ true
+reader : (slot : ℕ) (s : reads.State) → fits (reads.head slot s) ≡ true
 reader slot (reads.Down from [] q qs got) = refl
 reader slot (reads.Down from (way ∷ ways) q qs got) = refl
 reader slot (reads.Searches k objects q qs got) = refl
@@ -72,7 +72,7 @@ reader slot (reads.Looks from objects pages q qs got) = refl
 reader slot (reads.Copies page objects pages q qs got) = refl
 reader slot (reads.Over got) = refl
 
-gather : (slot : ℕ) (s : gathers.State) → plainly (gathers.head slot s) ≡ true
+gather : (slot : ℕ) (s : gathers.State) → fits (gathers.head slot s) ≡ true
 gather slot (gathers.Down from [] t ts got) = refl
 gather slot (gathers.Down from (k ∷ ways) t ts got) = refl
 gather slot (gathers.Fields n fs t ts got) = field t.path n
@@ -81,7 +81,7 @@ gather slot (gathers.Leads k at n fs t ts got) = refl
 gather slot (gathers.Beside n fs t ts got) = refl
 gather slot (gathers.Over got) = refl
 
-checkpoint : (slot : ℕ) (s : checkpoints.State) → plainly (checkpoints.head slot s) ≡ true
+checkpoint : (slot : ℕ) (s : checkpoints.State) → fits (checkpoints.head slot s) ≡ true
 checkpoint slot checkpoints.Holds = refl
 checkpoint slot (checkpoints.Readies r rest) = refl
 checkpoint slot (checkpoints.Walks s) = asks_as (walks.head slot s) ∙ walk slot s
@@ -96,16 +96,16 @@ both : (a b : Bool) → (a && b) ≡ true → (a ≡ true) × (b ≡ true)
 both true b is = (refl, is)
 both false b is = absurd (cc)
 
-asked : (h : Head End) (ask : Ask) → plainly h ≡ true → call_at h ≡ Some ask → is_plain ask ≡ true
+asked : (h : Head End) (ask : Ask) → fits h ≡ true → call_at h ≡ Some ask → is_fit_anywhere ask ≡ true
 asked (Asks stage words) ask plain is =
     let same : asks.Call stage words ≡ ask = cc in
-    ap is_plain (let back : ask ≡ asks.Call stage words = cc in back) ∙ (both (is_plain_stage stage) (not (chooses stage)) plain).0
+    ap is_fit_anywhere (let back : ask ≡ asks.Call stage words = cc in back) ∙ (both (is_stage_fit_anywhere stage) (not (chooses stage)) plain).0
 asked (Stops end) ask plain is = cc
 
-pub asks_plainly : CheckpointsAskPlainly
-asks_plainly slot s ask is = asked (machine.head (Checking slot s)) ask (ends Checked (checkpoints.head slot s) ∙ checkpoint slot s) is
+pub calls_fit_anywhere : CheckpointCallsFitAnywhere
+calls_fit_anywhere slot s ask is = asked (machine.head (Checking slot s)) ask (ends Checked (checkpoints.head slot s) ∙ checkpoint slot s) is
 
-fit_stage : (w : World) (c : Caller) (stage : Stage) → is_plain_stage stage ≡ true → is_fit_stage w c stage ≡ true
+fit_stage : (w : World) (c : Caller) (stage : Stage) → is_stage_fit_anywhere stage ≡ true → is_fit_stage w c stage ≡ true
 fit_stage w c (stages.Create s x kind) plain = refl
 fit_stage w c (stages.Destroy s x) plain = refl
 fit_stage w c (stages.Rename s x y) plain = refl
@@ -155,13 +155,13 @@ fit_stage w c (stages.FaultPark s x port taken) plain = cc
 fit_stage w c (stages.HoldSet s x thread) plain = refl
 fit_stage w c (stages.SpaceMakeHeld x) plain = refl
 
-pub plain_fits : PlainIsFit
+pub fits_anywhere : FitAnywhereIsFit
 unfolding is_fit
-plain_fits w x (asks.Call stage words) plain = fit_stage w (porter_at x words) stage plain
-plain_fits w x asks.Run plain = refl
-plain_fits w x asks.Accept plain = refl
-plain_fits w x (asks.Give words len) plain = refl
-plain_fits w x asks.Over plain = refl
+fits_anywhere w x (asks.Call stage words) plain = fit_stage w (porter_at x words) stage plain
+fits_anywhere w x asks.Run plain = refl
+fits_anywhere w x asks.Accept plain = refl
+fits_anywhere w x (asks.Give words len) plain = refl
+fits_anywhere w x asks.Over plain = refl
 
 -- ---- no call picks anybody
 
@@ -203,8 +203,8 @@ restore slot (restores.Clears [] more port) = refl
 restore slot (restores.Clears (o ∷ os) more port) = order slot o
 restore slot (restores.Over end) = refl
 
-easily : {A : Type 0} (h : Head A) → plainly h ≡ true → is_unpicking h ≡ true
-easily (Asks stage words) easy = (both (is_plain_stage stage) (not (chooses stage)) easy).1
+easily : {A : Type 0} (h : Head A) → fits h ≡ true → is_unpicking h ≡ true
+easily (Asks stage words) easy = (both (is_stage_fit_anywhere stage) (not (chooses stage)) easy).1
 easily (Stops end) easy = refl
 
 state : (s : State) → is_unpicking (machine.head s) ≡ true

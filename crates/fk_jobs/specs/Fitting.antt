@@ -15,28 +15,28 @@ use Rattle.laws_house.specs.Houses.State.{Checking}
 use Rattle.fk_jobs.specs.Jobs.{Queue, call_at, asked_by, state_of}
 
 -- neither a talk nor a fault
-abbrev pub is_other : Rebuilt → Bool
-is_other A_talk = false
-is_other A_fault = false
-is_other A_hold = true
-is_other A_space = true
-is_other Rebuilds_nothing = true
+abbrev pub makes_no_peer : Rebuilt → Bool
+makes_no_peer A_talk = false
+makes_no_peer A_fault = false
+makes_no_peer A_hold = true
+makes_no_peer A_space = true
+makes_no_peer Rebuilds_nothing = true
 
 -- none that picks somebody, and none that makes a talk or a fault again
-abbrev pub is_plain_stage : Stage → Bool
-is_plain_stage stage = not (chooses stage) && is_other (facts_of stage).rebuilds
+abbrev pub is_stage_fit_anywhere : Stage → Bool
+is_stage_fit_anywhere stage = not (chooses stage) && makes_no_peer (facts_of stage).rebuilds
 
-abbrev pub is_plain : Ask → Bool
-is_plain (asks.Call stage words) = is_plain_stage stage
-is_plain other = false
+abbrev pub is_fit_anywhere : Ask → Bool
+is_fit_anywhere (asks.Call stage words) = is_stage_fit_anywhere stage
+is_fit_anywhere other = false
 
 -- a checkpoint asks for plain calls alone
-abbrev pub CheckpointsAskPlainly : Type 0
-CheckpointsAskPlainly = (slot : ℕ) (s : checkpoints.State) (ask : Ask) → call_at (machine.head (Checking slot s)) ≡ Some ask → is_plain ask ≡ true
+abbrev pub CheckpointCallsFitAnywhere : Type 0
+CheckpointCallsFitAnywhere = (slot : ℕ) (s : checkpoints.State) (ask : Ask) → call_at (machine.head (Checking slot s)) ≡ Some ask → is_fit_anywhere ask ≡ true
 
 -- a plain call is fit wherever it is made
-abbrev pub PlainIsFit : Type 0
-PlainIsFit = (w : World) (x : Path) (ask : Ask) → is_plain ask ≡ true → is_fit w x ask ≡ true
+abbrev pub FitAnywhereIsFit : Type 0
+FitAnywhereIsFit = (w : World) (x : Path) (ask : Ask) → is_fit_anywhere ask ≡ true → is_fit w x ask ≡ true
 
 -- it picks nobody
 abbrev pub picks_nobody : Ask → Bool
@@ -44,9 +44,9 @@ picks_nobody (asks.Call stage words) = not (chooses stage)
 picks_nobody other = false
 
 -- so does what the job asks for whose turn it is
-abbrev pub AsksPlainly : Queue → Type 0
-AsksPlainly q = IfSome (asked_by (state_of q)) (λ ask. picks_nobody ask ≡ true)
+abbrev pub PicksNobody : Queue → Type 0
+PicksNobody q = IfSome (asked_by (state_of q)) (λ ask. picks_nobody ask ≡ true)
 
 -- no job picks anybody
 abbrev pub JobsPickNobody : Type 0
-JobsPickNobody = (q : Queue) → AsksPlainly q
+JobsPickNobody = (q : Queue) → PicksNobody q
