@@ -29,7 +29,7 @@ use Rattle.laws_restore.specs.Rooms.Restoring.{bound_by}
 use Rattle.laws_runs.specs.Cores.{JobEnd, Servers, Core, IsRun, world_at}
 use Rattle.laws_runs.specs.Cores.JobEnd.{Worked}
 use Rattle.laws_runs.specs.Cores.Asker.{Job as Asked_by_job}
-use Rattle.laws_runs.specs.Composed.{AskAsUsers, AreTidy, IsStart, job_moves, HasWorked}
+use Rattle.laws_runs.specs.Composed.{AskAsUsers, JobsMeetContract, IsStart, job_moves, HasWorked}
 use Rattle.laws_runs.specs.Turning.{asker_at}
 use Rattle.laws_runs.specs.Onwards.{GoesOnAs}
 use Rattle.laws_runs.specs.Transparency.{Checkpointed, Restored as Restored_there}
@@ -49,7 +49,7 @@ NameUsersSlots jobs = (index : ℕ) (j : Job) → slice_get jobs index ≡ Some 
 
 -- such jobs are tidy, whatever native servers there are
 abbrev pub JobsMeetTheirContract : Type 0 → Type 0
-JobsMeetTheirContract V = (jobs : List Job) (servers : Servers V) → NameUsersSlots jobs → AreTidy (house jobs servers)
+JobsMeetTheirContract V = (jobs : List Job) (servers : Servers V) → NameUsersSlots jobs → JobsMeetContract (house jobs servers)
 
 -- no porter and no served port lies beneath what stands in the slot of a nester
 pub record IsUnserved (w : World) (nester : Path) (slot : ℕ) : Type 0 where

@@ -24,9 +24,9 @@ module _ {J S A V : Type 0} where
   abbrev pub AskAsUsers : House J S A V → Type 0
   AskAsUsers h = (v : V) (w : World) (who : Who) (ask : Ask) → h.servers.asks v w who ≡ Some ask → is_users ask ≡ true
 
-  -- what is at work is one of the scenario's jobs, however those before it have ended
-  abbrev pub AreTidy : House J S A V → Type 0
-  AreTidy h = (index : ℕ) (j : J) (ends : List (JobEnd A)) (s : S) → slice_get h.jobs index ≡ Some j → h.begins j ends ≡ Some s →
+  -- each of the scenario's jobs meets its contract, however those before it have ended
+  abbrev pub JobsMeetContract : House J S A V → Type 0
+  JobsMeetContract h = (index : ℕ) (j : J) (ends : List (JobEnd A)) (s : S) → slice_get h.jobs index ≡ Some j → h.begins j ends ≡ Some s →
       MeetsContract h.machine (h.nester j) s
 
 -- a run may begin so
@@ -85,7 +85,7 @@ pub record IsComposed {J S A V : Type 0} {h : House J S A V} {first c : Core S A
 
 abbrev pub RunIsComposed : Type 0 → Type 0 → Type 0 → Type 0 → Type 0
 RunIsComposed J S A V = (h : House J S A V) (first c : Core S A V) (past : List Move) (run : IsRun h first past c) →
-    AskAsUsers h → AreTidy h → IsStart first → first.world.next + length past ≤ depth → IsComposed run
+    AskAsUsers h → JobsMeetContract h → IsStart first → first.world.next + length past ≤ depth → IsComposed run
 
 -- ---- a history has one run
 

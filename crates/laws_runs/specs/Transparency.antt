@@ -15,7 +15,7 @@ use Rattle.laws_subtrees.specs.Further.ClosedLaws.{IsUsersAlone}
 use Rattle.laws_jobs.specs.Jobs.{Saves, Restores}
 use Rattle.laws_runs.specs.Cores.{JobEnd, House, Core, IsRun, world_at}
 use Rattle.laws_runs.specs.Cores.JobEnd.{Worked}
-use Rattle.laws_runs.specs.Composed.{AskAsUsers, AreTidy, IsStart}
+use Rattle.laws_runs.specs.Composed.{AskAsUsers, JobsMeetContract, IsStart}
 use Rattle.laws_runs.specs.Onwards.{GoesOnAs}
 
 -- ---- the clauses of transparency
@@ -32,7 +32,7 @@ pub record Checkpointed {J S A V : Type 0} {h : House J S A V} {first c : Core S
 
 abbrev pub CheckpointsHold : Type 0 → Type 0 → Type 0 → Type 0 → Type 0
 CheckpointsHold J S A V = (h : House J S A V) (first c : Core S A V) (past : List Move) (run : IsRun h first past c) →
-    AskAsUsers h → AreTidy h → IsStart first → first.world.next + length past ≤ depth →
+    AskAsUsers h → JobsMeetContract h → IsStart first → first.world.next + length past ≤ depth →
     (index : ℕ) (job : J) (slot : ℕ) (picture : A → Option World) (end : A) (begun last : ℕ) (saved : World) → slice_get h.jobs index ≡ Some job →
     ((nester : Path) (ends : List (JobEnd A)) (s : S) → birth_at (world_at run begun) nester ≡ Some (h.nester job) → h.begins job ends ≡ Some s →
     Saves h.machine (h.nester job) slot picture (world_at run begun) nester s) →
@@ -49,7 +49,7 @@ pub record Restored {J S A V : Type 0} {h : House J S A V} {first c : Core S A V
 
 abbrev pub RestoresHold : Type 0 → Type 0 → Type 0 → Type 0 → Type 0
 RestoresHold J S A V = (h : House J S A V) (first c : Core S A V) (past : List Move) (run : IsRun h first past c) →
-    AskAsUsers h → AreTidy h → IsStart first → first.world.next + length past ≤ depth →
+    AskAsUsers h → JobsMeetContract h → IsStart first → first.world.next + length past ≤ depth →
     (index : ℕ) (job : J) (slot : ℕ) (bind : ℕ → ℕ) (saved : World) (is_done : A → Bool) (end : A) (begun last : ℕ) → slice_get h.jobs index ≡ Some job →
     ((nester : Path) (s : S) → birth_at (world_at run begun) nester ≡ Some (h.nester job) → h.begins job (take index c.ends) ≡ Some s →
     Restores h.machine (h.nester job) slot bind saved is_done (world_at run begun) nester s) →
@@ -58,7 +58,7 @@ RestoresHold J S A V = (h : House J S A V) (first c : Core S A V) (past : List M
 -- what was restored has exactly the further runs of what was saved, with its ports bound
 abbrev pub RestoredGoOn : Type 0 → Type 0 → Type 0 → Type 0 → Type 0
 RestoredGoOn J S A V = (h : House J S A V) (first c : Core S A V) (past : List Move) (run : IsRun h first past c) →
-    AskAsUsers h → AreTidy h → IsStart first → first.world.next + length past ≤ depth →
+    AskAsUsers h → JobsMeetContract h → IsStart first → first.world.next + length past ≤ depth →
     (birth slot begun last : ℕ) (saved : World) (from : Checkpointed run birth slot begun last saved) →
     IsUncut (world_at run begun) → IsUsersAlone (world_at run begun) from.nester slot →
     (other place made done : ℕ) (bind : ℕ → ℕ) (to : Restored run other place made done bind saved) (ms : List Onward) →
