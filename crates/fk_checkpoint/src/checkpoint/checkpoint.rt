@@ -1,14 +1,16 @@
 //! The checkpoint, phase by phase.
-ghost use Rattle.std.specs.Prelude.{◌≡◌, OnOk, IfNone, IfSome, option_map};
+ghost use Rattle.std.specs.Prelude.{◌≡◌, [], OnOk, IfOk, IfNone, IfSome, option_map};
 ghost use Rattle.fk_checkpoint.specs.declared.checkpoint.checkpoint.Phase.TheVariants as phases;
 ghost use Rattle.fk_model.specs.declared.stage.Stage.TheVariants as stages;
 ghost use Rattle.laws_checkpoint.specs.Checkpoint.State.{Holds, Over};
+ghost use Rattle.laws_checkpoint.specs.Assembly.{spaces_met};
+ghost use Rattle.laws_checkpoint.specs.Contents as reads;
 ghost use Rattle.laws_checkpoint.specs.Contents.State.{Over as WasRead};
 ghost use Rattle.laws_jobs.specs.Machines.{no_words, IsAtCall};
 ghost use Rattle.laws_jobs.specs.Machines.Head.{Asks, Stops};
 ghost use Rattle.laws_checkpoint.specs.Checkpoint as machine;
 ghost use Rattle.laws_checkpoint.specs.Checkpoint.{checkpoint};
-ghost use Rattle.fk_checkpoint.specs.Seeking.Seeking.{answered};
+ghost use Rattle.fk_checkpoint.specs.Seeking.Seeking.{answered, mets_of};
 ghost use Rattle.fk_checkpoint.specs.Gathering.Gathering as gathering;
 ghost use Rattle.fk_checkpoint.specs.Checkpoint.Checkpoints.{end_of, gathered_in};
 ghost use Rattle.fk_checkpoint.specs.Checkpoint.Phases.{slot_of, made_after, dropped_after, phase_of, over_of, state_of, heard_by};
@@ -297,45 +299,35 @@ fn go_on(alloc: Global, slot: u8, phase: &mut Phase, answer: &Answer)
     *phase = after(alloc, slot, left, answer);
 }
 
-/// The spaces of a closed subtree are listed, and nothing else changes. It stands apart, since it takes room that is cleared at entry.
-#[inline(never)]
-fn open_closed(alloc: Global, phase: &mut Phase) -> Result<(), NoMemory>
-    ensures same { (slot : _) → phase_of slot phase.new ≡ phase_of slot phase.old }
-    ensures opened { OnOk result (IsOpened phase.new) }
+/// The reader of a closed subtree, whose spaces are listed.
+fn reader_of(alloc: Global, walk: &Walk) -> Result<Read, NoMemory>
+    ensures { IfOk result (λ read. (slot : _) → gathering.read_of slot read ≡ reads.begin slot (spaces_met (mets_of walk.now.mets.items)) []) }
 {
-    if let Phase::Closed(walk) = phase {
-        let most = walk.mets().len();
-        let left = spaces_left(alloc, walk.mets())?;
-        *phase = Phase::Reads(Read::new(alloc, left, most));
-    }
-    Ok(())
+    let most = walk.mets().len();
+    let left = spaces_left(alloc, walk.mets())?;
+    Ok(Read::new(alloc, left, most))
 }
 
-/// What a checkpoint ends with is made, and nothing else changes. It stands apart too.
+/// What needs more memory than room for one answer is made, and nothing else changes. It stands apart, since it takes room that is cleared at entry.
 #[inline(never)]
-fn make_end(alloc: Global, slot: u8, phase: &mut Phase) -> Result<(), NoMemory>
-    ensures same { phase_of slot phase.new ≡ phase_of slot phase.old }
-    ensures opened { OnOk result (IsOpened phase.new) }
-{
-    if let Phase::Ends(ending) = phase {
-        let end = make(alloc, slot, ending)?;
-        // What was made last is dropped first.
-        let scratch = Scratch::Steps;
-        *phase = Phase::Drops { scratch, end };
-    }
-    Ok(())
-}
-
-/// What needs more memory than room for one answer is made, and nothing else changes.
 fn open(alloc: Global, slot: u8, phase: &mut Phase) -> Result<(), NoMemory>
     ensures same { phase_of slot phase.new ≡ phase_of slot phase.old }
     ensures opened { OnOk result (IsOpened phase.new) }
 {
     match phase {
-        Phase::Closed(_) => open_closed(alloc, phase),
-        Phase::Ends(_) => make_end(alloc, slot, phase),
-        _ => Ok(()),
+        Phase::Closed(walk) => {
+            let read = reader_of(alloc, walk)?;
+            *phase = Phase::Reads(read);
+        }
+        Phase::Ends(ending) => {
+            let end = make(alloc, slot, ending)?;
+            // What was made last is dropped first.
+            let scratch = Scratch::Steps;
+            *phase = Phase::Drops { scratch, end };
+        }
+        _ => {}
     }
+    Ok(())
 }
 
 /// Makes room in a phase for one answer, and changes nothing else.

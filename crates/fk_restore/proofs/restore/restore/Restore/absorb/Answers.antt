@@ -6,6 +6,6 @@ use Rattle.fk_restore.proofs.restore.restore.Restore.absorb.Goals as goal
 pub invariant_of-self : goal.invariant_of-self
 invariant_of-self c = (
   c.self.invariant.0,
-  subst (λ (i : Image). IsSoundPhase i.spaces c.self.inside.slot c.self.inside.pairs c.answered_in.result)
-      c.get.ensures.same c.answered_in.ensures.sound,
+  subst (λ (i : Image). IsSoundPhase i.spaces c.self.inside.slot c.self.inside.pairs c.answered_in-self-inside.result)
+      c.get.ensures.same c.answered_in-self-inside.ensures.sound,
 )
