@@ -1,4 +1,4 @@
-use Rattle.std.proofs.Common.{◌∙◌, not, refl, take, sym}
+use Rattle.std.proofs.Common.{◌∙◌, not, false, Some, refl, take, sym}
 use Rattle.fk_jobs.specs.Ended.{shown_ends}
 use Rattle.fk_jobs.specs.Jobs.{job_of}
 use Rattle.std.proofs.Common.{map}
@@ -26,4 +26,5 @@ returns g c =
     c.pass.ensures
     ∙ stops state (shown_ends i.ends.items) _ (map job_of i.plans.items) (not i.used) i.porter c.in-Some.porter i.begun c.args.events c.begun_from.result
     answer.status (take answer.len answer.words)
-    (state c.absorb.new.self) refl c.self.invariant.2 c.in-Some.is c.begun_from.ensures c.absorb.ensures _ _ c.args.self.now c.self.view_is
+    (state c.absorb.new.self) refl c.self.invariant.2 c.in-Some.is c.begun_from.ensures c.absorb.ensures
+    (Some (record { begun = c.begun_from.result; state = state c.absorb.new.self })) false c.args.self.now c.self.view_is
