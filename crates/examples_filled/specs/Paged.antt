@@ -87,9 +87,6 @@ filled_at at = filled (paging desk at.1) at.0
 abbrev pub fault_at_port : Path → ℕ → Fault
 fault_at_port port page = record { page = page; write = false; port = At port; taker = None }
 
-abbrev pub missing : Fault → Body
-missing fault = with_fault fault storing
-
 -- ---- the machine by answers: a pager in a phase that keeps pages 3 and 4 back, of which 3 is in
 
 abbrev pub list_of_two : ℕ → Option (List ℕ)

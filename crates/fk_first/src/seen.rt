@@ -7,10 +7,9 @@ ghost use Rattle.fk_first.specs.First.{IsFirst};
 
 use fk_core::Core;
 use fk_finish::ValidImage;
-use fk_jobs::Jobs;
+use fk_jobs::{Jobs, Porter};
 use fk_model::{Move, NoMemory, Stage, Who};
 use fk_natives::Native;
-use fk_porters::Porter;
 use fk_responders::Table;
 use fk_scenario::Scenario;
 use fk_store::Store;

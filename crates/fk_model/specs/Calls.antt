@@ -68,16 +68,11 @@ arguments (CondBroadcast c) = from_register 1 (c ∷ [])
 arguments (Connect h) = from_register 1 (h ∷ [])
 arguments (ClientReceive into room) = from_register 4 (into ∷ room ∷ [])
 arguments (ClientSend address count) = from_register 2 (address ∷ count ∷ [])
-arguments ClientOver = []
-arguments Disconnect = []
 arguments (ClientOverRef reference) = from_register 1 (reference ∷ [])
 arguments (ClientReceiveRef into room reference) = from_register 4 (into ∷ room ∷ reference ∷ [])
 arguments (Wait set) = from_register 1 (set ∷ [])
 arguments (ServerReceive into room) = from_register 4 (into ∷ room ∷ [])
 arguments (ServerSend address count) = from_register 2 (address ∷ count ∷ [])
-arguments ServerOver = []
-arguments ServerEnd = []
-arguments FaultDone = []
 arguments (ServerOverRef reference) = from_register 1 (reference ∷ [])
 arguments (ServerReceiveRef into room reference) = from_register 4 (into ∷ room ∷ reference ∷ [])
 arguments (LinkSet s x port server) = from_register 1 (s ∷ x ∷ port ∷ server ∷ [])
@@ -86,6 +81,7 @@ arguments (FaultSet s x port taker) = from_register 1 (s ∷ x ∷ port ∷ take
 arguments (FaultPark s x port taken) = from_register 1 (s ∷ x ∷ port ∷ taken ∷ [])
 arguments (HoldSet s x thread) = from_register 1 (s ∷ x ∷ thread ∷ [])
 arguments (SpaceMakeHeld x) = from_register 1 (x ∷ [])
+arguments other = []
 
 -- these values written into registers
 abbrev pub with_values : List (ℕ × ℕ) → List ℕ → List ℕ

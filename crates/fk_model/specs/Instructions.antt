@@ -62,6 +62,7 @@ act_on i a b c counter =
     (if i.op == JLT then Jump (if nat_lt a b then i.n else next counter) else
     (if i.op == ADDI then Put i.a ((b + sign_extended i.n) % 2 ^ 64) else Call))))))))))
 
+-- what an instruction asks for, by the registers that it names
 abbrev pub act_of : Instr → List ℕ → ℕ → Act
 act_of i registers counter = act_on i (slice_index registers i.a) (slice_index registers i.b) (slice_index registers i.c) counter
 

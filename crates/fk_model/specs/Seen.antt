@@ -10,7 +10,7 @@ use Rattle.fk_model.specs.declared.stage.Stage.TheVariants.{Wait, ServerSend, Se
 use Rattle.fk_model.specs.declared.stage.Stage.TheVariants as stages
 use Rattle.fk_model.specs.declared.thread.Turn.TheVariants as turns
 use Rattle.fk_model.specs.Places.{Path, same_path, strip, is_within, parent, slot_of, Ptr}
-use Rattle.fk_model.specs.Places.Ptr.{Null, Dead, At, Out, Outside, Far}
+use Rattle.fk_model.specs.Places.Ptr.{Null, Dead, At}
 use Rattle.fk_model.specs.Objects.{Talk, Fault, Thread, reference_of, and_then, holds}
 use Rattle.fk_model.specs.World.{World, Change}
 use Rattle.fk_model.specs.World.Change.{Alter, PutPage, DropPage}
@@ -96,9 +96,7 @@ abbrev pub leads_out : Path → Ptr → Bool
 leads_out root (At x) = not (is_within root x)
 leads_out root Null = false
 leads_out root Dead = false
-leads_out root (Out slot) = true
-leads_out root Outside = true
-leads_out root Far = true
+leads_out root other = true
 
 -- it sends to a peer outside
 abbrev pub sends_out : World → Path → Path → Bool

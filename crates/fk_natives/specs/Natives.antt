@@ -46,6 +46,7 @@ left_of (OfTap watch noted inner) = left_of inner
 abbrev pub give_of : Reply → Ask
 give_of r = asks.Give r.words r.len
 
+-- a server gives what is left of its reply, and then hands over
 abbrev pub gives_left : List ℕ → Ask
 gives_left [] = asks.Over
 gives_left (word ∷ words) = give_of (padded (word ∷ words))
@@ -82,6 +83,7 @@ abbrev pub side_at : Turn → Side
 side_at turns.Client = sides.Client
 side_at turns.Server = sides.Own
 
+-- whose turn it is after an Over
 abbrev pub side_after : Side → Side
 side_after sides.Client = sides.Own
 side_after other = sides.Client

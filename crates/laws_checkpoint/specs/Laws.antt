@@ -16,17 +16,17 @@ use Rattle.fk_image.specs.Image.Valid.{is_valid}
 use Rattle.laws_subtrees.specs.Further.ClosedLaws.{IsUsersAlone}
 use Rattle.laws_jobs.specs.Machines.{call_of, IsReadyAt, AtWork}
 use Rattle.laws_jobs.specs.Machines.Head.{Stops, Asks}
-use Rattle.laws_jobs.specs.Jobs.{MayBegin, IsTidyJob, Saves}
+use Rattle.laws_jobs.specs.Jobs.{MayBegin, MeetsContract, Saves}
 use Rattle.laws_jobs.specs.Holds.{hold, IsSpaceAt}
-use Rattle.laws_jobs.specs.Calls.{IsCalm}
+use Rattle.laws_jobs.specs.Calls.{IsUnheldOutside}
 use Rattle.laws_moves.specs.Savable.Savable.{IsSound}
 use Rattle.laws_checkpoint.specs.Checkpoint.{End, State, checkpoint}
 use Rattle.laws_checkpoint.specs.Checkpoint.End.{Gone, Foreign, Done}
 use Rattle.laws_checkpoint.specs.Checkpoint.State.{Holds}
 
 -- its calls are owed, its porter stays, and at its end no scratch is left
-abbrev pub CheckpointIsTidy : Type 0
-CheckpointIsTidy = (slot birth : ℕ) → slot ≤ LAST_USER_SLOT → IsTidyJob (checkpoint slot) birth Holds
+abbrev pub CheckpointMeetsContract : Type 0
+CheckpointMeetsContract = (slot birth : ℕ) → slot ≤ LAST_USER_SLOT → MeetsContract (checkpoint slot) birth Holds
 
 -- from its hold to behind its release the subtree's cut is what it was
 abbrev pub CheckpointKeepsCut : Type 0
@@ -70,7 +70,7 @@ CheckpointSaves = (slot birth : ℕ) (w : World) (nester : Path) → slot ≤ LA
 abbrev pub CheckpointIsReady : Type 0
 CheckpointIsReady = (slot birth : ℕ) (w v : World) (nester : Path) (t : State) (stage : Stage) (words : List ℕ) → slot ≤ LAST_USER_SLOT
     → MayBegin w nester birth →
-    AtWork (checkpoint slot) nester w Holds v t → (checkpoint slot).head t ≡ Asks stage words → IsCalm (slot ∷ nester) v
+    AtWork (checkpoint slot) nester w Holds v t → (checkpoint slot).head t ≡ Asks stage words → IsUnheldOutside (slot ∷ nester) v
     → IsReadyAt v (call_of nester stage words)
 
 -- all but the porter's scratch and who holds the root

@@ -25,7 +25,8 @@ use Rattle.laws_filled.proofs.Results.{is_call, wait_result, WaitResult}
 use Rattle.laws_filled.proofs.Results.WaitResult.{Idle, TookFault}
 use Rattle.laws_filled_bounds.specs.Taken.{taken_in, raised_in, AreSparing, IsSparing}
 use Rattle.laws_filled_bounds.specs.Taken.IsSparing.{Here as Nothing_moves, Goes}
-use Rattle.laws_filled_bounds.specs.Driven.{port_at, porter_at, changes_of, IsDriven, CallsAreBounded}
+use Rattle.laws_filled_bounds.specs.Driven.{port_at, porter_at, IsDriven, CallsAreBounded}
+use Rattle.fk_model.specs.Seen.{changes_of}
 use Rattle.laws_filled_bounds.specs.Driven.IsDriven.{Here, Another, Own}
 use Rattle.laws_filled_bounds.proofs.Tracked.{taken_are_raised_lem}
 

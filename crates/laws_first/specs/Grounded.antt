@@ -9,7 +9,7 @@ use Rattle.laws_runs.specs.Cores.{Servers, Core, IsRun}
 use Rattle.laws_runs.specs.Composed.{AskAsUsers}
 use Rattle.laws_house.specs.Houses.{Job, State, End, house}
 use Rattle.laws_house.specs.Laws.{NameUsersSlots, SaveUsersAlone, IsGrounded}
-use Rattle.laws_house.specs.Headline.{HasHeadline}
+use Rattle.laws_house.specs.Transparency.{IsTransparent}
 
 -- a core is one with which a scenario begins, with jobs and servers that its reader has seen to be in order
 pub record Begins {V : Type 0} (s : Scenario) (jobs : List Job) (servers : Servers V) (first : Core State End V) : Type 0 where
@@ -27,6 +27,6 @@ abbrev pub ScenariosAreGrounded : Type 0 → Type 0
 ScenariosAreGrounded V = (s : Scenario) (jobs : List Job) (servers : Servers V) (first : Core State End V) (past : List Move) → Begins s jobs servers first →
     length past ≤ s.budget → IsGrounded jobs servers first past
 
-abbrev pub ScenariosHaveTheHeadline : Type 0 → Type 0
-ScenariosHaveTheHeadline V = (s : Scenario) (jobs : List Job) (servers : Servers V) (first c : Core State End V) (past : List Move)
-    (run : IsRun (house jobs servers) first past c) → Begins s jobs servers first → length past ≤ s.budget → HasHeadline run
+abbrev pub ScenariosRunTransparently : Type 0 → Type 0
+ScenariosRunTransparently V = (s : Scenario) (jobs : List Job) (servers : Servers V) (first c : Core State End V) (past : List Move)
+    (run : IsRun (house jobs servers) first past c) → Begins s jobs servers first → length past ≤ s.budget → IsTransparent run

@@ -6,9 +6,9 @@
 
 ghost use Rattle.laws_first.specs.First.{FirstWorldIsGround, ScenariosBeginSoundly};
 ghost use Rattle.laws_first.specs.Entries.{EntriesAreSaved, EntriesAreMade, EntriesArePlain, EntriesGoOn};
-ghost use Rattle.laws_first.specs.Programs.{ProgramsAreGrounded, ProgramsHaveTheHeadline};
+ghost use Rattle.laws_first.specs.Programs.{ProgramsAreGrounded, ProgramsRunTransparently};
 ghost use Rattle.laws_first.specs.Users.{ServersAskAsUsers, ScenarioJobsNameUsersSlots, ScenarioJobsSaveUsersAlone};
-ghost use Rattle.laws_first.specs.Grounded.{ScenariosAreGrounded, ScenariosHaveTheHeadline};
+ghost use Rattle.laws_first.specs.Grounded.{ScenariosAreGrounded, ScenariosRunTransparently};
 
 /// No scratch stands in it, it has given out at most 256 birth numbers, its pointers lead somewhere in it or nowhere, nothing is under way,
 /// porters stand where the scenario has nesters and served ports where it has servers, and nowhere else.
@@ -28,8 +28,8 @@ pub fn scenarios_are_grounded<V>()
 {}
 
 /// And all of those laws hold of it.
-pub fn scenarios_have_the_headline<V>()
-    ensures { ScenariosHaveTheHeadline V }
+pub fn scenarios_run_transparently<V>()
+    ensures { ScenariosRunTransparently V }
 {}
 
 /// The program's native servers ask for what users may.
@@ -53,8 +53,8 @@ pub fn programs_are_grounded()
 {}
 
 /// And it has all of it, whatever images are given for its jobs.
-pub fn programs_have_the_headline()
-    ensures { ProgramsHaveTheHeadline }
+pub fn programs_run_transparently()
+    ensures { ProgramsRunTransparently }
 {}
 
 /// Entry by entry: what a checkpoint that is done has saved.

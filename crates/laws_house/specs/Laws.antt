@@ -29,10 +29,10 @@ use Rattle.laws_restore.specs.Rooms.Restoring.{bound_by}
 use Rattle.laws_runs.specs.Cores.{JobEnd, Servers, Core, IsRun, world_at}
 use Rattle.laws_runs.specs.Cores.JobEnd.{Worked}
 use Rattle.laws_runs.specs.Cores.Asker.{Job as Asked_by_job}
-use Rattle.laws_runs.specs.Composed.{AskAsUsers, AreTidy, IsStart, job_moves, HasWorked}
+use Rattle.laws_runs.specs.Composed.{AskAsUsers, JobsMeetContract, IsStart, job_moves, HasWorked}
 use Rattle.laws_runs.specs.Turning.{asker_at}
 use Rattle.laws_runs.specs.Onwards.{GoesOnAs}
-use Rattle.laws_runs.specs.Headline.{Checkpointed, Restored as Restored_there}
+use Rattle.laws_runs.specs.Transparency.{Checkpointed, Restored as Restored_there}
 use Rattle.laws_house.specs.Houses.{Job, Task, Source, State, End, valid_one, sourced, house}
 use Rattle.laws_house.specs.Houses.Source.{MadeBy}
 use Rattle.laws_house.specs.Houses.Task.{Checkpoint, Restore}
@@ -48,8 +48,8 @@ abbrev pub NameUsersSlots : List Job → Type 0
 NameUsersSlots jobs = (index : ℕ) (j : Job) → slice_get jobs index ≡ Some j → NamesUsersSlots j.task
 
 -- such jobs are tidy, whatever native servers there are
-abbrev pub HouseIsTidy : Type 0 → Type 0
-HouseIsTidy V = (jobs : List Job) (servers : Servers V) → NameUsersSlots jobs → AreTidy (house jobs servers)
+abbrev pub JobsMeetTheirContract : Type 0 → Type 0
+JobsMeetTheirContract V = (jobs : List Job) (servers : Servers V) → NameUsersSlots jobs → JobsMeetContract (house jobs servers)
 
 -- no porter and no served port lies beneath what stands in the slot of a nester
 pub record IsUnserved (w : World) (nester : Path) (slot : ℕ) : Type 0 where

@@ -19,7 +19,7 @@ use Rattle.fk_image.specs.Image.Picture.{picture}
 use Rattle.laws_jobs.specs.Machines.{call_of, IsReadyAt, AtWork}
 use Rattle.laws_jobs.specs.Machines.Head.{Stops, Asks}
 use Rattle.laws_jobs.specs.Jobs.{MayBegin}
-use Rattle.laws_jobs.specs.Calls.{IsCalm}
+use Rattle.laws_jobs.specs.Calls.{IsUnheldOutside}
 use Rattle.laws_checkpoint.specs.Checkpoint as checkpoints
 use Rattle.laws_restore.specs.Restore.Restore as restores
 use Rattle.laws_restore.specs.Sites.Orders.{stage_of}
@@ -70,7 +70,7 @@ slot_of_state (Restoring slot pairs image s) = slot
 pub record NextIsReady (birth : ℕ) (state : State) (v : World) : Type 0 where
   pub nester : Path
   pub named : birth_at v nester ≡ Some birth
-  pub ready : (stage : Stage) (words : List ℕ) → machine.head state ≡ Asks stage words → IsCalm (slot_of_state state ∷ nester) v
+  pub ready : (stage : Stage) (words : List ℕ) → machine.head state ≡ Asks stage words → IsUnheldOutside (slot_of_state state ∷ nester) v
       → IsReadyAt v (call_of nester stage words)
 
 -- at each place of a run, of the job that is at work there

@@ -3,7 +3,7 @@ use Rattle.std.specs.Prelude.{◌≡◌, ℕ, List}
 use Rattle.fk_model.specs.Places.{Path}
 use Rattle.fk_model.specs.World.{World}
 use Rattle.laws_jobs.specs.Machines.{Machine, AtWork, calls_made}
-use Rattle.laws_jobs.specs.Jobs.{IsTidyJob}
+use Rattle.laws_jobs.specs.Jobs.{MeetsContract}
 use Rattle.laws_house.specs.Houses.{ends_as}
 
 -- it asks for the same and hears the same
@@ -23,6 +23,6 @@ abbrev pub PartsWork : Type 0 → Type 0 → Type 0 → Type 0 → Type 0
 PartsWork S A T B = (m : Machine S A) (whole : Machine T B) (into : S → T) (ends_in : A → B) (nester : Path) (w : World) (s : S) (v : World) (t : T) →
     IsPart m whole into ends_in → (work : AtWork whole nester w (into s) v t) → PartWorks m whole into nester w s v t work
 
-abbrev pub PartsAreTidy : Type 0 → Type 0 → Type 0 → Type 0 → Type 0
-PartsAreTidy S A T B = (m : Machine S A) (whole : Machine T B) (into : S → T) (ends_in : A → B) (birth : ℕ) (s : S) → IsPart m whole into ends_in →
-    IsTidyJob m birth s → IsTidyJob whole birth (into s)
+abbrev pub PartsMeetTheContract : Type 0 → Type 0 → Type 0 → Type 0 → Type 0
+PartsMeetTheContract S A T B = (m : Machine S A) (whole : Machine T B) (into : S → T) (ends_in : A → B) (birth : ℕ) (s : S) → IsPart m whole into ends_in →
+    MeetsContract m birth s → MeetsContract whole birth (into s)

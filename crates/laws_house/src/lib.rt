@@ -4,11 +4,12 @@
 //! It stands on `laws_runs`, `laws_checkpoint` and `laws_restore::rooms`.
 #![tactic(auto)]
 
-ghost use Rattle.laws_house.specs.Laws.{HouseIsTidy, RunStaysUncut, CheckpointsAreBrief, RestoresAreBrief, CheckpointsLeaveTheRest, CheckpointsEndAsItWas};
+ghost use Rattle.laws_house.specs.Laws.{JobsMeetTheirContract, RunStaysUncut, CheckpointsAreBrief, RestoresAreBrief, CheckpointsLeaveTheRest};
+ghost use Rattle.laws_house.specs.Laws.{CheckpointsEndAsItWas};
 ghost use Rattle.laws_house.specs.Laws.{CheckpointsSave, RestoresMake, SavedGoesOn};
 ghost use Rattle.laws_house.specs.Moves.{RestoresLeaveTheRest, JobsAreReady, JobsAskFitly, RestoresEndSo, LastCallIsKnown, GoneLeavesAll};
-ghost use Rattle.laws_house.specs.Parts.{PartsWork, PartsAreTidy};
-ghost use Rattle.laws_house.specs.Headline.{JobsNameUsersSlots, HeadlineHolds};
+ghost use Rattle.laws_house.specs.Parts.{PartsWork, PartsMeetTheContract};
+ghost use Rattle.laws_house.specs.Transparency.{JobsNameUsersSlots, RunsAreTransparent};
 ghost use Rattle.laws_house.specs.Places.{CheckpointsMoveSo, RestoresMoveSo, JobsEndClean, CheckpointsRelease, RestoresWantAnImage, RestoresWantTheirMaker};
 ghost use Rattle.laws_house.specs.Places.{GoneAtOnce, OccupiedAtOnce};
 
@@ -18,13 +19,13 @@ pub fn a_part_works<S, A, T, B>()
 {}
 
 /// What is tidy by itself is tidy as a part.
-pub fn a_part_is_tidy<S, A, T, B>()
-    ensures { PartsAreTidy S A T B }
+pub fn a_part_meets_the_contract<S, A, T, B>()
+    ensures { PartsMeetTheContract S A T B }
 {}
 
 /// Jobs that name users' slots, as the reader of scenarios asks, are such as a run wants them.
-pub fn a_house_is_tidy<V>()
-    ensures { HouseIsTidy V }
+pub fn jobs_meet_their_contract<V>()
+    ensures { JobsMeetTheirContract V }
 {}
 
 /// Each world of a run that begins in a world that is nobody's cut is nobody's cut.
@@ -152,6 +153,6 @@ pub fn jobs_name_users_slots()
 /// All together, over any run from a first world that is grounded: its history is legal; each checkpoint and each restore ends as
 /// it should, by its own moves, at their places, and leaves the rest; and what was saved and made again goes on exactly as it would
 /// have.
-pub fn the_headline_holds<V>()
-    ensures { HeadlineHolds V }
+pub fn runs_are_transparent<V>()
+    ensures { RunsAreTransparent V }
 {}

@@ -196,8 +196,8 @@ same-version bytes = version_then bytes ∙ go-number forms.is_version (λ versi
         by false true is = absurd (cc)
         by false false is = refl
 
-same-head : (bytes : List ℕ) → read_head bytes ≡ run forms.head bytes
-unfolding read_head forms.head run ◌>>>◌ field_at
+same-head : (bytes : List ℕ) → read_head bytes ≡ run forms.header bytes
+unfolding read_head forms.header run ◌>>>◌ field_at
 same-head bytes = by (nat_lt (length bytes) 8) (pointwise nat_eq (take 8 bytes) magic)
   where
     by : (t u : Bool) → (expect (not t) bytes reasons.CUT >>= λ _. expect u bytes reasons.MAGIC >>= λ _. read_version (drop 8 bytes) >>= count_read)
@@ -234,7 +234,7 @@ image_is bytes = by (read_head bytes)
 
 pub same-image : (bytes : List ℕ) → spaces_read bytes ≡ run forms.image bytes
 unfolding forms.image run
-same-image bytes = go (read_head bytes) _ forms.head _ bytes (same-head bytes)
+same-image bytes = go (read_head bytes) _ forms.header _ bytes (same-head bytes)
     (λ head. go (read_many (read_space head.0.0) after_space head.0.1 ([], root_path) [] head.1) _
     (forms.many (forms.space head.0.0) forms.with_space head.0.1 [] []) _ head.1
     (same-many (read_space head.0.0) (opened.space head.0.0) after_space (same-space head.0.0) head.0.1 ([], root_path) [] head.1

@@ -272,14 +272,14 @@ abbrev pub count_of : Bool → Form (Bool × ℕ)
 count_of new = number w32 is_some_number >>= λ count. Whole (new, count)
 
 -- whether it is the new version, and how many spaces there are
-unfoldable pub head : Form (Bool × ℕ)
-head = do
+unfoldable pub header : Form (Bool × ℕ)
+header = do
   _ ← begins
   version ← number_for reasons.VERSION w16 is_version
   count_of (version == 2)
 
 unfoldable pub image : Form (Bool × Image)
 image = do
-  head ← head
+  head ← header
   spaces ← many (space head.0) with_space head.1 [] []
   Whole (head.0, record { spaces = spaces })

@@ -7,7 +7,7 @@ use Rattle.fk_model.specs.StateRows.{is_native}
 use Rattle.fk_model.specs.World.{World}
 use Rattle.fk_image.specs.declared.image.image.Image.{Image}
 use Rattle.laws_moves.specs.Frozen.Holding.{IsUsersMove}
-use Rattle.laws_jobs.specs.Calls.{IsCalm}
+use Rattle.laws_jobs.specs.Calls.{IsUnheldOutside}
 use Rattle.laws_handover.specs.Packets.{Codec}
 use Rattle.laws_handover.specs.Handover as handover
 use Rattle.laws_handover.specs.Laws.{AllCame, is_over}
@@ -24,8 +24,8 @@ RootKeepsPorter = (w : World) (e : Event) → IsUsersMove top w e → HasPorter 
 -- every packet that was sent has come, nothing outside both subtrees is held, and birth numbers are left
 pub record IsCalmNow {P : Type 0} (codec : Codec Image P) (slot : ℕ) (p : Both codec slot) : Type 0 where
   pub came : AllCame (kernels codec slot) p
-  pub near : IsCalm (slot ∷ top) p.near_world
-  pub far : IsCalm (slot ∷ top) p.far_world
+  pub near : IsUnheldOutside (slot ∷ top) p.near_world
+  pub far : IsUnheldOutside (slot ∷ top) p.far_world
   pub near_room : HasRoom p.near_world
   pub far_room : HasRoom p.far_world
 

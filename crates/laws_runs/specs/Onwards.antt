@@ -14,7 +14,7 @@ use Rattle.laws_subtrees.specs.Further.Runs.{IsSeenRun, SeesNoOther}
 use Rattle.laws_runs.specs.Cores.{House, Core, Asker, asker, IsRun, world_at}
 use Rattle.laws_runs.specs.Cores.Asker.{Nobody, Others, Job}
 use Rattle.laws_runs.specs.Cores.IsRun.{Begins, Goes}
-use Rattle.laws_runs.specs.Composed.{AskAsUsers, AreTidy, IsStart}
+use Rattle.laws_runs.specs.Composed.{AskAsUsers, JobsMeetContract, IsStart}
 
 -- the event that a move is
 abbrev pub event_by : {S : Type 0} → World → Move → Asker S → List Event
@@ -45,7 +45,7 @@ pub record GoesOn {J S A V : Type 0} {h : House J S A V} {first c : Core S A V} 
 -- so it is from any place of the history on where a subtree is plain, and up to the first move that it sees as other
 abbrev pub RunGoesOn : Type 0 → Type 0 → Type 0 → Type 0 → Type 0
 RunGoesOn J S A V = (h : House J S A V) (first c : Core S A V) (past : List Move) (run : IsRun h first past c) →
-    AskAsUsers h → AreTidy h → IsStart first → first.world.next + length past ≤ depth →
+    AskAsUsers h → JobsMeetContract h → IsStart first → first.world.next + length past ≤ depth →
     (k n : ℕ) → k + n ≤ length past → (nester : Path) (slot : ℕ) → IsPlain (world_at run k) nester slot →
     SeesNoOther nester slot (world_at run k) (between run k n) → GoesOn run k n nester slot
 

@@ -16,7 +16,7 @@ use Rattle.laws_runs.specs.Cores.{JobEnd, House, Core, IsRun, Asker, current, as
 use Rattle.laws_runs.specs.Cores.Asker.{Nobody, Job}
 use Rattle.laws_runs.specs.Cores.IsRun.{Begins, Goes}
 use Rattle.laws_jobs.specs.Jobs.{MayBegin}
-use Rattle.laws_runs.specs.Composed.{AskAsUsers, AreTidy, IsStart}
+use Rattle.laws_runs.specs.Composed.{AskAsUsers, JobsMeetContract, IsStart}
 
 pub record IsJobsMove {J S A V : Type 0} {h : House J S A V} {first c : Core S A V} {past : List Move} (run : IsRun h first past c) (m : Move)
     (begun : ℕ) (t : S) (stage : Stage) (words : List ℕ) : Type 0 where
@@ -35,7 +35,7 @@ pub record IsJobsMove {J S A V : Type 0} {h : House J S A V} {first c : Core S A
 
 abbrev pub JobsMoves : Type 0 → Type 0 → Type 0 → Type 0 → Type 0
 JobsMoves J S A V = (h : House J S A V) (first c : Core S A V) (past : List Move) (run : IsRun h first past c) →
-    AskAsUsers h → AreTidy h → IsStart first → first.world.next + length past ≤ depth →
+    AskAsUsers h → JobsMeetContract h → IsStart first → first.world.next + length past ≤ depth →
     (m : Move) (begun : ℕ) (t : S) (stage : Stage) (words : List ℕ) → asker h c m.who ≡ Job begun t stage words → IsReadyIn h c m →
     IsJobsMove run m begun t stage words
 
@@ -69,5 +69,5 @@ pub record MovesAt {J S A V : Type 0} {h : House J S A V} {first c : Core S A V}
 
 abbrev pub JobsMovesInHistory : Type 0 → Type 0 → Type 0 → Type 0 → Type 0
 JobsMovesInHistory J S A V = (h : House J S A V) (first c : Core S A V) (past : List Move) (run : IsRun h first past c) →
-    AskAsUsers h → AreTidy h → IsStart first → first.world.next + length past ≤ depth →
+    AskAsUsers h → JobsMeetContract h → IsStart first → first.world.next + length past ≤ depth →
     (k begun : ℕ) (t : S) (stage : Stage) (words : List ℕ) → k < length past → asker_at run k ≡ Job begun t stage words → MovesAt run k begun t stage words

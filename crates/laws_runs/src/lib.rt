@@ -7,7 +7,7 @@
 
 ghost use Rattle.laws_runs.specs.Composed.{RunIsComposed, OneRun};
 ghost use Rattle.laws_runs.specs.Turning.{JobsMoves, JobsMovesInHistory};
-ghost use Rattle.laws_runs.specs.Headline.{CheckpointsHold, RestoresHold, RestoredGoOn};
+ghost use Rattle.laws_runs.specs.Transparency.{CheckpointsHold, RestoresHold, RestoredGoOn};
 ghost use Rattle.laws_runs.specs.Onwards.{RunGoesOn, RestoredGoesOn, MovesAreSeenOnce};
 ghost use Rattle.laws_runs.specs.Events.{HistoryIsEvents};
 ghost use Rattle.laws_runs.specs.Ended.{EndsAreSo};

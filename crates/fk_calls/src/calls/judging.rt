@@ -146,9 +146,9 @@ fn is_held(store: &Store, space: u32) -> bool
     store.is_frozen(space)
 }
 
-/// It runs or calls.
+/// Whether a thread in this mode runs or calls.
 #[inline(always)]
-fn is_user(mode: Mode) -> bool
+pub fn is_user(mode: Mode) -> bool
     ensures { (registers : List ℕ) → result ≡ holds.is_user (mode_by mode registers) }
 {
     match mode {

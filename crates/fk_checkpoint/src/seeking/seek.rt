@@ -5,7 +5,8 @@ ghost use Rattle.laws_jobs.specs.Machines.Head.{Asks};
 ghost use Rattle.laws_checkpoint.specs.Foreign as seeks;
 ghost use Rattle.laws_checkpoint.specs.Assembly.{sought_tasks};
 ghost use Rattle.fk_checkpoint.specs.declared.seeking.seek.Sought.TheVariants as sought;
-ghost use Rattle.fk_checkpoint.specs.Seeking.Seeking.{seek_of, sought_of, look_of, met_at, mets_of, task_for, place_for, tasks_behind, fields_in};
+ghost use Rattle.fk_checkpoint.specs.Seeking.Fields.{fields_in};
+ghost use Rattle.fk_checkpoint.specs.Seeking.Seeking.{seek_of, sought_of, look_of, met_at, mets_of, task_for, place_for, tasks_behind};
 
 use crate::seeking::descent::way;
 use crate::seeking::fields::{Fields, fields_by, is_strict};

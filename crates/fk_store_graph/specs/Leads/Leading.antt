@@ -54,6 +54,7 @@ is_single (Space birth holder) = true
 is_single (Thread thread) = false
 is_single (Reference to) = true
 
+-- an object is a reference
 abbrev pub is_reference : Body → Bool
 is_reference (Mutex locked) = false
 is_reference Cond = false

@@ -38,6 +38,7 @@ pub record IsStill (w : World) (x : Path) : Type 0 where
   pub stuck : IsStuck w x reason
   pub own : IsOwn reason
 
+-- a thread is blocked for a reason that is read at this object
 pub record IsAt (w : World) (x key : Path) : Type 0 where
   pub reason : Reason
   pub stuck : IsStuck w x reason
@@ -54,6 +55,7 @@ pub record IsLoudly (w : World) (x : Path) : Type 0 where
   pub stuck : IsStuck w x reason
   pub loud : is_loud_reason reason ≡ true
 
+-- why a thread is blocked, as the code has it
 abbrev pub IsWhy : World → (ℕ → Path) → Path → Why → Type 0
 IsWhy w p x whys.Still = IsStill w x
 IsWhy w p x (whys.At key) = IsAt w x (place p key)

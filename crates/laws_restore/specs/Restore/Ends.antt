@@ -9,7 +9,7 @@ use Rattle.fk_model.specs.Rebind.{rebound}
 use Rattle.fk_model.specs.Cut.{cut}
 use Rattle.laws_jobs.specs.Machines.{AtWork, calls_made, IsOwedCall}
 use Rattle.laws_jobs.specs.Machines.Head.{Stops, Asks}
-use Rattle.laws_jobs.specs.Jobs.{MayBegin, IsTidyJob, Restores}
+use Rattle.laws_jobs.specs.Jobs.{MayBegin, MeetsContract, Restores}
 use Rattle.laws_restore.specs.Restore.Rooms.{Room}
 use Rattle.laws_restore.specs.Restore.Script.{script}
 use Rattle.laws_restore.specs.Restore.Roomed.{IsRoomed}
@@ -38,9 +38,9 @@ RestoreIsOwed = (slot birth : ℕ) (bind : ℕ → ℕ) (c : World) (rooms : Lis
     → (restore slot bind rooms).head t ≡ Asks stage words → IsOwedCall v nester stage words)
 
 -- so it is tidy: its calls are owed, its porter stays while it has one to make, and no scratch is left at its end
-abbrev pub RestoreIsTidy : Type 0
-RestoreIsTidy = (slot birth : ℕ) (bind : ℕ → ℕ) (c : World) (rooms : List Room) → slot ≤ LAST_USER_SLOT → IsRoomed bind c rooms
-    → IsTidyJob (restore slot bind rooms) birth Makes
+abbrev pub RestoreMeetsContract : Type 0
+RestoreMeetsContract = (slot birth : ℕ) (bind : ℕ → ℕ) (c : World) (rooms : List Room) → slot ≤ LAST_USER_SLOT → IsRoomed bind c rooms
+    → MeetsContract (restore slot bind rooms) birth Makes
 
 -- what a run wants of a restore: done, it leaves a plain subtree, which is the picture with its ports bound
 abbrev pub RestoreRestores : Type 0

@@ -148,6 +148,7 @@ leads_out i b = is_out_to i (pointer_of b)
 abbrev pub talk_words : Talk → List ℕ
 talk_words talk = padded (records.talk_words (Some talk))
 
+-- what a porter gives with a fault: its page, and 1 for a write
 abbrev pub fault_words : Fault → List ℕ
 fault_words fault = padded (fault.page ∷ flag_of fault.write ∷ [])
 
