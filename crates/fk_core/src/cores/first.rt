@@ -2,7 +2,7 @@
 ghost use Rattle.std.specs.Prelude.{◌≡◌, ◌<◌, false, map};
 ghost use Rattle.fk_core.specs.Rounds.Served.{AllFit};
 ghost use Rattle.fk_core.specs.Cores.Cores.{run_core, is_porter, IsAdvanced, IsAdvancedOrOver};
-ghost use Rattle.fk_core.specs.Cores.Goings.{IsGoing};
+ghost use Rattle.fk_core.specs.Cores.Goings.{IsReachable};
 
 use crate::cores::turns::Core;
 use fk_jobs::Worker;
@@ -15,7 +15,7 @@ impl<S: Service + Drop, W: Worker + Drop> Core<S, W> {
     /// come before it, or else as `go_next` does.
     pub(crate) fn go_ready(&mut self, table: &Table) -> Result<Option<Move>, NoMemory>
         requires fits { AllFit (map (λ r. r.rule) table.now.list.items) self.old.services.list }
-        requires come { IsGoing self.old }
+        requires come { IsReachable self.old }
         ensures made { IsAdvancedOrOver self.old.jobs.jobs self.old.budget (run_core self.old) (run_core self.new) result }
         ensures fits { AllFit (map (λ r. r.rule) table.now.list.items) self.new.services.list }
         ensures budget { self.new.budget ≡ self.old.budget }
