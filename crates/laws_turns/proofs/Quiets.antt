@@ -18,7 +18,7 @@ use Rattle.fk_model.specs.World.{World, edited}
 use Rattle.fk_model.specs.World.Edit.{Proceed}
 use Rattle.fk_model.proofs.walks.PlaceLaws.{same_path_refl}
 use Rattle.laws_bursts.specs.Bursts.{Burst, instructed, made}
-use Rattle.laws_bursts.specs.Laws.{IsWhereItBegan, HasPages, committed, move_of, AreUnheard as TellNothing, LeadQuietly}
+use Rattle.laws_bursts.specs.Laws.{IsWhereItBegan, HasPages, committed, move_of, AreQuiet as TellNothing, LeadQuietly}
 use Rattle.laws_bursts.proofs.Moves.{bursts_are_moves_lem, instructed-used}
 use Rattle.laws_runs.specs.Cores.{House, JobEnd, Work, IsGone, others_ask, asks_of_job, work_asks, work_of, current, asker}
 use Rattle.laws_runs.specs.Cores.Asker.{Others}

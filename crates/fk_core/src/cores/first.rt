@@ -5,12 +5,12 @@ ghost use Rattle.fk_core.specs.Cores.Cores.{run_core, is_porter, IsAdvanced, IsA
 ghost use Rattle.fk_core.specs.Cores.Goings.{IsReachable};
 
 use crate::cores::turns::Core;
-use fk_jobs::Worker;
+use fk_jobs::JobMachine;
 use fk_model::{Move, NoMemory, Who};
 use fk_natives::Service;
 use fk_responders::Table;
 
-impl<S: Service + Drop, W: Worker + Drop> Core<S, W> {
+impl<S: Service + Drop, W: JobMachine + Drop> Core<S, W> {
     /// Makes a move that is ready, of whoever comes next: of the thread that is first of the ready, where that is made as it is looked at and no server may
     /// come before it, or else as `go_next` does.
     pub(crate) fn go_ready(&mut self, table: &Table) -> Result<Option<Move>, NoMemory>

@@ -9,13 +9,13 @@ ghost use Rattle.fk_core.specs.Cores.Cores.{run_core, is_porter, may_lack_asked,
 ghost use Rattle.fk_core.specs.Cores.Goings.{IsReachable};
 
 use crate::cores::turns::Core;
-use fk_jobs::Worker;
+use fk_jobs::JobMachine;
 use fk_model::{Move, NoMemory, Who};
 use fk_natives::Service;
 use fk_responders::Table;
 use fk_served::asking::left_by;
 
-impl<S: Service + Drop, W: Worker + Drop> Core<S, W> {
+impl<S: Service + Drop, W: JobMachine + Drop> Core<S, W> {
     /// Hands over the turn of a port's server, where its client receives, and answers whether it did; else all is as before.
     fn pass_at(&mut self, table: &Table, port: Who) -> bool
         requires few { self.old.events < self.old.budget }

@@ -9,12 +9,12 @@ ghost use Rattle.laws_runs.specs.Cores.{IsRun};
 
 use crate::cores::turns::Core;
 use crate::rounds::ROUND;
-use fk_jobs::Worker;
+use fk_jobs::JobMachine;
 use fk_model::{Move, NoMemory, Who};
 use fk_natives::Service;
 use fk_responders::Table;
 
-impl<S: Service + Drop, W: Worker + Drop> Core<S, W> {
+impl<S: Service + Drop, W: JobMachine + Drop> Core<S, W> {
     /// So many moves are left until the look goes round or the budget is used.
     fn left(&self) -> u64
         ensures round { self.now.events % 64 + result ≤ 64 }

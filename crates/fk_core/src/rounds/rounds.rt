@@ -68,7 +68,7 @@ impl Rounds {
 
     /// The port whose server the last move told something, but where the look goes round and where the budget is used.
     #[inline(always)]
-    pub fn heard<S: Service + Drop, W: Worker + Drop>(
+    pub fn heard<S: Service + Drop, W: JobMachine + Drop>(
         &self,
         moment: &Moment<'_, S, W>,
     ) -> Option<Who>
@@ -99,7 +99,7 @@ impl Rounds {
     }
 
     /// A server may come before the threads: one that heard of the last move, or in every second round one, each in its turn. It is a hint.
-    pub fn may_serve<S: Service + Drop, W: Worker + Drop>(
+    pub fn may_serve<S: Service + Drop, W: JobMachine + Drop>(
         &self,
         moment: &Moment<'_, S, W>,
     ) -> bool {
