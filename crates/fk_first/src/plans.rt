@@ -35,7 +35,11 @@ fn source_of(before: &[JobSpec], image: &str, given: Option<ValidImage>) -> Sour
 }
 
 /// What is planned of a job that stands behind others, for which an image was given or none.
-fn plan_of(before: &[JobSpec], job: &JobSpec, given: Option<ValidImage>) -> Result<PlannedJob, NoMemory>
+fn plan_of(
+    before: &[JobSpec],
+    job: &JobSpec,
+    given: Option<ValidImage>,
+) -> Result<PlannedJob, NoMemory>
     ensures { IfOk result (λ plan. job_of plan ≡ houses.job_of before.now job.now given) }
 {
     match job {

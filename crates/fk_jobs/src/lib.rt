@@ -20,7 +20,8 @@ mod porter;
 
 pub use ended::{Ended, Finish, Unmoved};
 pub use job_machine::{
-    JobMachine, checkpoint_calls_fit_anywhere, jobs_end_so, jobs_move_so, jobs_pick_nobody, fit_anywhere_is_fit,
+    JobMachine, checkpoint_calls_fit_anywhere, fit_anywhere_is_fit, jobs_end_so, jobs_move_so,
+    jobs_pick_nobody,
 };
 pub use jobs::Jobs;
 pub use plan::{PlannedJob, Source, Task};

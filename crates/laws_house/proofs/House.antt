@@ -154,7 +154,7 @@ jobs_meet_contract jobs servers names index j ends s its starts = by j.task star
         let is = same_state (Checking slot Holds) s e in
         subst (MeetsContract machine j.nester) is
         (parts_meet_contract (checkpoint slot) machine (Checking slot) Checked j.nester Holds (checkpoint_part slot)
-            (checkpoint_meets_contract slot j.nester low))
+        (checkpoint_meets_contract slot j.nester low))
     by (Restore slot pairs source) e names = made slot pairs names (valid_one (sourced ends source)) (λ image from. valid_is (sourced ends source) image from) e
 
 -- ---- each world of a run is nobody's cut
@@ -491,7 +491,7 @@ checkpoints_save jobs servers first c past run grounded index j slot begun last 
           (may_save e.nester e.may.named) e.work e.stopped).0,
       checkpoints_hold (house jobs servers) first c past run grounded.users
           (jobs_meet_contract jobs servers grounded.slots) grounded.start grounded.few index j slot pictured (Checked (Done image)) begun last
-              (picture image) its
+          (picture image) its
           (λ nester ends s named starts. subst (λ x. Saves machine j.nester slot pictured (world_at run begun) nester x)
           (sym (starts_checkpoint j.task ends slot s is starts))
           (saves_whole slot j.nester (world_at run begun) nester

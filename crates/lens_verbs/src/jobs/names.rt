@@ -66,7 +66,8 @@ pub struct Fate<'a> {
 /// How a job has ended by its own moves.
 fn ending_of(finish: &Finish) -> Ending<'_> {
     match finish {
-        Finish::Checkpoint(CheckpointEnd::Done(_)) | Finish::Restore(RestoreEnd::Done) => Ending::Done,
+        Finish::Checkpoint(CheckpointEnd::Done(_)) | Finish::Restore(RestoreEnd::Done) =>
+            Ending::Done,
         Finish::Checkpoint(CheckpointEnd::Foreign(place)) => Ending::Foreign(place),
         Finish::Checkpoint(CheckpointEnd::Gone) => Ending::Dead,
         Finish::Restore(RestoreEnd::Occupied) => Ending::Occupied,

@@ -67,7 +67,13 @@ fn bound(pairs: &[(u8, u8)], slot: u8) -> u8 {
 }
 
 /// Adds the slots of the nester to which an image leads out, each with the first object that does, and with what it is bound to and what stands there.
-fn push_outs(sheet: &Sheet, store: &Store, plan: &PlannedJob, pairs: &[(u8, u8)], spaces: &[SpaceRec]) {
+fn push_outs(
+    sheet: &Sheet,
+    store: &Store,
+    plan: &PlannedJob,
+    pairs: &[(u8, u8)],
+    spaces: &[SpaceRec],
+) {
     for slot in 0..240u8 {
         if let Some(path) = first_out(sheet, spaces, slot) {
             sheet.fill(b"; it leads out to slot @ by ", slot as u64, 0, 0);
