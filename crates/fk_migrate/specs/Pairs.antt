@@ -26,6 +26,7 @@ pub record Shown : Type 0 where
   pub makes : Makes
   pub events : List PairEvent
 
+-- a pair as its contracts see it: its slots, and what either side has come to
 abbrev pub shown : {S : Type 0} → pairs.Pair S → Shown
 shown p = record {
   slot = p.sender.near.slot;

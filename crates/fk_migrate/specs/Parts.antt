@@ -14,9 +14,11 @@ use Rattle.fk_migrate.specs.Turns.{NearPart, FarPart}
 use Rattle.fk_migrate.specs.declared.sender.Sender as senders
 use Rattle.fk_migrate.specs.declared.receiver.Receiver as receivers
 
+-- the near part of a sender in code
 abbrev pub near_seen : {S : Type 0} → senders.Sender S → NearPart
 near_seen s = record { world = world s.host.kernel; servers = s.host.services.list; side = saves_of s.near.saves }
 
+-- the far part of a receiver in code
 abbrev pub far_seen : {S : Type 0} → receivers.Receiver S → FarPart
 far_seen r = record { world = world r.host.kernel; servers = r.host.services.list }
 
@@ -28,6 +30,7 @@ pub record HasFarLanded (slot : ℕ) (q : FarPart) (new : Makes) (r : Run) (step
   pub part : q ≡ far_part (next_run slot r step)
   pub side : IsFar new (next_run slot r step).pair.far
 
+-- a turn of the far part is a step of the handover, of whichever run this is
 abbrev pub FarLands : ℕ → FarPart → Makes → Move → FarPart → Makes → Type 0
 FarLands slot p makes m q new = (r : Run) (step : Step) → p ≡ far_part r → IsFar makes r.pair.far → step_of r (events.Far m) ≡ Some step
     → HasFarLanded slot q new r step
@@ -36,5 +39,6 @@ FarLands slot p makes m q new = (r : Run) (step : Step) → p ≡ far_part r →
 abbrev pub told_near : ℕ → NearPart → Packet → NearPart
 told_near slot p packet = record p { side = near_told (both slot) p.side (packet_of packet) }
 
+-- what giving up makes of the near part
 abbrev pub given_up : ℕ → NearPart → NearPart
 given_up slot p = record p { side = gives_up (both slot) p.side }

@@ -75,9 +75,11 @@ pub record NearPart : Type 0 where
   pub servers : Services
   pub side : NearSide
 
+-- a move is ready in the near part: its porter's next call, or one of anybody else
 abbrev pub IsNearMove : ℕ → NearPart → Move → Type 0
 IsNearMove slot p m = IsReadyGiven p.servers p.world m (given_in p.world (near_call slot p.side) m)
 
+-- a move is fit in the near part
 abbrev pub IsNearFit : ℕ → NearPart → Move → Type 0
 IsNearFit slot p m = IsFitGiven p.servers p.world m (given_in p.world (near_call slot p.side) m)
 
@@ -87,6 +89,7 @@ pub record FarPart : Type 0 where
   pub world : World
   pub servers : Services
 
+-- a move is ready in the far part: its porter's next call, or one of anybody else
 abbrev pub IsFarMove : ℕ → FarPart → FarSide → Move → Type 0
 IsFarMove slot p f m = IsReadyGiven p.servers p.world m (given_in p.world (far_call slot f) m)
 

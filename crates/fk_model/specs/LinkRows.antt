@@ -24,6 +24,7 @@ use Rattle.fk_model.specs.Talks.{Line, line, ends_beyond, first_stage, path_to}
 
 -- ---- connect: a server's wait does it, or the port's native server. By itself it is only refused
 
+-- a thread without a talk asks for one at a port, and waits until its server takes it
 unfoldable pub connect : World → Caller → ℕ → Outcome
 connect w c h = do
   _ ← handle w c kinds.Port h

@@ -73,6 +73,7 @@ thread_at w c = and_then thread_of (w.body c)
 abbrev pub talk_at : World → Path → Option Talk
 talk_at w c = and_then (λ (t : Thread). t.talk) (thread_at w c)
 
+-- the fault of a thread, if it has one
 abbrev pub fault_at : World → Path → Option Fault
 fault_at w c = and_then (λ (t : Thread). t.fault) (thread_at w c)
 

@@ -83,6 +83,7 @@ birth_of other = None
 abbrev pub birth_at : World → Path → Option ℕ
 birth_at w x = and_then birth_of (w.body x)
 
+-- a pointer leads to a port that a native server serves
 abbrev pub is_served_port : World → Ptr → Bool
 is_served_port w (At x) = holds (λ (port : Option ℕ × Bool). port.1) (and_then port_of (w.body x))
 is_served_port w other = false

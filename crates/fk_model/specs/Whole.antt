@@ -42,6 +42,7 @@ is_porters w s = holds is_native (w.body (LAST_PORTER_SLOT ∷ s)) || holds (lea
 abbrev pub is_word : ℕ → Bool
 is_word n = nat_lt n (2 ^ 64)
 
+-- numbers below 2^64
 abbrev pub are_words : List ℕ → Bool
 are_words words = list_all is_word words
 

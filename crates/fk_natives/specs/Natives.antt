@@ -56,6 +56,7 @@ asks_at sides.Idle left = Some asks.Accept
 asks_at sides.Client left = None
 asks_at sides.Own left = Some (gives_left left)
 
+-- what a native server asks for next, by its side of the talk and by what it has left to give
 abbrev pub asks_for : State → Option Ask
 asks_for s = asks_at (side_of s) (left_of s)
 

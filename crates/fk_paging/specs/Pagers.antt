@@ -18,6 +18,7 @@ pub use Rattle.fk_model.specs.Outcomes.{answered}
 abbrev pub page_words : Page → Option (List ℕ)
 page_words page = if page.listed then Some page.words else None
 
+-- the words that a pager keeps for a page, if it has taken that
 abbrev pub backing_of : List Page → ℕ → Option (List ℕ)
 backing_of pages g = and_then page_words (slice_get pages g)
 

@@ -53,6 +53,7 @@ pub record AreEnds (w : World) (sender receiver : Path) (address into : ℕ) : T
 abbrev pub passed_by : Who → Turn → Who → Option Bool → Verdict
 passed_by client turn peer came = verdicts.Done (plans.Two (deeds.Finishes peer came) (deeds.Passes client turn)) Nothing
 
+-- the verdict over a turn that passes to a thread at its Receive
 abbrev pub passed_of : Passage → Verdict
 passed_of h = passed_by h.client h.turn h.receiver h.came
 

@@ -141,6 +141,7 @@ uses_shelf command = (row_of command).shelf
 abbrev pub is_shared : Option Command → Bool
 is_shared command = (row_of command).shared
 
+-- which files a command leaves
 abbrev pub leaves : Option Command → Files
 leaves command = (row_of command).leaves
 

@@ -201,6 +201,7 @@ abbrev pub costs : List Task → ℕ
 costs [] = 0
 costs (t ∷ ts) = cost_of t + costs ts
 
+-- a seeker makes three calls for each field, one for each step down, and one for each object
 abbrev pub ForeignIsBounded : Type 0
 ForeignIsBounded = (nester : Path) (slot : ℕ) (w v : World) (t : State) (es : List Event) (ts : List Task) →
     (run : Interleaved (seeker slot) nester w (begin slot ts) es v t) → own_moves run ≤ costs ts

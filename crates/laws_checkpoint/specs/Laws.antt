@@ -39,6 +39,7 @@ EndsAsItWas w nester slot Gone = IsSpaceAt w (slot ∷ nester) → ⊥
 EndsAsItWas w nester slot (Foreign place) = IsSpaceAt w (slot ∷ nester) × (open_place w nester slot ≡ Some place)
 EndsAsItWas w nester slot (Done image) = IsSpaceAt w (slot ∷ nester) × IsClosed w nester slot
 
+-- a checkpoint ends as the subtree was when it began: no space in the slot; not closed, and the first place that says so; or closed
 abbrev pub CheckpointEndsAsItWas : Type 0
 CheckpointEndsAsItWas = (slot birth : ℕ) (w v : World) (nester : Path) (t : State) (end : End) → slot ≤ LAST_USER_SLOT → MayBegin w nester birth →
     AtWork (checkpoint slot) nester w Holds v t → (checkpoint slot).head t ≡ Stops end → EndsAsItWas w nester slot end
@@ -93,6 +94,7 @@ pub record LeavesRest (slot birth : ℕ) (w : World) (nester : Path) : Type 0 wh
       → IsSpaceAt w (slot ∷ nester) →
       holder_of (v.body (slot ∷ nester)) ≡ None
 
+-- each call of a checkpoint leaves all but its scratch and who holds the subtree's root, and at its end nobody holds that
 abbrev pub CheckpointLeavesRest : Type 0
 CheckpointLeavesRest = (slot birth : ℕ) (w : World) (nester : Path) → slot ≤ LAST_USER_SLOT → MayBegin w nester birth → IsSound (after w (hold nester slot))
     → LeavesRest slot birth w nester

@@ -69,6 +69,7 @@ SavedIsPlain V = (jobs : List Job) (servers : Servers V) (first c : Core State E
     j.task ≡ Saves slot → slice_get c.ends index ≡ Some (Worked (Checked (Done image)) hold release) → (nester : Path) →
     birth_at (world_at run hold) nester ≡ Some j.nester → IsPlain (world_at run hold) nester slot
 
+-- a saved subtree was plain at its hold, so that from there on the history's moves that it sees are a further run of it
 abbrev pub EntriesArePlain : Type 0 → Type 0
 EntriesArePlain V = (specs : List JobSpec) (images : List (Option Image)) (servers : Servers V) (first c : Core State End V) (past : List Move)
     (run : IsRun (house (jobs_of specs images) servers) first past c) → IsGrounded (jobs_of specs images) servers first past →

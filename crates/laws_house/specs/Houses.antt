@@ -71,6 +71,7 @@ abbrev pub image_of_end : End → Option Image
 image_of_end (Checked (Done image)) = Some image
 image_of_end other = None
 
+-- the image that a job has made, by how it has ended
 abbrev pub image_made : Option (JobEnd End) → Option Image
 image_made (Some (Worked end begun last)) = image_of_end end
 image_made other = None
@@ -129,5 +130,6 @@ unfoldable pub jobs_from : List JobSpec → List JobSpec → List (Option Image)
 jobs_from before [] images = []
 jobs_from before (j ∷ js) images = job_of before j (given_first images) ∷ jobs_from (before ++ j ∷ []) js (drop 1 images)
 
+-- the jobs of a scenario, with the images that its files hold
 abbrev pub jobs_of : List JobSpec → List (Option Image) → List Job
 jobs_of specs images = jobs_from [] specs images

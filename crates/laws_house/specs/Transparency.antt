@@ -47,6 +47,7 @@ abbrev pub NamesSlots : JobSpec → Type 0
 NamesSlots (specs_of.Checkpoint moment nester path slot image) = slot ≤ LAST_USER_SLOT
 NamesSlots (specs_of.Restore moment nester slot image bind) = (slot ≤ LAST_USER_SLOT) × (are_user_pairs bind ≡ true)
 
+-- the jobs of a scenario name users' slots where its reader has seen that they do
 abbrev pub JobsNameUsersSlots : Type 0
 JobsNameUsersSlots = (specs : List JobSpec) (images : List (Option Image)) → All NamesSlots specs → NameUsersSlots (jobs_of specs images)
 
@@ -141,6 +142,8 @@ pub record IsTransparent {V : Type 0} {jobs : List Job} {servers : Servers V} {f
       j.task ≡ Restore place pairs (MadeBy from) → slice_get c.ends to ≡ Some (Worked (Restored restores.Done) made done) → from < to →
       GoesOnAgain i.nester slot (world_at run hold) j.nester place (world_at run made) (world_at run (done + 1)) (bound_by pairs)
 
+-- all together, over any run from a first world that is grounded: its history is legal; each checkpoint and each restore ends as it should, by its own moves,
+-- at their places, and leaves the rest; and what was saved and made again goes on exactly as it would have
 abbrev pub RunsAreTransparent : Type 0 → Type 0
 RunsAreTransparent V = (jobs : List Job) (servers : Servers V) (first c : Core State End V) (past : List Move) (run : IsRun (house jobs servers) first past c) →
     IsGrounded jobs servers first past → IsTransparent run

@@ -18,6 +18,7 @@ use Rattle.laws_migrate.specs.Laws.{Happens, pair_after}
 abbrev pub HasPorter : World → Type 0
 HasPorter w = holds is_native (w.body (LAST_PORTER_SLOT ∷ top)) ≡ true
 
+-- no move of a user or a native server takes the root's porter away
 abbrev pub RootKeepsPorter : Type 0
 RootKeepsPorter = (w : World) (e : Event) → IsUsersMove top w e → HasPorter w → HasPorter (after w e)
 
@@ -29,6 +30,7 @@ pub record IsCalmNow {P : Type 0} (codec : Codec Image P) (slot : ℕ) (p : Both
   pub near_room : HasRoom p.near_world
   pub far_room : HasRoom p.far_world
 
+-- a porter's call is ready wherever the far root had its porter at the beginning, whatever was done before the copy is made
 abbrev pub MigrationGoesOn : Type 0 → Type 0
 MigrationGoesOn P = (codec : Codec Image P) (slot : ℕ) (w v : World) (es : List (Step codec slot)) (h : World) → Happens codec slot w v es h →
     HasPorter v → IsCalmNow codec slot (pair_after codec slot w v es) →

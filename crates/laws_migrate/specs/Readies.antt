@@ -28,6 +28,7 @@ pub record IsUnhindered {P : Type 0} (codec : Codec Image P) (slot : ℕ) (p : B
   pub far_room : HasRoom p.far_world
   pub porter : holds is_native (p.far_world.body (LAST_PORTER_SLOT ∷ top)) ≡ true
 
+-- from the hold on, until it is over, a porter's call is ready wherever every packet that was sent has come and nothing outside the two subtrees is held
 abbrev pub MigrationIsReady : Type 0 → Type 0
 MigrationIsReady P = (codec : Codec Image P) (slot : ℕ) (w v : World) (es : List (Step codec slot)) (h : World) → Happens codec slot w v es h →
     IsUnhindered codec slot (pair_after codec slot w v es) →

@@ -83,12 +83,14 @@ pub record IsComposed {J S A V : Type 0} {h : House J S A V} {first c : Core S A
   pub ended : (index : ℕ) (end : A) (begun last : ℕ) → slice_get c.ends index ≡ Some (Worked end begun last) → HasEnded run index end begun last
   pub working : (k : Work S) → c.work ≡ Some k → HasWorked run (length c.ends) c.ends k.begun (length past)
 
+-- whatever the moves of a run, each job's moves are its machine's among others' moves
 abbrev pub RunIsComposed : Type 0 → Type 0 → Type 0 → Type 0 → Type 0
 RunIsComposed J S A V = (h : House J S A V) (first c : Core S A V) (past : List Move) (run : IsRun h first past c) →
     AskAsUsers h → JobsMeetContract h → IsStart first → first.world.next + length past ≤ depth → IsComposed run
 
 -- ---- a history has one run
 
+-- a history has one run: the core that it comes to is determined, and so is the world after each of its moves
 abbrev pub OneRun : Type 0 → Type 0 → Type 0 → Type 0 → Type 0
 OneRun J S A V = (h : House J S A V) (first c d : Core S A V) (past : List Move) (run : IsRun h first past c) (other : IsRun h first past d) →
     (c ≡ d) × ((k : ℕ) → world_at run k ≡ world_at other k)

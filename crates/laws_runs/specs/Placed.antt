@@ -52,6 +52,8 @@ pub record EndedThere {J S A V : Type 0} {h : House J S A V} {first c : Core S A
   pub there : WorksThere run (λ (s : S). s) begun work
   pub stopped : h.machine.head state ≡ Stops end
 
+-- one that has ended was at work at its places: what its machine did among others' moves are the run's moves from its first to its last, and its own are those
+-- for which it asked there
 abbrev pub EndsAreThere : Type 0 → Type 0 → Type 0 → Type 0 → Type 0
 EndsAreThere J S A V = (h : House J S A V) (first c : Core S A V) (past : List Move) (run : IsRun h first past c) →
     AskAsUsers h → JobsMeetContract h → IsStart first → first.world.next + length past ≤ depth →

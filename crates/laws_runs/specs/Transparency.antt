@@ -30,6 +30,7 @@ pub record Checkpointed {J S A V : Type 0} {h : House J S A V} {first c : Core S
   pub picture : saved ≡ cut (world_at run begun) nester slot
   pub same : (k : ℕ) → begun ≤ k → k ≤ last + 1 → cut (world_at run k) nester slot ≡ cut (world_at run begun) nester slot
 
+-- a checkpoint that is done gives the picture of a closed subtree as it was at its first move, and that stays the same up to after its last one
 abbrev pub CheckpointsHold : Type 0 → Type 0 → Type 0 → Type 0 → Type 0
 CheckpointsHold J S A V = (h : House J S A V) (first c : Core S A V) (past : List Move) (run : IsRun h first past c) →
     AskAsUsers h → JobsMeetContract h → IsStart first → first.world.next + length past ≤ depth →
@@ -47,6 +48,7 @@ pub record Restored {J S A V : Type 0} {h : House J S A V} {first c : Core S A V
   pub plain : IsPlain (world_at run (last + 1)) nester slot
   pub cut_there : cut (world_at run (last + 1)) nester slot ≡ rebound bind saved
 
+-- a restore that is done leaves a plain subtree whose cut is the picture, its ports bound
 abbrev pub RestoresHold : Type 0 → Type 0 → Type 0 → Type 0 → Type 0
 RestoresHold J S A V = (h : House J S A V) (first c : Core S A V) (past : List Move) (run : IsRun h first past c) →
     AskAsUsers h → JobsMeetContract h → IsStart first → first.world.next + length past ≤ depth →

@@ -33,6 +33,7 @@ pub record IsJobsMove {J S A V : Type 0} {h : House J S A V} {first c : Core S A
   -- it is the job's first move, or one of its later ones
   pub at : ((begun ≡ length past) × (t ≡ start)) ⊎ AtWork h.machine nester (world_at run begun) start c.world t
 
+-- a move of a job is its machine's call at that moment, in a run in which the job has worked alone among others
 abbrev pub JobsMoves : Type 0 → Type 0 → Type 0 → Type 0 → Type 0
 JobsMoves J S A V = (h : House J S A V) (first c : Core S A V) (past : List Move) (run : IsRun h first past c) →
     AskAsUsers h → JobsMeetContract h → IsStart first → first.world.next + length past ≤ depth →
@@ -67,6 +68,7 @@ pub record MovesAt {J S A V : Type 0} {h : House J S A V} {first c : Core S A V}
   pub goes : world_at run (k + 1) ≡ after (world_at run k) (call_of nester stage words)
   pub at : ((begun ≡ k) × (t ≡ start)) ⊎ AtWork h.machine nester (world_at run begun) start (world_at run k) t
 
+-- each move of a history that a job has made leads from the world before it to the world after it by a call of its machine
 abbrev pub JobsMovesInHistory : Type 0 → Type 0 → Type 0 → Type 0 → Type 0
 JobsMovesInHistory J S A V = (h : House J S A V) (first c : Core S A V) (past : List Move) (run : IsRun h first past c) →
     AskAsUsers h → JobsMeetContract h → IsStart first → first.world.next + length past ≤ depth →

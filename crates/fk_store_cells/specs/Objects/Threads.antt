@@ -57,5 +57,6 @@ passing turn t = record t { talk = option_map (passed turn) t.talk }
 abbrev pub stopping : ℕ → State → State
 stopping stops t = record t { stops = stops }
 
+-- a thread with this fault, or with none
 abbrev pub faulting : Option Fault → State → State
 faulting fault t = record t { fault = fault }

@@ -33,6 +33,7 @@ IsReadAt x key other = ⊥
 
 -- ---- why a thread can't move
 
+-- a thread is blocked for a reason that no move of another ends
 pub record IsStill (w : World) (x : Path) : Type 0 where
   pub reason : Reason
   pub stuck : IsStuck w x reason
@@ -50,6 +51,7 @@ is_loud_reason (Locking mutex) = false
 is_loud_reason Barred = false
 is_loud_reason other = true
 
+-- a thread is blocked, and it isn't only that its mutex is locked
 pub record IsLoudly (w : World) (x : Path) : Type 0 where
   pub reason : Reason
   pub stuck : IsStuck w x reason

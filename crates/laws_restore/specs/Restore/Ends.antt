@@ -24,6 +24,8 @@ EndsSo w v nester slot bind c Done = (w.body (slot ∷ nester) ≡ None) × (cut
 EndsSo w v nester slot bind c Occupied = IsSome (w.body (slot ∷ nester)) × (v ≡ w)
 EndsSo w v nester slot bind c (NoPort port) = (w.body (slot ∷ nester) ≡ None) × ((q : Path) → v.body (q ++ slot ∷ nester) ≡ None)
 
+-- a restore ends so: its slot was empty and the subtree stands there unheld; or it was empty, a port was missing and nothing stands there again; or it was
+-- taken and nothing was done
 abbrev pub RestoreEndsSo : Type 0
 RestoreEndsSo = (slot birth : ℕ) (bind : ℕ → ℕ) (c : World) (rooms : List Room) (w v : World) (nester : Path) (t : State) (end : End) → slot ≤ LAST_USER_SLOT
     → IsRoomed bind c rooms → MayBegin w nester birth →

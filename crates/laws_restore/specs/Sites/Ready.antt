@@ -19,6 +19,7 @@ use Rattle.laws_restore.specs.Sites.Orders.{Site, Shows, Order, stage_of, words_
 use Rattle.laws_restore.specs.Sites.Orders.Pin.{NoPin}
 use Rattle.laws_restore.specs.Sites.Fit.{IsUnled}
 
+-- a restorer's next call is ready wherever its porter is free and no space outside its subtree is held
 abbrev pub NextIsReady : Type 0
 NextIsReady = (nester : Path) (slot : ℕ) (g : Site) (w : World) (o : Order) → Shows nester slot g w → May slot o g → IsValid w → IsUnheldOutside
     (slot ∷ nester) w →

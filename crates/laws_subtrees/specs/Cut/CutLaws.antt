@@ -110,6 +110,7 @@ is_hidden_stage (FaultPark s x port taken) = false
 is_hidden_stage (HoldSet s x thread) = false
 is_hidden_stage (SpaceMakeHeld x) = false
 
+-- a stage of which nothing is seen from outside
 abbrev pub IsPlainStage : Stage → Type 0
 IsPlainStage stage = is_hidden_stage stage ≡ true
 
@@ -117,6 +118,7 @@ IsPlainStage stage = is_hidden_stage stage ≡ true
 abbrev pub IsForPorters : Stage → Type 0
 IsForPorters stage = is_for_porters stage ≡ true
 
+-- a stage that a porter is denied
 abbrev pub IsForUsers : Stage → Type 0
 IsForUsers stage = is_for_users stage ≡ true
 
@@ -126,33 +128,42 @@ names_server (LinkSet s x port server) = true
 names_server (FaultSet s x port taker) = true
 names_server other = false
 
+-- a porter's stage that makes a talk or a fault again with its server
 abbrev pub IsServerNamed : Stage → Type 0
 IsServerNamed stage = names_server stage ≡ true
 
+-- another of a porter's own stages, which names no server
 abbrev pub IsServerless : Stage → Type 0
 IsServerless stage = (is_for_porters stage && not (names_server stage)) ≡ true
 
+-- a server receives
 abbrev pub IsServerReceive : Stage → Type 0
 IsServerReceive stage = (into : ℕ) × (room : ℕ) × (stage ≡ ServerReceive into room)
 
 abbrev pub IsServerReceiveRef : Stage → Type 0
 IsServerReceiveRef stage = (into : ℕ) × (room : ℕ) × (reference : ℕ) × (stage ≡ ServerReceiveRef into room reference)
 
+-- a page is taken from a space
 abbrev pub IsPageTake : Stage → Type 0
 IsPageTake stage = (s : ℕ) × (page : ℕ) × (address : ℕ) × (stage ≡ PageTake s page address)
 
+-- a page is given to a space
 abbrev pub IsPageGive : Stage → Type 0
 IsPageGive stage = (s : ℕ) × (page : ℕ) × (address : ℕ) × (stage ≡ PageGive s page address)
 
+-- a condition is signalled
 abbrev pub IsSignal : Stage → Type 0
 IsSignal stage = (cond : ℕ) × (stage ≡ CondSignal cond)
 
+-- a fault that was taken is ended
 abbrev pub IsFaultDone : Stage → Type 0
 IsFaultDone stage = stage ≡ FaultDone
 
+-- an object gets another slot
 abbrev pub IsRename : Stage → Type 0
 IsRename stage = (s : ℕ) × (x : ℕ) × (y : ℕ) × (stage ≡ Rename s x y)
 
+-- an object is destroyed
 abbrev pub IsDestroy : Stage → Type 0
 IsDestroy stage = (s : ℕ) × (x : ℕ) × (stage ≡ Destroy s x)
 
@@ -175,15 +186,19 @@ AcceptKeepsCut = (w : World) (nester : Path) (slot : ℕ) (port : Path) (pick : 
 
 -- ---- messages
 
+-- a server sends words
 abbrev pub IsServerSend : Stage → Type 0
 IsServerSend stage = (address : ℕ) × (count : ℕ) × (stage ≡ ServerSend address count)
 
+-- a client sends words
 abbrev pub IsClientSend : Stage → Type 0
 IsClientSend stage = (address : ℕ) × (count : ℕ) × (stage ≡ ClientSend address count)
 
+-- a server hands its client the turn
 abbrev pub IsServerOver : Stage → Type 0
 IsServerOver stage = stage ≡ ServerOver
 
+-- a client hands its peer the turn
 abbrev pub IsClientOver : Stage → Type 0
 IsClientOver stage = stage ≡ ClientOver
 
@@ -205,14 +220,17 @@ OverKeepsCut = (w : World) (nester : Path) (slot : ℕ) (port : Path) (pick : Op
 
 -- ---- ends
 
+-- a client ends its talk
 abbrev pub IsDisconnect : Stage → Type 0
 IsDisconnect stage = stage ≡ Disconnect
 
+-- a server ends the talk of its client
 abbrev pub IsServerEnd : Stage → Type 0
 IsServerEnd stage = stage ≡ ServerEnd
 
 -- ---- waits
 
+-- a thread waits at a port set
 abbrev pub IsWait : Stage → Type 0
 IsWait stage = (set : ℕ) × (stage ≡ Wait set)
 
