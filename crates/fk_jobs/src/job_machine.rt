@@ -83,7 +83,7 @@ pub fn jobs_move_so<V>()
     ensures { JobMovesSo V }
 {}
 
-/// And so is an end without a move.
+/// An end of a job without a move is in a run what its jobs hear of it.
 pub fn jobs_end_so<V>()
     ensures { JobEndsSo V }
 {}

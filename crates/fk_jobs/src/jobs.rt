@@ -278,7 +278,7 @@ impl<W: JobMachine + Drop> Jobs<W> {
         self.ends.as_slice()
     }
 
-    /// The same, handed out.
+    /// How those have ended that have, handed out.
     pub fn into_ends(self) -> Vec<Ended>
         ensures { shown_ends result.items ≡ self.ends }
     {

@@ -45,7 +45,7 @@ impl<S: Service + Drop> Pair<S> {
         pair
     }
 
-    /// The same, by what each part has come to.
+    /// A pair of two hosts that migrates a slot, by what each part has come to.
     fn of(alloc: Global, near: Host<S>, far: Host<S>, slot: u8) -> Pair<S>
         requires { slot ≤ LAST_USER_SLOT }
         ensures near { result.sender.host ≡ near }
@@ -87,7 +87,7 @@ impl<S: Service + Drop> Pair<S> {
         self.events.as_slice()
     }
 
-    /// The same, handed out.
+    /// The events that it has taken, in their order, handed out.
     pub fn into_events(self) -> Vec<Event>
         ensures { result.items ≡ (shown self).events }
     {
@@ -123,7 +123,7 @@ impl<S: Service + Drop> Pair<S> {
         self.sender.choose()
     }
 
-    /// The same in the far kernel.
+    /// A ready move of a user or a server in the far kernel; none exactly where there is none.
     pub fn choose_far(&mut self) -> Option<Move>
         ensures ready { IfSome result (λ m. IsReadyAsked (shown self.old).far.servers (shown self.old).far.world m) }
         ensures none { IfNone result ((m : moves.Move) → IsReadyAsked (shown self.old).far.servers (shown self.old).far.world m → ⊥) }

@@ -192,7 +192,7 @@ impl<S: Service + Drop> PagedRun<S> {
         self.wait_for_any()
     }
 
-    /// The same by a look at all objects.
+    /// The wait that takes a fault of the pager's, by a look at all objects.
     fn wait_for_any(&self) -> Option<Move>
         requires waits { (moment self.now).state.phase ≡ pagers.Waiting }
         ensures ready { IfSome result (λ m. IsPagersMove (desk self.now) (moment self.now) m) }
@@ -267,7 +267,7 @@ impl<S: Service + Drop> PagedRun<S> {
         }
     }
 
-    /// The same where another's goes first.
+    /// Whose move comes next where another's than the pager's goes first.
     fn choose_other(&mut self) -> Option<Turn>
         requires driven { IsDriven self.old }
         requires opened { is_opening (moment self.old).state.phase ≡ false }

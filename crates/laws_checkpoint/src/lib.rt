@@ -80,7 +80,7 @@ pub fn a_checkpoint_images_its_subtree()
     ensures { CheckpointImagesSubtree }
 {}
 
-/// So it is what a run wants of a checkpoint.
+/// A checkpoint that is done saves its subtree, as a run wants of it.
 pub fn a_checkpoint_saves()
     ensures { CheckpointSaves }
 {}

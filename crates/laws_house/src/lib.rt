@@ -39,7 +39,7 @@ pub fn checkpoints_are_brief<V>()
     ensures { CheckpointsAreBrief V }
 {}
 
-/// And a restore at most 40 (n + 1) (d + 1), by its image.
+/// Ended or not, a restore of a run has made at most 40 (n + 1) (d + 1) of its moves, where its image has n bodies and pages, none deeper than d.
 pub fn restores_are_brief<V>()
     ensures { RestoresAreBrief V }
 {}
@@ -130,7 +130,7 @@ pub fn jobs_end_clean<V>()
     ensures { JobsEndClean V }
 {}
 
-/// And behind a checkpoint's nobody holds the space that it looked at.
+/// Behind a checkpoint's last move nobody holds the space that it looked at.
 pub fn checkpoints_release<V>()
     ensures { CheckpointsRelease V }
 {}
@@ -140,7 +140,7 @@ pub fn restores_want_an_image<V>()
     ensures { RestoresWantAnImage V }
 {}
 
-/// And where a checkpoint is to make it, exactly where that one isn't done.
+/// Where a checkpoint is to make the image of a restore, there is none exactly where that checkpoint isn't done.
 pub fn restores_want_their_maker<V>()
     ensures { RestoresWantTheirMaker V }
 {}

@@ -56,7 +56,7 @@ pub fn own_changes_keep_the_open_place()
     ensures { OwnKeepOpenPlace }
 {}
 
-/// So does the hold itself.
+/// A porter's hold of a subtree keeps the place where that isn't closed.
 pub fn a_hold_keeps_the_open_place()
     ensures { HoldKeepsOpenPlace }
 {}

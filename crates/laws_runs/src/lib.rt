@@ -24,8 +24,7 @@ pub fn a_jobs_move_is_its_call<J, S, A, V>()
     ensures { JobsMoves J S A V }
 {}
 
-/// And each move of a history that a job has made leads from the world before it to the world after
-/// it by such a call.
+/// Each move of a history that a job has made leads from the world before it to the world after it by a call of its machine.
 pub fn a_historys_moves_are_calls<J, S, A, V>()
     ensures { JobsMovesInHistory J S A V }
 {}

@@ -194,7 +194,7 @@ impl Seek {
         }
     }
 
-    /// The same object, looked at in another way.
+    /// A search at the object at which it stands, looked at in another way.
     fn on(&self, look: Look) -> Sought
         ensures { result ≡ sought.Goes (record { at = self.now.at; look = look }) }
     {

@@ -39,7 +39,7 @@ fn before(who: Who) -> Option<Who> {
     })
 }
 
-/// The same move, or one that picks another of those who wait for the same behind its pick.
+/// This move, or one that picks another of those who wait for the same behind its pick.
 fn varied(core: &Run, random: &mut Random, found: Move) -> Move {
     let mut one = found;
     let mut at = found.pick;
