@@ -107,13 +107,14 @@ impl HostJob {
             pick: None,
         };
         let ask = Ask::Call { stage, words };
-        if !host.kernel().is_fit(&m, &ask) {
+        let kernel = host.kernel();
+        kernel.is_runnable();
+        if !kernel.is_fit(&m, &ask) {
             return Err(Stop::Waits);
         }
         if !host.ready(&m, &ask) {
             return Err(Stop::Waits);
         }
-        host.kernel().is_runnable();
         match host.turn(table, &m, &ask) {
             Ok(said) => {
                 host.kernel().is_runnable();
