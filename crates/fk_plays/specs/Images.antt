@@ -22,11 +22,12 @@ abbrev pub needed : List JobSpec → JobSpec → Option (List ℕ)
 needed before (Checkpoint moment nester path slot image) = None
 needed before (Restore moment nester slot image bind) = unmade image (maker_from 0 before image)
 
--- what the bytes of a file are, or that it isn't there
+-- the image that the bytes of a file are, or their first fault
 abbrev pub read_bytes : List ℕ → Result Image (ℕ × ℕ) → Result (Option Image) Status
 read_bytes name (Ok image) = Ok (Some image)
 read_bytes name (Err fault) = Err (BadImage name fault.0 fault.1)
 
+-- what is read of a file under the name of an image, which may not be there
 abbrev pub read_file : List ℕ → Option (List ℕ) → Result (Option Image) Status
 read_file name None = Err (Absent name)
 read_file name (Some bytes) = read_bytes name (image_reading bytes)

@@ -28,6 +28,7 @@ abbrev pub IsTraced : List ℕ → Scenario → Images → Option (List ℕ) →
 IsTraced name s images None outcome text = IsRefused (Absent name) outcome text
 IsTraced name s images (Some trace) outcome text = IsPlayedFrom s images trace outcome text
 
+-- a play of whatever the shelf may have under the name of the trace
 abbrev pub IsPlayedBy : List ℕ → Option FileMap → Scenario → Images → Outcome → List ℕ → Type 0
 IsPlayedBy name files s images outcome text = (trace : Option (List ℕ)) × HasAt files (trace_name name) trace × IsTraced name s images trace outcome text
 

@@ -39,6 +39,7 @@ abbrev pub IsRecordFile : List ℕ → Scenario → Images → List ℕ → Opti
 IsRecordFile name s given trace None outcome text = IsRefused (Absent name) outcome text
 IsRecordFile name s given trace (Some bytes) outcome text = IsReplayedBy s given trace bytes outcome text
 
+-- a replay of a trace by whatever the shelf may have under the name of the record
 abbrev pub IsReplayedOf : List ℕ → Option FileMap → Scenario → Images → List ℕ → Outcome → List ℕ → Type 0
 IsReplayedOf name files s given trace outcome text =
     (file : Option (List ℕ)) × HasAt files (record_name name) file × IsRecordFile name s given trace file outcome text
@@ -50,6 +51,7 @@ IsTraceFile name files s given (Some trace) outcome text =
     ((index : ℕ) × traces.IsFirstBad (λ _ _. ⊤) trace index × IsRefused (BadTrace index) outcome text)
     ⊎ ((moves : List Move) × traces.Spells (λ _ _. ⊤) trace moves × IsReplayedOf name files s given trace outcome text)
 
+-- a replay of whatever the shelf may have under the name of the trace
 abbrev pub IsReplayedWith : List ℕ → Option FileMap → Scenario → Images → Outcome → List ℕ → Type 0
 IsReplayedWith name files s given outcome text =
     (trace : Option (List ℕ)) × HasAt files (trace_name name) trace × IsTraceFile name files s given trace outcome text

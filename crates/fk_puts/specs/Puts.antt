@@ -36,6 +36,7 @@ PutImages ends place [] old new = new ≡ old
 PutImages ends place (name ∷ names) old new =
     (between : Option FileMap) × PutsEnd name (end_in (slice_get ends place)) old between × PutImages ends (place + 1) names between new
 
+-- the trace of a run, where it has a name
 abbrev pub PutsTrace : Option (List ℕ) → List Move → Option FileMap → Option FileMap → Type 0
 PutsTrace None history old new = new ≡ old
 PutsTrace (Some name) history old new = IsPut old (trace_name name) (trace_text history) new
@@ -45,6 +46,7 @@ abbrev pub PutsRun : Option (List ℕ) → Report → Option FileMap → Option 
 PutsRun trace report old new =
     (between : Option FileMap) × PutImages report.jobs 0 report.images old between × PutsTrace trace report.history between new
 
+-- the record of a run, where it was recorded
 abbrev pub PutsRecord : List ℕ → Option (List ℕ) → Option FileMap → Option FileMap → Type 0
 PutsRecord name None old new = new ≡ old
 PutsRecord name (Some text) old new = IsPut old (record_name name) text new
@@ -61,19 +63,23 @@ abbrev pub OpensEnd : List ℕ → Option JobEnd → Option FileMap → Option F
 OpensEnd name (Some (Checkpointed hold release image)) old new = KeepsOthers old new (image_name name)
 OpensEnd name other old new = new ≡ old
 
+-- of the images of jobs: that of the first, or, once that is put, of those behind it
 abbrev pub PutSomeImages : List (Option JobEnd) → ℕ → List (List ℕ) → Option FileMap → Option FileMap → Type 0
 PutSomeImages ends place [] old new = new ≡ old
 PutSomeImages ends place (name ∷ names) old new = OpensEnd name (end_in (slice_get ends place)) old new
     ⊎ ((between : Option FileMap) × PutsEnd name (end_in (slice_get ends place)) old between × PutSomeImages ends (place + 1) names between new)
 
+-- of the trace, where it has a name
 abbrev pub KeepsButTrace : Option (List ℕ) → Option FileMap → Option FileMap → Type 0
 KeepsButTrace None old new = new ≡ old
 KeepsButTrace (Some name) old new = KeepsOthers old new (trace_name name)
 
+-- of a run: of its images, or, once these are put, of its trace
 abbrev pub PutsSome : Option (List ℕ) → Report → Option FileMap → Option FileMap → Type 0
 PutsSome trace report old new = PutSomeImages report.jobs 0 report.images old new
     ⊎ ((between : Option FileMap) × PutImages report.jobs 0 report.images old between × KeepsButTrace trace between new)
 
+-- of a run that was recorded: of what it leaves besides, or, once that is put, of its record
 abbrev pub PutsSomeRecorded : List ℕ → Report → Option FileMap → Option FileMap → Type 0
 PutsSomeRecorded name report old new = PutsSome (Some name) report old new
     ⊎ ((between : Option FileMap) × PutsRun (Some name) report old between × KeepsOthers between new (record_name name))
@@ -100,6 +106,7 @@ HasPutSome (RecordFiles name) (Some report) old new = PutsSomeRecorded name repo
 abbrev pub IsImageName : List ℕ → Type 0
 IsImageName file = (name : List ℕ) × (file ≡ image_name name)
 
+-- the file of the trace of a run, where it has a name
 abbrev pub IsTraceName : Option (List ℕ) → List ℕ → Type 0
 IsTraceName None file = ⊥
 IsTraceName (Some name) file = file ≡ trace_name name

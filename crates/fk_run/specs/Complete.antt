@@ -68,6 +68,7 @@ IsRecordFile files s trace (Some bytes) = (entries : List Entry) × IsRecord (po
     × ((given : Images) (first : RunCore) → FindsImages files [] s.jobs (Ok given) → IsFirst s first
     → (moves : List Move) × Spells (MayPlay (begun s.jobs given s.budget (core_with first (all_replaying (replies_by s entries) first.servers)))) trace moves)
 
+-- a file that is a trace, each line of which is spelled, beside whatever record of it the shelf may have: by that the trace may be played
 abbrev pub IsReplayFile : Option FileMap → List ℕ → Scenario → Option (List ℕ) → Type 0
 IsReplayFile files name s None = ⊥
 IsReplayFile files name s (Some trace) = ((moves : List Move) × Spells (λ _ _. ⊤) trace moves)

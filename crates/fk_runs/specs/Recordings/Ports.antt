@@ -5,6 +5,7 @@ use Rattle.fk_scenario.specs.declared.entries.types.ServerEntry.{ServerEntry}
 use Rattle.fk_scenario.specs.declared.entries.types.ServiceSpec.{ServiceSpec}
 use Rattle.fk_scenario.specs.declared.entries.types.ServiceSpec.TheVariants.{Console, Listed}
 
+-- the path of a server's port before those of others; a console's isn't among them
 abbrev pub with_port : ServiceSpec → List ℕ → List (List ℕ) → List (List ℕ)
 with_port (Console alias) port ports = ports
 with_port (Listed index rule config) port ports = port ∷ ports
