@@ -33,7 +33,7 @@ first-with s k services q with c is sound places ends work same = record {
   first = core_at k (plain_seen services) q 0;
   is_first = record {
     world = is;
-    sound = sound;
+    sound = record { whole = sound.whole; savable = sound.savable };
     servers = placed-first (world k) services ∙ places;
     ends = ends;
     work = work;
@@ -54,12 +54,21 @@ pub replays-stand : (lists : List (List (List ℕ))) → StandThere (all_replayi
 replays-stand lists w [] = refl
 replays-stand lists w (e ∷ es) = ap (λ (ports : List Path). named w e.0 ∷ ports) (replays-stand (after_replaying lists e.1) w es)
 
-pub begun-with : (s : Scenario) (with : Services → Services) (c : RunCore) → StandThere with → IsFirstWith s with c → IsBegun s c
-begun-with s with c stand is =
+-- so a run may begin with these, too
+pub sound-with : (s : Scenario) (k : Kept) (services : List (Who × Native)) (q : Queue) (with : Services → Services) (c : RunCore) → StandThere with
+    → IsSoundStart (start_with s (world k) (ports_by (world k) (plain_seen services)) s.budget) → c ≡ core_at k (with (plain_seen services)) q 0
+    → IsSoundStart (start_with s c.world (ports_by c.world c.servers) s.budget)
+sound-with s k services q with c stand sound same =
+    let there : IsSoundStart (start_with s (world k) (ports_by (world k) (with (plain_seen services))) s.budget) =
+    subst (λ (ports : List Path). IsSoundStart (start_with s (world k) ports s.budget)) (sym (stand (world k) (plain_seen services))) sound in
+    subst (λ (d : RunCore). IsSoundStart (start_with s d.world (ports_by d.world d.servers) s.budget)) (sym same) there
+
+pub begun-with : (s : Scenario) (with : Services → Services) (c : RunCore) → IsFirstWith s with c → IsBegun s c
+begun-with s with c is =
     let f = is.is_first in
     let begun : IsBegun s (core_with is.first (with is.first.servers)) = record {
       world = f.world;
-      sound = subst (λ (ports : List Path). IsSoundStart (start_with s is.first.world ports s.budget)) (sym (stand is.first.world is.first.servers)) f.sound;
+      sound = f.sound;
       ends = f.ends;
       work = f.work;
       events = f.events;

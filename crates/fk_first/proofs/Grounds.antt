@@ -103,10 +103,6 @@ begins-soundly s given c jobs budget sound ends work events same_jobs same_budge
 pub first-begun : (s : Scenario) (c : RunCore) → IsFirst s c → IsBegun s c
 first-begun s c is = record { world = is.world; sound = is.sound; ends = is.ends; work = is.work; events = is.events }
 
-pub has-come : (s : Scenario) (given : List (Option Image)) (c : RunCore) (jobs : List Job) (budget : ℕ) → IsFirst s c
-    → jobs ≡ jobs_of s.jobs given → budget ≡ s.budget → HasCome jobs budget c
-has-come s given c jobs budget is same_jobs same_budget = begins-soundly s given c jobs budget is.sound is.ends is.work is.events same_jobs same_budget
-
 -- ---- servers as contracts see them stand at the same ports
 
 ports_shown : (w : World) (services : List (Who × Native)) → ports_by w (shown meaning services) ≡ ports_by w services

@@ -4,7 +4,7 @@ use Rattle.fk_core.specs.Cores.Kernels.{world_of as world}
 use Rattle.fk_first.proofs.Grounds.{begins-soundly, shown-sound}
 use Rattle.fk_first.proofs.Servers.{all-fit}
 use Rattle.fk_core.specs.Cores.Served.{AllFit}
-use Rattle.fk_first.proofs.Beginnings.{first-with, begun-with, taps-stand, fits-tapped}
+use Rattle.fk_first.proofs.Beginnings.{first-with, begun-with, sound-with, taps-stand, fits-tapped}
 use Rattle.fk_trace.specs.Posts.{all_tapped, plain_seen}
 use Rattle.laws_house.specs.Houses.{jobs_of}
 use Rattle.fk_first.proofs.posts.tapped_core.Goals as goal
@@ -23,11 +23,19 @@ returns-clause-first c =
 
 pub returns-clause-come : goal.returns-clause-come
 returns-clause-come c =
+    let made = c.new.ensures in
+    let first = c.in_ok-first.first in
+    let is = c.in_ok-first.ensures in
     let core = c.new.result in
-    let jobs : core.jobs.jobs ≡ jobs_of c.args.scenario.now.jobs c.args.images.now = ap (λ q. q.jobs) c.new.ensures.jobs ∙ c.in_ok-jobs.ensures.jobs in
-    let begun = begun-with c.args.scenario.now (all_tapped c.args.watch) (run_core core) (taps-stand c.args.watch) (returns-clause-first c) in
-    begins-soundly c.args.scenario.now c.args.images.now (run_core core) core.jobs.jobs core.budget begun.sound begun.ends begun.work begun.events jobs
-    (c.new.ensures.budget ∙ c.in_ok-first.ensures.budget)
+    let queue = c.in_ok-jobs.jobs in
+    let same : run_core core ≡ core_at first.kernel ((all_tapped c.args.watch) (plain_seen first.services.items)) queue 0 =
+    rw (made.kernel, made.services, made.jobs, made.events, c.in_ok-posts.ensures) refl in
+    let jobs : core.jobs.jobs ≡ jobs_of c.args.scenario.now.jobs c.args.images.now = ap (λ q. q.jobs) made.jobs ∙ c.in_ok-jobs.ensures.jobs in
+    let begun = begun-with c.args.scenario.now (all_tapped c.args.watch) (run_core core) (returns-clause-first c) in
+    begins-soundly c.args.scenario.now c.args.images.now (run_core core) core.jobs.jobs core.budget
+    (sound-with c.args.scenario.now first.kernel first.services.items queue (all_tapped c.args.watch) (run_core core) (taps-stand c.args.watch)
+        (shown-sound c.args.scenario.now (world first.kernel) first.services.items (plain_seen first.services.items) first.budget refl is.budget is.sound)
+        same) begun.ends begun.work begun.events jobs (made.budget ∙ is.budget)
 
 pub returns-clause-fits : goal.returns-clause-fits
 returns-clause-fits c = λ rules has.
