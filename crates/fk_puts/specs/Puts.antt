@@ -1,11 +1,11 @@
 -- What a command puts on the shelf.
-use Rattle.std.specs.Prelude.{◌≡◌, ◌⊎◌, ⊤, ℕ, ◌+◌, List, [], ◌∷◌, Option, Some, None}
+use Rattle.std.specs.Prelude.{◌≡◌, ◌<◌, ◌⊎◌, ⊤, ℕ, ◌+◌, List, [], ◌∷◌, get_or, Option, Some, None, Ok}
 use Rattle.std.specs.List.{slice_get}
 use Rattle.fk_causes.specs.Shelf.{FileMap, HasAt, KeepsOthers}
 use Rattle.fk_commands.specs.declared.outcome.Report.{Report}
 use Rattle.fk_commands.specs.Files.{image_name, record_name, trace_name}
 use Rattle.fk_image.specs.declared.image.image.Image.{Image}
-use Rattle.fk_image.specs.Format.Spells.{SpellsImage}
+use Rattle.fk_image.specs.Format.Reading.{image_reading}
 use Rattle.fk_model.specs.declared.moves.Move.{Move}
 use Rattle.fk_report.specs.Jobs.{end_in}
 use Rattle.fk_report.specs.declared.job_end.JobEnd.{JobEnd}
@@ -19,9 +19,13 @@ use Rattle.fk_trace_text.specs.Trace.{trace_text}
 abbrev pub IsPut : Option FileMap → List ℕ → List ℕ → Option FileMap → Type 0
 IsPut old name bytes new = HasAt new name (Some bytes) × KeepsOthers old new name
 
--- the spelling of an image
+-- these are bytes, and are read as this image
+abbrev pub SavesImage : List ℕ → Image → Type 0
+SavesImage bytes image = ((i : ℕ) → get_or bytes i 0 < 256) × (image_reading bytes ≡ Ok image)
+
+-- bytes that are read as this image (by fk_image::format::faultless these are its one spelling)
 abbrev pub PutsImage : List ℕ → Image → Option FileMap → Option FileMap → Type 0
-PutsImage name image old new = (bytes : List ℕ) × SpellsImage bytes image × IsPut old (image_name name) bytes new
+PutsImage name image old new = (bytes : List ℕ) × SavesImage bytes image × IsPut old (image_name name) bytes new
 
 -- ---- of a whole run
 

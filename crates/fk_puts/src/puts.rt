@@ -5,11 +5,12 @@ ghost use Rattle.fk_causes.specs.Causes.{Rose, StandsUnless};
 ghost use Rattle.fk_causes.specs.Shelf.{KeepsOthers, is_failed};
 ghost use Rattle.fk_causes.specs.declared.shelf.ShelfFail.TheVariants as fails;
 ghost use Rattle.fk_commands.specs.Files.{image_name, record_name, trace_name};
+ghost use Rattle.fk_image.specs.Format.Spells.{SpellsImage};
 ghost use Rattle.fk_puts.specs.Small.{AreSmall, IsSmall};
 ghost use Rattle.fk_words.specs.Commands.{leaves, uses_shelf, seen};
 ghost use Rattle.fk_puts.specs.Puts.{HasPut, HasPutSome, IsPut, KeepsButTrace, KeepsFiles, OpensEnd};
 ghost use Rattle.fk_puts.specs.Puts.{PutsRecord, PutsRecorded, PutsSomeRecorded};
-ghost use Rattle.fk_puts.specs.Puts.{PutImages, PutSomeImages, PutsEnd, PutsImage, PutsRun, PutsSome, PutsTrace};
+ghost use Rattle.fk_puts.specs.Puts.{PutImages, PutSomeImages, PutsEnd, PutsImage, PutsRun, PutsSome, PutsTrace, SavesImage};
 ghost use Rattle.fk_trace_text.specs.Trace as traces;
 
 use fk_causes::{Shelf, ShelfFail};
@@ -21,6 +22,12 @@ use fk_report::{JobEnd, end_at};
 use fk_trace_text::trace_text;
 use fk_words::Command;
 use std::alloc::Global;
+
+/// Bytes that spell an image are read as it.
+fn read_back(bytes: &[u8], image: &ValidImage)
+    requires { SpellsImage bytes.now image.now }
+    ensures { SavesImage bytes.now image.now }
+{}
 
 /// Puts an image under a name.
 ///
@@ -43,7 +50,10 @@ fn put_image<H: Shelf>(
 {
     let file = format!(in alloc; "{name}.img")?;
     match write(alloc, image.get()) {
-        Ok(bytes) => shelf.put(file.as_str(), &bytes),
+        Ok(bytes) => {
+            read_back(&bytes, image);
+            shelf.put(file.as_str(), &bytes)
+        }
         Err(_) => Err(ShelfFail::NoMemory),
     }
 }

@@ -5,15 +5,14 @@ use Rattle.fk_causes.specs.Shelf.{FileMap}
 use Rattle.fk_commands.specs.declared.status.Status.{Status}
 use Rattle.fk_commands.specs.Files.{image_name}
 use Rattle.fk_image.specs.declared.image.image.Image.{Image}
-use Rattle.fk_image.specs.Format.Spells.{SpellsImage}
 use Rattle.fk_image.specs.Format.Reading.{image_reading}
-use Rattle.fk_image.proofs.InFormat.RoundTrip.{reading_again}
 use Rattle.fk_model.specs.declared.job.JobSpec.{JobSpec}
 use Rattle.fk_model.specs.declared.job.JobSpec.TheVariants.{Restore}
 use Rattle.fk_plays.specs.Images.{unmade, needed, read_bytes, read_file, Finds, FindsImages}
 use Rattle.fk_plays.specs.Images.FindsImages.{NoJob, Found, Refused, Later}
 use Rattle.fk_plays.specs.Made.{Images}
 use Rattle.fk_plays.specs.Entries.{given_at}
+use Rattle.fk_puts.specs.Puts.{SavesImage}
 use Rattle.laws_house.specs.Houses.{maker_from}
 
 -- what is found for the job with an index
@@ -38,14 +37,14 @@ found_at files _ _ _ images index job (Later before first jobs image status one 
 read_one : (name bytes : List ℕ) (image given : Image) → image_reading bytes ≡ Ok image → Ok (Some given) ≡ read_file name (Some bytes) → given ≡ image
 read_one name bytes image given reading found = let both = found ∙ ap (read_bytes name) reading in cc
 
--- the image that is given for a restore is the one that the bytes of its file spell
+-- the image that is given for a restore is the one that the bytes of its file are read as
 pub given_is : (files : FileMap) (jobs : List JobSpec) (images : Images) (index moment birth slot : ℕ) (name : List ℕ) (bind : List (ℕ × ℕ)) (bytes : List ℕ)
     (image given : Image) → FindsImages (Some files) [] jobs (Ok images) → slice_get jobs index ≡ Some (Restore moment birth slot name bind)
-    → maker_from 0 (take index jobs) name ≡ None → given_at index images ≡ Some given → files (image_name name) ≡ Some bytes → SpellsImage bytes image
+    → maker_from 0 (take index jobs) name ≡ None → given_at index images ≡ Some given → files (image_name name) ≡ Some bytes → SavesImage bytes image
     → given ≡ image
-given_is files jobs images index moment birth slot name bind bytes image given finds entry none is has spelled =
+given_is files jobs images index moment birth slot name bind bytes image given finds entry none is has saved =
     let found : Finds (Some files) (Some name) (Ok (given_at index images)) =
     subst (λ (o : Option ℕ). Finds (Some files) (unmade name o) (Ok (given_at index images))) none
     (found_at (Some files) [] jobs (Ok images) images index (Restore moment birth slot name bind) finds refl entry) in
-    read_one name bytes image given (reading_again bytes image spelled)
+    read_one name bytes image given saved.1
     (ap Ok (sym is) ∙ (found.2 ∙ ap (read_file name) (sym found.1 ∙ has)))

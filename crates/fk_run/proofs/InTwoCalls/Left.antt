@@ -6,9 +6,8 @@ use Rattle.fk_causes.specs.Shelf.{FileMap, HasAt, KeepsOthers}
 use Rattle.fk_commands.specs.declared.outcome.Report.{Report}
 use Rattle.fk_commands.specs.Files.{image_name, trace_name}
 use Rattle.fk_image.specs.declared.image.image.Image.{Image}
-use Rattle.fk_image.specs.Format.Spells.{SpellsImage}
 use Rattle.fk_model.specs.declared.moves.Move.{Move}
-use Rattle.fk_puts.specs.Puts.{PutsEnd, PutImages, PutsTrace, PutsRun}
+use Rattle.fk_puts.specs.Puts.{SavesImage, PutsEnd, PutImages, PutsTrace, PutsRun}
 use Rattle.fk_report.specs.Jobs.{end_in}
 use Rattle.fk_report.specs.declared.job_end.JobEnd.{JobEnd}
 use Rattle.fk_report.specs.declared.job_end.JobEnd.TheVariants.{Checkpointed, Foreign, Dead, Restored, NoImage, Occupied, NoPort}
@@ -126,9 +125,9 @@ module _ (name : List ℕ) (file : Option (List ℕ)) where
 -- ---- the last image under a name
 
 module _ (name : List ℕ) (hold release : ℕ) (image : Image) where
-  -- bytes that spell it are what the files have under its name
+  -- bytes that are read as it are what the files have under its name
   abbrev HasIt : Option FileMap → Type 0
-  HasIt files = (bytes : List ℕ) × SpellsImage bytes image × Tells files (image_name name) (Some bytes)
+  HasIt files = (bytes : List ℕ) × SavesImage bytes image × Tells files (image_name name) (Some bytes)
 
   pub put_last : (ends : List (Option JobEnd)) (place : ℕ) (names : List (List ℕ)) (index : ℕ) (old new : Option FileMap) → AreTold old
       → slice_get names index ≡ Some name → slice_get ends (place + index) ≡ Some (Some (Checkpointed hold release image))
@@ -163,7 +162,7 @@ pub put_by_run : (trace : Option (List ℕ)) (report : Report) (before left : Fi
     → slice_get report.jobs index ≡ Some (Some (Checkpointed hold release image))
     → ((later from to : ℕ) (other : Image) → index < later → slice_get report.images later ≡ Some name
     → slice_get report.jobs later ≡ Some (Some (Checkpointed from to other)) → ⊥)
-    → (bytes : List ℕ) × SpellsImage bytes image × (left (image_name name) ≡ Some bytes)
+    → (bytes : List ℕ) × SavesImage bytes image × (left (image_name name) ≡ Some bytes)
 put_by_run trace report before left name index hold release image h named done last =
     let there : (k : ℕ) → slice_get report.jobs (0 + k) ≡ slice_get report.jobs k = λ k. ap (slice_get report.jobs) (let e : 0 + k ≡ k = omega arith in e) in
     let put = put_last name hold release image report.jobs 0 report.images index (Some before) h.0 tt named (there index ∙ done)

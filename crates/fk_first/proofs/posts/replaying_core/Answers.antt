@@ -33,7 +33,8 @@ returns-clause-come c =
     let jobs : core.jobs.jobs ≡ jobs_of c.args.scenario.now.jobs c.args.images.now = ap (λ q. q.jobs) made.jobs ∙ c.in_ok-jobs.ensures.jobs in
     let begun = begun-with c.args.scenario.now (all_replaying (words_of_all c.args.lists.items)) (run_core core) (returns-clause-first c) in
     begins-soundly c.args.scenario.now c.args.images.now (run_core core) core.jobs.jobs core.budget
-    (sound-with c.args.scenario.now first.kernel first.services.items queue (all_replaying (words_of_all c.args.lists.items)) (run_core core) (replays-stand (words_of_all c.args.lists.items))
+    (sound-with c.args.scenario.now first.kernel first.services.items queue (all_replaying (words_of_all c.args.lists.items)) (run_core core)
+        (replays-stand (words_of_all c.args.lists.items))
         (shown-sound c.args.scenario.now (world first.kernel) first.services.items (plain_seen first.services.items) first.budget refl is.budget is.sound)
         same) begun.ends begun.work begun.events jobs (made.budget ∙ is.budget)
 
