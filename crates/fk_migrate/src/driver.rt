@@ -210,6 +210,10 @@ impl<S: Service + Drop> Pair<S> {
 
     /// The near kernel runs for so many moves, or fewer where none is ready; then the subtree moves, while nobody else does; then the far kernel
     /// runs. Of all moves there are no more than the budget has.
+    ///
+    /// # Errors
+    ///
+    /// There is no memory for a move, an answer or a packet.
     #[tactic(auto, using(crate::proofs::Driving::drives_on))]
     pub fn drive(&mut self, table: &Table, moves: u64, most: u64) -> Result<Budget, NoMemory>
         requires driven { IsDriven (map (λ r. r.rule) table.now.list.items) (shown self.old) }
