@@ -10,7 +10,7 @@ use Rattle.fk_model.specs.World.{World}
 use Rattle.fk_model.specs.Runs.{Event, after, run}
 use Rattle.laws_filled.specs.Filled.{Paging, filled}
 use Rattle.laws_filled.specs.Pager.{Desk, State, Phase, paging, next, first, hears, call_of, said_of}
-use Rattle.examples_moves.specs.Worked.{Page, machine, world_of, page_with, filled_to, running, thread_in_mode, with_fault, goes, stores_at_r2}
+use Rattle.examples_moves.specs.Worked.{Page, machine, world_of, page_with, filled_to, running, thread_in_mode, goes, stores_at_r2}
 
 abbrev pub desk : Desk
 desk = record { nester = []; slot = 1; port = 10; set = 8; room = 1 }

@@ -35,7 +35,7 @@ pub fn a_world_in_which_a_checkpoint_may_begin()
 {}
 
 /// A job that destroys its own porter, makes anything but references in its scratch, or leaves scratch,
-/// isn't tidy.
+/// doesn't meet a job's contract.
 pub fn jobs_that_break_the_contract()
     ensures porter { MeetsContract destroys_its_porter 0 First → ⊥ }
     ensures mutex { MeetsContract makes_a_mutex 0 First → ⊥ }

@@ -8,7 +8,6 @@ use Rattle.laws_runs.specs.Cores.JobEnd.{Worked}
 use Rattle.laws_jobs.specs.Machines.{Head, IsAtCall}
 use Rattle.laws_jobs.specs.Machines.Head.{Stops, Asks}
 use Rattle.fk_jobs.specs.declared.ended.Finish.{Finish}
-use Rattle.fk_jobs.specs.Ended.{finish_of}
 use Rattle.fk_jobs.specs.Jobs.{Queue, first_of, state_from, call_at, goes_on, hears_by, hears_at, hears, passed_by, passed, HasStopped, HasEnded}
 use Rattle.fk_jobs.specs.Jobs.{shown_work, made_state, IsSeated, begun_from}
 

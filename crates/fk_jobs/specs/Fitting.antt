@@ -30,11 +30,11 @@ abbrev pub is_fit_anywhere : Ask → Bool
 is_fit_anywhere (asks.Call stage words) = is_stage_fit_anywhere stage
 is_fit_anywhere other = false
 
--- a checkpoint asks for plain calls alone
+-- a checkpoint asks for calls alone that are fit wherever they are made
 abbrev pub CheckpointCallsFitAnywhere : Type 0
 CheckpointCallsFitAnywhere = (slot : ℕ) (s : checkpoints.State) (ask : Ask) → call_at (machine.head (Checking slot s)) ≡ Some ask → is_fit_anywhere ask ≡ true
 
--- a plain call is fit wherever it is made
+-- a call that is fit anywhere is fit in each world
 abbrev pub FitAnywhereIsFit : Type 0
 FitAnywhereIsFit = (w : World) (x : Path) (ask : Ask) → is_fit_anywhere ask ≡ true → is_fit w x ask ≡ true
 

@@ -63,12 +63,12 @@ pub trait JobMachine {
         ensures none { IfNone result (IsAtCall machine (state self)) };
 }
 
-/// Each call of a checkpoint is plain.
+/// Each call of a checkpoint is fit wherever it is made.
 pub fn checkpoint_calls_fit_anywhere()
     ensures { CheckpointCallsFitAnywhere }
 {}
 
-/// What is plain is fit wherever it is made.
+/// A stage that is fit anywhere is fit in each world.
 pub fn fit_anywhere_is_fit()
     ensures { FitAnywhereIsFit }
 {}

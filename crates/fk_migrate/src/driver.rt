@@ -51,7 +51,7 @@ impl<S: Service + Drop> Pair<S> {
         Ok(true)
     }
 
-    /// Makes a move where it is ready, which a budget counts, and says whether it was.
+    /// The same of a move, which a budget counts.
     #[tactic(auto, using(crate::proofs::Driving::drives_equal))]
     fn try_move(&mut self, table: &Table, e: &Event, budget: &mut Budget) -> Result<bool, NoMemory>
         requires driven { IsDriven (map (λ r. r.rule) table.now.list.items) (shown self.old) }
@@ -142,7 +142,7 @@ impl<S: Service + Drop> Pair<S> {
         Ok(to)
     }
 
-    /// Delivers the packets of the far side that haven't been, the last one first.
+    /// The same of the far side.
     #[tactic(auto, using(crate::proofs::Driving::drives_on, crate::proofs::Driving::drives_not))]
     fn deliver_to_near(&mut self, table: &Table, from: u64) -> Result<u64, NoMemory>
         requires driven { IsDriven (map (λ r. r.rule) table.now.list.items) (shown self.old) }

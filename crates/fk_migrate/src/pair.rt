@@ -100,6 +100,10 @@ impl<S: Service + Drop> Pair<S> {
     }
 
     /// How many packets the near side has sent. There may be no memory for the bytes of its image; nothing else changes.
+    ///
+    /// # Errors
+    ///
+    /// There is no memory for the bytes of its image; all is as before.
     pub fn sent_near(&mut self) -> Result<u64, NoMemory>
         ensures same { shown self.new ≡ shown self.old }
         ensures sent { IfOk result (λ many. many ≡ length (sent_near image_codec (shown self.old).near.side)) }
@@ -172,6 +176,10 @@ impl<S: Service + Drop> Pair<S> {
 
     /// Whether an event is ready: a move of a user or a server, a call for which its porter's side asks, a packet that was sent, giving up where
     /// the near side waits. There may be no memory for the bytes of the near image; nothing else changes.
+    ///
+    /// # Errors
+    ///
+    /// There is no memory for the bytes of its image; all is as before.
     pub fn ready(&mut self, e: &Event) -> Result<bool, NoMemory>
         ensures same { shown self.new ≡ shown self.old }
         ensures ready { IfOk result (λ ready. (from : Start) (its : IsRunOf (shown self.old) from)
@@ -326,6 +334,10 @@ impl<S: Service + Drop> Pair<S> {
     ///
     /// Over every list of events, with packets lost, repeated and in any order, the subtree and its copy never live both unheld; where the copy
     /// is let go it is what the subtree was, and that one is gone; where the subtree is kept it is what it was.
+    ///
+    /// # Errors
+    ///
+    /// There is no memory for what the event makes; all is as before.
     pub fn step(&mut self, table: &Table, e: &Event) -> Result<(), NoMemory>
         requires run { IsSomeRun (shown self.old) }
         requires ready { IsReady (shown self.old) e.now }

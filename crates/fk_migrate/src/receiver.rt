@@ -99,6 +99,10 @@ impl<S: Service + Drop> Receiver<S> {
     }
 
     /// Makes a move, which is ready and fit. A call of the root's porter is answered to its side. For want of memory all is as before.
+    ///
+    /// # Errors
+    ///
+    /// There is no memory for what the move makes or for an answer; all is as before.
     pub fn turn(&mut self, table: &Table, m: &Move) -> Result<(), NoMemory>
         requires ready { HasFarMove self.old.far.slot (far_seen self.old) self.old.far.makes m.now }
         requires fits { AllFit (map (λ r. r.rule) table.now.list.items) self.old.host.services.list }
@@ -118,6 +122,10 @@ impl<S: Service + Drop> Receiver<S> {
     }
 
     /// Takes a packet, of whatever kind, and however often it has come. Pieces may come in any order. For want of memory all is as before.
+    ///
+    /// # Errors
+    ///
+    /// There is no memory for the packet; all is as before.
     pub fn take(&mut self, packet: &Packet) -> Result<(), NoMemory>
         ensures same { far_seen self.new ≡ far_seen self.old }
         ensures slot { self.new.far.slot ≡ self.old.far.slot }

@@ -102,6 +102,10 @@ impl<S: Service + Drop> Sender<S> {
     }
 
     /// Makes a move, which is ready and fit. A call of the root's porter is answered to its side. For want of memory all is as before.
+    ///
+    /// # Errors
+    ///
+    /// There is no memory for what the move makes or for an answer; all is as before.
     pub fn turn(&mut self, table: &Table, m: &Move) -> Result<(), NoMemory>
         requires ready { IsNearMove self.old.near.slot (near_seen self.old) m.now }
         requires fit { IsNearFit self.old.near.slot (near_seen self.old) m.now }
@@ -122,6 +126,10 @@ impl<S: Service + Drop> Sender<S> {
     }
 
     /// Takes a packet, of whatever kind, and however often it has come. For want of memory all is as before.
+    ///
+    /// # Errors
+    ///
+    /// There is no memory for the bytes of its image; all is as before.
     pub fn take(&mut self, packet: Packet) -> Result<(), NoMemory>
         ensures told { OnOk result (near_seen self.new ≡ told_near self.old.near.slot (near_seen self.old) packet) }
         ensures slot { self.new.near.slot ≡ self.old.near.slot }
@@ -140,6 +148,10 @@ impl<S: Service + Drop> Sender<S> {
     }
 
     /// Gives up waiting: the subtree stays. For want of memory all is as before.
+    ///
+    /// # Errors
+    ///
+    /// There is no memory for the bytes of its image; all is as before.
     pub fn give_up(&mut self) -> Result<(), NoMemory>
         ensures told { OnOk result (near_seen self.new ≡ given_up self.old.near.slot (near_seen self.old)) }
         ensures slot { self.new.near.slot ≡ self.old.near.slot }
@@ -151,6 +163,10 @@ impl<S: Service + Drop> Sender<S> {
     }
 
     /// The packet with a number, counted from 0 in the order of sending. It is made of what the side has come to.
+    ///
+    /// # Errors
+    ///
+    /// There is no memory for the bytes of its image or for the packet.
     pub fn packet(&mut self, number: u64) -> Result<Option<Packet>, NoMemory>
         ensures same { near_seen self.new ≡ near_seen self.old }
         ensures slot { self.new.near.slot ≡ self.old.near.slot }
@@ -161,6 +177,10 @@ impl<S: Service + Drop> Sender<S> {
     }
 
     /// How many packets it has sent. There may be no memory for the bytes of its image.
+    ///
+    /// # Errors
+    ///
+    /// There is no memory for the bytes of its image.
     pub fn sent(&mut self) -> Result<u64, NoMemory>
         ensures same { near_seen self.new ≡ near_seen self.old }
         ensures slot { self.new.near.slot ≡ self.old.near.slot }

@@ -1,5 +1,6 @@
 -- Objects: create, destroy, rename, search, point, clear, locate, count_in.
-use Rattle.std.specs.Prelude.{ℕ, Bool, false, not, ◌&&◌, ◌==◌, nat_le, is_some, List, [], ◌∷◌, ◌++◌, filter, sum_by, length, Option, Some, None, Result, Ok, Err, option_map, if◌then◌else◌, replicate}
+use Rattle.std.specs.Prelude.{ℕ, Bool, false, not, ◌&&◌, ◌==◌, nat_le, is_some, List, [], ◌∷◌, ◌++◌, filter, sum_by, length, Option, Some, None, Result, Ok}
+use Rattle.std.specs.Prelude.{Err, option_map, if◌then◌else◌, replicate}
 use Rattle.std.specs.List.{flat_map, list_any}
 use Rattle.fk_model.specs.declared.limits.TheConstants.{OWN_SPACE, SLOTS, LAST_USER_SLOT, FIRST_SCRATCH_SLOT, LAST_SCRATCH_SLOT}
 use Rattle.fk_model.specs.declared.names.Kind.{Kind}

@@ -2,7 +2,8 @@
 --
 -- A walk goes from space to space. Each space is younger than the one in which it lies, and birth numbers are below
 -- 2^32, so no walk is longer.
-use Rattle.std.specs.Prelude.{ℕ, zero, suc, ◌^◌, Bool, true, false, ◌&&◌, ◌||◌, List, [], ◌∷◌, ◌++◌, filter, find, is_some, Option, Some, None, option_map, count_by}
+use Rattle.std.specs.Prelude.{ℕ, zero, suc, ◌^◌, Bool, true, false, ◌&&◌, ◌||◌, List, [], ◌∷◌, ◌++◌, filter, find, is_some, Option, Some, None, option_map}
+use Rattle.std.specs.Prelude.{count_by}
 use Rattle.std.specs.List.{flat_map}
 use Rattle.fk_model.specs.declared.limits.TheConstants.{SLOTS}
 use Rattle.fk_model.specs.Places.{Path, Ptr, leads_to}

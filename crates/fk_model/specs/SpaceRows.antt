@@ -1,5 +1,6 @@
 -- Spaces: holds, stop counts and pages.
-use Rattle.std.specs.Prelude.{ℕ, ◌+◌, ◌-◌, ◌%◌, Bool, true, false, not, ◌&&◌, ◌||◌, ◌==◌, nat_le, nat_lt, is_some, List, [], ◌∷◌, replicate, Option, Some, None, Result, option_map, if◌then◌else◌}
+use Rattle.std.specs.Prelude.{ℕ, ◌+◌, ◌-◌, ◌%◌, Bool, true, false, not, ◌&&◌, ◌||◌, ◌==◌, nat_le, nat_lt, is_some, List, [], ◌∷◌, replicate, Option, Some, None}
+use Rattle.std.specs.Prelude.{Result, option_map, if◌then◌else◌}
 use Rattle.std.specs.List.{list_any}
 use Rattle.fk_model.specs.declared.limits.TheConstants.{PAGES, PAGE_WORDS, MOST_STOPS, ZEROS}
 use Rattle.fk_model.specs.declared.names.Kind.TheVariants as kinds

@@ -1,5 +1,6 @@
 -- Valid worlds: what holds of every world that is reached from a valid one by fit moves.
-use Rattle.std.specs.Prelude.{◌≡◌, ℕ, ◌+◌, ◌<◌, ◌≤◌, Bool, true, false, not, ◌&&◌, ◌||◌, ◌==◌, nat_le, nat_lt, IsSome, List, [], ◌∷◌, Option, Some, None, Result, Ok, Err, option_map, slice_index}
+use Rattle.std.specs.Prelude.{◌≡◌, ℕ, ◌+◌, ◌<◌, ◌≤◌, Bool, true, false, not, ◌&&◌, ◌||◌, ◌==◌, nat_le, nat_lt, IsSome, List, [], ◌∷◌, Option, Some, None}
+use Rattle.std.specs.Prelude.{Result, Ok, Err, option_map, slice_index}
 use Rattle.std.specs.List.{list_any}
 use Rattle.fk_model.specs.declared.limits.TheConstants.{SLOTS, PAGES, MOST_MOVED}
 use Rattle.fk_model.specs.declared.moves.Ask.{Ask}

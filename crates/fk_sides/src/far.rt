@@ -329,6 +329,10 @@ impl Far {
     }
 
     /// Takes a packet, of whatever kind, and however often it has come. Pieces may come in any order.
+    ///
+    /// # Errors
+    ///
+    /// There is no memory for the packet; all is as before.
     pub fn take(&mut self, packet: &Packet) -> Result<(), NoMemory>
         ensures slot { self.new.slot ≡ self.old.slot }
         ensures told { OnOk result ((f : FarSide) → IsFar self.old.makes f

@@ -1,5 +1,6 @@
 -- The pager as a machine over answers, and its moves among those of others.
-use Rattle.std.specs.Prelude.{◌≡◌, ℕ, zero, suc, ◌+◌, ◌*◌, ◌≤◌, ◌<◌, Bool, true, false, ◌&&◌, ◌==◌, nat_le, nat_lt, is_some, List, [], ◌∷◌, ◌++◌, drop, length, min, replicate, Option, Some, None, unwrap_or, if◌then◌else◌, slice_index}
+use Rattle.std.specs.Prelude.{◌≡◌, ℕ, zero, suc, ◌+◌, ◌*◌, ◌≤◌, ◌<◌, Bool, true, false, ◌&&◌, ◌==◌, nat_le, nat_lt, is_some, List, [], ◌∷◌, ◌++◌, drop, length}
+use Rattle.std.specs.Prelude.{min, replicate, Option, Some, None, unwrap_or, if◌then◌else◌, slice_index}
 use Rattle.std.specs.List.{list_any}
 use Rattle.fk_model.specs.declared.limits.TheConstants.{LAST_PORTER_SLOT, LAST_USER_SLOT, PAGES, PAGE_WORDS}
 use Rattle.fk_model.specs.declared.moves.Ask.TheVariants as asks

@@ -48,7 +48,7 @@ NamesUsersSlots (Restore slot pairs source) = (slot ≤ LAST_USER_SLOT) × (are_
 abbrev pub NameUsersSlots : List Job → Type 0
 NameUsersSlots jobs = (index : ℕ) (j : Job) → slice_get jobs index ≡ Some j → NamesUsersSlots j.task
 
--- such jobs are tidy, whatever native servers there are
+-- jobs in users' slots meet their contract, whatever native servers there are
 abbrev pub JobsMeetTheirContract : Type 0 → Type 0
 JobsMeetTheirContract V = (jobs : List Job) (servers : Servers V) → NameUsersSlots jobs → JobsMeetContract (house jobs servers)
 

@@ -18,7 +18,7 @@ pub fn a_part_works<S, A, T, B>()
     ensures { PartsWork S A T B }
 {}
 
-/// What is tidy by itself is tidy as a part.
+/// A machine that meets a job's contract by itself meets it as a part.
 pub fn a_part_meets_the_contract<S, A, T, B>()
     ensures { PartsMeetTheContract S A T B }
 {}

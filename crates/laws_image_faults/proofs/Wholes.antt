@@ -180,7 +180,8 @@ same-version bytes = version_then bytes ∙ go-number forms.is_version (λ versi
     fits n rest is = by (n == 1) refl (n == 2) refl is
       where
         by : (one : Bool) → (n == 1) ≡ one → (two : Bool) → (n == 2) ≡ two → (one || two) ≡ true →
-            ((if one then Ok (false, rest) else if two then Ok (true, rest) else refuse_field bytes reasons.VERSION) >>= count_read) ≡ run (forms.count_of two) rest
+            ((if one then Ok (false, rest) else if two then Ok (true, rest) else refuse_field bytes reasons.VERSION) >>= count_read) ≡ run
+            (forms.count_of two) rest
         by true first true second is = let no = other n first in absurd (cc)
         by true first false second is = same-count false rest
         by false first true second is = same-count true rest

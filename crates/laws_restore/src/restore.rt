@@ -40,7 +40,7 @@ pub fn a_restores_calls_are_owed()
     ensures { RestoreIsOwed }
 {}
 
-/// It is tidy: its calls are owed, its porter stays while it has one to make, and no scratch is left at its end.
+/// A restore meets a job's contract: its calls are owed, its porter stays while it has one to make, and no scratch is left at its end.
 pub fn a_restore_meets_the_contract()
     ensures { RestoreMeetsContract }
 {}

@@ -181,6 +181,7 @@ pub restored_goes_on : RestoredGoesOn
 restored_goes_on w v nester other slot place bind ms plain same =
     let law = run_rebinds bind (cut w nester slot) ms (cut_is_cut_world w nester slot plain) in
     record {
-      forth = λ told later run. subst (λ d. IsFurther d (map (rebound_move bind) ms) (map (rebound_told bind) told) (rebound bind later)) (sym same) (law.forth told later run);
+      forth = λ told later run. subst (λ d. IsFurther d (map (rebound_move bind) ms) (map (rebound_told bind) told) (rebound bind later)) (sym same)
+          (law.forth told later run);
       back = λ heard after run. law.back heard after (subst (λ d. IsFurther d (map (rebound_move bind) ms) heard after) same run);
     }

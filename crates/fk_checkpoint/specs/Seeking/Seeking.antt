@@ -1,5 +1,6 @@
 -- What the code's walk and its search stand for.
-use Rattle.std.specs.Prelude.{◌≡◌, ℕ, zero, suc, ◌<◌, List, [], ◌∷◌, map, drop, reverse, slice_index, slice_get, vec_len, vec_capacity, Bool, true, false, Option, Some, None}
+use Rattle.std.specs.Prelude.{◌≡◌, ℕ, zero, suc, ◌<◌, List, [], ◌∷◌, map, drop, reverse, slice_index, slice_get, vec_len, vec_capacity, Bool, true, false}
+use Rattle.std.specs.Prelude.{Option, Some, None}
 use Rattle.fk_model.specs.declared.limits.TheConstants.{OWN_SPACE}
 use Rattle.fk_model.specs.Places.{Path}
 use Rattle.laws_checkpoint.specs.Foreign.{PLACES, Task, place_of}

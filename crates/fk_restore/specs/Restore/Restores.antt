@@ -10,7 +10,7 @@ use Rattle.laws_restore.specs.Sites.Orders.{Order, is_port_in}
 use Rattle.laws_restore.specs.Rooms.Rooms.{rooms_from}
 use Rattle.fk_restore.specs.declared.orders.looks.Look.{Look}
 use Rattle.fk_restore.specs.declared.orders.looks.Look.TheVariants.{Plain, Pins, Checks}
-use Rattle.laws_restore.specs.Rooms.Restoring.{bound_by, IsRestoreJob}
+use Rattle.laws_restore.specs.Rooms.Restoring.{bound_by}
 use Rattle.fk_restore.specs.Positions.Positions.{rest, order_at, IsPosition}
 use Rattle.fk_restore.specs.Orders.Left.{is_empty}
 use Rattle.fk_restore.specs.declared.restore.restore.Phase.{Phase}

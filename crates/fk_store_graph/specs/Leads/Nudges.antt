@@ -1,5 +1,5 @@
 -- Nudges: small changes of a thread, or of a mutex, by which it leads where it led.
-use Rattle.std.specs.Prelude.{ℕ, Bool, option_map}
+use Rattle.std.specs.Prelude.{Bool, option_map}
 use Rattle.fk_model.specs.declared.body.Body.{Body}
 use Rattle.fk_model.specs.declared.body.Body.TheVariants.{Mutex, Cond, Mapping, Region, Port, Portset, Space, Thread, Reference}
 use Rattle.fk_model.specs.declared.thread.Thread.{Thread as State}

@@ -39,7 +39,7 @@ RestoreIsOwed = (slot birth : ℕ) (bind : ℕ → ℕ) (c : World) (rooms : Lis
     ((v : World) (t : State) → AtWork (restore slot bind rooms) nester w Makes v t → (stage : Stage) (words : List ℕ)
     → (restore slot bind rooms).head t ≡ Asks stage words → IsOwedCall v nester stage words)
 
--- so it is tidy: its calls are owed, its porter stays while it has one to make, and no scratch is left at its end
+-- so it meets a job's contract: its calls are owed, its porter stays while it has one to make, and no scratch is left at its end
 abbrev pub RestoreMeetsContract : Type 0
 RestoreMeetsContract = (slot birth : ℕ) (bind : ℕ → ℕ) (c : World) (rooms : List Room) → slot ≤ LAST_USER_SLOT → IsRoomed bind c rooms
     → MeetsContract (restore slot bind rooms) birth Makes

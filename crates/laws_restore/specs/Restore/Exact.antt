@@ -62,7 +62,8 @@ pub record EndsByMiss (slot : ℕ) (bind : ℕ → ℕ) (rooms : List Room) {nes
   pub missed : (port : ℕ) → end ≡ NoPort port → IsLowest bind rooms port × MissesFirst slot bind rooms (bind port) run
   pub told : (j : ℕ) → Misses slot bind rooms j run → (port : ℕ) × (end ≡ NoPort port) × IsLowest bind rooms port × (bind port ≡ j)
 
--- a restore ends for want of a port exactly where it leads to a slot of the nester in which none stands, and tells the lowest slot of the image that is bound there
+-- a restore ends for want of a port exactly where it leads to a slot of the nester in which none stands, and tells the lowest slot of the image that is bound
+-- there
 abbrev pub NoPortIsExact : Type 0
 NoPortIsExact = (slot birth : ℕ) (bind : ℕ → ℕ) (c : World) (rooms : List Room) (w v : World) (nester : Path) (t : State) (end : End) → slot ≤ LAST_USER_SLOT
     → IsRoomed bind c rooms → MayBegin w nester birth →

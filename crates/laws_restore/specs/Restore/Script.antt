@@ -16,7 +16,8 @@ use Rattle.fk_model.specs.Objects.Body.{Mapping, Region, Thread_of, Reference}
 use Rattle.fk_model.specs.Records.{record_of}
 use Rattle.fk_model.specs.Records as records
 use Rattle.laws_restore.specs.Sites.Orders.{Order}
-use Rattle.laws_restore.specs.Sites.Orders.Order.{Readies, Leads, LeadsTop, Makes, Sets, Points, Gives, MakesPin, Pins, Takes, Checks, ParksTalk, ParksFault, LinksTalk}
+use Rattle.laws_restore.specs.Sites.Orders.Order.{Readies, Leads, LeadsTop, Makes, Sets, Points, Gives, MakesPin, Pins, Takes, Checks, ParksTalk, ParksFault}
+use Rattle.laws_restore.specs.Sites.Orders.Order.{LinksTalk}
 use Rattle.laws_restore.specs.Sites.Orders.Order.{RaisesFault, LinksFault, Holds, Drops, DropsPin, Deadens}
 use Rattle.laws_restore.specs.Restore.Rooms.{Item, Sheet, Room}
 

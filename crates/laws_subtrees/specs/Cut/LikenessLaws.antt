@@ -16,8 +16,10 @@ use Rattle.fk_model.specs.SyncRows.{mutex_lock}
 use Rattle.fk_model.specs.LinkRows.{candidate}
 use Rattle.fk_model.specs.Valid.{IsValid}
 use Rattle.fk_model.specs.Cut.{ports_of, cut_ptr, cut, is_served_by, IsPlain}
-use Rattle.laws_subtrees.specs.Cut.Likeness.{seen_thread, PtrLikeness, IsLikeness, IsCutWorld, IsServedAlike, under, AlikeResults, AlikeOptions, IsBeneath, IsSeenAs}
-use Rattle.laws_subtrees.specs.Cut.Likeness.{IsSeenHandle, IsSeenBody, IsSeenThread, IsSeenWindow, IsSeenExtent, IsSeenTalk, IsSeenFault, ReachLikeness, EndLikeness}
+use Rattle.laws_subtrees.specs.Cut.Likeness.{seen_thread, PtrLikeness, IsLikeness, IsCutWorld, IsServedAlike, under, AlikeResults, AlikeOptions, IsBeneath}
+use Rattle.laws_subtrees.specs.Cut.Likeness.{IsSeenAs}
+use Rattle.laws_subtrees.specs.Cut.Likeness.{IsSeenHandle, IsSeenBody, IsSeenThread, IsSeenWindow, IsSeenExtent, IsSeenTalk, IsSeenFault, ReachLikeness}
+use Rattle.laws_subtrees.specs.Cut.Likeness.{EndLikeness}
 use Rattle.laws_subtrees.specs.Cut.Likeness.{LineLikeness, CandidateLikeness}
 use Rattle.laws_subtrees.specs.Cut.LikeChanges.{LikeChanges, IsLikeOutcome}
 use Rattle.fk_model.specs.Rebind.{rebound_ptr, rebound}
