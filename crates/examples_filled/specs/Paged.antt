@@ -10,7 +10,7 @@ use Rattle.fk_model.specs.World.{World}
 use Rattle.fk_model.specs.Runs.{Event, after, run}
 use Rattle.laws_filled.specs.Filled.{Paging, filled}
 use Rattle.laws_filled.specs.Pager.{Desk, State, Phase, paging, next, first, hears, call_of, said_of}
-use Rattle.examples_moves.specs.Worked.{Page, machine, world_of, page_with, filled_to, running, thread_in_mode, with_fault, goes, stores_at_r2}
+use Rattle.examples_moves.specs.Worked.{Page, machine, world_of, page_with, filled_to, running, thread_in_mode, goes, stores_at_r2}
 
 abbrev pub desk : Desk
 desk = record { nester = []; slot = 1; port = 10; set = 8; room = 1 }
@@ -86,9 +86,6 @@ filled_at at = filled (paging desk at.1) at.0
 
 abbrev pub fault_at_port : Path → ℕ → Fault
 fault_at_port port page = record { page = page; write = false; port = At port; taker = None }
-
-abbrev pub missing : Fault → Body
-missing fault = with_fault fault storing
 
 -- ---- the machine by answers: a pager in a phase that keeps pages 3 and 4 back, of which 3 is in
 

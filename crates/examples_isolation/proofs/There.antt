@@ -94,7 +94,8 @@ before = record {
   few = few with_stranger.next refl;
   proper = (record { fit = refl; words = refl }, tt);
   plain = is_plain;
-  seen = Sees with_stranger sends_block [] block [] (legal-tested with_stranger (sends_block ∷ []) refl).0 (refl, refl) (Ends (after with_stranger sends_block));
+  seen = Sees with_stranger sends_block [] block [] (legal-tested with_stranger (sends_block ∷ []) refl).0 (refl, refl)
+      (Ends (after with_stranger sends_block));
 }
 
 -- the world after it, by what the move changes

@@ -1,4 +1,4 @@
--- The briefest job is tidy.
+-- The briefest job meets a job's contract.
 use Rattle.std.proofs.Common.{◌≡◌, ℕ, ◌≤◌, Bool, true, false, cond, List, [], ◌∷◌, Some, None, refl, sym, ap, subst, ◌∙◌, ◌⊎◌, inl, inr, ne_eqb}
 use Rattle.fk_model.specs.declared.limits.TheConstants.{OWN_SPACE, LAST_USER_SLOT, LAST_PORTER_SLOT}
 use Rattle.fk_model.specs.declared.stage.Stage.{Stage}
@@ -28,7 +28,7 @@ use Rattle.laws_jobs.proofs.Holds.{hold_comes_to, release-row}
 use Rattle.laws_checkpoint.proofs.Same.{inside-itself}
 use Rattle.laws_checkpoint.proofs.Phases.{Tidy, tidy_clean, tidy_held, tidy_others, Held_on, held_others}
 use Rattle.laws_checkpoint.proofs.Ended.{empty, tidy_before, owed_release, scratch_of}
-use Rattle.examples_jobs.specs.Brief.{Brief, head, brief, BriefIsTidy}
+use Rattle.examples_jobs.specs.Brief.{Brief, head, brief, BriefMeetsContract}
 use Rattle.examples_jobs.specs.Brief.Brief.{Holds, Releases, Over}
 
 abbrev asking : Stage → List ℕ → Head Bool
@@ -132,8 +132,8 @@ module _ (slot birth : ℕ) (w : World) (nester : Path) (low : slot ≤ LAST_USE
   stays_at v _ stage words (AtReleases its tidy) e = record { porter = its.holding.porter; named = tidy.named }
   stays_at v _ stage words (AtOver done tidy) e = cc
 
-pub brief_is_tidy : BriefIsTidy
-brief_is_tidy slot birth low = record {
+pub brief_meets_contract : BriefMeetsContract
+brief_meets_contract slot birth low = record {
   first = λ w nester may stage words e. owed_first slot birth w nester low may stage words e;
   later = λ w nester v t may work stage words e. owed_at slot birth w nester low may v t stage words (came slot birth w nester low may v t work) e;
   stays = λ w nester v t may work stage words e. stays_at slot birth w nester low may v t stage words (came slot birth w nester low may v t work) e;

@@ -10,7 +10,7 @@ use Rattle.fk_model.specs.Runs.{after}
 use Rattle.laws_moves.specs.Savable.Savable.{IsSound}
 use Rattle.laws_jobs.specs.Machines.{no_words, call_of, IsReadyAt, AtWork}
 use Rattle.laws_jobs.specs.Machines.Interleaved.{Here}
-use Rattle.laws_jobs.specs.Jobs.{IsTidyJob, Saves}
+use Rattle.laws_jobs.specs.Jobs.{MeetsContract, Saves}
 use Rattle.laws_jobs.specs.Holds.{hold}
 use Rattle.examples_moves.proofs.Tested.{legal-tested}
 use Rattle.examples_premises.specs.Premises.{premises}
@@ -19,11 +19,11 @@ use Rattle.examples_jobs.specs.Wrong.{one_call, destroys_its_porter, makes_a_mut
 use Rattle.examples_jobs.specs.Wrong.State.{First, Over}
 use Rattle.examples_jobs.proofs.Full.{full_may, sound_after, full_ready, full_held}
 
-pub its_porter : IsTidyJob destroys_its_porter 0 First → ⊥
+pub its_porter : MeetsContract destroys_its_porter 0 First → ⊥
 unfolding premises
 its_porter tidy = let owes = (tidy.first full [] full_may (Destroy OWN_SPACE LAST_PORTER_SLOT) no_words refl).owes in cc
 
-pub a_mutex : IsTidyJob makes_a_mutex 0 First → ⊥
+pub a_mutex : MeetsContract makes_a_mutex 0 First → ⊥
 unfolding premises space_argument
 a_mutex tidy = let owes = (tidy.first full [] full_may (Create OWN_SPACE 240 1) no_words refl).owes [] refl in cc
 
@@ -43,7 +43,7 @@ ready_to_make : IsReadyAt full (call_of [] (Create OWN_SPACE 240 9) no_words)
 unfolding premises
 ready_to_make = (legal-tested full (call_of [] (Create OWN_SPACE 240 9) no_words ∷ []) refl).0
 
-pub scratch : IsTidyJob leaves_scratch 0 First → ⊥
+pub scratch : MeetsContract leaves_scratch 0 First → ⊥
 unfolding premises
 scratch tidy =
     let first = tidy.first full [] full_may (Create OWN_SPACE 240 9) no_words refl in

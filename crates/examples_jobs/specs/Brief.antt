@@ -6,7 +6,7 @@ use Rattle.fk_model.specs.declared.statuses.status.TheConstants.{OK}
 use Rattle.fk_model.specs.World.{World}
 use Rattle.laws_jobs.specs.Machines.{no_words, Head, Machine}
 use Rattle.laws_jobs.specs.Machines.Head.{Stops, Asks}
-use Rattle.laws_jobs.specs.Jobs.{IsTidyJob}
+use Rattle.laws_jobs.specs.Jobs.{MeetsContract}
 use Rattle.examples_premises.specs.Premises.{full_of_all}
 
 pub data Brief : Type 0 where
@@ -27,8 +27,8 @@ next (Over done) status words = Over done
 abbrev pub brief : ℕ → Machine Brief Bool
 brief slot = record { head = head slot; next = next }
 
-abbrev pub BriefIsTidy : Type 0
-BriefIsTidy = (slot birth : ℕ) → slot ≤ LAST_USER_SLOT → IsTidyJob (brief slot) birth Holds
+abbrev pub BriefMeetsContract : Type 0
+BriefMeetsContract = (slot birth : ℕ) → slot ≤ LAST_USER_SLOT → MeetsContract (brief slot) birth Holds
 
 -- a world with something of all in a subtree that nobody holds, in the slot 1 of a nester that has a porter
 abbrev pub full : World

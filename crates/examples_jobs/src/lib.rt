@@ -8,9 +8,9 @@ ghost use Rattle.fk_model.specs.Sound.{IsUncut};
 ghost use Rattle.laws_moves.specs.Savable.Savable.{IsSound};
 ghost use Rattle.laws_subtrees.specs.Further.ClosedLaws.{IsUsersAlone};
 ghost use Rattle.laws_jobs.specs.Machines.{IsReadyAt};
-ghost use Rattle.laws_jobs.specs.Jobs.{MayBegin, IsTidyJob, Saves, Restores};
+ghost use Rattle.laws_jobs.specs.Jobs.{MayBegin, MeetsContract, Saves, Restores};
 ghost use Rattle.laws_jobs.specs.Holds.{hold};
-ghost use Rattle.examples_jobs.specs.Brief.{BriefIsTidy, full};
+ghost use Rattle.examples_jobs.specs.Brief.{BriefMeetsContract, full};
 ghost use Rattle.examples_jobs.specs.Endless.{asks_again, CallsAtMost};
 ghost use Rattle.examples_jobs.specs.Pins.{leaves_pin, empty_space};
 ghost use Rattle.examples_jobs.specs.Pins.State.{Makes};
@@ -20,8 +20,8 @@ ghost use Rattle.examples_jobs.specs.Wrong.{destroys_its_porter, makes_a_mutex, 
 ghost use Rattle.examples_jobs.specs.Wrong.State.{First};
 
 /// A job that holds a subtree and releases it is what a run wants of a job.
-pub fn the_briefest_job_is_tidy()
-    ensures { BriefIsTidy }
+pub fn the_briefest_job_meets_the_contract()
+    ensures { BriefMeetsContract }
 {}
 
 /// A world in which a job may begin and a checkpoint of the subtree in slot 1 too, ready to hold it; and
@@ -35,11 +35,11 @@ pub fn a_world_in_which_a_checkpoint_may_begin()
 {}
 
 /// A job that destroys its own porter, makes anything but references in its scratch, or leaves scratch,
-/// isn't tidy.
-pub fn jobs_that_are_not_tidy()
-    ensures porter { IsTidyJob destroys_its_porter 0 First → ⊥ }
-    ensures mutex { IsTidyJob makes_a_mutex 0 First → ⊥ }
-    ensures scratch { IsTidyJob leaves_scratch 0 First → ⊥ }
+/// doesn't meet a job's contract.
+pub fn jobs_that_break_the_contract()
+    ensures porter { MeetsContract destroys_its_porter 0 First → ⊥ }
+    ensures mutex { MeetsContract makes_a_mutex 0 First → ⊥ }
+    ensures scratch { MeetsContract leaves_scratch 0 First → ⊥ }
 {}
 
 /// A job that says it has saved what it only held doesn't save.

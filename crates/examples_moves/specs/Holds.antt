@@ -10,6 +10,7 @@ use Rattle.fk_model.specs.Objects.Body.{Mapping, Region, Port, Space, Reference}
 use Rattle.fk_model.specs.World.{World}
 use Rattle.examples_moves.specs.Worked.{machine, world_of, page_with, numbered, running, calling, thread_in_mode, with_talk, with_fault, served_by, client}
 use Rattle.examples_moves.specs.Worked.{server, stores_at_r2}
+use Rattle.examples_moves.specs.States.{inner_porter}
 
 -- the thread that holds or would hold /1, and another one
 abbrev pub holder : Path
@@ -89,10 +90,6 @@ fault_across held = world_of
     []
 
 -- ---- /1 has a porter, which holds the space in slot 2 of /1
-
--- the porter of /1
-abbrev pub inner_porter : Path
-inner_porter = 255 ∷ 1 ∷ []
 
 -- a thread of the root would hold /1
 unfoldable pub working_porter : World

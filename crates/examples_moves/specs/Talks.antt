@@ -113,7 +113,8 @@ taking_back_in k = 41 ∷ 8 ∷ 7 ∷ 6 ∷ 448 ∷ 40 ∷ k ∷ []
 abbrev pub handed_back : World → List (Option Body)
 handed_back w = scene (client ∷ server ∷ (4 ∷ 1 ∷ []) ∷ []) (run w (goes server ∷ []))
 
--- the space in slot 6 of the root, in which a port stands, is held by a third thread. The client's reference leads to the first pointer, the server's to the second
+-- the space in slot 6 of the root, in which a port stands, is held by a third thread. The client's reference leads to the first pointer, the server's to the
+-- second
 unfoldable pub handing_beside : Ptr → Ptr → List ℕ → List ℕ → World
 handing_beside to old g h = world_of
     ((4 ∷ 1 ∷ [], Reference to) ∷ (5 ∷ 2 ∷ [], Reference old) ∷ (6 ∷ [], Space 3 (Some (At (0 ∷ [])))) ∷ (1 ∷ 6 ∷ [], Port None false) ∷ (0 ∷ [], running 0 [])

@@ -9,7 +9,8 @@ ghost use Rattle.fk_model.specs.Outcomes.Said.{Answered};
 ghost use Rattle.fk_model.specs.Runs.{run, IsLegal};
 ghost use Rattle.examples_moves.specs.Worked.{becomes, IsReadyTo, told_by_move, goes, makes, running, numbers_from, client, server};
 ghost use Rattle.examples_moves.specs.Holds.{holder, other, inner, before_hold, held, storing, held_in_held, talk_across, sends_5, receives_9, fault_across};
-ghost use Rattle.examples_moves.specs.Holds.{inner_porter, working_porter};
+ghost use Rattle.examples_moves.specs.Holds.{working_porter};
+ghost use Rattle.examples_moves.specs.States.{inner_porter};
 
 /// A thread holds a space, and then nothing in it moves.
 pub fn a_hold_stops_what_it_holds()

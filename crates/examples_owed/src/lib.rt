@@ -68,8 +68,8 @@ pub fn a_holder_that_lives_within()
     ensures after { IsSavable (after leads_within gives_hold) → ⊥ }
 {}
 
-/// Nor can it be with a mutex or a space in a slot of scratch, without the porter at whose port a talk
-/// is parked, or with the scratch in a slot of a user's and the porter there.
+/// A world can't be saved with a mutex or a space in a slot of scratch, without the porter at whose port a talk is parked, or with the scratch in a
+/// slot of a user's and the porter there.
 pub fn what_a_porter_may_not_leave()
     ensures mutex_owes { Owes leads_outside (makes_in 241 1) → ⊥ }
     ensures mutex { IsSavable (after leads_outside (makes_in 241 1)) → ⊥ }

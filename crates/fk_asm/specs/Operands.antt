@@ -39,6 +39,7 @@ pub data Value : Type 0 where
   Number : ℕ → Value
   Label : List ℕ → Value
 
+-- what a token stands for as an operand: a label, or a number
 abbrev pub operand_of : List ℕ → Result Value Reason
 operand_of token = if is_label token then Ok (Label token) else (or_reason reasons.Number (number_of token) >>= λ n. Ok (Number n))
 

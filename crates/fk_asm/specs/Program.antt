@@ -16,6 +16,7 @@ pub record TextLine : Type 0 where
   pub label : Option (List ℕ)
   pub item : Result (Option Item) Reason
 
+-- a line by its tokens: its label and what it assembles to
 abbrev pub line_of : ℕ → List (List ℕ) → TextLine
 line_of number tokens = record { number = number; label = label_of tokens; item = item_of (unlabelled tokens) }
 
@@ -50,6 +51,7 @@ label_address_from before (line ∷ lines) name =
     if is_name_of line.label name then Some before
     else label_address_from (before + size (line ∷ [])) lines name
 
+-- the address of a label in a text
 abbrev pub label_address : List TextLine → List ℕ → Option ℕ
 label_address lines name = label_address_from 0 lines name
 

@@ -1,7 +1,7 @@
 -- The first world of a scenario: what its entries make, in the order of the file.
-use Rattle.std.specs.Prelude.{ℕ, ◌*◌, ◌-◌, Bool, not, ◌&&◌, ◌==◌, nat_lt, is_none, List, [], ◌∷◌, ◌++◌, map, length, take, drop, reverse, replicate}
+use Rattle.std.specs.Prelude.{ℕ, ◌*◌, ◌-◌, Bool, ◌&&◌, ◌==◌, nat_lt, is_none, List, [], ◌∷◌, ◌++◌, map, length, take, drop, reverse, replicate}
 use Rattle.std.specs.Prelude.{Option, Some, None, if◌then◌else◌}
-use Rattle.std.specs.List.{flat_map, list_all, slice_get}
+use Rattle.std.specs.List.{flat_map, slice_get}
 use Rattle.fk_model.specs.declared.limits.TheConstants.{PAGES, PAGE_WORDS, LAST_PORTER_SLOT}
 use Rattle.fk_model.specs.Places.{Path}
 use Rattle.fk_model.specs.Places.Ptr.{Null, At}
@@ -48,6 +48,7 @@ abbrev pub words_in : Option Program → List ℕ
 words_in None = []
 words_in (Some program) = program.words
 
+-- the words of the program with an index, none where there is none
 abbrev pub words_of_program : List Program → Option ℕ → List ℕ
 words_of_program programs index = words_in (and_then (slice_get programs) index)
 
@@ -100,11 +101,9 @@ aims (specs.Mapping region first count offset write) = points_to region
 aims (specs.Region first count write keeper) = points_to keeper
 aims (specs.Reference to) = points_to to
 aims (specs.Port set) = belongs_to set
-aims (specs.Thread entry regs stops) = []
-aims (specs.Mutex locked) = []
-aims specs.Cond = []
-aims specs.Portset = []
+aims other = []
 
+-- the changes by which an object comes to lead where its entry says
 abbrev pub aim_changes : ObjectEntry → List Change
 aim_changes o = map (Alter (reverse o.path)) (aims o.spec)
 

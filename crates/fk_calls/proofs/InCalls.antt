@@ -3,6 +3,7 @@ pub mod Judged
 pub mod Firsts
 pub mod Choices
 pub mod Given
+pub mod Kinds
 pub mod Restored
 pub mod Families
 pub mod Quiet

@@ -30,10 +30,11 @@ mod straight;
 mod taking;
 
 pub use answering::call;
+pub use doing::first_stage;
 pub use fitting::is_fit;
 pub use foretelling::foretell;
 pub use going::{Talked, Then, Went, What, go, may_lock, may_talk};
-pub use judging::may_move;
+pub use judging::{is_user, may_move};
 pub use moves::{Ran, Told, attempt, ready, run, take};
 pub use picking::{Picks, may_pick};
 pub use sayings::{Saying, Sent, say};

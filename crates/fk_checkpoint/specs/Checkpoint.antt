@@ -1,4 +1,3 @@
-pub mod Ends
 pub mod Checkpoints
 pub mod Phases
 pub mod Lefts

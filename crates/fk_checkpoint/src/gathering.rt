@@ -6,12 +6,10 @@
 
 mod content;
 mod gather;
-mod kinds;
 mod read;
 mod todo;
 
 pub use content::{Content, Item, Lead};
 pub use gather::{Gather, Step};
-pub use kinds::{Fields, asked_of};
 pub use read::{Read, Reading};
 pub use todo::{Todo, kind_of};

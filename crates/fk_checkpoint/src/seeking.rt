@@ -13,7 +13,7 @@ mod walk;
 
 pub use answers::words_of;
 pub use descent::{space_of, way};
-pub use fields::Fields;
+pub use fields::{Fields, asked_of, pointers_by};
 pub use met::Met;
 pub use seek::{Look, Seek, Sought, met_at, tells_port};
 pub use walk::{Step, Walk};

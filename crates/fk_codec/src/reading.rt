@@ -12,5 +12,5 @@ mod objects;
 mod threads;
 
 pub use fail::Fail;
-pub use fields::{read_below, read_byte, read_link, read_u16, read_u32, refused};
+pub use fields::{read_below, read_byte, read_link, read_u16, read_u32, read_u64, refused};
 pub use objects::{read_objects, read_pages};

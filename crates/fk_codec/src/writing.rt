@@ -7,4 +7,5 @@
 mod numbers;
 mod writing;
 
+pub use numbers::{put_u16, put_u64};
 pub use writing::write;

@@ -77,9 +77,11 @@ row_of (BadRecord line) = row 16 Refusing Nothing false NoPut (codes "fluke: bad
 
 -- ---- what is read of it
 
+-- the exit status
 abbrev pub status_number : Status → ℕ
 status_number status = (row_of status).number
 
+-- what goes to standard error
 abbrev pub fault_line_of : Status → List ℕ
 fault_line_of status = (row_of status).line
 
@@ -110,6 +112,7 @@ is_read_fault status = is_source (row_of status).failed
 abbrev pub is_write_fault : Status → Bool
 is_write_fault status = is_sink (row_of status).failed
 
+-- a get or a put failed
 abbrev pub is_shelf_fault : Status → Bool
 is_shelf_fault status = is_shelf (row_of status).failed
 

@@ -50,7 +50,7 @@ impl ValidImage {
         &self.image
     }
 
-    /// The same image at one more place. Nothing is copied.
+    /// This image at one more place. Nothing is copied.
     ///
     /// # Errors
     ///

@@ -4,7 +4,7 @@ use Rattle.std.proofs.Common.{append-nil, arith}
 use Rattle.std.specs.List.{slice_get}
 use Rattle.std.proofs.lemmas.List.{append_assoc, map-append}
 use Rattle.fk_image.specs.declared.image.image.Image.{Image}
-use Rattle.fk_jobs.specs.declared.plan.Plan.{Plan}
+use Rattle.fk_jobs.specs.declared.plan.PlannedJob.{PlannedJob}
 use Rattle.fk_jobs.specs.Jobs.{job_of}
 use Rattle.fk_model.specs.declared.job.JobSpec.{JobSpec}
 use Rattle.fk_first.proofs.Places.{split, none-left}
@@ -21,10 +21,10 @@ drop-one n xs = let more : n + 1 ≡ suc n = omega arith in rw more (drop-suc n 
 
 module _ (jobs : List JobSpec) (images : List (Option Image)) where
   -- those that are planned, and those that are yet to be, are all
-  abbrev pub IsWhole : List Plan → Type 0
+  abbrev pub IsWhole : List PlannedJob → Type 0
   IsWhole plans = map job_of plans ++ jobs_from (take (length plans) jobs) (drop (length plans) jobs) (drop (length plans) images) ≡ jobs_of jobs images
 
-  pub planned-on : (plans : List Plan) (plan : Plan) (job : JobSpec) → slice_get jobs (length plans) ≡ Some job
+  pub planned-on : (plans : List PlannedJob) (plan : PlannedJob) (job : JobSpec) → slice_get jobs (length plans) ≡ Some job
       → job_of plan ≡ houses.job_of (take (length plans) jobs) job (given_first (drop (length plans) images)) → IsWhole plans → IsWhole (plans ++ plan ∷ [])
   unfolding jobs_from
   planned-on plans plan job got is whole =
@@ -37,7 +37,7 @@ module _ (jobs : List JobSpec) (images : List (Option Image)) where
       let last : jobs_from (take (n + 1) jobs) (drop (n + 1) jobs) (drop (n + 1) images) ≡ rest = rw (right, ← drop-one n images) refl in
       rw (long, here, last, is) (append_assoc (map job_of plans) (houses.job_of (take n jobs) job (given_first (drop n images)) ∷ []) rest ∙ before)
 
-  pub planned-all : (plans : List Plan) → slice_get jobs (length plans) ≡ None → IsWhole plans → map job_of plans ≡ jobs_of jobs images
+  pub planned-all : (plans : List PlannedJob) → slice_get jobs (length plans) ≡ None → IsWhole plans → map job_of plans ≡ jobs_of jobs images
   unfolding jobs_from
   planned-all plans got whole =
       let left = none-left jobs (length plans) got in

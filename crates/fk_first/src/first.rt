@@ -2,7 +2,7 @@
 ghost use Rattle.std.specs.Prelude.{◌≡◌, [], List, None, IfOk};
 ghost use Rattle.fk_model.specs.declared.moves.Rule.{Rule};
 ghost use Rattle.fk_core.specs.Cores.Cores.{run_core};
-ghost use Rattle.fk_core.specs.Cores.Goings.{IsGoing};
+ghost use Rattle.fk_core.specs.Cores.Goings.{IsReachable};
 ghost use Rattle.fk_first.specs.First.{IsFirst};
 ghost use Rattle.fk_scenario.specs.Scenario.Kept.{KeepsScenario, HasRules};
 ghost use Rattle.fk_core.specs.Cores.Served.{AllFit};
@@ -12,10 +12,9 @@ use crate::plans::plans_of;
 use fk_boot::boot;
 use fk_core::Core;
 use fk_finish::ValidImage;
-use fk_jobs::Jobs;
+use fk_jobs::{Jobs, Porter};
 use fk_model::NoMemory;
 use fk_natives::Native;
-use fk_porters::Porter;
 use fk_scenario::Scenario;
 use std::alloc::Global;
 
@@ -52,7 +51,7 @@ pub fn first_core(
 ) -> Result<Core<Native, Porter>, NoMemory>
     requires { KeepsScenario scenario.now }
     ensures first { IfOk result (λ core. IsFirst scenario.now (run_core core)) }
-    ensures come { IfOk result (λ core. IsGoing core) }
+    ensures come { IfOk result (λ core. IsReachable core) }
     ensures fits { (rules : List Rule) → HasRules rules scenario.now → IfOk result (λ core. AllFit rules core.services.list) }
     ensures jobs { IfOk result (λ core. core.jobs.jobs ≡ jobs_of scenario.now.jobs images.now) }
     ensures events { IfOk result (λ core. core.events ≡ 0) }

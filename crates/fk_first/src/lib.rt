@@ -1,6 +1,6 @@
 //! The core with which a scenario begins.
 //!
-//! It stands on `fk_boot` for its first world and its servers, on `fk_jobs` and `fk_porters` for what is planned of its jobs and who does it,
+//! It stands on `fk_boot` for its first world and its servers, on `fk_jobs` for what is planned of its jobs and who does it,
 //! on `fk_core` for the core, and on `laws_first` for what that world gives to a run. It promises that the core has that world, those servers and
 //! all jobs of the file, none of which has begun (`specs/First.antt`), and that a run may begin there.
 //!

@@ -4,19 +4,10 @@ ghost use Rattle.fk_jobs.specs.Jobs.{job_of, source_of};
 ghost use Rattle.laws_house.specs.Houses as houses;
 
 use fk_finish::ValidImage;
-use fk_jobs::{Plan, Source, Task};
+use fk_jobs::{PlannedJob, Source, Task};
 use fk_model::{JobSpec, NoMemory};
+use fk_scenario::makes_image;
 use std::alloc::Global;
-
-/// Whether a job makes an image.
-fn makes(job: &JobSpec, image: &str) -> bool
-    ensures { result ≡ houses.makes image.now job.now }
-{
-    match job {
-        JobSpec::Checkpoint { image: made, .. } => made.as_str() == image,
-        JobSpec::Restore { .. } => false,
-    }
-}
 
 /// The place of the first of some jobs that makes an image.
 #[tactic(auto, unfolding(laws_house::specs::Houses::maker_from))]
@@ -25,7 +16,7 @@ pub fn maker_of(jobs: &[JobSpec], image: &str) -> Option<usize>
 {
     let mut place: usize = 0;
     while let Some(job) = jobs.get(place) {
-        if makes(job, image) {
+        if makes_image(image, job) {
             return Some(place);
         }
         place += 1;
@@ -44,7 +35,11 @@ fn source_of(before: &[JobSpec], image: &str, given: Option<ValidImage>) -> Sour
 }
 
 /// What is planned of a job that stands behind others, for which an image was given or none.
-fn plan_of(before: &[JobSpec], job: &JobSpec, given: Option<ValidImage>) -> Result<Plan, NoMemory>
+fn plan_of(
+    before: &[JobSpec],
+    job: &JobSpec,
+    given: Option<ValidImage>,
+) -> Result<PlannedJob, NoMemory>
     ensures { IfOk result (λ plan. job_of plan ≡ houses.job_of before.now job.now given) }
 {
     match job {
@@ -53,7 +48,7 @@ fn plan_of(before: &[JobSpec], job: &JobSpec, given: Option<ValidImage>) -> Resu
             nester,
             slot,
             ..
-        } => Ok(Plan {
+        } => Ok(PlannedJob {
             nester: *nester,
             at: *at,
             task: Task::Checkpoint { slot: *slot },
@@ -66,7 +61,7 @@ fn plan_of(before: &[JobSpec], job: &JobSpec, given: Option<ValidImage>) -> Resu
             bind,
         } => {
             let source = source_of(before, image.as_str(), given);
-            Ok(Plan {
+            Ok(PlannedJob {
                 nester: *nester,
                 at: *at,
                 task: Task::Restore {
@@ -99,7 +94,7 @@ pub fn plans_of(
     alloc: Global,
     jobs: &[JobSpec],
     images: &[Option<ValidImage>],
-) -> Result<Vec<Plan>, NoMemory>
+) -> Result<Vec<PlannedJob>, NoMemory>
     ensures { IfOk result (λ plans. map job_of plans.items ≡ houses.jobs_of jobs.now images.now) }
 {
     let mut plans = Vec::new(alloc);

@@ -1,7 +1,7 @@
 //! The core with which a scenario begins, with taps or replays of its servers.
 ghost use Rattle.std.specs.Prelude.{◌≡◌, ◌≤◌, List, IfOk};
 ghost use Rattle.fk_core.specs.Cores.Cores.{run_core};
-ghost use Rattle.fk_core.specs.Cores.Goings.{IsGoing};
+ghost use Rattle.fk_core.specs.Cores.Goings.{IsReachable};
 ghost use Rattle.fk_core.specs.Cores.Served.{AllFit};
 ghost use Rattle.fk_model.specs.declared.moves.Rule.{Rule};
 ghost use Rattle.fk_first.specs.First.{IsFirstWith};
@@ -13,8 +13,8 @@ use crate::first::first_jobs;
 use fk_boot::boot;
 use fk_core::Core;
 use fk_finish::ValidImage;
+use fk_jobs::Porter;
 use fk_model::{NoMemory, Reply};
-use fk_porters::Porter;
 use fk_scenario::Scenario;
 use fk_trace::{Post, replaying_posts, tapped_posts};
 use std::alloc::Global;
@@ -33,7 +33,7 @@ pub fn tapped_core(
     requires keeps { KeepsScenario scenario.now }
     requires watch { watch ≤ 2 }
     ensures first { IfOk result (λ core. IsFirstWith scenario.now (all_tapped watch) (run_core core)) }
-    ensures come { IfOk result (λ core. IsGoing core) }
+    ensures come { IfOk result (λ core. IsReachable core) }
     ensures fits { (rules : List Rule) → HasRules rules scenario.now → IfOk result (λ core. AllFit rules core.services.list) }
     ensures jobs { IfOk result (λ core. core.jobs.jobs ≡ jobs_of scenario.now.jobs images.now) }
     ensures events { IfOk result (λ core. core.events ≡ 0) }
@@ -58,7 +58,7 @@ pub fn replaying_core(
 ) -> Result<Core<Post, Porter>, NoMemory>
     requires { KeepsScenario scenario.now }
     ensures first { IfOk result (λ core. IsFirstWith scenario.now (all_replaying (words_of_all lists.items)) (run_core core)) }
-    ensures come { IfOk result (λ core. IsGoing core) }
+    ensures come { IfOk result (λ core. IsReachable core) }
     ensures fits { (rules : List Rule) → HasRules rules scenario.now → IfOk result (λ core. AllFit rules core.services.list) }
     ensures jobs { IfOk result (λ core. core.jobs.jobs ≡ jobs_of scenario.now.jobs images.now) }
     ensures events { IfOk result (λ core. core.events ≡ 0) }

@@ -1,9 +1,9 @@
 //! Which threads have a ready move.
 use crate::seen::{Job, Ready};
 use fk_core::{Core, Kernel};
+use fk_jobs::Porter;
 use fk_model::Move;
 use fk_natives::Native;
-use fk_porters::Porter;
 use std::alloc::{AllocError, Global};
 use std::collections::BTreeMap;
 

@@ -1,16 +1,15 @@
 //! What is seen of a run, who watches it, who plays it, and who has images for it.
 ghost use Rattle.std.specs.Prelude.{Bool, map};
 ghost use Rattle.fk_core.specs.Cores.Cores.{RunCore, run_core};
-ghost use Rattle.fk_core.specs.Cores.Goings.{IsGoing};
+ghost use Rattle.fk_core.specs.Cores.Goings.{IsReachable};
 ghost use Rattle.fk_core.specs.Cores.Served.{AllFit};
 ghost use Rattle.fk_first.specs.First.{IsFirst};
 
 use fk_core::Core;
 use fk_finish::ValidImage;
-use fk_jobs::Jobs;
+use fk_jobs::{Jobs, Porter};
 use fk_model::{Move, NoMemory, Stage, Who};
 use fk_natives::Native;
-use fk_porters::Porter;
 use fk_responders::Table;
 use fk_scenario::Scenario;
 use fk_store::Store;
@@ -87,7 +86,7 @@ pub trait Player {
     /// It is lent such a core, of a scenario that was read by the rules of the table, and answers whether it wants another.
     fn play(&mut self, table: &Table, scenario: &Scenario, core: &mut Core<Native, Porter>) -> bool
         requires first { IsFirst scenario.now (run_core core.old) }
-        requires come { IsGoing core.old }
+        requires come { IsReachable core.old }
         requires fits { AllFit (map (λ r. r.rule) table.now.list.items) core.old.services.list }
         ensures { plays self.old (run_core core.old) result self.new };
 }

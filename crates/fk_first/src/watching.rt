@@ -1,6 +1,6 @@
 //! A run by a trace, watched.
 ghost use Rattle.std.specs.Prelude.{⊤, map};
-ghost use Rattle.fk_core.specs.Cores.Goings.{IsGoing};
+ghost use Rattle.fk_core.specs.Cores.Goings.{IsReachable};
 ghost use Rattle.fk_scenario.specs.Scenario.Kept.{KeepsScenario, HasRules};
 ghost use Rattle.fk_core.specs.Cores.Served.{AllFit};
 
@@ -8,10 +8,10 @@ use crate::lending::lend_cores;
 use crate::ready::ready_threads;
 use crate::seen::{Images, Job, Player, Seen, Stop, Trace, Watcher};
 use fk_core::Core;
+use fk_jobs::Porter;
 use fk_model::limits::LAST_PORTER_SLOT;
 use fk_model::{NoMemory, Who};
 use fk_natives::Native;
-use fk_porters::Porter;
 use fk_responders::Table;
 use fk_scenario::Scenario;
 use fk_trace_text::{after_first_line, first_move};
@@ -60,7 +60,7 @@ fn play<V: Watcher>(
     watcher: &mut V,
 ) -> Result<Stop, NoMemory>
     requires fits { AllFit (map (λ r. r.rule) table.now.list.items) core.old.services.list }
-    requires come { IsGoing core.old }
+    requires come { IsReachable core.old }
 {
     let Some(mut rest) = after_first_line(trace.bytes) else {
         return Ok(Stop::NoTrace);
@@ -98,7 +98,7 @@ fn play_to_stop<V: Watcher>(
     watcher: &mut V,
 ) -> Result<Stop, NoMemory>
     requires fits { AllFit (map (λ r. r.rule) table.now.list.items) core.old.services.list }
-    requires come { IsGoing core.old }
+    requires come { IsReachable core.old }
 {
     let stop = play(core, table, trace, watcher)?;
     let job = job_of(core);

@@ -16,8 +16,8 @@ unfoldable pub program : List ℕ
 program = codes "\n[programs]\nsoak = \"\"\"\n" ++ (counting ++ (sending ++ (repeating ++ codes "\"\"\"\n")))
 
 -- how long it runs at most and by how many workers, the program, and the root, which is a nester
-unfoldable pub head : List ℕ
-head = codes "budget = 1000000\nworkers = 4\n" ++ (program ++ codes "\n[[space]]\npath = \"/\"\nnester = true\n")
+unfoldable pub opening : List ℕ
+opening = codes "budget = 1000000\nworkers = 4\n" ++ (program ++ codes "\n[[space]]\npath = \"/\"\nnester = true\n")
 
 -- the space in a slot of the root, with page 1 and the common program
 unfoldable pub space_text : ℕ → List ℕ
@@ -66,4 +66,4 @@ foot = console_text 201 (codes "copy") ++ (checkpoint ++ restore)
 
 -- the scenario with n processes
 abbrev pub scenario : ℕ → List ℕ
-scenario n = head ++ (processes_from 0 n ++ foot)
+scenario n = opening ++ (processes_from 0 n ++ foot)

@@ -6,9 +6,9 @@ use fk_model::NoMemory;
 use std::alloc::{AllocError, Global};
 
 /// What stands before the processes: how long it runs and by how many workers, the common program, and the root.
-#[tactic(auto, unfolding(crate::specs::Soak::head, crate::specs::Soak::program))]
-fn head(alloc: Global) -> Result<String, AllocError>
-    ensures { IfOk result (λ text. string_bytes text ≡ definitions.head) }
+#[tactic(auto, unfolding(crate::specs::Soak::opening, crate::specs::Soak::program))]
+fn opening(alloc: Global) -> Result<String, AllocError>
+    ensures { IfOk result (λ text. string_bytes text ≡ definitions.opening) }
 {
     let counting = "next: addi r8, r8, 1\nset r7, 64\nstore r8, r7, 0\n";
     let sending = "set r0, 33\nset r1, 1\nset r2, 64\nset r3, 1\ncall\nset r0, 39\ncall\n";
@@ -127,7 +127,7 @@ pub fn scenario_of(alloc: Global, count: u32) -> Result<Vec<u8>, NoMemory>
     requires most { count ≤ 100 }
     ensures { IfOk result (λ text. text.items ≡ definitions.scenario count) }
 {
-    let before = head(alloc)?;
+    let before = opening(alloc)?;
     let between = processes(alloc, count)?;
     let after = foot(alloc)?;
     let text = format!(in alloc; "{before}{between}{after}")?;

@@ -33,6 +33,7 @@ abbrev pub IsFitFor : World → Move → Option Ask → Type 0
 IsFitFor w m None = Unit {0}
 IsFitFor w m (Some ask) = is_fit_event w (event_of w ask m) ≡ true
 
+-- a move is fit with what is handed in
 abbrev pub IsFitWith : Services → World → Move → Ask → Type 0
 IsFitWith services w m ask = IsFitFor w m (asked_with services w m.who ask)
 
@@ -46,5 +47,6 @@ abbrev pub IsTurnFor : Kept → Services → Move → Option Ask → Said → Ke
 IsTurnFor m services move None said n new = ⊥
 IsTurnFor m services move (Some ask) said n new = IsStepped m services (event_of (world m) ask move) said n new
 
+-- a turn: that of the event for which its mover asks
 abbrev pub IsTurn : Kept → Services → Move → Ask → Said → Kept → Services → Type 0
 IsTurn m services move ask said n new = IsTurnFor m services move (asked_with services (world m) move.who ask) said n new

@@ -1,6 +1,6 @@
 //! A host: one kernel with its native servers, turned from outside.
 //!
-//! It stands on `fk_served` for servers and on `fk_kernel` for the machine's steps. It is generic in its servers. It has no jobs and no budget: whoever
+//! It stands on `fk_served` for servers and for the kernel's steps. It is generic in its servers. It has no jobs and no budget: whoever
 //! has it hands in what a porter asks for, and says who moves next.
 //!
 //! It promises that a move is called ready exactly where it is, that a turn is the machine's step, of which each server hears what it tells at its port,

@@ -6,6 +6,7 @@
 //! parts of that test that a reader needs, equal copies, and which ports of the nester an image leads to.
 
 mod boxed;
+mod call_codes;
 mod copy;
 mod image;
 mod kinds;

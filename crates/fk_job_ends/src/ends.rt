@@ -1,54 +1,45 @@
 //! How the jobs of a run have ended.
 ghost use Rattle.std.specs.Prelude.{◌≡◌, ◌++◌, ◌-◌, Some, None, IfOk, OnOk, map, length, replicate};
 ghost use Rattle.fk_checkpoint.specs.Checkpoint.Checkpoints as checkpoints;
-ghost use Rattle.fk_checkpoint.specs.Checkpoint.Ends as checkpoint_ends;
-ghost use Rattle.fk_jobs.specs.Jobs.{end_at, shown_end, shown_ends};
-ghost use Rattle.fk_porters.specs.Porters.{state_of};
-ghost use Rattle.fk_porters.specs.declared.porter.Porter.TheVariants as porters;
+ghost use Rattle.fk_jobs.specs.Ended.{finish_of, shown_end, shown_ends};
 ghost use Rattle.fk_restore.specs.Restore.Restores as restores;
 ghost use Rattle.fk_job_ends.specs.Ends as definitions;
-ghost use Rattle.laws_house.specs.Houses.{machine};
 
-use fk_checkpoint::Checkpoint;
-use fk_finish::Finish;
-use fk_jobs::{Ended, Worker};
+use fk_checkpoint::CheckpointEnd;
+use fk_jobs::{Ended, Finish, Unmoved};
 use fk_model::{JobSpec, List as Items, NoMemory, Text};
-use fk_porters::{Porter, Sound};
 use fk_report::JobEnd;
+use fk_restore::RestoreEnd;
 use std::alloc::Global;
 
 /// How a checkpoint has ended by its own moves, of which these are the first and the last.
 #[tactic(auto, using(crate::proofs::Fills::told_place))]
-fn told_check(finish: Finish, hold: u64, release: u64) -> JobEnd
-    requires { checkpoint_ends.IsEnd finish }
-    ensures { result ≡ definitions.told_check (checkpoints.end_of finish) hold release }
+fn told_check(end: CheckpointEnd, hold: u64, release: u64) -> JobEnd
+    ensures { result ≡ definitions.told_check (checkpoints.end_of end) hold release }
 {
-    match finish {
-        Finish::Image(image) => JobEnd::Checkpointed {
+    match end {
+        CheckpointEnd::Done(image) => JobEnd::Checkpointed {
             hold,
             release,
             image,
         },
-        Finish::Foreign(place) => JobEnd::Foreign {
+        CheckpointEnd::Foreign(place) => JobEnd::Foreign {
             place,
             hold,
             release,
         },
-        Finish::Dead => JobEnd::Dead,
-        Finish::Restored | Finish::Occupied | Finish::NoPort(_) => unreachable!(),
+        CheckpointEnd::Gone => JobEnd::Dead,
     }
 }
 
-/// And a restore.
-fn told_restore(finish: Finish, make: u64, release: u64) -> JobEnd
-    requires { restores.IsEnd finish }
-    ensures { result ≡ definitions.told_restore (restores.end_of finish) make release }
+/// How a restore has ended by its own moves, of which these are the first and the last.
+fn told_restore(end: RestoreEnd, make: u64, release: u64) -> JobEnd
+    ensures { result ≡ definitions.told_restore (restores.end_of end) make release }
 {
-    match finish {
-        Finish::Image(_) | Finish::Foreign(_) | Finish::Dead => unreachable!(),
-        Finish::Restored => JobEnd::Restored { make, release },
-        Finish::Occupied => JobEnd::Occupied,
-        Finish::NoPort(port) => JobEnd::NoPort {
+    match end {
+        RestoreEnd::Done => JobEnd::Restored { make, release },
+        RestoreEnd::Occupied => JobEnd::Occupied,
+        RestoreEnd::NoPort(port) => JobEnd::NoPort {
             port,
             make,
             release,
@@ -56,63 +47,34 @@ fn told_restore(finish: Finish, make: u64, release: u64) -> JobEnd
     }
 }
 
-/// How a checkpoint's code has ended.
-fn told_checkpoint(checkpoint: Checkpoint, hold: u64, release: u64) -> JobEnd
-    ensures { result ≡ definitions.told_work (end_at (machine.head (state_of (porters.Checkpoint checkpoint)))) hold release }
+/// How a job has ended by its own moves, of which these are the first and the last.
+fn told_work(finish: Finish, begun: u64, last: u64) -> JobEnd
+    ensures { result ≡ definitions.told_work (finish_of finish) begun last }
 {
-    match checkpoint.finish() {
-        Some(finish) => told_check(finish, hold, release),
-        None => JobEnd::Dead,
-    }
-}
-
-/// And a restore's.
-fn told_restorer(restore: Sound, make: u64, release: u64) -> JobEnd
-    ensures { result ≡ definitions.told_work (end_at (machine.head (state_of (porters.Restore restore)))) make release }
-{
-    match restore.finish() {
-        Some(finish) => told_restore(finish, make, release),
-        None => JobEnd::Dead,
-    }
-}
-
-/// Code of a job that tells how it has ended.
-pub trait Tells: Worker {
-    /// How it has ended by its own moves, of which these are the first and the last.
-    fn told(self, begun: u64, last: u64) -> JobEnd
-        ensures { result ≡ definitions.told_work (end_at (machine.head (Self.state self))) begun last };
-}
-
-impl Tells for Porter {
-    fn told(self, begun: u64, last: u64) -> JobEnd {
-        match self {
-            Porter::Checkpoint(checkpoint) => told_checkpoint(checkpoint, begun, last),
-            Porter::Restore(restore) => told_restorer(restore, begun, last),
-        }
+    match finish {
+        Finish::Checkpoint(end) => told_check(end, begun, last),
+        Finish::Restore(end) => told_restore(end, begun, last),
     }
 }
 
 /// How a job has ended.
-fn told_of<W: Tells + Drop>(end: Ended<W>) -> JobEnd
-    ensures { result ≡ definitions.told_of (shown_end W.state end) }
+fn told_of(end: Ended) -> JobEnd
+    ensures { result ≡ definitions.told_of (shown_end end) }
 {
     match end {
         Ended::Worked {
-            worker,
+            finish,
             begun,
             last,
-        } => worker.told(begun, last),
-        Ended::NoImage => JobEnd::NoImage,
-        Ended::Dead => JobEnd::Dead,
+        } => told_work(finish, begun, last),
+        Ended::Idle(Unmoved::NoImage) => JobEnd::NoImage,
+        Ended::Idle(Unmoved::Dead) => JobEnd::Dead,
     }
 }
 
 /// How those have ended that have.
-fn told_ended<W: Tells + Drop>(
-    alloc: Global,
-    ends: Vec<Ended<W>>,
-) -> Result<Items<Option<JobEnd>>, NoMemory>
-    ensures { IfOk result (λ told. told ≡ map (λ e. Some (definitions.told_of e)) (shown_ends W.state ends.items)) }
+fn told_ended(alloc: Global, ends: Vec<Ended>) -> Result<Items<Option<JobEnd>>, NoMemory>
+    ensures { IfOk result (λ told. told ≡ map (λ e. Some (definitions.told_of e)) (shown_ends ends.items)) }
 {
     let mut told = Items::new(alloc);
     for end in ends {
@@ -137,12 +99,12 @@ fn fill(told: &mut Items<Option<JobEnd>>, count: usize) -> Result<(), NoMemory>
 /// # Errors
 ///
 /// There is no memory for what is told.
-pub fn told_in<W: Tells + Drop>(
+pub fn told_in(
     alloc: Global,
     count: usize,
-    ends: Vec<Ended<W>>,
+    ends: Vec<Ended>,
 ) -> Result<Items<Option<JobEnd>>, NoMemory>
-    ensures { IfOk result (λ told. told ≡ definitions.told_in count (shown_ends W.state ends.items)) }
+    ensures { IfOk result (λ told. told ≡ definitions.told_in count (shown_ends ends.items)) }
 {
     let mut told = told_ended(alloc, ends)?;
     fill(&mut told, count)?;

@@ -1,3 +1,4 @@
+pub mod Images
 pub mod Seats
-pub mod Plainly
+pub mod Fitting
 pub mod Turns

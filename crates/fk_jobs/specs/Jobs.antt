@@ -1,29 +1,23 @@
 -- A scenario's jobs in code: what is planned, how the first of them have ended, and what the next one has come to.
-use Rattle.std.specs.Prelude.{◌≡◌, ℕ, Bool, true, false, List, [], ◌∷◌, ◌++◌, map, length, Option, Some, None, is_some}
+use Rattle.std.specs.Prelude.{◌≡◌, ℕ, Bool, true, false, List, [], ◌∷◌, ◌++◌, length, Option, Some, None, is_some}
 use Rattle.std.specs.List.{slice_get}
 use Rattle.fk_model.specs.declared.moves.Ask.{Ask}
 use Rattle.fk_model.specs.declared.moves.Ask.TheVariants as asks
 use Rattle.fk_model.specs.declared.stage.Stage.{Stage}
 use Rattle.laws_jobs.specs.Machines.{Head}
 use Rattle.laws_jobs.specs.Machines.Head.{Stops, Asks}
-use Rattle.laws_checkpoint.specs.Checkpoint.End.{Gone}
 use Rattle.laws_house.specs.Houses as houses
 use Rattle.laws_house.specs.Houses.{Job, State, End, machine, begins}
 use Rattle.laws_house.specs.Houses.State.{Checking, Restoring}
-use Rattle.laws_house.specs.Houses.End.{Checked}
 use Rattle.laws_restore.specs.Restore.Restore.State.{Makes}
 use Rattle.laws_runs.specs.Cores as runs
 use Rattle.laws_runs.specs.Cores.{JobEnd, Work, work_of}
 use Rattle.laws_runs.specs.Cores.JobEnd.{Worked, Idle}
-use Rattle.fk_jobs.specs.declared.plan.Plan.{Plan}
+use Rattle.fk_jobs.specs.declared.plan.PlannedJob.{PlannedJob}
 use Rattle.fk_jobs.specs.declared.plan.Task.{Task}
 use Rattle.fk_jobs.specs.declared.plan.Task.TheVariants as tasks
 use Rattle.fk_jobs.specs.declared.plan.Source.{Source}
 use Rattle.fk_jobs.specs.declared.plan.Source.TheVariants as sources
-use Rattle.fk_jobs.specs.declared.jobs.Ended.{Ended}
-use Rattle.fk_jobs.specs.declared.jobs.Ended.TheVariants as ended
-use Rattle.fk_jobs.specs.declared.jobs.Unmoved.{Unmoved}
-use Rattle.fk_jobs.specs.declared.jobs.Unmoved.TheVariants as unmoved
 
 -- ---- what is planned
 
@@ -35,7 +29,8 @@ abbrev pub task_of : Task → houses.Task
 task_of (tasks.Checkpoint slot) = houses.Checkpoint slot
 task_of (tasks.Restore slot pairs source) = houses.Restore slot pairs (source_of source)
 
-abbrev pub job_of : Plan → Job
+-- a job that is planned so
+abbrev pub job_of : PlannedJob → Job
 job_of p = record { nester = p.nester; at = p.at; task = task_of p.task }
 
 -- ---- jobs one after the other
@@ -51,6 +46,7 @@ pub record Queue : Type 0 where
 abbrev pub current : Queue → Option Job
 current q = slice_get q.jobs (length q.ends)
 
+-- the first state of the next job, where it can begin
 abbrev pub first_of : List (JobEnd End) → Option Job → Option State
 first_of ends None = None
 first_of ends (Some j) = begins j ends
@@ -75,6 +71,7 @@ abbrev pub call_with : Option Stage → List ℕ → Option Ask
 call_with None words = None
 call_with (Some stage) words = Some (asks.Call stage words)
 
+-- the call for which a job in this state asks
 abbrev pub asked_by : Option State → Option Ask
 asked_by None = None
 asked_by (Some s) = call_at (machine.head s)
@@ -86,14 +83,10 @@ grows (Checking slot s) = true
 grows (Restoring slot pairs image Makes) = true
 grows (Restoring slot pairs image other) = false
 
+-- by the answer to it the job's memory grows
 abbrev pub grows_by : Option State → Bool
 grows_by None = false
 grows_by (Some s) = grows s
-
--- with what a machine ends
-abbrev pub end_at : Head End → End
-end_at (Stops end) = end
-end_at (Asks stage words) = Checked Gone
 
 -- it goes on, or has ended with the move at this place of the history
 abbrev pub goes_on : Queue → ℕ → ℕ → State → Head End → Queue
@@ -112,11 +105,19 @@ hears_by q events status words (Some k) = hears_at q k.begun events (machine.nex
 abbrev pub hears : Queue → ℕ → ℕ → List ℕ → Queue
 hears q events status words = hears_by q events status words (work_of events q.work (first_of q.ends (current q)))
 
--- the one at work has ended with the move at this place: the next one's turn has come
+-- the one at work has ended
+abbrev pub HasStopped : Head End → Type 0
+HasStopped (Asks stage words) = ⊥
+HasStopped (Stops end) = Unit {0}
+
+abbrev pub HasEnded : Option (Work State) → Type 0
+HasEnded None = ⊥
+HasEnded (Some k) = HasStopped (machine.head k.state)
+
+-- with the move at this place: the next one's turn has come
 abbrev pub passed_by : Queue → ℕ → Option (Work State) → Queue
 passed_by q last None = q
-passed_by q last (Some k) =
-    record { jobs = q.jobs; ends = q.ends ++ Worked (end_at (machine.head k.state)) k.begun last ∷ []; work = None; ready = false }
+passed_by q last (Some k) = hears_at q k.begun last k.state
 
 abbrev pub passed : Queue → ℕ → Queue
 passed q last = passed_by q last q.work
@@ -126,18 +127,6 @@ abbrev pub with_idle : Queue → runs.Unmoved → Queue
 with_idle q why = record { jobs = q.jobs; ends = q.ends ++ Idle why ∷ []; work = q.work; ready = false }
 
 -- ---- the same as the code has it
-
-abbrev pub unmoved_of : Unmoved → runs.Unmoved
-unmoved_of unmoved.NoImage = runs.NoImage
-unmoved_of unmoved.Dead = runs.Dead
-
-abbrev pub shown_end : {W : Type 0} → (W → State) → Ended W → JobEnd End
-shown_end state (ended.Worked w begun last) = Worked (end_at (machine.head (state w))) begun last
-shown_end state ended.NoImage = Idle runs.NoImage
-shown_end state ended.Dead = Idle runs.Dead
-
-abbrev pub shown_ends : {W : Type 0} → (W → State) → List (Ended W) → List (JobEnd End)
-shown_ends state ends = map (shown_end state) ends
 
 abbrev pub shown_work : {W : Type 0} → (W → State) → Option W → Option ℕ → Option (Work State)
 shown_work state None begun = None
@@ -155,10 +144,10 @@ made_state state None first = first
 made_state state (Some w) first = Some (state w)
 
 -- the machine of the one whose turn it is, at its first state where it has made no move
-pub record IsSeated {W : Type 0} (state : W → State) (worker : Option W) (begun : Option ℕ) (ends : List (JobEnd End)) (job : Option Job) : Type 0 where
-  pub there : is_some worker ≡ true → is_some job ≡ true
-  pub going : is_some begun ≡ true → is_some worker ≡ true
-  pub fresh : begun ≡ None → made_state state worker (first_of ends job) ≡ first_of ends job
+pub record IsSeated {W : Type 0} (state : W → State) (porter : Option W) (begun : Option ℕ) (ends : List (JobEnd End)) (job : Option Job) : Type 0 where
+  pub there : is_some porter ≡ true → is_some job ≡ true
+  pub going : is_some begun ≡ true → is_some porter ≡ true
+  pub fresh : begun ≡ None → made_state state porter (first_of ends job) ≡ first_of ends job
 
 -- it is made, where it can begin, and has room for an answer
 abbrev pub IsReadied : {W : Type 0} → (W → Type 0) → Option W → Option State → Type 0

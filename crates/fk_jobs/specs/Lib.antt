@@ -1,3 +1,5 @@
+pub mod Ended
 pub mod Jobs
-pub mod Plain
+pub mod Fitting
+pub mod Porters
 pub mod Turns

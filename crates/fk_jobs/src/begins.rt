@@ -8,25 +8,22 @@ ghost use Rattle.laws_restore.specs.Restore.Restore.State.{Makes};
 ghost use Rattle.fk_model.specs.declared.limits.TheConstants.{LAST_USER_SLOT};
 ghost use Rattle.fk_model.specs.Sound.{are_user_pairs};
 ghost use Rattle.laws_jobs.specs.Machines.{no_words};
-ghost use Rattle.fk_jobs.specs.Jobs.{job_of, source_of, task_of, call_with, asked_by, first_of, grows_by, shown_ends};
+ghost use Rattle.fk_jobs.specs.Ended.{shown_ends};
+ghost use Rattle.fk_jobs.specs.Jobs.{job_of, source_of, task_of, call_with, asked_by, first_of, grows_by};
 
-use crate::jobs::Ended;
-use crate::plan::{Plan, Source, Task};
-use crate::worker::Worker;
+use crate::ended::Ended;
+use crate::job_machine::JobMachine;
+use crate::plan::{PlannedJob, Source, Task};
 use fk_finish::ValidImage;
 use fk_model::limits::OWN_SPACE;
 use fk_model::{List, NoMemory, Stage};
 use std::alloc::Global;
 
 /// The image that the job with a place has made.
-fn image_made<W: Worker + Drop>(ends: &[Ended<W>], job: usize) -> Option<&ValidImage>
-    ensures { option_map (λ image. image.now) result ≡ image_made (slice_get (shown_ends W.state ends.now) job) }
+fn image_made(ends: &[Ended], job: usize) -> Option<&ValidImage>
+    ensures { option_map (λ image. image.now) result ≡ image_made (slice_get (shown_ends ends.now) job) }
 {
-    match ends.get(job)? {
-        Ended::Worked { worker, .. } => worker.image(),
-        Ended::NoImage => None,
-        Ended::Dead => None,
-    }
+    ends.get(job)?.image()
 }
 
 /// It is valid.
@@ -41,8 +38,8 @@ fn seen(image: Option<&ValidImage>) -> Option<&ValidImage>
 }
 
 /// The image that comes from a source.
-fn sourced<'a, W: Worker + Drop>(ends: &'a [Ended<W>], source: &'a Source) -> Option<&'a ValidImage>
-    ensures { option_map (λ image. image.now) result ≡ valid_one (sourced (shown_ends W.state ends.now) (source_of source.now)) }
+fn sourced<'a>(ends: &'a [Ended], source: &'a Source) -> Option<&'a ValidImage>
+    ensures { option_map (λ image. image.now) result ≡ valid_one (sourced (shown_ends ends.now) (source_of source.now)) }
 {
     match source {
         Source::Given(image) => seen(image.as_ref()),
@@ -51,8 +48,8 @@ fn sourced<'a, W: Worker + Drop>(ends: &'a [Ended<W>], source: &'a Source) -> Op
 }
 
 /// Whether a job can begin that is planned so.
-fn can_begin_so<W: Worker + Drop>(plan: &Plan, ends: &[Ended<W>]) -> bool
-    ensures { result ≡ is_some (begins (job_of plan.now) (shown_ends W.state ends.now)) }
+fn can_begin_so(plan: &PlannedJob, ends: &[Ended]) -> bool
+    ensures { result ≡ is_some (begins (job_of plan.now) (shown_ends ends.now)) }
 {
     match &plan.task {
         Task::Checkpoint { .. } => true,
@@ -61,15 +58,15 @@ fn can_begin_so<W: Worker + Drop>(plan: &Plan, ends: &[Ended<W>]) -> bool
 }
 
 /// What is planned of the job whose turn it is.
-fn planned<'a, W: Worker + Drop>(plans: &'a [Plan], ends: &[Ended<W>]) -> Option<&'a Plan>
-    ensures { option_map (λ plan. job_of plan.now) result ≡ slice_get (map job_of plans.now) (length (shown_ends W.state ends.now)) }
+fn planned<'a>(plans: &'a [PlannedJob], ends: &[Ended]) -> Option<&'a PlannedJob>
+    ensures { option_map (λ plan. job_of plan.now) result ≡ slice_get (map job_of plans.now) (length (shown_ends ends.now)) }
 {
     plans.get(ends.len())
 }
 
 /// Whether the job can begin whose turn it is.
-pub fn can_begin<W: Worker + Drop>(plans: &[Plan], ends: &[Ended<W>]) -> bool
-    ensures { result ≡ is_some (first_of (shown_ends W.state ends.now) (slice_get (map job_of plans.now) (length (shown_ends W.state ends.now)))) }
+pub fn can_begin(plans: &[PlannedJob], ends: &[Ended]) -> bool
+    ensures { result ≡ is_some (first_of (shown_ends ends.now) (slice_get (map job_of plans.now) (length (shown_ends ends.now)))) }
 {
     match plans.get(ends.len()) {
         Some(plan) => can_begin_so(plan, ends),
@@ -78,8 +75,8 @@ pub fn can_begin<W: Worker + Drop>(plans: &[Plan], ends: &[Ended<W>]) -> bool
 }
 
 /// The first call of a job that is planned so. It goes with no words.
-fn first_call_so<W: Worker + Drop>(plan: &Plan, ends: &[Ended<W>]) -> Option<Stage>
-    ensures { call_with result no_words ≡ asked_by (begins (job_of plan.now) (shown_ends W.state ends.now)) }
+fn first_call_so(plan: &PlannedJob, ends: &[Ended]) -> Option<Stage>
+    ensures { call_with result no_words ≡ asked_by (begins (job_of plan.now) (shown_ends ends.now)) }
 {
     match &plan.task {
         Task::Checkpoint { slot } => Some(Stage::SpaceHold {
@@ -96,15 +93,19 @@ fn first_call_so<W: Worker + Drop>(plan: &Plan, ends: &[Ended<W>]) -> Option<Sta
 }
 
 /// The first call of the job whose turn it is. It goes with no words.
-pub fn first_call<W: Worker + Drop>(plans: &[Plan], ends: &[Ended<W>]) -> Option<Stage>
+pub fn first_call(plans: &[PlannedJob], ends: &[Ended]) -> Option<Stage>
     ensures { call_with result no_words
-        ≡ asked_by (first_of (shown_ends W.state ends.now) (slice_get (map job_of plans.now) (length (shown_ends W.state ends.now)))) }
+        ≡ asked_by (first_of (shown_ends ends.now) (slice_get (map job_of plans.now) (length (shown_ends ends.now)))) }
 {
     first_call_so(plans.get(ends.len())?, ends)
 }
 
 /// A restore that is about to begin, of an image that is shared.
-fn restore<W: Worker>(slot: u8, image: &ValidImage, pairs: &List<(u8, u8)>) -> Result<W, NoMemory>
+fn restore<W: JobMachine>(
+    slot: u8,
+    image: &ValidImage,
+    pairs: &List<(u8, u8)>,
+) -> Result<W, NoMemory>
     requires low { slot ≤ LAST_USER_SLOT }
     requires users { are_user_pairs pairs.now ≡ true }
     ensures { IfOk result (λ made. W.state made ≡ Restoring slot pairs.now image.now Makes) }
@@ -114,14 +115,14 @@ fn restore<W: Worker>(slot: u8, image: &ValidImage, pairs: &List<(u8, u8)>) -> R
 }
 
 /// The machine of a job that is planned so, where it can begin.
-fn make_so<W: Worker + Drop>(
+fn make_so<W: JobMachine + Drop>(
     alloc: Global,
-    plan: &Plan,
-    ends: &[Ended<W>],
+    plan: &PlannedJob,
+    ends: &[Ended],
 ) -> Result<Option<W>, NoMemory>
     requires { NamesUsersSlots (task_of plan.now.task) }
-    ensures made { IfOk result (λ made. option_map W.state made ≡ begins (job_of plan.now) (shown_ends W.state ends.now)) }
-    ensures grows { OnErr result (grows_by (begins (job_of plan.now) (shown_ends W.state ends.now)) ≡ true) }
+    ensures made { IfOk result (λ made. option_map W.state made ≡ begins (job_of plan.now) (shown_ends ends.now)) }
+    ensures grows { OnErr result (grows_by (begins (job_of plan.now) (shown_ends ends.now)) ≡ true) }
 {
     match &plan.task {
         Task::Checkpoint { slot } => Ok(Some(W::checkpoint(alloc, *slot))),
@@ -141,16 +142,16 @@ fn make_so<W: Worker + Drop>(
 /// # Errors
 ///
 /// There is no memory for it.
-pub fn make<W: Worker + Drop>(
+pub fn make<W: JobMachine + Drop>(
     alloc: Global,
-    plans: &[Plan],
-    ends: &[Ended<W>],
+    plans: &[PlannedJob],
+    ends: &[Ended],
 ) -> Result<Option<W>, NoMemory>
     requires { NameUsersSlots (map job_of plans.now) }
     ensures made { IfOk result (λ made. option_map W.state made
-        ≡ first_of (shown_ends W.state ends.now) (slice_get (map job_of plans.now) (length (shown_ends W.state ends.now)))) }
+        ≡ first_of (shown_ends ends.now) (slice_get (map job_of plans.now) (length (shown_ends ends.now)))) }
     ensures grows { OnErr result (grows_by
-        (first_of (shown_ends W.state ends.now) (slice_get (map job_of plans.now) (length (shown_ends W.state ends.now)))) ≡ true) }
+        (first_of (shown_ends ends.now) (slice_get (map job_of plans.now) (length (shown_ends ends.now)))) ≡ true) }
 {
     match planned(plans, ends) {
         Some(plan) => make_so(alloc, plan, ends),

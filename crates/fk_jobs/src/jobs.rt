@@ -5,71 +5,55 @@ ghost use Rattle.std.specs.List.{slice_get};
 ghost use Rattle.fk_model.specs.declared.moves.Ask.TheVariants as asks;
 ghost use Rattle.laws_house.specs.Laws.{NameUsersSlots};
 ghost use Rattle.laws_jobs.specs.Machines.{no_words};
-ghost use Rattle.fk_jobs.specs.Jobs.{job_of, unmoved_of, current, first_of, state_of, grows_by, call_with, asked_by, begun_from, hears, passed, with_idle};
-ghost use Rattle.fk_jobs.specs.Jobs.{shown_end, shown_ends, made_state};
-ghost use Rattle.laws_runs.specs.Cores.JobEnd.{Idle};
-ghost use Rattle.fk_jobs.specs.Plain.{picks_nobody};
+ghost use Rattle.fk_jobs.specs.Ended.{unmoved_of, shown_ends};
+ghost use Rattle.fk_jobs.specs.Jobs.{job_of, current, first_of, state_of, grows_by, call_with, asked_by, begun_from, hears, passed, with_idle};
+ghost use Rattle.fk_jobs.specs.Jobs.{made_state, HasEnded};
+ghost use Rattle.fk_jobs.specs.Fitting.{picks_nobody};
 
 use crate::begins::{can_begin, first_call, make};
-use crate::plan::Plan;
-use crate::worker::Worker;
+use crate::ended::{Ended, Unmoved};
+use crate::job_machine::JobMachine;
+use crate::plan::PlannedJob;
 use fk_model::{Answer, NoMemory, Stage};
 use std::alloc::Global;
 use std::marker::Model;
 
-/// How a job has ended.
-#[derive(Drop)]
-pub enum Ended<W: Drop> {
-    /// By its own moves, the first and the last of which stand at these places of the history. Its code says how.
-    Worked { worker: W, begun: u64, last: u64 },
-    /// Without a move, having no image.
-    NoImage,
-    /// Without a move, its nester being gone.
-    Dead,
-}
-
-/// Why a job ends without a move.
-#[derive(Clone, Copy)]
-pub enum Unmoved {
-    NoImage,
-    Dead,
-}
-
 /// Jobs, one after the other.
 #[derive(Drop)]
-pub struct Jobs<W: Worker + Drop> {
+pub struct Jobs<W: JobMachine + Drop> {
     alloc: Global,
-    plans: Vec<Plan>,
-    ends: Vec<Ended<W>>,
+    plans: Vec<PlannedJob>,
+    ends: Vec<Ended>,
     /// The machine of the one whose turn it is, once it is made.
-    worker: Option<W>,
+    porter: Option<W>,
     /// The place of its first move, once it has made one.
     begun: Option<u64>,
     /// It may lack its machine, or room.
     used: bool,
 }
 
-impl<W: Worker + Drop> Model for Jobs<W> {
+impl<W: JobMachine + Drop> Model for Jobs<W> {
     ghost use Rattle.std.specs.Prelude.{◌≡◌, ◌≤◌, false, not, map, length, vec_capacity};
     ghost use Rattle.std.specs.List.{slice_get};
     ghost use Rattle.laws_house.specs.Laws.{NameUsersSlots};
+    ghost use Rattle.fk_jobs.specs.Ended as ended;
     ghost use Rattle.fk_jobs.specs.Jobs as queues;
 
     ghost Value = { queues.Queue };
 
     ghost view = { λ s. record {
       jobs = map queues.job_of s.plans.items;
-      ends = queues.shown_ends W.state s.ends.items;
-      work = queues.shown_work W.state s.worker s.begun;
+      ends = ended.shown_ends s.ends.items;
+      work = queues.shown_work W.state s.porter s.begun;
       ready = not s.used;
     } };
 
     ghost invariant = { λ s. (length s.plans.items ≤ vec_capacity s.ends)
         × NameUsersSlots (map queues.job_of s.plans.items)
-        × queues.IsSeated W.state s.worker s.begun (queues.shown_ends W.state s.ends.items)
-        (slice_get (map queues.job_of s.plans.items) (length (queues.shown_ends W.state s.ends.items)))
-        × (s.used ≡ false → queues.IsReadied W.has_room s.worker (queues.first_of (queues.shown_ends W.state s.ends.items)
-        (slice_get (map queues.job_of s.plans.items) (length (queues.shown_ends W.state s.ends.items))))) };
+        × queues.IsSeated W.state s.porter s.begun (ended.shown_ends s.ends.items)
+        (slice_get (map queues.job_of s.plans.items) (length (ended.shown_ends s.ends.items)))
+        × (s.used ≡ false → queues.IsReadied W.has_room s.porter (queues.first_of (ended.shown_ends s.ends.items)
+        (slice_get (map queues.job_of s.plans.items) (length (ended.shown_ends s.ends.items))))) };
 }
 
 /// The place of a job's first move, which is this one where it has made none.
@@ -83,7 +67,7 @@ fn begun_from(begun: Option<u64>, events: u64) -> u64
 }
 
 /// Adds how a job has ended.
-fn add_end<W: Worker + Drop>(ends: &mut Vec<Ended<W>>, end: Ended<W>)
+fn add_end(ends: &mut Vec<Ended>, end: Ended)
     requires { length ends.old.items < vec_capacity ends.old }
     ensures ends { ends.new.items ≡ ends.old.items ++ end ∷ [] }
     ensures room { vec_capacity ends.old ≤ vec_capacity ends.new }
@@ -91,74 +75,64 @@ fn add_end<W: Worker + Drop>(ends: &mut Vec<Ended<W>>, end: Ended<W>)
     ends.push(end).unwrap();
 }
 
-/// How a job has ended that made no move.
-fn idle_end<W: Worker + Drop>(why: Unmoved) -> Ended<W>
-    ensures { shown_end W.state result ≡ Idle (unmoved_of why) }
-{
-    match why {
-        Unmoved::NoImage => Ended::NoImage,
-        Unmoved::Dead => Ended::Dead,
-    }
-}
-
 /// Makes the machine of the job whose turn it is. It stands apart, since it is rare and takes much room.
 #[inline(never)]
-fn make_new<W: Worker + Drop>(
+fn make_new<W: JobMachine + Drop>(
     alloc: Global,
-    plans: &[Plan],
-    ends: &[Ended<W>],
-    worker: &mut Option<W>,
+    plans: &[PlannedJob],
+    ends: &[Ended],
+    porter: &mut Option<W>,
 ) -> Result<(), NoMemory>
     requires { NameUsersSlots (map job_of plans.now) }
-    ensures made { OnOk result (option_map W.state worker.new
-        ≡ first_of (shown_ends W.state ends.now) (slice_get (map job_of plans.now) (length (shown_ends W.state ends.now)))) }
-    ensures lacking { OnErr result (worker.new ≡ worker.old) }
+    ensures made { OnOk result (option_map W.state porter.new
+        ≡ first_of (shown_ends ends.now) (slice_get (map job_of plans.now) (length (shown_ends ends.now)))) }
+    ensures lacking { OnErr result (porter.new ≡ porter.old) }
     ensures grows { OnErr result (grows_by
-        (first_of (shown_ends W.state ends.now) (slice_get (map job_of plans.now) (length (shown_ends W.state ends.now)))) ≡ true) }
+        (first_of (shown_ends ends.now) (slice_get (map job_of plans.now) (length (shown_ends ends.now)))) ≡ true) }
 {
-    *worker = make(alloc, plans, ends)?;
+    *porter = make(alloc, plans, ends)?;
     Ok(())
 }
 
 /// Makes the machine of the job whose turn it is, where it isn't made yet.
-fn make_in<W: Worker + Drop>(
+fn make_in<W: JobMachine + Drop>(
     alloc: Global,
-    plans: &[Plan],
-    ends: &[Ended<W>],
-    worker: &mut Option<W>,
+    plans: &[PlannedJob],
+    ends: &[Ended],
+    porter: &mut Option<W>,
 ) -> Result<(), NoMemory>
     requires { NameUsersSlots (map job_of plans.now) }
-    ensures made { OnOk result (option_map W.state worker.new
-        ≡ made_state W.state worker.old (first_of (shown_ends W.state ends.now) (slice_get (map job_of plans.now) (length (shown_ends W.state ends.now))))) }
-    ensures lacking { OnErr result (worker.new ≡ worker.old) }
-    ensures grows { OnErr result (grows_by (made_state W.state worker.old
-        (first_of (shown_ends W.state ends.now) (slice_get (map job_of plans.now) (length (shown_ends W.state ends.now))))) ≡ true) }
+    ensures made { OnOk result (option_map W.state porter.new
+        ≡ made_state W.state porter.old (first_of (shown_ends ends.now) (slice_get (map job_of plans.now) (length (shown_ends ends.now))))) }
+    ensures lacking { OnErr result (porter.new ≡ porter.old) }
+    ensures grows { OnErr result (grows_by (made_state W.state porter.old
+        (first_of (shown_ends ends.now) (slice_get (map job_of plans.now) (length (shown_ends ends.now))))) ≡ true) }
 {
-    if worker.is_none() {
-        make_new(alloc, plans, ends, worker)?;
+    if porter.is_none() {
+        make_new(alloc, plans, ends, porter)?;
     }
     Ok(())
 }
 
 /// Makes room for an answer to a machine, where there is one.
-fn reserve_in<W: Worker>(worker: &mut Option<W>) -> Result<(), NoMemory>
-    ensures same { option_map W.state worker.new ≡ option_map W.state worker.old }
-    ensures room { OnOk result (IfSome worker.new W.has_room) }
-    ensures grows { OnErr result (grows_by (option_map W.state worker.old) ≡ true) }
+fn reserve_in<W: JobMachine>(porter: &mut Option<W>) -> Result<(), NoMemory>
+    ensures same { option_map W.state porter.new ≡ option_map W.state porter.old }
+    ensures room { OnOk result (IfSome porter.new W.has_room) }
+    ensures grows { OnErr result (grows_by (option_map W.state porter.old) ≡ true) }
 {
-    match worker {
-        Some(worker) => worker.reserve(),
+    match porter {
+        Some(porter) => porter.reserve(),
         None => Ok(()),
     }
 }
 
-impl<W: Worker + Drop> Jobs<W> {
+impl<W: JobMachine + Drop> Jobs<W> {
     /// Jobs of which none has begun.
     ///
     /// # Errors
     ///
     /// There is no memory for their ends.
-    pub fn new(alloc: Global, plans: Vec<Plan>) -> Result<Jobs<W>, NoMemory>
+    pub fn new(alloc: Global, plans: Vec<PlannedJob>) -> Result<Jobs<W>, NoMemory>
         requires slots { NameUsersSlots (map job_of plans.items) }
         ensures jobs { IfOk result (λ jobs. jobs.jobs ≡ map job_of plans.items) }
         ensures ends { IfOk result (λ jobs. jobs.ends ≡ []) }
@@ -172,14 +146,14 @@ impl<W: Worker + Drop> Jobs<W> {
             alloc,
             plans,
             ends,
-            worker: None,
+            porter: None,
             begun: None,
             used: true,
         })
     }
 
     /// What is planned of the one whose turn it is.
-    pub fn current(&self) -> Option<&Plan>
+    pub fn current(&self) -> Option<&PlannedJob>
         ensures { option_map (λ plan. job_of plan.now) result ≡ current self.now }
     {
         self.plans.get(self.ends.len())
@@ -189,7 +163,7 @@ impl<W: Worker + Drop> Jobs<W> {
     pub fn is_at_work(&self) -> bool
         ensures { result ≡ is_some self.now.work }
     {
-        self.worker.is_some() && self.begun.is_some()
+        self.porter.is_some() && self.begun.is_some()
     }
 
     /// Whether it can begin, as a restore can that has an image.
@@ -205,8 +179,8 @@ impl<W: Worker + Drop> Jobs<W> {
         ensures next { call_with result words.new ≡ asked_by (state_of self.now) }
         ensures plain { IfSome (call_with result words.new) (λ ask. picks_nobody ask ≡ true) }
     {
-        match &self.worker {
-            Some(worker) => worker.next(words),
+        match &self.porter {
+            Some(porter) => porter.next(words),
             None => first_call(self.plans.as_slice(), self.ends.as_slice()),
         }
     }
@@ -215,8 +189,8 @@ impl<W: Worker + Drop> Jobs<W> {
     pub fn bare(&self) -> Option<Stage>
         ensures { IfSome result (λ stage. asked_by (state_of self.now) ≡ Some (asks.Call stage no_words)) }
     {
-        match &self.worker {
-            Some(worker) => worker.bare(),
+        match &self.porter {
+            Some(porter) => porter.bare(),
             None => None,
         }
     }
@@ -239,9 +213,9 @@ impl<W: Worker + Drop> Jobs<W> {
                 self.alloc,
                 self.plans.as_slice(),
                 self.ends.as_slice(),
-                &mut self.worker,
+                &mut self.porter,
             )?;
-            reserve_in(&mut self.worker)?;
+            reserve_in(&mut self.porter)?;
             self.used = false;
         }
         Ok(())
@@ -252,11 +226,11 @@ impl<W: Worker + Drop> Jobs<W> {
         requires { self.old.ready ≡ true }
         ensures { self.new ≡ hears self.old events answer.now.status (take answer.now.len answer.now.words) }
     {
-        let Some(worker) = &mut self.worker else {
+        let Some(porter) = &mut self.porter else {
             return;
         };
-        worker.absorb(answer);
-        let goes_on = worker.is_at_call();
+        porter.absorb(answer);
+        let goes_on = porter.is_at_call();
         self.begun = Some(begun_from(self.begun, events));
         self.used = true;
         if goes_on {
@@ -268,13 +242,15 @@ impl<W: Worker + Drop> Jobs<W> {
     /// The one at work has ended with the move at this place. It stands apart, since it is rare and takes much room.
     #[inline(never)]
     fn pass(&mut self, last: u64)
-        requires { IsSome self.old.work }
+        requires work { IsSome self.old.work }
+        requires over { HasEnded self.old.work }
         ensures { self.new ≡ passed self.old last }
     {
-        let worker = self.worker.take().unwrap();
+        let porter = self.porter.take().unwrap();
         let begun = self.begun.take().unwrap();
+        let finish = porter.finish().unwrap();
         let ended = Ended::Worked {
-            worker,
+            finish,
             begun,
             last,
         };
@@ -290,27 +266,27 @@ impl<W: Worker + Drop> Jobs<W> {
         ensures { self.new ≡ with_idle self.old (unmoved_of why) }
     {
         self.begun = None;
-        self.worker = None;
-        add_end(&mut self.ends, idle_end(why));
+        self.porter = None;
+        add_end(&mut self.ends, Ended::Idle(why));
         self.used = true;
     }
 
     /// How those have ended that have.
-    pub fn ends(&self) -> &[Ended<W>]
-        ensures { shown_ends W.state result.now ≡ self.now.ends }
+    pub fn ends(&self) -> &[Ended]
+        ensures { shown_ends result.now ≡ self.now.ends }
     {
         self.ends.as_slice()
     }
 
-    /// The same, handed out.
-    pub fn into_ends(self) -> Vec<Ended<W>>
-        ensures { shown_ends W.state result.items ≡ self.ends }
+    /// How those have ended that have, handed out.
+    pub fn into_ends(self) -> Vec<Ended>
+        ensures { shown_ends result.items ≡ self.ends }
     {
         self.ends
     }
 
     /// What is planned of all, in the order of the file.
-    pub fn plans(&self) -> &[Plan]
+    pub fn plans(&self) -> &[PlannedJob]
         ensures { map job_of result.now ≡ self.now.jobs }
     {
         self.plans.as_slice()

@@ -28,7 +28,7 @@ pub enum Task {
 
 /// A job: by the porter of the space with this birth number, from so many moves on.
 #[derive(Drop)]
-pub struct Plan {
+pub struct PlannedJob {
     pub nester: u32,
     pub at: u64,
     pub task: Task,

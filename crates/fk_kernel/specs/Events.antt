@@ -15,6 +15,7 @@ use Rattle.fk_store.specs.Store.Contents.{Contents}
 use Rattle.fk_store.specs.Store.Names.{same_who, who_cmp}
 use Rattle.fk_store.specs.Store.Orders.{comes_after}
 use Rattle.fk_store.specs.Store.World.{world, place_of, IsLive}
+pub use Rattle.fk_turns.specs.Next.Waiting.{IsMoveReady}
 
 -- an event is ready in the machine
 abbrev pub IsReadyEvent : World → Event → Type 0
@@ -27,10 +28,6 @@ is_fit_event w e = is_fit w e.mover e.ask
 -- the world after an event, and what it tells
 abbrev pub step_of : World → Event → Step
 step_of w e = step w e.mover e.pick e.ask
-
--- a move of the user at a path is ready, whomever it picks
-abbrev pub IsMoveReady : World → Path → Type 0
-IsMoveReady w x = (pick : Option Path) × IsReady w x pick asks.Run
 
 -- some user's move is ready
 abbrev pub IsAnyReady : World → Type 0

@@ -14,6 +14,7 @@ use Rattle.fk_links.specs.Connects.{is_connecting}
 use Rattle.fk_links.specs.declared.candidates.Candidate.{Candidate}
 use Rattle.fk_links.specs.declared.candidates.Candidate.TheVariants.{Faulting, Connecting, Resuming}
 
+-- who may be taken, by paths
 abbrev pub candidate_by : (ℕ → Path) → Candidate → rows.Candidate
 candidate_by p (Faulting slot fault) = rows.Faulting slot (fault_by p fault)
 candidate_by p (Connecting slot) = rows.Connecting slot

@@ -8,5 +8,6 @@ abbrev pub connect_first : List Stage → Option ℕ
 connect_first (Connect h ∷ later) = Some h
 connect_first other = None
 
+-- these stages begin with a connect
 abbrev pub is_connecting : List Stage → Bool
 is_connecting todo = is_some (connect_first todo)

@@ -33,6 +33,7 @@ registers_of (Calling todo rest) = []
 registers_of (Halted g code) = g
 registers_of (Native g) = g
 
+-- with what code a thread has halted, if it has
 abbrev pub code_of : Mode → Option ℕ
 code_of (Running g) = None
 code_of (Calling todo rest) = None

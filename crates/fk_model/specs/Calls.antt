@@ -7,10 +7,22 @@ use Rattle.std.specs.Prelude.{ℕ, ◌+◌, true, ◌==◌, nat_lt, ◌≡◌, L
 use Rattle.std.specs.List.{flat_map}
 use Rattle.fk_model.specs.declared.stage.Stage.{Stage}
 use Rattle.fk_model.specs.StageFacts.{facts_of}
-use Rattle.fk_model.specs.declared.call.TheConstants.{CREATE, DESTROY, RENAME, SEARCH, POINT, CLEAR, LOCATE, COUNT_IN, GET_STATE, SET_STATE, GET_PTR, SET_PTR, SPACE_HOLD, SPACE_RELEASE, THREAD_STOP, THREAD_GO, PAGE_GIVE, PAGE_TAKE, PAGE_READ, PAGE_NEXT, MUTEX_LOCK, MUTEX_TRYLOCK, MUTEX_UNLOCK, COND_WAIT, COND_ASLEEP, COND_SIGNAL, COND_BROADCAST, CONNECT, CONNECT_SEND_OVER_RECEIVE, CLIENT_SEND_OVER_RECEIVE, CLIENT_OVER_RECEIVE, CLIENT_RECEIVE, CLIENT_SEND, CLIENT_OVER, DISCONNECT, CLIENT_OVER_REF, CLIENT_RECEIVE_REF, WAIT, WAIT_RECEIVE, SERVER_RECEIVE, SERVER_SEND, SERVER_OVER, SERVER_SEND_OVER_RECEIVE, SERVER_OVER_RECEIVE, SERVER_END, FAULT_DONE, SERVER_OVER_REF, SERVER_RECEIVE_REF, LINK_SET, LINK_PARK, FAULT_SET, FAULT_PARK, HOLD_SET, SPACE_MAKE_HELD}
+use Rattle.fk_model.specs.declared.call.TheConstants.{CREATE, DESTROY, RENAME, SEARCH, POINT, CLEAR, LOCATE, COUNT_IN, GET_STATE, SET_STATE, GET_PTR, SET_PTR}
+use Rattle.fk_model.specs.declared.call.TheConstants.{SPACE_HOLD, SPACE_RELEASE, THREAD_STOP, THREAD_GO, PAGE_GIVE, PAGE_TAKE, PAGE_READ, PAGE_NEXT, MUTEX_LOCK}
+use Rattle.fk_model.specs.declared.call.TheConstants.{MUTEX_TRYLOCK, MUTEX_UNLOCK, COND_WAIT, COND_ASLEEP, COND_SIGNAL, COND_BROADCAST, CONNECT}
+use Rattle.fk_model.specs.declared.call.TheConstants.{CONNECT_SEND_OVER_RECEIVE, CLIENT_SEND_OVER_RECEIVE, CLIENT_OVER_RECEIVE, CLIENT_RECEIVE, CLIENT_SEND}
+use Rattle.fk_model.specs.declared.call.TheConstants.{CLIENT_OVER, DISCONNECT, CLIENT_OVER_REF, CLIENT_RECEIVE_REF, WAIT, WAIT_RECEIVE, SERVER_RECEIVE}
+use Rattle.fk_model.specs.declared.call.TheConstants.{SERVER_SEND, SERVER_OVER, SERVER_SEND_OVER_RECEIVE, SERVER_OVER_RECEIVE, SERVER_END, FAULT_DONE}
+use Rattle.fk_model.specs.declared.call.TheConstants.{SERVER_OVER_REF, SERVER_RECEIVE_REF, LINK_SET, LINK_PARK, FAULT_SET, FAULT_PARK, HOLD_SET}
+use Rattle.fk_model.specs.declared.call.TheConstants.{SPACE_MAKE_HELD}
 use Rattle.fk_model.specs.declared.stage.Todo.{Todo}
 use Rattle.fk_model.specs.declared.stage.Todo.TheVariants.{One, Two, Three, Four}
-use Rattle.fk_model.specs.declared.stage.Stage.TheVariants.{Create, Destroy, Rename, Search, Point, Clear, Locate, CountIn, GetState, SetState, GetPtr, SetPtr, SpaceHold, SpaceRelease, ThreadStop, ThreadGo, PageGive, PageTake, PageRead, PageNext, MutexLock, MutexTrylock, MutexUnlock, CondWait, CondAsleep, CondSignal, CondBroadcast, Connect, ClientReceive, ClientSend, ClientOver, Disconnect, ClientOverRef, ClientReceiveRef, Wait, ServerReceive, ServerSend, ServerOver, ServerEnd, FaultDone, ServerOverRef, ServerReceiveRef, LinkSet, LinkPark, FaultSet, FaultPark, HoldSet, SpaceMakeHeld}
+use Rattle.fk_model.specs.declared.stage.Stage.TheVariants.{Create, Destroy, Rename, Search, Point, Clear, Locate, CountIn, GetState, SetState, GetPtr, SetPtr}
+use Rattle.fk_model.specs.declared.stage.Stage.TheVariants.{SpaceHold, SpaceRelease, ThreadStop, ThreadGo, PageGive, PageTake, PageRead, PageNext, MutexLock}
+use Rattle.fk_model.specs.declared.stage.Stage.TheVariants.{MutexTrylock, MutexUnlock, CondWait, CondAsleep, CondSignal, CondBroadcast, Connect, ClientReceive}
+use Rattle.fk_model.specs.declared.stage.Stage.TheVariants.{ClientSend, ClientOver, Disconnect, ClientOverRef, ClientReceiveRef, Wait, ServerReceive}
+use Rattle.fk_model.specs.declared.stage.Stage.TheVariants.{ServerSend, ServerOver, ServerEnd, FaultDone, ServerOverRef, ServerReceiveRef, LinkSet, LinkPark}
+use Rattle.fk_model.specs.declared.stage.Stage.TheVariants.{FaultSet, FaultPark, HoldSet, SpaceMakeHeld}
 
 -- the code of the call that has this stage alone
 abbrev pub code_of_stage : Stage → ℕ
@@ -68,16 +80,11 @@ arguments (CondBroadcast c) = from_register 1 (c ∷ [])
 arguments (Connect h) = from_register 1 (h ∷ [])
 arguments (ClientReceive into room) = from_register 4 (into ∷ room ∷ [])
 arguments (ClientSend address count) = from_register 2 (address ∷ count ∷ [])
-arguments ClientOver = []
-arguments Disconnect = []
 arguments (ClientOverRef reference) = from_register 1 (reference ∷ [])
 arguments (ClientReceiveRef into room reference) = from_register 4 (into ∷ room ∷ reference ∷ [])
 arguments (Wait set) = from_register 1 (set ∷ [])
 arguments (ServerReceive into room) = from_register 4 (into ∷ room ∷ [])
 arguments (ServerSend address count) = from_register 2 (address ∷ count ∷ [])
-arguments ServerOver = []
-arguments ServerEnd = []
-arguments FaultDone = []
 arguments (ServerOverRef reference) = from_register 1 (reference ∷ [])
 arguments (ServerReceiveRef into room reference) = from_register 4 (into ∷ room ∷ reference ∷ [])
 arguments (LinkSet s x port server) = from_register 1 (s ∷ x ∷ port ∷ server ∷ [])
@@ -86,6 +93,7 @@ arguments (FaultSet s x port taker) = from_register 1 (s ∷ x ∷ port ∷ take
 arguments (FaultPark s x port taken) = from_register 1 (s ∷ x ∷ port ∷ taken ∷ [])
 arguments (HoldSet s x thread) = from_register 1 (s ∷ x ∷ thread ∷ [])
 arguments (SpaceMakeHeld x) = from_register 1 (x ∷ [])
+arguments other = []
 
 -- these values written into registers
 abbrev pub with_values : List (ℕ × ℕ) → List ℕ → List ℕ

@@ -51,6 +51,7 @@ is_holders_scratch w root x = holds (λ holder. is_scratch (parent holder) x) (a
 abbrev pub leads_in_from : World → Path → Path → Path → Bool
 leads_in_from w root y x = not (is_within root x) && not (is_holders_scratch w root x) && nat_lt 0 (pointers_to y (w.body x))
 
+-- some pointer of the world, from outside the subtree at a root, leads to an object in it
 abbrev pub is_led_to : World → Path → Path → Bool
 is_led_to w root y = list_any (leads_in_from w root y) ([] ∷ objects w)
 

@@ -23,6 +23,7 @@ is_port body = holds (λ (port : Option ℕ × Bool). true) (and_then port_of bo
 abbrev pub ports_of : World → Path → ℕ → ℕ → Bool
 ports_of w nester slot i = not (i == slot) && is_port (w.body (i ∷ nester))
 
+-- a pointer that leads out of the subtree, as the subtree sees it: to a port of its nester by the port's slot, else far
 abbrev pub cut_out : (ℕ → Bool) → Path → Path → Ptr
 cut_out ports nester [] = Far
 cut_out ports nester (i ∷ x) = if same_path x nester && ports i then Out i else Far
@@ -35,17 +36,12 @@ abbrev pub cut_ptr : (ℕ → Bool) → Path → ℕ → Ptr → Ptr
 cut_ptr ports nester slot (At x) = cut_to ports nester x (strip (slot ∷ nester) x)
 cut_ptr ports nester slot Null = Null
 cut_ptr ports nester slot Dead = Dead
-cut_ptr ports nester slot (Out i) = Far
-cut_ptr ports nester slot Outside = Far
-cut_ptr ports nester slot Far = Far
+cut_ptr ports nester slot other = Far
 
+-- a pointer leads to a port of the nester
 abbrev pub is_out : Ptr → Bool
 is_out (Out i) = true
-is_out Null = false
-is_out Dead = false
-is_out (At x) = false
-is_out Outside = false
-is_out Far = false
+is_out other = false
 
 -- a peer at a port that leads out is outside, also where it is native or parked
 abbrev pub cut_peer : (ℕ → Bool) → Path → ℕ → Bool → Peer → Peer
@@ -106,22 +102,14 @@ cut w nester slot = cut_by (ports_of w nester slot) w nester slot
 
 abbrev pub is_far : Ptr → Bool
 is_far Far = true
-is_far Null = false
-is_far Dead = false
-is_far (At x) = false
-is_far (Out i) = false
-is_far Outside = false
+is_far other = false
 
 abbrev pub has_far : Option Body → Bool
 has_far body = holds (λ b. list_any is_far (pointers b)) body
 
 abbrev pub is_outer : Ptr → Bool
 is_outer Outside = true
-is_outer Far = false
-is_outer Null = false
-is_outer Dead = false
-is_outer (At x) = false
-is_outer (Out i) = false
+is_outer other = false
 
 -- a peer that is a thread inside
 abbrev pub is_inner_peer : Path → Peer → Bool

@@ -20,6 +20,7 @@ use Rattle.fk_model.specs.Readers.{and_read, object_in, space_argument, referred
 abbrev pub frees : World → Caller → Path → Outcome
 frees w c x = when (is_unheld w (parent x)) (done c (Alter x (SetFault None) ∷ []) [])
 
+-- fault_done: the fault that the caller has taken ends, and its thread goes on
 unfoldable pub fault_done : World → Caller → Outcome
 fault_done w c = or_refuse NOTLINKED (faulter_of w (path_of c)) >>= frees w c
 
@@ -32,6 +33,7 @@ given_fault c port taker = Some (record { page = slice_index c.words 0; write = 
 abbrev pub named_taker : World → Caller → ℕ → Result (Option Peer) ℕ
 named_taker w c taker = if taker == OWN_SPACE then Ok None else and_read (referred w c kinds.Thread taker) (λ thread. Ok (Some (Server thread)))
 
+-- fault_set: a thread gets a fault again that is raised at a port, and whoever took it there, or nobody
 unfoldable pub fault_set : World → Caller → ℕ → ℕ → ℕ → ℕ → Outcome
 fault_set w c s x port taker = do
   space ← space_argument w c s

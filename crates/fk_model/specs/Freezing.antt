@@ -16,13 +16,16 @@ use Rattle.fk_model.specs.Holds.{is_frozen_for, leads_to_frozen}
 
 -- ---- the pointers that an edit changes, and those that it makes
 
+-- where an object leads, if one is there
 abbrev pub body_pointers : Option Body → List Ptr
 body_pointers body = option_list pointers body
 
+-- pointers that come of a thread's talk
 abbrev pub of_talk : (Talk → List Ptr) → Body → List Ptr
 of_talk f (Thread_of t) = option_list f t.talk
 of_talk f other = []
 
+-- pointers that come of a thread's fault
 abbrev pub of_fault : (Fault → List Ptr) → Body → List Ptr
 of_fault f (Thread_of t) = option_list f t.fault
 of_fault f other = []
@@ -45,6 +48,7 @@ made_pointers (SetFault fault) = option_list fault_pointers fault
 made_pointers (SetTaker taker) = option_list peer_pointer taker
 made_pointers other = []
 
+-- none of these pointers leads to what is frozen for a mover
 abbrev pub are_unfrozen : World → Path → List Ptr → Bool
 are_unfrozen w me ps = not (list_any (leads_to_frozen w me) ps)
 
@@ -90,11 +94,13 @@ pub record MayMake (w : World) (me x : Path) (ps : List Ptr) : Type 0 where
   pub object : is_frozen_for w me x ≡ false
   pub made : are_unfrozen w me ps ≡ true
 
+-- a mover may destroy an object: it isn't frozen for him, nor is anything to which it leads, or which leads to it
 pub record MayKill (w : World) (me x : Path) : Type 0 where
   pub object : is_frozen_for w me x ≡ false
   pub changed : are_unfrozen w me (body_pointers (w.body x)) ≡ true
   pub others : (q : Path) → may_be_swept w me x q ≡ true
 
+-- a mover may give an object another slot: it isn't frozen for him, nor is anything that leads to it
 pub record MayMove (w : World) (me x : Path) : Type 0 where
   pub object : is_frozen_for w me x ≡ false
   pub others : (q : Path) → may_follow w me x q ≡ true

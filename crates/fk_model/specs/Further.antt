@@ -3,7 +3,8 @@
 -- Movers, picks, threads and spaces are named by their paths in the subtree. A peer outside is taken to be free, and to
 -- stand at the Receive that a Send or an Over needs; how many words it takes is said with the move. Of what the outside
 -- does, only the inside half is made.
-use Rattle.std.specs.Prelude.{◌≡◌, ℕ, ◌%◌, min, Bool, true, false, not, ◌&&◌, ◌||◌, ◌==◌, nat_le, nat_lt, is_none, is_some, List, [], ◌∷◌, ◌++◌, length, Option, Some, None, if◌then◌else◌}
+use Rattle.std.specs.Prelude.{◌≡◌, ℕ, ◌%◌, min, Bool, true, false, not, ◌&&◌, ◌||◌, ◌==◌, nat_le, nat_lt, is_none, is_some, List, [], ◌∷◌, ◌++◌, length, Option}
+use Rattle.std.specs.Prelude.{Some, None, if◌then◌else◌}
 use Rattle.std.specs.List.{flat_map}
 use Rattle.fk_model.specs.declared.limits.TheConstants.{PAGE_WORDS, BLOCK_WORDS}
 use Rattle.fk_model.specs.declared.statuses.status.TheConstants.{FULL, ENDED}
@@ -234,7 +235,8 @@ reference_handed (ServerOverRef reference) = Some reference
 reference_handed other = None
 
 abbrev pub carried_by : World → Path → Option Ptr
-carried_by w x = and_then (λ k. and_then reference_of (w.body (k ∷ parent x))) (and_then (λ (t : Thread). and_then reference_handed (first_stage t.mode)) (thread_at w x))
+carried_by w x = and_then (λ k. and_then reference_of (w.body (k ∷ parent x)))
+    (and_then (λ (t : Thread). and_then reference_handed (first_stage t.mode)) (thread_at w x))
 
 abbrev pub told_by_said : World → Path → Said → List Told
 told_by_said w x (Words port words) = ToldWords x port words ∷ []

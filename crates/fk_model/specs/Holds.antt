@@ -8,6 +8,7 @@ use Rattle.fk_model.specs.Objects.{Mode, Thread, Body, space_of, and_then, or_el
 use Rattle.fk_model.specs.Objects.Mode.{Running, Calling, Halted, Native}
 use Rattle.fk_model.specs.World.{World}
 
+-- who holds a space, if what is there is a space that is held
 abbrev pub holder_of : Option Body → Option Ptr
 holder_of b = and_then (λ holder. holder) (and_then space_of b)
 
@@ -33,6 +34,7 @@ abbrev pub leads_to_frozen : World → Path → Ptr → Bool
 leads_to_frozen w me (At x) = is_frozen_for w me x
 leads_to_frozen w me other = false
 
+-- a user's thread that may go on: it runs or calls, hasn't halted, and is no porter
 abbrev pub is_user : Mode → Bool
 is_user (Running g) = true
 is_user (Calling todo rest) = true

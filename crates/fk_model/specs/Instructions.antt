@@ -1,9 +1,11 @@
 -- Instructions: the fields of a word, and what the operation in it asks for. Nothing here knows of memory.
-use Rattle.std.specs.Prelude.{ℕ, ◌+◌, ◌-◌, ◌*◌, ◌/◌, ◌%◌, ◌^◌, ◌<◌, ◌≤◌, ◌&&◌, ◌==◌, List, Option, Some, None, if◌then◌else◌, nat_le, nat_lt, slice_index, bit_and, bit_or, bit_xor}
+use Rattle.std.specs.Prelude.{ℕ, ◌+◌, ◌-◌, ◌*◌, ◌/◌, ◌%◌, ◌^◌, ◌<◌, ◌≤◌, ◌&&◌, ◌==◌, List, Option, Some, None, if◌then◌else◌, nat_le, nat_lt, slice_index}
+use Rattle.std.specs.Prelude.{bit_and, bit_or, bit_xor}
 use Rattle.fk_model.specs.declared.instruction.Instr.{Instr}
 use Rattle.fk_model.specs.declared.instruction.Act.{Act}
 use Rattle.fk_model.specs.declared.instruction.Act.TheVariants.{Put, Jump, Load, Store, Halt, Call}
-use Rattle.fk_model.specs.declared.instruction.operation.TheConstants.{HALT, SET, MOV, ADD, SUB, MUL, AND, OR, XOR, SHL, SHR, DIV, REM, LOAD, STORE, JMP, JZ, JNZ, JLT, ADDI, CALL}
+use Rattle.fk_model.specs.declared.instruction.operation.TheConstants.{HALT, SET, MOV, ADD, SUB, MUL, AND, OR, XOR, SHL, SHR, DIV, REM, LOAD, STORE, JMP, JZ}
+use Rattle.fk_model.specs.declared.instruction.operation.TheConstants.{JNZ, JLT, ADDI, CALL}
 
 -- the operation is one of the 21, and the registers are among the 16
 abbrev pub IsInstr : Instr → Type 0
@@ -62,6 +64,7 @@ act_on i a b c counter =
     (if i.op == JLT then Jump (if nat_lt a b then i.n else next counter) else
     (if i.op == ADDI then Put i.a ((b + sign_extended i.n) % 2 ^ 64) else Call))))))))))
 
+-- what an instruction asks for, by the registers that it names
 abbrev pub act_of : Instr → List ℕ → ℕ → Act
 act_of i registers counter = act_on i (slice_index registers i.a) (slice_index registers i.b) (slice_index registers i.c) counter
 

@@ -34,6 +34,8 @@ pub mod Seen
 pub mod Numbers
 pub mod Rebind
 pub mod Names
+pub mod Jobs
+pub mod Rules
 pub mod Endings
 pub mod StageFacts
 pub mod Sound

@@ -1,5 +1,6 @@
 -- Talks begin and end: connect, disconnect, wait, end, and the talks that a porter restores.
-use Rattle.std.specs.Prelude.{ℕ, Bool, true, false, ◌&&◌, ◌==◌, is_some, List, [], ◌∷◌, ◌++◌, map, Option, Some, None, Result, Ok, Err, option_map, if◌then◌else◌, slice_index}
+use Rattle.std.specs.Prelude.{ℕ, Bool, true, false, ◌&&◌, ◌==◌, is_some, List, [], ◌∷◌, ◌++◌, map, Option, Some, None, Result, Ok, Err, option_map}
+use Rattle.std.specs.Prelude.{if◌then◌else◌, slice_index}
 use Rattle.fk_model.specs.declared.names.Kind.TheVariants as kinds
 use Rattle.fk_model.specs.declared.stage.Stage.{Stage}
 use Rattle.fk_model.specs.declared.stage.Stage.TheVariants.{Connect}
@@ -24,6 +25,7 @@ use Rattle.fk_model.specs.Talks.{Line, line, ends_beyond, first_stage, path_to}
 
 -- ---- connect: a server's wait does it, or the port's native server. By itself it is only refused
 
+-- a thread without a talk asks for one at a port, and waits until its server takes it
 unfoldable pub connect : World → Caller → ℕ → Outcome
 connect w c h = do
   _ ← handle w c kinds.Port h
@@ -58,6 +60,7 @@ pub data Candidate : Type 0 where
   Connecting : (slot : ℕ) → Candidate
   Resuming : (slot : ℕ) (talk : Talk) → Candidate
 
+-- what is in a slot is a port of this set
 abbrev pub is_member : ℕ → Option Body → Bool
 is_member set body = holds (λ (port : Option ℕ × Bool). holds (λ k. k == set) port.0) (and_then port_of body)
 
@@ -65,6 +68,7 @@ is_member set body = holds (λ (port : Option ℕ × Bool). holds (λ k. k == se
 abbrev pub slot_in_set : World → Path → ℕ → Ptr → Option ℕ
 slot_in_set w space set port = and_then (λ x. if same_path (parent x) space && is_member set (w.body x) then Some (slot_of x) else None) (path_to port)
 
+-- a talk waits at its port to be taken up again
 abbrev pub is_parked : Option Peer → Bool
 is_parked (Some Parked) = true
 is_parked (Some (Server thread)) = false
@@ -95,6 +99,7 @@ candidate_by w space set x t =
 unfoldable pub candidate : World → Path → ℕ → Path → Option Candidate
 candidate w space set x = if is_unheld w (parent x) then and_then (candidate_by w space set x) (and_then thread_of (w.body x)) else None
 
+-- whose turn it is, as records and porters give it
 abbrev pub turn_number : Turn → ℕ
 turn_number turns.Client = 1
 turn_number turns.Server = 2
@@ -117,6 +122,7 @@ abbrev pub portset_of : Body → Option Body
 portset_of Portset = Some Portset
 portset_of other = None
 
+-- wait: the client is accepted that the move picks, among those who can be taken at a port of the set
 unfoldable pub wait : World → Caller → Option Path → ℕ → Outcome
 wait w c pick set = do
   _ ← object_in w c portset_of c.space set
@@ -137,6 +143,7 @@ told_end talk Parked = Nothing
 abbrev pub removes : World → Caller → Turn → Line → Outcome
 removes w c side l = telling (told_end l.talk l.other) (done c (end_all (ends_beyond w side l) ++ Alter l.client (SetTalk None) ∷ []) [])
 
+-- disconnect, and the end of a talk by its server: the caller's talk on this side ends
 unfoldable pub disconnect : World → Caller → Turn → Outcome
 disconnect w c side = or_refuse NOTLINKED (line w (path_of c) side) >>= removes w c side
 
@@ -148,6 +155,7 @@ turn_by n = if n == 1 then turns.Client else turns.Server
 abbrev pub given_talk : Caller → Ptr → Peer → Option Talk
 given_talk c port peer = Some (record { port = port; peer = peer; turn = turn_by (slice_index c.words 0); moved = slice_index c.words 1 })
 
+-- link_set: a thread becomes the client of a talk again, at a port, with a thread as its server
 unfoldable pub link_set : World → Caller → ℕ → ℕ → ℕ → ℕ → Outcome
 link_set w c s x port server = do
   space ← space_argument w c s
@@ -157,6 +165,7 @@ link_set w c s x port server = do
   _ ← refuse HELD (is_frozen_for w (path_of c) (x ∷ space))
   done c (Alter (x ∷ space) (SetTalk (given_talk c at (Server thread))) ∷ []) []
 
+-- link_park: a thread becomes the client of a talk again that waits at a port of the caller's space to be taken up
 unfoldable pub link_park : World → Caller → ℕ → ℕ → ℕ → Outcome
 link_park w c s x port = do
   space ← space_argument w c s

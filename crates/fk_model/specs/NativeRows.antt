@@ -107,5 +107,6 @@ awaited_at w x = and_then (λ (t : Thread). awaited t.mode) (thread_at w x)
 abbrev pub passes_client : World → Path → Path → ℕ × ℕ → Outcome
 passes_client w port x receive = Goes (Alter x (PassTurn turns.Client) ∷ takes_turn x None (awaited_at w x)) (Passed (At port))
 
+-- a native server hands its port's client the turn
 unfoldable pub over_row : World → Path → Outcome
 over_row w port = with_client w port (passes_client w port)

@@ -1,5 +1,6 @@
 -- Objects: create, destroy, rename, search, point, clear, locate, count_in.
-use Rattle.std.specs.Prelude.{ℕ, Bool, false, not, ◌&&◌, ◌==◌, nat_le, is_some, List, [], ◌∷◌, ◌++◌, filter, sum_by, length, Option, Some, None, Result, Ok, Err, option_map, if◌then◌else◌, replicate}
+use Rattle.std.specs.Prelude.{ℕ, Bool, false, not, ◌&&◌, ◌==◌, nat_le, is_some, List, [], ◌∷◌, ◌++◌, filter, sum_by, length, Option, Some, None, Result, Ok}
+use Rattle.std.specs.Prelude.{Err, option_map, if◌then◌else◌, replicate}
 use Rattle.std.specs.List.{flat_map, list_any}
 use Rattle.fk_model.specs.declared.limits.TheConstants.{OWN_SPACE, SLOTS, LAST_USER_SLOT, FIRST_SCRATCH_SLOT, LAST_SCRATCH_SLOT}
 use Rattle.fk_model.specs.declared.names.Kind.{Kind}
@@ -38,6 +39,7 @@ new_object x kind =
     (if kind == 8 then Some (Make x (Thread_of (record { mode = Running (replicate 16 0); counter = 0; stops = 1; talk = None; fault = None }))) else
     (if kind == 9 then Some (Make x (Reference Null)) else None))))))))
 
+-- create: a new object of a kind's number in an empty slot of a space
 unfoldable pub create : World → Caller → ℕ → ℕ → ℕ → Outcome
 create w c s x kind = do
   space ← space_argument w c s
@@ -81,6 +83,7 @@ told_with w x (Some (Thread_of t)) = told_client t.talk
 told_with w x (Some (Port set served)) = told_port x (client_at w x)
 told_with w x other = Nothing
 
+-- the changes by which an object is destroyed: it goes, and talks and faults end that end with it
 abbrev pub kills : World → Path → List Change
 kills w x = Kill x ∷ end_all (ends_with w x (w.body x))
 
@@ -89,6 +92,7 @@ abbrev pub destroys : World → Caller → Path → Path → Outcome
 destroys w c x gone =
     telling (told_with w gone (w.body gone)) (if same_path gone x then done c (kills w gone) [] else stays c (kills w gone))
 
+-- destroy: an object goes, and what lies in it before it, one object a move
 unfoldable pub destroy : World → Caller → ℕ → ℕ → Outcome
 destroy w c s x = do
   space ← space_argument w c s
@@ -104,6 +108,7 @@ destroy w c s x = do
 abbrev pub renamed : Path → Path → Path → Path
 renamed x y me = if same_path me x then y else me
 
+-- rename: an object gets another slot of its space, and all that leads to it follows
 unfoldable pub rename : World → Caller → ℕ → ℕ → ℕ → Outcome
 rename w c s x y = do
   space ← space_argument w c s
@@ -120,6 +125,7 @@ rename w c s x y = do
 abbrev pub taken_from : World → Path → ℕ → ℕ → ℕ → Option (ℕ × ℕ)
 taken_from w space last from k = if nat_le from k && nat_le k last then option_map (λ b. (k, number_of_kind (kind_of b))) (w.body (k ∷ space)) else None
 
+-- search: the first taken slot of a space from a number on, and its kind
 unfoldable pub search : World → Caller → ℕ → ℕ → Outcome
 search w c s from = do
   space ← space_argument w c s
@@ -133,9 +139,11 @@ abbrev pub pointer_to : Path → Body → Option Ptr
 pointer_to x (Reference to) = Some to
 pointer_to x b = if list_any (same_kind (kind_of b)) referable then Some (At x) else None
 
+-- to what a reference leads that stands in a slot, or to the object that stands there itself
 abbrev pub pointer_in : World → Caller → Path → ℕ → Result Ptr ℕ
 pointer_in w c space x = object_in w c (pointer_to (x ∷ space)) space x
 
+-- point: a reference leads to an object, or where another reference leads
 unfoldable pub point : World → Caller → ℕ → ℕ → ℕ → ℕ → Outcome
 point w c s x s2 x2 = do
   space ← space_argument w c s
@@ -145,6 +153,7 @@ point w c s x s2 x2 = do
   _ ← refuse status.HELD (is_frozen_for w (path_of c) (x ∷ space))
   done c (Alter (x ∷ space) (SetPointer to) ∷ []) []
 
+-- clear: a reference leads nowhere
 unfoldable pub clear : World → Caller → ℕ → ℕ → Outcome
 clear w c s x = do
   space ← space_argument w c s
@@ -174,16 +183,13 @@ way_down q = outermost q ∷ (if nat_le (length q) 1 then 0 else 1) ∷ []
 
 abbrev pub way_to : Path → Ptr → Option (List ℕ)
 way_to space (At x) = option_map way_down (strip space x)
-way_to space (Out slot) = None
-way_to space Null = None
-way_to space Dead = None
-way_to space Outside = None
-way_to space Far = None
+way_to space other = None
 
 abbrev pub kind_number : Option Kind → ℕ
 kind_number None = 0
 kind_number (Some kind) = number_of_kind kind
 
+-- locate: where in or beneath a space the object lies to which a reference leads: its slot or 256, whether deeper, its kind
 unfoldable pub locate : World → Caller → ℕ → ℕ → Outcome
 locate w c reference s = do
   p ← object_in w c reference_of c.space reference
@@ -200,6 +206,7 @@ is_scratch nester q = same_path (parent q) nester && nat_le FIRST_SCRATCH_SLOT (
 abbrev pub counts_from : Path → Path → Path → Bool
 counts_from base nester q = not (is_within base q) && not (is_scratch nester q)
 
+-- how many pointers lead to an object, from the objects that count
 abbrev pub pointer_count : World → Path → Path → Path → ℕ
 pointer_count w base nester x = sum_by (λ q. pointers_to x (w.body q)) (filter (counts_from base nester) ([] ∷ objects w))
 
@@ -207,6 +214,7 @@ pointer_count w base nester x = sum_by (λ q. pointers_to x (w.body q)) (filter 
 abbrev pub object_or_space : World → Caller → Path → ℕ → Result Path ℕ
 object_or_space w c space x = if x == OWN_SPACE then Ok space else and_read (object_in w c anything space x) (λ b. Ok (x ∷ space))
 
+-- count_in: how many pointers lead to an object from outside a subtree
 unfoldable pub count_in : World → Caller → ℕ → ℕ → ℕ → Outcome
 count_in w c base s x = do
   top ← space_argument w c base

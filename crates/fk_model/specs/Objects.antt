@@ -15,6 +15,7 @@ pub data Mode : Type 0 where
   -- a porter, which makes the calls of its nester's jobs
   Native : (registers : List ℕ) → Mode
 
+-- a thread's 16 registers: in a call they hold its code and the arguments of the stages to come
 abbrev pub registers_of : Mode → List ℕ
 registers_of (Running g) = g
 registers_of (Calling todo rest) = words todo rest
@@ -44,6 +45,7 @@ pub record Fault : Type 0 where
   pub port : Ptr
   pub taker : Option Peer
 
+-- what it is at, its counter, how often it is stopped, its talk as a client, and its fault
 pub record Thread : Type 0 where
   pub mode : Mode
   pub counter : ℕ
@@ -81,6 +83,7 @@ pub data Body : Type 0 where
 
 -- ---- kinds
 
+-- a kind by its number, as calls and records have it
 abbrev pub number_of_kind : Kind → ℕ
 number_of_kind kinds.Mutex = 1
 number_of_kind kinds.Cond = 2
@@ -92,9 +95,11 @@ number_of_kind kinds.Space = 7
 number_of_kind kinds.Thread = 8
 number_of_kind kinds.Reference = 9
 
+-- kinds are the same
 abbrev pub same_kind : Kind → Kind → Bool
 same_kind a b = number_of_kind a == number_of_kind b
 
+-- the kind of an object
 abbrev pub kind_of : Body → Kind
 kind_of (Mutex locked) = kinds.Mutex
 kind_of Cond = kinds.Cond
@@ -112,6 +117,7 @@ covers first count page = nat_le first page && nat_lt page (first + count)
 
 -- ---- the state of an object of one kind
 
+-- a mutex, as whether it is locked
 abbrev pub mutex_of : Body → Option Bool
 mutex_of (Mutex locked) = Some locked
 mutex_of other = None
@@ -134,24 +140,29 @@ abbrev pub space_of : Body → Option (Option Ptr)
 space_of (Space birth holder) = Some holder
 space_of other = None
 
+-- a thread
 abbrev pub thread_of : Body → Option Thread
 thread_of (Thread_of thread) = Some thread
 thread_of other = None
 
+-- a reference, as where it leads
 abbrev pub reference_of : Body → Option Ptr
 reference_of (Reference to) = Some to
 reference_of other = None
 
 -- ---- Option's own words
 
+-- what comes of a value, where there is one
 abbrev pub and_then : {A B : Type 0} → (A → Option B) → Option A → Option B
 and_then f None = None
 and_then f (Some a) = f a
 
+-- the first of two values that is there
 abbrev pub or_else : {A : Type 0} → Option A → Option A → Option A
 or_else None b = b
 or_else (Some a) b = Some a
 
+-- there is a value that meets a test
 abbrev pub holds : {A : Type 0} → (A → Bool) → Option A → Bool
 holds test None = false
 holds test (Some a) = test a

@@ -1,6 +1,7 @@
 -- Outcomes: what a stage, an instruction or a native act comes to.
-use Rattle.std.specs.Prelude.{ℕ, Bool, List, [], ◌∷◌, ◌++◌, Option, Some, None, Result, Ok, Err, if◌then◌else◌}
+use Rattle.std.specs.Prelude.{ℕ, Bool, List, [], ◌∷◌, ◌++◌, take, Option, Some, None, Result, Ok, Err, if◌then◌else◌}
 use Rattle.fk_model.specs.declared.limits.TheConstants.{LAST_USER_SLOT, LAST_PORTER_SLOT}
+use Rattle.fk_model.specs.declared.moves.Answer.{Answer}
 use Rattle.fk_model.specs.declared.statuses.status.TheConstants.{OK}
 use Rattle.fk_model.specs.declared.thread.Turn.{Turn}
 use Rattle.fk_model.specs.Places.{Path, Ptr}
@@ -19,6 +20,7 @@ pub data Said : Type 0 where
   Passed : (port : Ptr) → Said
   Ended : (port : Ptr) → Said
 
+-- what a stage, an instruction or an act comes to
 pub data Outcome : Type 0 where
   -- it is refused at once, with this status
   Refused : (status : ℕ) → Outcome
@@ -70,6 +72,7 @@ abbrev pub done_at : Path → Caller → List Change → List ℕ → Outcome
 done_at me c changes answers =
     if c.is_porter then Goes changes (Answered OK answers) else Goes (changes ++ Alter me (Finish answers) ∷ []) Nothing
 
+-- a stage is done, with these changes and answers
 abbrev pub done : Caller → List Change → List ℕ → Outcome
 done c changes answers = done_at (path_of c) c changes answers
 
@@ -92,3 +95,9 @@ abbrev pub listed : Outcome → List Change
 listed (Goes changes said) = changes
 listed (Refused status) = []
 listed Waits = []
+
+-- ---- answers in code
+
+-- the words of an answer
+abbrev pub answered : Answer → List ℕ
+answered a = take a.len a.words

@@ -5,9 +5,11 @@
 -- lies at q beneath an object r is `q ++ r`. Texts show paths the other way round.
 use Rattle.std.specs.Prelude.{ℕ, Bool, true, false, ◌&&◌, ◌==◌, is_some, List, [], ◌∷◌, Option, Some, None, option_map, if◌then◌else◌}
 
+-- a place: the slots on the way to it, its own first and one of the root's last; the root has none
 abbrev pub Path : Type 0
 Path = List ℕ
 
+-- two paths are the same
 unfoldable pub same_path : Path → Path → Bool
 same_path [] [] = true
 same_path [] (k ∷ y) = false
@@ -47,10 +49,7 @@ pub data Ptr : Type 0 where
   -- anything else outside the subtree
   Far : Ptr
 
+-- a pointer leads to the object at this path
 abbrev pub leads_to : Path → Ptr → Bool
 leads_to x (At y) = same_path y x
-leads_to x Null = false
-leads_to x Dead = false
-leads_to x (Out slot) = false
-leads_to x Outside = false
-leads_to x Far = false
+leads_to x other = false

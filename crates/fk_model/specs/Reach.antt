@@ -6,7 +6,7 @@
 use Rattle.std.specs.Prelude.{ℕ, zero, suc, ◌+◌, ◌-◌, ◌/◌, Bool, not, ◌&&◌, ◌||◌, nat_lt, List, Option, Some, None, if◌then◌else◌, unwrap_or, ◌∷◌, []}
 use Rattle.fk_model.specs.declared.limits.TheConstants.{SLOTS, MAPPINGS, PAGE_WORDS, SPACE_WORDS}
 use Rattle.fk_model.specs.Places.{Path, parent, Ptr}
-use Rattle.fk_model.specs.Places.Ptr.{Null, Dead, At, Out, Outside, Far}
+use Rattle.fk_model.specs.Places.Ptr.{At, Out}
 use Rattle.fk_model.specs.Objects.{Window, Extent, mapping_of, region_of, covers, and_then}
 use Rattle.fk_model.specs.World.{World}
 use Rattle.fk_model.specs.Searches.{lowest}
@@ -26,12 +26,9 @@ region_at w s page = lowest SLOTS (λ k. and_then (λ (r : Extent). if covers r.
 
 -- a pointer to a keeper, if it leads anywhere
 abbrev pub live_keeper : Ptr → Option Ptr
-live_keeper Null = None
-live_keeper Dead = None
 live_keeper (At x) = Some (At x)
 live_keeper (Out slot) = Some (Out slot)
-live_keeper Outside = None
-live_keeper Far = None
+live_keeper other = None
 
 -- the keeper of a page that is missing in a space
 unfoldable pub keeper : World → Path → ℕ → Option Ptr
@@ -46,11 +43,7 @@ page_of_region m page write region r =
 -- the page of another space to which a mapping leads
 abbrev pub led_by : World → Window → ℕ → Bool → Ptr → Option (Path × ℕ)
 led_by w m page write (At region) = and_then (page_of_region m page write region) (and_then region_of (w.body region))
-led_by w m page write Null = None
-led_by w m page write Dead = None
-led_by w m page write (Out slot) = None
-led_by w m page write Outside = None
-led_by w m page write Far = None
+led_by w m page write other = None
 
 abbrev pub followed : (Path → ℕ → Reach) → Option (Path × ℕ) → Reach
 followed go None = Bad
@@ -72,6 +65,7 @@ reach_within (suc n) w s page write =
     at_home (Home s page) (mapped (λ m. followed (λ t other. reach_within n w t other write) (led_by w m page write m.region))
     (Missing s page (keeper w s page)) (mapping_at w s page)) (w.page s page)
 
+-- what an access to a page of a space meets: a page that is home, one that is missing, or none that it may reach
 unfoldable pub reach : World → Path → ℕ → Bool → Reach
 reach w s page write = reach_within MAPPINGS w s page write
 

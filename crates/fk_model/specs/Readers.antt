@@ -36,6 +36,7 @@ abbrev pub seen_as : {A : Type 0} → (Body → Option A) → Option Body → Re
 seen_as view None = Err BADHANDLE
 seen_as view (Some b) = or_refuse WRONGKIND (view b)
 
+-- an object of whatever kind
 abbrev pub anything : Body → Option Body
 anything b = Some b
 
@@ -49,10 +50,7 @@ object_in w c view s k = and_read (slot_for c k) (λ k. seen_as view (w.body (k 
 abbrev pub kind_at : World → Ptr → Option Kind
 kind_at w (At x) = and_then (λ b. Some (kind_of b)) (w.body x)
 kind_at w (Out slot) = Some kinds.Port
-kind_at w Null = None
-kind_at w Dead = None
-kind_at w Outside = None
-kind_at w Far = None
+kind_at w other = None
 
 abbrev pub is_kind : Kind → Option Kind → Bool
 is_kind wanted None = false
@@ -72,6 +70,7 @@ handled w wanted x None = Err BADHANDLE
 handled w wanted x (Some (Reference to)) = led_to w wanted to
 handled w wanted x (Some b) = if same_kind wanted (kind_of b) then Ok (At x) else Err WRONGKIND
 
+-- the object of a wanted kind that a handle names: it stands in the caller's slot, or a reference there leads to it
 unfoldable pub handle : World → Caller → Kind → ℕ → Result Ptr ℕ
 handle w c wanted h = and_read (slot_for c h) (λ h. handled w wanted (h ∷ c.space) (w.body (h ∷ c.space)))
 
@@ -110,6 +109,7 @@ own_page_at me write go (Home s page) = go s page
 own_page_at me write go (Missing s page keeper) = missed (Refused BADADDRESS) me page write keeper
 own_page_at me write go Bad = Refused BADADDRESS
 
+-- goes on with the page of the caller's own memory that an address names, where it can be read or written; else the caller gets a fault
 abbrev pub own_page : World → Caller → ℕ → Bool → (Path → ℕ → Outcome) → Outcome
 own_page w c address write go = own_page_at (path_of c) write go (reach_word w c.space address write)
 

@@ -1,12 +1,13 @@
 -- State records: the 32 words that say all of an object but its pointers, and what it is to set them.
-use Rattle.std.specs.Prelude.{ℕ, ◌+◌, ◌-◌, Bool, true, not, ◌&&◌, ◌||◌, ◌==◌, nat_le, nat_lt, is_none, is_some, List, [], ◌∷◌, ◌++◌, length, take, drop, replicate, Option, Some, None, if◌then◌else◌, slice_index}
+use Rattle.std.specs.Prelude.{ℕ, ◌+◌, ◌-◌, Bool, true, not, ◌&&◌, ◌||◌, ◌==◌, nat_le, nat_lt, is_none, is_some, List, [], ◌∷◌, ◌++◌, length, take, drop}
+use Rattle.std.specs.Prelude.{replicate, Option, Some, None, if◌then◌else◌, slice_index}
 use Rattle.fk_model.specs.declared.limits.TheConstants.{RECORD_WORDS, PAGES, SLOTS, MOST_STOPS}
 use Rattle.fk_model.specs.declared.stage.Stage.{Stage}
 use Rattle.fk_model.specs.Places.{Path}
 use Rattle.fk_model.specs.Calls.{todo_of, rest_of}
 use Rattle.fk_model.specs.Objects.{Mode, Talk, Fault, Body, registers_of, number_of_kind, kind_of, flag_of}
 use Rattle.fk_model.specs.Objects.Mode.{Running, Calling, Halted, Native}
-use Rattle.fk_model.specs.Objects.Body.{Mutex, Cond, Mapping, Region, Port, Portset, Space, Thread_of, Reference}
+use Rattle.fk_model.specs.Objects.Body.{Mutex, Mapping, Region, Port, Thread_of}
 use Rattle.fk_model.specs.World.{World, Edit, edited}
 use Rattle.fk_model.specs.World.Edit.{SetLocked, SetWindow, SetExtent, SetMember, Proceed, SetStops}
 use Rattle.fk_model.specs.LinkRows.{turn_number, portset_of}
@@ -14,12 +15,14 @@ use Rattle.fk_model.specs.Objects.{and_then}
 
 -- ---- the record of an object
 
+-- what a thread is at, by its number in a record
 abbrev pub mode_number : Mode → ℕ
 mode_number (Running g) = 0
 mode_number (Calling todo rest) = 1
 mode_number (Halted g code) = 2
 mode_number (Native g) = 3
 
+-- with what code a thread has halted, 0 where it hasn't
 abbrev pub halt_code : Mode → ℕ
 halt_code (Halted g code) = code
 halt_code other = 0
@@ -40,25 +43,24 @@ member_word (Some set) = 1 + set
 
 abbrev pub state_words : Body → List ℕ
 state_words (Mutex locked) = flag_of locked ∷ []
-state_words Cond = []
 state_words (Mapping m) = m.first ∷ m.count ∷ m.offset ∷ flag_of m.write ∷ []
 state_words (Region r) = r.first ∷ r.count ∷ flag_of r.write ∷ []
 state_words (Port set served) = member_word set ∷ []
-state_words Portset = []
-state_words (Space birth holder) = []
 state_words (Thread_of t) =
     registers_of t.mode ++ (t.counter ∷ mode_number t.mode ∷ halt_code t.mode ∷ t.stops ∷ []) ++ talk_words t.talk ++ fault_words t.fault
-state_words (Reference to) = []
+state_words other = []
 
 -- words not named are 0
 abbrev pub padded : ℕ → List ℕ → List ℕ
 padded n words = words ++ replicate (n - length words) 0
 
+-- the record of an object: its kind's number, its state, and zeros behind that
 unfoldable pub record_of : Body → List ℕ
 record_of b = padded RECORD_WORDS (number_of_kind (kind_of b) ∷ state_words b)
 
 -- ---- what a record sets. The words that show the talk and the fault are not set
 
+-- one word of a record
 abbrev pub word : List ℕ → ℕ → ℕ
 word words i = slice_index words i
 
@@ -76,6 +78,7 @@ is_member_word w space served n = n == 0 || (not served && nat_le n SLOTS && is_
 abbrev pub member_by : ℕ → Option ℕ
 member_by n = if n == 0 then None else Some (n - 1)
 
+-- the registers in a thread's record
 abbrev pub record_registers : List ℕ → List ℕ
 record_registers words = take 16 (drop 1 words)
 
@@ -94,15 +97,12 @@ is_mode g n code = nat_le n 2 && (not (n == 1) || is_some (todo_of g)) && nat_le
 -- what set_state does to an object, where the record is one that its kind takes
 abbrev pub set_edits : Body → List ℕ → List Edit
 set_edits (Mutex locked) words = SetLocked (word words 1 == 1) ∷ []
-set_edits Cond words = []
 set_edits (Mapping m) words = SetWindow (word words 1) (word words 2) (word words 3) (word words 4 == 1) ∷ []
 set_edits (Region r) words = SetExtent (word words 1) (word words 2) (word words 3 == 1) ∷ []
 set_edits (Port set served) words = SetMember (member_by (word words 1)) ∷ []
-set_edits Portset words = []
-set_edits (Space birth holder) words = []
 set_edits (Thread_of t) words =
     Proceed (mode_of_record (word words 18) (record_registers words) (word words 19)) (word words 17) ∷ SetStops (word words 20) ∷ []
-set_edits (Reference to) words = []
+set_edits other words = []
 
 abbrev pub edited_by : List Edit → Body → Body
 edited_by [] b = b
@@ -115,14 +115,12 @@ set b words = edited_by (set_edits b words) b
 -- the record is of this kind, and its numbers are such as the kind takes
 abbrev pub is_state : World → Path → Body → List ℕ → Bool
 is_state w space (Mutex locked) words = is_flag (word words 1)
-is_state w space Cond words = true
 is_state w space (Mapping m) words = is_page_range (word words 1) (word words 2) && nat_lt (word words 3) PAGES && is_flag (word words 4)
 is_state w space (Region r) words = is_page_range (word words 1) (word words 2) && is_flag (word words 3)
 is_state w space (Port set served) words = is_member_word w space served (word words 1)
-is_state w space Portset words = true
-is_state w space (Space birth holder) words = true
 is_state w space (Thread_of t) words = is_mode (record_registers words) (word words 18) (word words 19) && nat_le (word words 20) MOST_STOPS
-is_state w space (Reference to) words = true
+is_state w space other words = true
 
+-- an object may take the state that a record has: it is of that kind, and each number is in its range
 unfoldable pub takes_state : World → Path → Body → List ℕ → Bool
 takes_state w space b words = word words 0 == number_of_kind (kind_of b) && is_state w space b words

@@ -1,6 +1,7 @@
 -- How a move of the world looks from within a subtree: as a move of its own, as something that the outside does to it, as
 -- nothing, or as something else, of which no law speaks.
-use Rattle.std.specs.Prelude.{◌≡◌, ◌⊎◌, ℕ, Bool, true, false, not, ◌&&◌, ◌||◌, is_none, List, [], ◌∷◌, Option, Some, None, Result, Ok, Err, option_map, unwrap_or, if◌then◌else◌}
+use Rattle.std.specs.Prelude.{◌≡◌, ◌⊎◌, ℕ, Bool, true, false, not, ◌&&◌, ◌||◌, is_none, List, [], ◌∷◌, Option, Some, None, Result, Ok, Err, option_map}
+use Rattle.std.specs.Prelude.{unwrap_or, if◌then◌else◌}
 use Rattle.std.specs.List.{list_any}
 use Rattle.std.specs.Option.{option_map_or}
 use Rattle.fk_model.specs.declared.moves.Ask.{Ask}
@@ -10,7 +11,7 @@ use Rattle.fk_model.specs.declared.stage.Stage.TheVariants.{Wait, ServerSend, Se
 use Rattle.fk_model.specs.declared.stage.Stage.TheVariants as stages
 use Rattle.fk_model.specs.declared.thread.Turn.TheVariants as turns
 use Rattle.fk_model.specs.Places.{Path, same_path, strip, is_within, parent, slot_of, Ptr}
-use Rattle.fk_model.specs.Places.Ptr.{Null, Dead, At, Out, Outside, Far}
+use Rattle.fk_model.specs.Places.Ptr.{Null, Dead, At}
 use Rattle.fk_model.specs.Objects.{Talk, Fault, Thread, reference_of, and_then, holds}
 use Rattle.fk_model.specs.World.{World, Change}
 use Rattle.fk_model.specs.World.Change.{Alter, PutPage, DropPage}
@@ -96,9 +97,7 @@ abbrev pub leads_out : Path → Ptr → Bool
 leads_out root (At x) = not (is_within root x)
 leads_out root Null = false
 leads_out root Dead = false
-leads_out root (Out slot) = true
-leads_out root Outside = true
-leads_out root Far = true
+leads_out root other = true
 
 -- it sends to a peer outside
 abbrev pub sends_out : World → Path → Path → Bool

@@ -6,7 +6,7 @@ use Rattle.fk_model.specs.declared.limits.TheConstants.{LAST_USER_SLOT, LAST_POR
 use Rattle.fk_model.specs.declared.job.JobSpec.{JobSpec}
 use Rattle.fk_model.specs.declared.job.JobSpec.TheVariants as specs
 use Rattle.fk_model.specs.Places.{Path, same_path, is_within, parent, Ptr}
-use Rattle.fk_model.specs.Places.Ptr.{Null, Dead, At, Out, Outside, Far}
+use Rattle.fk_model.specs.Places.Ptr.{Null, Dead, At}
 use Rattle.fk_model.specs.Objects.{holds, is_served}
 use Rattle.fk_model.specs.World.{World}
 use Rattle.fk_model.specs.Searches.{talk_at, fault_at}
@@ -28,12 +28,10 @@ are_apart alike (x ∷ xs) = not (list_any (alike x) xs) && are_apart alike xs
 
 -- a pointer that stands in cuts alone
 abbrev pub is_cut_pointer : Ptr → Bool
-is_cut_pointer (Out slot) = true
-is_cut_pointer Outside = true
-is_cut_pointer Far = true
 is_cut_pointer Null = false
 is_cut_pointer Dead = false
 is_cut_pointer (At x) = false
+is_cut_pointer other = true
 
 -- each of its pointers leads somewhere in it, or nowhere
 abbrev pub IsUncut : World → Type 0
@@ -113,6 +111,8 @@ abbrev pub MayWork : Start → Errand → Type 0
 MayWork s (Saves birth slot told name) = (its : HasNester s birth told) × (slot ≤ LAST_USER_SLOT) × (has_users_alone s (slot ∷ its.nester) ≡ true)
 MayWork s (Makes birth slot pairs) = HasNester s birth None × (slot ≤ LAST_USER_SLOT) × (are_user_pairs pairs ≡ true) × (are_apart bind_same pairs ≡ true)
 
+-- a run may begin so: the world can be saved and is nobody's cut, nothing is under way in it, the servers stand exactly at the served ports and porters exactly
+-- in the nesters, and each job may work
 pub record IsSoundStart (s : Start) : Type 0 where
   pub whole : IsWhole s.world
   -- among others: slots above 239 are for porters and their scratch

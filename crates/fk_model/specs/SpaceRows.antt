@@ -1,5 +1,6 @@
 -- Spaces: holds, stop counts and pages.
-use Rattle.std.specs.Prelude.{ℕ, ◌+◌, ◌-◌, ◌%◌, Bool, true, false, not, ◌&&◌, ◌||◌, ◌==◌, nat_le, nat_lt, is_some, List, [], ◌∷◌, replicate, Option, Some, None, Result, option_map, if◌then◌else◌}
+use Rattle.std.specs.Prelude.{ℕ, ◌+◌, ◌-◌, ◌%◌, Bool, true, false, not, ◌&&◌, ◌||◌, ◌==◌, nat_le, nat_lt, is_some, List, [], ◌∷◌, replicate, Option, Some, None}
+use Rattle.std.specs.Prelude.{Result, option_map, if◌then◌else◌}
 use Rattle.std.specs.List.{list_any}
 use Rattle.fk_model.specs.declared.limits.TheConstants.{PAGES, PAGE_WORDS, MOST_STOPS, ZEROS}
 use Rattle.fk_model.specs.declared.names.Kind.TheVariants as kinds
@@ -36,6 +37,7 @@ space_hold w c s x = do
   when (not (is_held_by_other w (path_of c) (x ∷ space)) && not (list_any (has_porter w) (beneath w (x ∷ space))))
       (done c (Alter (x ∷ space) (SetHolder (Some (At (path_of c)))) ∷ []) [])
 
+-- space_release: a space that the caller holds is held no more
 unfoldable pub space_release : World → Caller → ℕ → ℕ → Outcome
 space_release w c s x = do
   space ← space_argument w c s
@@ -50,6 +52,7 @@ space_release w c s x = do
 abbrev pub thread_by_handle : World → Caller → ℕ → Result (Path × Thread) ℕ
 thread_by_handle w c h = and_read (handle w c kinds.Thread h) (λ p. or_refuse status.WRONGKIND (thread_led_to w p))
 
+-- thread_stop: a thread is stopped once more
 unfoldable pub thread_stop : World → Caller → ℕ → Outcome
 thread_stop w c h = do
   e ← thread_by_handle w c h
@@ -57,6 +60,7 @@ thread_stop w c h = do
   _ ← refuse status.FULL (nat_le MOST_STOPS e.1.stops)
   done c (Alter e.0 (SetStops (e.1.stops + 1)) ∷ []) []
 
+-- thread_go: a thread is stopped once less
 unfoldable pub thread_go : World → Caller → ℕ → Outcome
 thread_go w c h = do
   e ← thread_by_handle w c h
@@ -88,6 +92,7 @@ gives_from w c space page address =
 abbrev pub is_bad_source : Caller → ℕ → Bool
 is_bad_source c address = not c.is_porter && not (address == ZEROS) && not (is_page_address address)
 
+-- page_give: a space gets a page, a copy of the caller's at an address, or of zeros
 unfoldable pub page_give : World → Caller → ℕ → ℕ → ℕ → Outcome
 page_give w c s page address = do
   space ← space_argument w c s
@@ -118,6 +123,7 @@ copies_to w c space page drops address =
 abbrev pub is_bad_target : Caller → ℕ → Bool
 is_bad_target c address = not c.is_porter && not (is_page_address address)
 
+-- page_take: a space loses a page, which is copied to the caller
 unfoldable pub page_take : World → Caller → ℕ → ℕ → ℕ → Outcome
 page_take w c s page address = do
   space ← space_argument w c s
@@ -125,6 +131,7 @@ page_take w c s page address = do
   _ ← refuse status.BADADDRESS (not (is_page page) || is_bad_target c address)
   copies_to w c space page true address
 
+-- page_read: a page of a space is copied to the caller
 unfoldable pub page_read : World → Caller → ℕ → ℕ → ℕ → Outcome
 page_read w c s page address = do
   space ← space_argument w c s
@@ -135,6 +142,7 @@ page_read w c s page address = do
 unfoldable pub next_page : World → Path → ℕ → Option ℕ
 next_page w space from = lowest PAGES (λ page. if nat_le from page then option_map (λ words. page) (w.page space page) else None)
 
+-- page_next: the first page of a space from a number on
 unfoldable pub page_next : World → Caller → ℕ → ℕ → Outcome
 page_next w c s from = do
   space ← space_argument w c s
@@ -143,6 +151,7 @@ page_next w c s from = do
 
 -- ---- a porter restores a holder, and makes a space that it holds
 
+-- hold_set: a space is held again, by the thread to which a reference leads
 unfoldable pub hold_set : World → Caller → ℕ → ℕ → ℕ → Outcome
 hold_set w c s x thread = do
   space ← space_argument w c s
@@ -151,6 +160,7 @@ hold_set w c s x thread = do
   _ ← refuse status.HELD (is_frozen_for w (path_of c) (x ∷ space))
   done c (Alter (x ∷ space) (SetHolder (Some holder)) ∷ []) []
 
+-- space_make_held: a space is made in an empty slot of the caller's, and he holds it
 unfoldable pub space_make_held : World → Caller → ℕ → Outcome
 space_make_held w c x = do
   _ ← slot_for c x

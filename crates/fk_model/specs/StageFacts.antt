@@ -1,8 +1,18 @@
 -- What there is to know of a stage besides its row: one line a stage. All tables of facts about calls are read from it.
 use Rattle.std.specs.Prelude.{ℕ, Bool, true, false, Option, Some, None}
-use Rattle.fk_model.specs.declared.call.TheConstants.{CREATE, DESTROY, RENAME, SEARCH, POINT, CLEAR, LOCATE, COUNT_IN, GET_STATE, SET_STATE, GET_PTR, SET_PTR, SPACE_HOLD, SPACE_RELEASE, THREAD_STOP, THREAD_GO, PAGE_GIVE, PAGE_TAKE, PAGE_READ, PAGE_NEXT, MUTEX_LOCK, MUTEX_TRYLOCK, MUTEX_UNLOCK, COND_WAIT, COND_ASLEEP, COND_SIGNAL, COND_BROADCAST, CONNECT, CLIENT_RECEIVE, CLIENT_SEND, CLIENT_OVER, DISCONNECT, CLIENT_OVER_REF, CLIENT_RECEIVE_REF, WAIT, SERVER_RECEIVE, SERVER_SEND, SERVER_OVER, SERVER_END, FAULT_DONE, SERVER_OVER_REF, SERVER_RECEIVE_REF, LINK_SET, LINK_PARK, FAULT_SET, FAULT_PARK, HOLD_SET, SPACE_MAKE_HELD}
+use Rattle.fk_model.specs.declared.call.TheConstants.{CREATE, DESTROY, RENAME, SEARCH, POINT, CLEAR, LOCATE, COUNT_IN, GET_STATE, SET_STATE, GET_PTR, SET_PTR}
+use Rattle.fk_model.specs.declared.call.TheConstants.{SPACE_HOLD, SPACE_RELEASE, THREAD_STOP, THREAD_GO, PAGE_GIVE, PAGE_TAKE, PAGE_READ, PAGE_NEXT, MUTEX_LOCK}
+use Rattle.fk_model.specs.declared.call.TheConstants.{MUTEX_TRYLOCK, MUTEX_UNLOCK, COND_WAIT, COND_ASLEEP, COND_SIGNAL, COND_BROADCAST, CONNECT, CLIENT_RECEIVE}
+use Rattle.fk_model.specs.declared.call.TheConstants.{CLIENT_SEND, CLIENT_OVER, DISCONNECT, CLIENT_OVER_REF, CLIENT_RECEIVE_REF, WAIT, SERVER_RECEIVE}
+use Rattle.fk_model.specs.declared.call.TheConstants.{SERVER_SEND, SERVER_OVER, SERVER_END, FAULT_DONE, SERVER_OVER_REF, SERVER_RECEIVE_REF, LINK_SET}
+use Rattle.fk_model.specs.declared.call.TheConstants.{LINK_PARK, FAULT_SET, FAULT_PARK, HOLD_SET, SPACE_MAKE_HELD}
 use Rattle.fk_model.specs.declared.stage.Stage.{Stage}
-use Rattle.fk_model.specs.declared.stage.Stage.TheVariants.{Create, Destroy, Rename, Search, Point, Clear, Locate, CountIn, GetState, SetState, GetPtr, SetPtr, SpaceHold, SpaceRelease, ThreadStop, ThreadGo, PageGive, PageTake, PageRead, PageNext, MutexLock, MutexTrylock, MutexUnlock, CondWait, CondAsleep, CondSignal, CondBroadcast, Connect, ClientReceive, ClientSend, ClientOver, Disconnect, ClientOverRef, ClientReceiveRef, Wait, ServerReceive, ServerSend, ServerOver, ServerEnd, FaultDone, ServerOverRef, ServerReceiveRef, LinkSet, LinkPark, FaultSet, FaultPark, HoldSet, SpaceMakeHeld}
+use Rattle.fk_model.specs.declared.stage.Stage.TheVariants.{Create, Destroy, Rename, Search, Point, Clear, Locate, CountIn, GetState, SetState, GetPtr, SetPtr}
+use Rattle.fk_model.specs.declared.stage.Stage.TheVariants.{SpaceHold, SpaceRelease, ThreadStop, ThreadGo, PageGive, PageTake, PageRead, PageNext, MutexLock}
+use Rattle.fk_model.specs.declared.stage.Stage.TheVariants.{MutexTrylock, MutexUnlock, CondWait, CondAsleep, CondSignal, CondBroadcast, Connect, ClientReceive}
+use Rattle.fk_model.specs.declared.stage.Stage.TheVariants.{ClientSend, ClientOver, Disconnect, ClientOverRef, ClientReceiveRef, Wait, ServerReceive}
+use Rattle.fk_model.specs.declared.stage.Stage.TheVariants.{ServerSend, ServerOver, ServerEnd, FaultDone, ServerOverRef, ServerReceiveRef, LinkSet, LinkPark}
+use Rattle.fk_model.specs.declared.stage.Stage.TheVariants.{FaultSet, FaultPark, HoldSet, SpaceMakeHeld}
 use Rattle.fk_model.specs.declared.thread.Turn.{Turn}
 use Rattle.fk_model.specs.declared.thread.Turn.TheVariants as turns
 

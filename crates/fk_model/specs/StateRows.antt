@@ -9,7 +9,7 @@ use Rattle.fk_model.specs.Places.{Path, Ptr}
 use Rattle.fk_model.specs.Places.Ptr.{Null, Dead, At, Out, Outside, Far}
 use Rattle.fk_model.specs.Objects.{Peer, Talk, Fault, Thread, Body, same_kind, reference_of, and_then}
 use Rattle.fk_model.specs.Objects.Peer.{Server, Service, Parked}
-use Rattle.fk_model.specs.Objects.Body.{Mutex, Cond, Mapping, Region, Port, Portset, Space, Thread_of, Reference}
+use Rattle.fk_model.specs.Objects.Body.{Mapping, Region, Space, Thread_of, Reference}
 use Rattle.fk_model.specs.World.{World}
 use Rattle.fk_model.specs.World.Change.{Alter, PutPage}
 use Rattle.fk_model.specs.World.Edit.{SetPointer}
@@ -32,6 +32,7 @@ abbrev pub shows_to : World → Caller → Body → ℕ → Outcome
 shows_to w c b address =
     if c.is_porter then done c [] (record_of b) else own_page w c address true (shows w c b address)
 
+-- get_state: the record of an object goes to the caller's memory
 unfoldable pub get_state : World → Caller → ℕ → ℕ → ℕ → Outcome
 get_state w c s x address = do
   space ← space_argument w c s
@@ -64,6 +65,7 @@ sets_from w c space x b address =
     if c.is_porter then sets_record w c space x b c.words
     else own_page w c address false (λ s page. sets_record w c space x b (record_at (words_at w s page) address))
 
+-- set_state: an object takes the state that a record in the caller's memory has
 unfoldable pub set_state : World → Caller → ℕ → ℕ → ℕ → Outcome
 set_state w c s x address = do
   space ← space_argument w c s
@@ -107,10 +109,7 @@ field_of n (Region r) = first_field n (Pointer r.keeper)
 field_of n (Reference to) = first_field n (Pointer to)
 field_of n (Space birth holder) = first_field n (or_null (and_then (λ p. Some (Pointer p)) holder))
 field_of n (Thread_of t) = thread_field t n
-field_of n (Mutex locked) = None
-field_of n Cond = None
-field_of n (Port set served) = None
-field_of n Portset = None
+field_of n other = None
 
 -- a space's and a thread's fields aren't for users
 abbrev pub is_inner : Body → Bool
@@ -128,10 +127,12 @@ field_number (Pointer Outside) = 3
 field_number (Pointer Far) = 2
 field_number NoThread = 3
 
+-- where a field leads; nowhere, where it is that of a talk without a thread
 abbrev pub field_pointer : Field → Ptr
 field_pointer (Pointer to) = to
 field_pointer NoThread = Null
 
+-- get_ptr: a reference of the caller's leads where a field of an object does
 unfoldable pub get_ptr : World → Caller → ℕ → ℕ → ℕ → ℕ → Outcome
 get_ptr w c s x field reference = do
   space ← space_argument w c s
@@ -156,6 +157,7 @@ abbrev pub is_of_kinds : List Kind → Option Kind → Bool
 is_of_kinds wanted None = true
 is_of_kinds wanted (Some kind) = list_any (same_kind kind) wanted
 
+-- set_ptr: a field of an object leads where a reference of the caller's does
 unfoldable pub set_ptr : World → Caller → ℕ → ℕ → ℕ → ℕ → Outcome
 set_ptr w c s x field reference = do
   space ← space_argument w c s

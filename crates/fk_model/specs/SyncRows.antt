@@ -18,6 +18,7 @@ use Rattle.fk_model.specs.Outcomes.Said.{Nothing}
 use Rattle.fk_model.specs.Readers.{object_in}
 use Rattle.fk_model.specs.Talks.{first_stage}
 
+-- a condition
 abbrev pub cond_of : Body → Option Body
 cond_of Cond = Some Cond
 cond_of other = None
@@ -31,6 +32,7 @@ mutex_lock w c m = do
   locked ← object_in w c mutex_of c.space m
   when (not locked) (done c (sets_locked (m ∷ c.space) true ∷ []) [])
 
+-- mutex_trylock: the mutex is locked, or the call is refused where it was
 unfoldable pub mutex_trylock : World → Caller → ℕ → Outcome
 mutex_trylock w c m = do
   locked ← object_in w c mutex_of c.space m
@@ -66,6 +68,7 @@ abbrev pub mutex_after : ℕ → Stage → Option ℕ
 mutex_after cond (CondAsleep c m) = if c == cond then Some m else None
 mutex_after cond other = None
 
+-- the mutex that a thread locks again once it is woken, where it sleeps on this condition
 abbrev pub asleep_on : ℕ → Option Body → Option ℕ
 asleep_on cond b = and_then (mutex_after cond) (and_then (λ (t : Thread). first_stage t.mode) (and_then thread_of b))
 
@@ -74,6 +77,7 @@ abbrev pub woken : Path → Option ℕ → List Change
 woken x None = []
 woken x (Some m) = Alter x (Replace (MutexLock m)) ∷ []
 
+-- what wakes all who sleep on a condition of a space
 unfoldable pub sleepers : World → Path → ℕ → List Change
 sleepers w space cond = flat_map (λ k. woken (k ∷ space) (asleep_on cond (w.body (k ∷ space)))) (slots SLOTS)
 
@@ -90,11 +94,13 @@ abbrev pub picks_sleeper : World → Caller → ℕ → Option Path → Outcome
 picks_sleeper w c cond None = unless_slept_on c (sleepers w c.space cond)
 picks_sleeper w c cond (Some x) = when (same_path (parent x) c.space) (signals c (woken x (asleep_on cond (w.body x))))
 
+-- cond_signal: the sleeper is woken that the move picks
 unfoldable pub cond_signal : World → Caller → Option Path → ℕ → Outcome
 cond_signal w c pick cond = do
   _ ← object_in w c cond_of c.space cond
   picks_sleeper w c cond pick
 
+-- cond_broadcast: all who sleep on the condition are woken
 unfoldable pub cond_broadcast : World → Caller → ℕ → Outcome
 cond_broadcast w c cond = do
   _ ← object_in w c cond_of c.space cond

@@ -10,7 +10,7 @@ use Rattle.fk_model.specs.StageFacts.{facts_of}
 use Rattle.fk_model.specs.declared.thread.Turn.{Turn}
 use Rattle.fk_model.specs.declared.thread.Turn.TheVariants as turns
 use Rattle.fk_model.specs.Places.{Path, parent, Ptr}
-use Rattle.fk_model.specs.Places.Ptr.{Null, Dead, At, Out, Outside, Far}
+use Rattle.fk_model.specs.Places.Ptr.{At}
 use Rattle.fk_model.specs.Objects.{Mode, Peer, Talk, Thread, thread_of, reference_of, and_then, holds}
 use Rattle.fk_model.specs.Objects.Mode.{Calling}
 use Rattle.fk_model.specs.Objects.Peer.{Server, Service, Parked}
@@ -46,6 +46,7 @@ line w me turns.Server = and_then (λ client. line_from client (λ talk. Server 
 
 -- ---- what a thread is at
 
+-- the stage that a thread in a call makes next
 abbrev pub first_stage : Mode → Option Stage
 first_stage (Calling (stage ∷ todo) rest) = Some stage
 first_stage other = None
@@ -95,11 +96,7 @@ is_talking side mode = holds (talks_on side) (first_stage mode)
 
 abbrev pub path_to : Ptr → Option Path
 path_to (At x) = Some x
-path_to Null = None
-path_to Dead = None
-path_to (Out slot) = None
-path_to Outside = None
-path_to Far = None
+path_to other = None
 
 -- the thread at the other end, with its path
 abbrev pub thread_led_to : World → Ptr → Option (Path × Thread)
@@ -117,6 +114,7 @@ if_talking side (Some e) = if is_talking side e.1.mode then e.0 ∷ [] else []
 abbrev pub talking_end : World → Turn → Ptr → List Path
 talking_end w side p = if_talking side (thread_led_to w p)
 
+-- the client of a talk that ends with the thread that serves it
 abbrev pub served_end : World → Peer → List Path
 served_end w (Server thread) = talking_end w turns.Server thread
 served_end w Service = []

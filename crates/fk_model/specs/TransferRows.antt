@@ -2,7 +2,8 @@
 --
 -- A Send moves a block of words from one page to one page, at most 64, and advances both sides. So a message of any
 -- length is sent block by block, and each side's registers say at any time what is left.
-use Rattle.std.specs.Prelude.{ℕ, ◌+◌, ◌-◌, ◌%◌, min, Bool, true, false, not, ◌&&◌, ◌==◌, is_some, List, [], ◌∷◌, ◌++◌, take, drop, length, Option, Some, None, Result, Ok, Err, if◌then◌else◌}
+use Rattle.std.specs.Prelude.{ℕ, ◌+◌, ◌-◌, ◌%◌, min, Bool, true, false, not, ◌&&◌, ◌==◌, is_some, List, [], ◌∷◌, ◌++◌, take, drop, length, Option, Some, None}
+use Rattle.std.specs.Prelude.{Result, Ok, Err, if◌then◌else◌}
 use Rattle.fk_model.specs.declared.limits.TheConstants.{PAGE_WORDS, BLOCK_WORDS}
 use Rattle.fk_model.specs.declared.statuses.status.TheConstants.{NOTLINKED, WRONGTURN, FULL}
 use Rattle.fk_model.specs.declared.thread.Turn.{Turn}
@@ -43,6 +44,7 @@ abbrev pub at_turn : Turn → Option Line → Result Line ℕ
 at_turn turn None = Err NOTLINKED
 at_turn turn (Some l) = if same_side l.talk.turn turn then Ok l else Err WRONGTURN
 
+-- the caller's talk on a side, where it is this side's turn
 abbrev pub in_turn : World → Path → Turn → Turn → Result Line ℕ
 in_turn w me side turn = at_turn turn (line w me side)
 
@@ -93,6 +95,7 @@ sends w c side address count l =
     if count == 0 then done c [] []
     else own_page w c address false (λ s page. sends_to w c side l address count (words_at w s page) l.other)
 
+-- send: words go to the other end of the talk, a block a move
 unfoldable pub send : World → Caller → Turn → ℕ → ℕ → Outcome
 send w c side address count = in_turn w (path_of c) side side >>= sends w c side address count
 
@@ -101,6 +104,7 @@ send w c side address count = in_turn w (path_of c) side side >>= sends w c side
 abbrev pub awaits : World → Caller → ℕ → ℕ → Outcome
 awaits w c into room = if room == 0 then Waits else own_page w c into true (λ s page. Waits)
 
+-- receive: the caller waits for words of the other end
 unfoldable pub receive : World → Caller → Turn → ℕ → ℕ → Outcome
 receive w c side into room = in_turn w (path_of c) side (other_side side) >>= λ l. awaits w c into room
 
@@ -148,6 +152,7 @@ may_carry w me (Some p) = not (leads_to_frozen w me p)
 abbrev pub passes_on : World → Caller → Turn → Option Ptr → Line → Outcome
 passes_on w c side carried l = when (may_carry w (path_of c) carried) (passes_to w c side l carried l.other)
 
+-- over: the turn passes to the other end, with where a reference leads or with none
 unfoldable pub over : World → Caller → Turn → Option Ptr → Outcome
 over w c side carried = in_turn w (path_of c) side side >>= passes_on w c side carried
 

@@ -61,5 +61,6 @@ unfoldable pub run_row_by : (List ℕ → Option (List Stage)) → World → Pat
 run_row_by calls w space slot g counter =
     accessed (slot ∷ space) false (halts_with (slot ∷ space) g counter) (executes calls w space (slot ∷ space) g counter) (reach_word w space counter false)
 
+-- what the next instruction of a running thread comes to
 abbrev pub run_row : World → Path → ℕ → List ℕ → ℕ → Outcome
 run_row w space slot g counter = run_row_by todo_of w space slot g counter

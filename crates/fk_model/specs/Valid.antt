@@ -1,5 +1,6 @@
 -- Valid worlds: what holds of every world that is reached from a valid one by fit moves.
-use Rattle.std.specs.Prelude.{◌≡◌, ℕ, ◌+◌, ◌<◌, ◌≤◌, Bool, true, false, not, ◌&&◌, ◌||◌, ◌==◌, nat_le, nat_lt, IsSome, List, [], ◌∷◌, Option, Some, None, Result, Ok, Err, option_map, slice_index}
+use Rattle.std.specs.Prelude.{◌≡◌, ℕ, ◌+◌, ◌<◌, ◌≤◌, Bool, true, false, not, ◌&&◌, ◌||◌, ◌==◌, nat_le, nat_lt, IsSome, List, [], ◌∷◌, Option, Some, None}
+use Rattle.std.specs.Prelude.{Result, Ok, Err, option_map, slice_index}
 use Rattle.std.specs.List.{list_any}
 use Rattle.fk_model.specs.declared.limits.TheConstants.{SLOTS, PAGES, MOST_MOVED}
 use Rattle.fk_model.specs.declared.moves.Ask.{Ask}
@@ -9,10 +10,10 @@ use Rattle.fk_model.specs.declared.names.Kind.TheVariants as kinds
 use Rattle.fk_model.specs.declared.stage.Stage.{Stage}
 use Rattle.fk_model.specs.declared.stage.Stage.TheVariants.{LinkSet, LinkPark, FaultSet, FaultPark}
 use Rattle.fk_model.specs.Places.{Path, same_path, parent, Ptr}
-use Rattle.fk_model.specs.Places.Ptr.{Null, Dead, At, Out, Outside, Far}
+use Rattle.fk_model.specs.Places.Ptr.{Null, Dead, At}
 use Rattle.fk_model.specs.Objects.{Peer, Talk, Fault, Body, kind_of, same_kind, port_of, and_then, holds, flag_of}
 use Rattle.fk_model.specs.Objects.Peer.{Server, Service, Parked}
-use Rattle.fk_model.specs.Objects.Body.{Mutex, Cond, Mapping, Region, Port, Portset, Space, Thread_of, Reference}
+use Rattle.fk_model.specs.Objects.Body.{Mapping, Region, Port, Space, Thread_of, Reference}
 use Rattle.fk_model.specs.World.{World, set_at, serves}
 use Rattle.fk_model.specs.Searches.{talk_at, fault_at, is_serving}
 use Rattle.fk_model.specs.Records.{is_page_range}
@@ -36,18 +37,12 @@ abbrev pub leads_there : (Path → Option Kind) → List Kind → Ptr → Bool
 leads_there there wanted (At x) = is_one_of wanted (there x)
 leads_there there wanted Null = false
 leads_there there wanted Dead = false
-leads_there there wanted (Out slot) = true
-leads_there there wanted Outside = true
-leads_there there wanted Far = true
+leads_there there wanted other = true
 
 -- or to nothing, or to what was destroyed
 abbrev pub may_lead : (Path → Option Kind) → List Kind → Ptr → Bool
-may_lead there wanted Null = true
-may_lead there wanted Dead = true
 may_lead there wanted (At x) = leads_there there wanted (At x)
-may_lead there wanted (Out slot) = true
-may_lead there wanted Outside = true
-may_lead there wanted Far = true
+may_lead there wanted other = true
 
 abbrev pub all_in : {A : Type 0} → (A → Bool) → Option A → Bool
 all_in test None = true
@@ -71,15 +66,13 @@ is_good_set there at (Some set) served = not served && is_one_of (kinds.Portset 
 
 -- the pointers and the numbers of an object are such as its kind has
 abbrev pub is_good : (Path → Option Kind) → Path → Body → Bool
-is_good there at (Mutex locked) = true
-is_good there at Cond = true
 is_good there at (Mapping m) = is_page_range m.first m.count && nat_lt m.offset PAGES && may_lead there (kinds.Region ∷ []) m.region
 is_good there at (Region r) = is_page_range r.first r.count && may_lead there (kinds.Port ∷ []) r.keeper
 is_good there at (Port set served) = is_good_set there at set served
-is_good there at Portset = true
 is_good there at (Space birth holder) = all_in (leads_there there (kinds.Thread ∷ [])) holder
 is_good there at (Thread_of t) = all_in (is_good_talk there) t.talk && all_in (is_good_fault there) t.fault
 is_good there at (Reference to) = may_lead there referable to
+is_good there at other = true
 
 -- ---- spaces, talks and faults
 
@@ -91,6 +84,7 @@ birth_of other = None
 abbrev pub birth_at : World → Path → Option ℕ
 birth_at w x = and_then birth_of (w.body x)
 
+-- a pointer leads to a port that a native server serves
 abbrev pub is_served_port : World → Ptr → Bool
 is_served_port w (At x) = holds (λ (port : Option ℕ × Bool). port.1) (and_then port_of (w.body x))
 is_served_port w other = false
@@ -137,9 +131,11 @@ pub record HasPlace (w : World) (s : Path) (page : ℕ) : Type 0 where
   pub space : kind_there w s ≡ Some kinds.Space
   pub number : page < PAGES
 
+-- where a page stands there is a space, and the page is one that it can have
 abbrev pub IsPaged : World → Type 0
 IsPaged w = (s : Path) (page : ℕ) → IsSome (w.page s page) → HasPlace w s page
 
+-- a world as a store can stand for it: pointers lead to what their fields may hold, the root stands, pages lie in spaces
 pub record IsValid (w : World) : Type 0 where
   pub consistent : IsConsistent w
   pub rooted : IsRooted w
@@ -150,9 +146,11 @@ pub record IsValid (w : World) : Type 0 where
 abbrev pub is_turn_word : ℕ → Bool
 is_turn_word n = n == 1 || n == 2
 
+-- what a porter gives with a talk is in range: whose turn it is, and how many words were moved
 abbrev pub are_talk_words : List ℕ → Bool
 are_talk_words words = is_turn_word (slice_index words 0) && nat_le (slice_index words 1) MOST_MOVED
 
+-- what a porter gives with a fault is in range: its page, and whether it was a write
 abbrev pub are_fault_words : List ℕ → Bool
 are_fault_words words = nat_lt (slice_index words 0) PAGES && nat_le (slice_index words 1) 1
 

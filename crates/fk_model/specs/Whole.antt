@@ -1,5 +1,6 @@
 -- What a world keeps while a machine runs: what every law of subtrees supposes, and what saving one needs besides.
-use Rattle.std.specs.Prelude.{◌≡◌, ℕ, ◌^◌, ◌<◌, ◌≤◌, Bool, true, false, not, ◌&&◌, ◌||◌, ◌==◌, nat_le, nat_lt, IsSome, is_some, List, ◌∷◌, length, Some, if◌then◌else◌}
+use Rattle.std.specs.Prelude.{◌≡◌, ℕ, ◌^◌, ◌<◌, ◌≤◌, Bool, true, false, not, ◌&&◌, ◌||◌, ◌==◌, nat_le, nat_lt, IsSome, is_some, List, ◌∷◌, length, Some}
+use Rattle.std.specs.Prelude.{if◌then◌else◌}
 use Rattle.std.specs.List.{list_all}
 use Rattle.fk_model.specs.declared.limits.TheConstants.{LAST_USER_SLOT, LAST_SCRATCH_SLOT, LAST_PORTER_SLOT, MOST_STOPS, MOST_MOVED, PAGES, PAGE_WORDS}
 use Rattle.fk_model.specs.Places.{Path, parent, is_within, Ptr, leads_to}
@@ -42,6 +43,7 @@ is_porters w s = holds is_native (w.body (LAST_PORTER_SLOT ∷ s)) || holds (lea
 abbrev pub is_word : ℕ → Bool
 is_word n = nat_lt n (2 ^ 64)
 
+-- numbers below 2^64
 abbrev pub are_words : List ℕ → Bool
 are_words words = list_all is_word words
 

@@ -18,6 +18,7 @@ use Rattle.fk_model.specs.Objects.Mode.{Running, Calling}
 use Rattle.fk_model.specs.Objects.Peer.{Server, Service, Parked}
 use Rattle.fk_model.specs.Objects.Body.{Mutex, Cond, Mapping, Region, Port, Portset, Space, Thread_of, Reference}
 
+-- what stands at each path, and each page of each space
 pub record World : Type 0 where
   pub body : Path → Option Body
   pub page : Path → ℕ → Option (List ℕ)
@@ -26,6 +27,7 @@ pub record World : Type 0 where
 
 -- ---- what becomes of one object
 
+-- a change of one object
 pub data Edit : Type 0 where
   -- of a mutex, a mapping's numbers, a region's numbers, and a port
   SetLocked : (locked : Bool) → Edit
@@ -251,6 +253,7 @@ moved_to x y w = record {
 abbrev pub with_page : Path → ℕ → Option (List ℕ) → World → World
 with_page space page words w = record { body = w.body; page = λ s g. if same_path s space && g == page then words else w.page s g; next = w.next }
 
+-- the world after a change
 unfoldable pub apply : Change → World → World
 apply (Alter x edit) w = at_path x (option_map (edited edit)) w
 apply (Make x body) w = at_path x (λ there. Some body) w
@@ -260,6 +263,7 @@ apply (Move x slot) w = moved_to x (slot ∷ parent x) w
 apply (PutPage space page words) w = with_page space page (Some words) w
 apply (DropPage space page) w = with_page space page None w
 
+-- the world after several changes, one after the other
 unfoldable pub apply_all : List Change → World → World
 apply_all [] w = w
 apply_all (c ∷ cs) w = apply_all cs (apply c w)

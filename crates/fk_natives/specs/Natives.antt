@@ -46,6 +46,7 @@ left_of (OfTap watch noted inner) = left_of inner
 abbrev pub give_of : Reply → Ask
 give_of r = asks.Give r.words r.len
 
+-- a server gives what is left of its reply, and then hands over
 abbrev pub gives_left : List ℕ → Ask
 gives_left [] = asks.Over
 gives_left (word ∷ words) = give_of (padded (word ∷ words))
@@ -55,6 +56,7 @@ asks_at sides.Idle left = Some asks.Accept
 asks_at sides.Client left = None
 asks_at sides.Own left = Some (gives_left left)
 
+-- what a native server asks for next, by its side of the talk and by what it has left to give
 abbrev pub asks_for : State → Option Ask
 asks_for s = asks_at (side_of s) (left_of s)
 
@@ -82,6 +84,7 @@ abbrev pub side_at : Turn → Side
 side_at turns.Client = sides.Client
 side_at turns.Server = sides.Own
 
+-- whose turn it is after an Over
 abbrev pub side_after : Side → Side
 side_after sides.Client = sides.Own
 side_after other = sides.Client

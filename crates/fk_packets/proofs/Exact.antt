@@ -4,7 +4,7 @@ use Rattle.std.proofs.Common.{refl, sym, ap, subst, ◌∙◌, append_assoc, ari
 use Rattle.std.specs.Int.{w16, w64, to_le_bytes}
 use Rattle.std.proofs.lemmas.Bool.{ltb-false, lt-ltb, le-ltb, eqb-true, eq-eqb, ne_eqb}
 use Rattle.std.proofs.lemmas.List.{append-nil, take_at, drop_at, take-append-drop, length-take}
-use Rattle.fk_finish.specs.declared.finish.Place.{Place}
+use Rattle.fk_finish.specs.declared.place.Place.{Place}
 use Rattle.fk_image.specs.declared.format.stop.Stop.{Stop}
 use Rattle.fk_image.specs.Format.Fields.{◌>>=◌, refuse_field, read_byte, read_number}
 use Rattle.fk_image.proofs.InFormat.Basics.{both, and2, not_true, IsBytes, bind_ok, expect_ok, never, ok_is, wide16, wide64, number_takes, number_again}

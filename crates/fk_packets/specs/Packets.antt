@@ -1,7 +1,7 @@
 -- The one spelling of each packet, and what bytes say from left to right. A tag comes first; numbers are little-endian.
 use Rattle.std.specs.Prelude.{◌≡◌, ℕ, ◌^◌, ◌==◌, ◌&&◌, Bool, true, nat_lt, not, List, [], ◌∷◌, ◌++◌, length, take, drop, Result, Ok, if◌then◌else◌}
 use Rattle.std.specs.Int.{w16, w64, to_le_bytes}
-use Rattle.fk_finish.specs.declared.finish.Place.{Place}
+use Rattle.fk_finish.specs.declared.place.Place.{Place}
 use Rattle.fk_image.specs.declared.format.reasons.reason.TheConstants as reasons
 use Rattle.fk_image.specs.declared.format.stop.Stop.{Stop}
 use Rattle.fk_image.specs.Format.Fields.{◌>>=◌, refuse_field, expect, read_byte, read_number}
@@ -21,6 +21,7 @@ why_bytes Occupied = 3 ∷ []
 why_bytes (NoPort port) = 4 ∷ port ∷ []
 why_bytes GaveUp = 5 ∷ []
 
+-- the bytes of a packet
 abbrev pub packet_bytes : Packet → List ℕ
 packet_bytes (Piece number total bytes len) = 1 ∷ (to_le_bytes w64 number ++ (to_le_bytes w64 total ++ (to_le_bytes w16 len ++ bytes)))
 packet_bytes Ready = 2 ∷ []
@@ -33,6 +34,7 @@ abbrev pub fits_packet : Packet → Bool
 fits_packet (Piece number total bytes len) = nat_lt number (2 ^ 64) && (nat_lt total (2 ^ 64) && (not (nat_lt PIECE_BYTES len) && length bytes == PIECE_BYTES))
 fits_packet other = true
 
+-- bytes are those of a packet whose numbers are in range
 pub record SpellsPacket (bytes : List ℕ) (p : Packet) : Type 0 where
   pub fits : fits_packet p ≡ true
   pub spelled : bytes ≡ packet_bytes p
@@ -86,5 +88,6 @@ abbrev pub all_of : Packet → List ℕ → Result Packet Stop
 all_of p [] = Ok p
 all_of p (b ∷ rest) = refuse_field (b ∷ rest) reasons.LEFT_OVER
 
+-- what bytes are read as: a packet, or their first bad field
 unfoldable pub read_packet : List ℕ → Result Packet Stop
 read_packet bytes = read_front bytes >>= λ x. all_of x.0 x.1

@@ -1,14 +1,24 @@
 //! Bytes to a packet.
 ghost use Rattle.std.specs.Prelude.{◌≡◌, IfOk};
-ghost use Rattle.fk_packets.specs.Given.{Decodes};
+ghost use Rattle.fk_codec.specs.Reading.Given.{Decodes};
 ghost use Rattle.fk_packets.specs.Packets as words;
 
-use crate::fields::{Fail, read_block, read_byte, read_u16, read_u64, refused};
 use crate::packet::{PIECE_BYTES, Packet, Why};
+use fk_codec::reading::{Fail, read_byte, read_u16, read_u64, refused};
 use fk_finish::Place;
 use fk_image::format::reason;
 use fk_model::{List, NoMemory};
 use std::alloc::Global;
+
+/// The bytes of a piece.
+fn read_block(bytes: &[u8]) -> Result<([u8; 512], &[u8]), Fail>
+    ensures { Decodes (λ x. (x.0, x.1.now)) result (words.read_block bytes.now) }
+{
+    match bytes.split_first_chunk::<512>() {
+        Some((block, rest)) => Ok((*block, rest)),
+        None => Err(refused(bytes, reason::CUT)),
+    }
+}
 
 #[tactic(auto, unfolding(crate::specs::Packets::read_piece))]
 fn read_piece(bytes: &[u8]) -> Result<(Packet, &[u8]), Fail>

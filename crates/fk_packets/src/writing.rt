@@ -1,30 +1,11 @@
 //! A packet to its bytes.
 ghost use Rattle.std.specs.Prelude.{◌≡◌, ◌++◌, IfOk, OnOk};
-ghost use Rattle.std.specs.Int.{w16, w64, to_le_bytes};
 ghost use Rattle.fk_packets.specs.Packets as words;
 
 use crate::packet::{Packet, Why};
-use byteorder::{ByteOrder, LittleEndian};
+use fk_codec::writing::{put_u16, put_u64};
 use fk_model::NoMemory;
 use std::alloc::Global;
-
-fn put_u16(out: &mut Vec<u8>, number: u16) -> Result<(), NoMemory>
-    ensures { OnOk result (out.new.items ≡ out.old.items ++ to_le_bytes w16 number) }
-{
-    let mut bytes = [0; 2];
-    LittleEndian::write_u16(&mut bytes, number);
-    out.extend_from_slice(&bytes)?;
-    Ok(())
-}
-
-fn put_u64(out: &mut Vec<u8>, number: u64) -> Result<(), NoMemory>
-    ensures { OnOk result (out.new.items ≡ out.old.items ++ to_le_bytes w64 number) }
-{
-    let mut bytes = [0; 8];
-    LittleEndian::write_u64(&mut bytes, number);
-    out.extend_from_slice(&bytes)?;
-    Ok(())
-}
 
 fn put_why(out: &mut Vec<u8>, why: &Why) -> Result<(), NoMemory>
     ensures { OnOk result (out.new.items ≡ out.old.items ++ words.why_bytes why.now) }

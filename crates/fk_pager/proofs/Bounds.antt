@@ -17,6 +17,7 @@ use Rattle.fk_model.specs.Places.{Path, same_path, leads_to}
 use Rattle.fk_model.specs.Places.Ptr.{At}
 use Rattle.fk_model.specs.Runs.{Event, after}
 use Rattle.fk_model.specs.Searches.{fault_at}
+use Rattle.fk_model.specs.Seen.{changes_of}
 use Rattle.fk_model.specs.StateRows.{is_native}
 use Rattle.fk_model.specs.Who.{named, event_of}
 use Rattle.fk_model.specs.World.{World, Change, Edit, serves, edited, apply, apply_all}
@@ -31,7 +32,7 @@ use Rattle.laws_filled.specs.Pager.Phase.{Seeking, Taking, Waiting, Looking, Evi
 use Rattle.laws_filled.proofs.Results.{is_call, wait_result, done_result, WaitResult, DoneResult}
 use Rattle.laws_filled.proofs.Results.WaitResult.{Idle, TookFault}
 use Rattle.laws_filled.proofs.Results.DoneResult.{Unlinked, Busy, Freed}
-use Rattle.laws_filled_bounds.specs.Driven.{port_at, changes_of, IsDriven}
+use Rattle.laws_filled_bounds.specs.Driven.{port_at, IsDriven}
 use Rattle.laws_filled_bounds.specs.Driven.IsDriven.{Here, Another, Own as Calls}
 use Rattle.laws_filled_bounds.specs.Taken.{spares, raised_in, IsAtPort, AreSparing}
 use Rattle.laws_filled_bounds.proofs.Driven.{calls_are_bounded_lem}

@@ -28,6 +28,7 @@ pub record EndsAlike (d : Desk) (at : Moment) : Type 0 where
   pub rests : (m : Move) → IsReadyAsked at.services (filled (paging d at.state) at.world) m → ⊥
   pub halted : HaveHalted (filled (paging d at.state) at.world) ↔ HaveHalted at.world
 
+-- where no move is ready at its end, none of a user and a native server is in the filled world, in which the same threads have halted
 abbrev pub RunsEndAlike : Type 0
 RunsEndAlike = (slot port set room : ℕ) (first : Moment) (moves : List Move) (at : Moment) → slot ≤ LAST_USER_SLOT → 1 ≤ room →
     IsBeginning slot port set first → IsQuiet set first.world → (run : IsRun (desk_of_root slot port set room) first moves at) → is_dark run ≡ true →

@@ -4,11 +4,12 @@ use Rattle.std.specs.List.{list_all}
 use Rattle.fk_model.specs.declared.limits.TheConstants.{LAST_USER_SLOT, PAGES}
 use Rattle.fk_model.specs.declared.moves.Move.{Move}
 use Rattle.fk_model.specs.Places.{Path}
+use Rattle.fk_model.specs.Seen.{changes_of}
 use Rattle.fk_model.specs.World.{Change}
 use Rattle.fk_model.specs.Who.{event_of}
 use Rattle.laws_filled.specs.Pager.{Desk, said_of, homes, spent_by}
 use Rattle.laws_filled_bounds.specs.Taken.{spares, raised_in}
-use Rattle.laws_filled_bounds.specs.Driven.{port_at, changes_of}
+use Rattle.laws_filled_bounds.specs.Driven.{port_at}
 use Rattle.fk_pager.specs.Desks.{root, desk_of_root}
 use Rattle.fk_pager.specs.Unseen.{IsBeginning}
 use Rattle.fk_pager.specs.Runs.{Moment, pagers_event, IsRun}

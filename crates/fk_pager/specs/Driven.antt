@@ -18,9 +18,11 @@ use Rattle.fk_pager.specs.Runs.{Moment, IsOthersMove, IsPagersMove, GoesOn}
 use Rattle.fk_pager.specs.Sane.{IsSane, IsGoodAnswer}
 use Rattle.laws_migrate.specs.Porters.{HasPorter}
 
+-- a driven host as the laws of pagers see it
 abbrev pub moment : {S : Type 0} → driver.PagedRun S → Moment
 moment r = record { world = world r.host.kernel; services = r.host.services.list; state = state_of r.pager; opened = r.opened }
 
+-- where its pager is at work: at a slot of the root, by this port
 abbrev pub desk : {S : Type 0} → driver.PagedRun S → Desk
 desk r = desk_of root r.port r.pager
 

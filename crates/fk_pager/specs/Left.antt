@@ -31,6 +31,7 @@ pub record LeavesNone (d : Desk) (at : Moment) : Type 0 where
   pub waits : at.state.phase ≡ Waiting
   pub none : (x : Path) (fault : Fault) → fault_at at.world x ≡ Some fault → is_paged (paging d at.state) fault ≡ false
 
+-- where the pager has no call to make at the end of a run that nobody peeks in, and nothing is held, no fault of its own is left
 abbrev pub RunsLeaveNone : Type 0
 RunsLeaveNone = (slot port set room : ℕ) (first : Moment) (moves : List Move) (at : Moment) → slot ≤ LAST_USER_SLOT → 1 ≤ room →
     IsBeginning slot port set first → IsQuiet set first.world → (run : IsRun (desk_of_root slot port set room) first moves at) → is_dark run ≡ true →

@@ -74,6 +74,10 @@ fn hear(pager: &mut Pager, said: &Said) -> bool
 
 impl<S: Service + Drop> PagedRun<S> {
     /// A pager that hasn't begun, beside a host. `NoMemory` where there is none for its list.
+    ///
+    /// # Errors
+    ///
+    /// There is no memory for its list.
     pub fn new(
         alloc: Global,
         host: Host<S>,
@@ -192,7 +196,7 @@ impl<S: Service + Drop> PagedRun<S> {
         self.wait_for_any()
     }
 
-    /// The same by a look at all objects.
+    /// The wait that takes a fault of the pager's, by a look at all objects.
     fn wait_for_any(&self) -> Option<Move>
         requires waits { (moment self.now).state.phase ≡ pagers.Waiting }
         ensures ready { IfSome result (λ m. IsPagersMove (desk self.now) (moment self.now) m) }
@@ -267,7 +271,7 @@ impl<S: Service + Drop> PagedRun<S> {
         }
     }
 
-    /// The same where another's goes first.
+    /// Whose move comes next where another's than the pager's goes first.
     fn choose_other(&mut self) -> Option<Turn>
         requires driven { IsDriven self.old }
         requires opened { is_opening (moment self.old).state.phase ≡ false }
@@ -378,6 +382,10 @@ impl<S: Service + Drop> PagedRun<S> {
     }
 
     /// Makes moves until so many are made, or none is ready, and answers how the run ends. `NoMemory` where there is none for a move.
+    ///
+    /// # Errors
+    ///
+    /// There is no memory for a move or its place in the history.
     pub fn drive(&mut self, table: &Table, budget: u64) -> Result<End, NoMemory>
         requires driven { IsDriven self.old }
         requires fits { AllFit (map (λ r. r.rule) table.now.list.items) self.old.host.services.list }

@@ -1,5 +1,5 @@
 -- What the code's pager stands for.
-use Rattle.std.specs.Prelude.{◌≡◌, ◌<◌, ℕ, List, Option, Some, None, if◌then◌else◌, take, length, vec_len, vec_capacity}
+use Rattle.std.specs.Prelude.{◌≡◌, ◌<◌, ℕ, List, Option, Some, None, if◌then◌else◌, length, vec_len, vec_capacity}
 use Rattle.std.specs.List.{slice_get}
 use Rattle.fk_model.specs.declared.moves.Answer.{Answer}
 use Rattle.fk_model.specs.declared.moves.Ask.{Ask}
@@ -13,14 +13,12 @@ use Rattle.fk_paging.specs.declared.pager.Page.{Page}
 use Rattle.fk_paging.specs.declared.pager.Pager.{Pager}
 use Rattle.fk_paging.specs.declared.pager.Phase.{Phase}
 use Rattle.fk_paging.specs.declared.pager.Phase.TheVariants as phases
-
--- the words of an answer
-abbrev pub answered : Answer → List ℕ
-answered a = take a.len a.words
+pub use Rattle.fk_model.specs.Outcomes.{answered}
 
 abbrev pub page_words : Page → Option (List ℕ)
 page_words page = if page.listed then Some page.words else None
 
+-- the words that a pager keeps for a page, if it has taken that
 abbrev pub backing_of : List Page → ℕ → Option (List ℕ)
 backing_of pages g = and_then page_words (slice_get pages g)
 
@@ -33,6 +31,7 @@ phase_of (phases.Evicting old page) = pagers.Evicting old page
 phase_of (phases.Giving page) = pagers.Giving page
 phase_of (phases.Ending page) = pagers.Ending page
 
+-- what a pager has come to
 abbrev pub state_of : Pager → State
 state_of p = record { backing = backing_of p.pages.items; inside = p.inside.items; faults = p.faults; phase = phase_of p.phase }
 

@@ -3,6 +3,6 @@ pub use Rattle.fk_runs.proofs.InRecordings.Again
 pub use Rattle.fk_runs.proofs.InRecordings.Apart
 pub use Rattle.fk_runs.proofs.InRecordings.Records
 pub use Rattle.fk_runs.proofs.InRuns.Replayed
-pub use Rattle.fk_runs.proofs.InRuns.Headlines
+pub use Rattle.fk_runs.proofs.InRuns.Transparencies
 pub mod Found
 pub mod Refusals

@@ -7,7 +7,7 @@ pub use Rattle.fk_runs.specs.Recordings.Record
 pub use Rattle.fk_runs.specs.Recordings.Following
 pub use Rattle.fk_runs.specs.Runs.Runs
 pub use Rattle.fk_runs.specs.Runs.Entries
-pub use Rattle.fk_runs.specs.Runs.Headline
+pub use Rattle.fk_runs.specs.Runs.Transparency
 pub use Rattle.fk_runs.specs.Runs.Made
 pub use Rattle.fk_runs.specs.Runs.First
 pub use Rattle.fk_runs.specs.Runs.Plays

@@ -13,6 +13,7 @@ use Rattle.fk_record_text.specs.Record.{Entry, IsFirstBad}
 abbrev pub IsPath : List ℕ → Type 0
 IsPath text = All (λ byte. 32 < byte) text
 
+-- texts are the paths of ports
 abbrev pub ArePorts : List (List ℕ) → Type 0
 ArePorts ports = All IsPath ports
 
@@ -20,6 +21,7 @@ ArePorts ports = All IsPath ports
 abbrev pub entry_of : declared.Entry → Entry
 entry_of e = record { place = e.place; note = note_of e.note }
 
+-- entries of the code
 abbrev pub entries_of : List declared.Entry → List Entry
 entries_of entries = map entry_of entries
 

@@ -5,6 +5,7 @@ use Rattle.fk_model.specs.declared.thread.Turn.{Turn}
 use Rattle.fk_model.specs.declared.thread.Turn.TheVariants as turns
 use Rattle.fk_responders.specs.Notes.{Note, Taken, Said, Over, Reply, Ended}
 use Rattle.fk_record_text.specs.Reading.{place_of}
+pub use Rattle.fk_trace_text.specs.Trace.{ended_line}
 
 -- ---- notes
 
@@ -16,6 +17,7 @@ turn_text turns.Server = codes "server"
 abbrev pub words_text : List ℕ → List ℕ
 words_text words = flat_map (λ word. codes " " ++ decimal word) words
 
+-- a note
 abbrev pub note_text : Note → List ℕ
 note_text (Taken turn moved) = codes "taken " ++ (turn_text turn ++ (codes " " ++ decimal moved))
 note_text (Said words) = codes "said" ++ words_text words
@@ -41,10 +43,6 @@ IsNote Ended = Unit {0}
 pub record Entry : Type 0 where
   pub place : ℕ
   pub note : Note
-
--- a line ends with a line feed
-abbrev pub ended_line : List ℕ → List ℕ
-ended_line text = text ++ codes "\n"
 
 abbrev pub first_line : List ℕ
 first_line = ended_line (codes "fluke-record 1")

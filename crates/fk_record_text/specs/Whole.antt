@@ -33,6 +33,7 @@ pub record ReadsBack (servers : List (List ℕ × List Note)) (entries : List En
   pub spells : Spells (ports_of servers) (record_of servers) entries
   pub notes : (place : ℕ) → notes_of_place place entries ≡ slice_index_or (map (λ s. s.1) servers) place []
 
+-- the record of servers at different ports is read as their notes
 abbrev pub RecordsReadBack : Type 0
 RecordsReadBack = (servers : List (List ℕ × List Note)) → AreApart (ports_of servers) → All (λ s. All IsNote s.1) servers →
     (entries : List Entry) × ReadsBack servers entries

@@ -1,5 +1,4 @@
 pub mod KeptThreads
 pub mod ThreadScans
 pub mod Lines
-pub mod Halts
 pub mod ThreadPaths

@@ -3,7 +3,7 @@ use Rattle.std.specs.Prelude.{ℕ, ◌+◌, Bool, true, false, List, [], ◌∷�
 use Rattle.std.specs.List.{slice_get}
 use Rattle.fk_model.specs.declared.job.JobSpec.{JobSpec}
 use Rattle.fk_model.specs.declared.job.JobSpec.TheVariants.{Checkpoint, Restore}
-use Rattle.fk_finish.specs.declared.finish.Place.{Place}
+use Rattle.fk_finish.specs.declared.place.Place.{Place}
 use Rattle.fk_report.specs.Paths.{down_text}
 use Rattle.fk_report.specs.declared.job_end.JobEnd.{JobEnd}
 use Rattle.fk_report.specs.declared.job_end.JobEnd.TheVariants.{Checkpointed, Foreign, Dead, Restored, NoImage, Occupied, NoPort}
@@ -39,6 +39,7 @@ abbrev pub fate_text : JobSpec → Option JobEnd → List ℕ
 fate_text job None = codes " waiting\n"
 fate_text job (Some end) = codes " " ++ (kind_word job ++ (end_text (nester_of job) end ++ codes "\n"))
 
+-- how the job at a place has ended, if it is there and has
 abbrev pub end_in : Option (Option JobEnd) → Option JobEnd
 end_in None = None
 end_in (Some end) = end

@@ -28,6 +28,7 @@ thread_line_of path mode = codes "thread " ++ (path ++ mode_text mode)
 abbrev pub thread_line : ThreadState → List ℕ
 thread_line thread = thread_line_of (path_text thread.path) thread.mode
 
+-- how a run has ended, as a word
 abbrev pub end_word : End → List ℕ
 end_word ends.Halted = codes "halted"
 end_word ends.Quiet = codes "quiet"
@@ -53,10 +54,6 @@ out_line state = out_of (alias_of state) (printed_by state)
 -- what servers are, each at its port
 abbrev pub states : {S : Type 0} → (S → State) → List (Who × S) → List State
 states meaning services = map (λ e. meaning e.1) services
-
--- the report of a run without servers and jobs
-abbrev pub report_text : ℕ → End → List ThreadState → List ℕ
-report_text events end threads = end_lines events end ++ flat_map thread_line threads
 
 -- the lines of consoles and of user threads
 abbrev pub outs_text : List State → List ThreadState → List ℕ

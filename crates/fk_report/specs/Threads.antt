@@ -38,10 +38,8 @@ pub record AreThreads (w : World) (threads : List ThreadState) : Type 0 where
 -- ---- whether they have halted
 
 abbrev pub is_halted : CodeMode → Bool
-is_halted modes.Running = false
-is_halted modes.Calling = false
 is_halted (modes.Halted code) = true
-is_halted modes.Native = false
+is_halted other = false
 
 -- a thread in this mode has halted, or is no user
 abbrev pub is_over : CodeMode → Bool

@@ -4,8 +4,8 @@
 //! It stands on `fk_model` for threads, on `fk_natives` for consoles, on `fk_finish` for where a subtree isn't closed, on `fk_image`
 //! for what a checkpoint makes, and on `fk_store` for the world that a store is. It promises
 //! that `threads_of` gives each user thread of that world once, in the order of paths
-//! (`specs/Threads.antt`), that `have_halted` says whether all of them have halted, as `all_halted` does of a store, and that
-//! `run_text` and `report_text` write what `specs/Report.antt` has, its lines of jobs by `specs/Jobs.antt`.
+//! (`specs/Threads.antt`), that `all_halted` says whether all of them have halted, and that `run_text` writes what `specs/Report.antt` has, its
+//! lines of jobs by `specs/Jobs.antt`.
 #![tactic(auto)]
 
 mod end;
@@ -20,6 +20,6 @@ pub use end::End;
 pub use job_end::JobEnd;
 pub use jobs::{end_at, first_refused};
 pub use paths::push_down;
-pub use report::{end_word, outs_text, report_text, run_text};
+pub use report::{end_word, outs_text, run_text};
 pub use resting::all_halted;
-pub use threads::{ThreadState, have_halted, threads_of};
+pub use threads::{ThreadState, threads_of};

@@ -110,25 +110,6 @@ fn push_threads(text: &mut String, threads: &[ThreadState]) -> Result<(), AllocE
     Ok(())
 }
 
-/// The report of a run without servers and jobs: how many moves it made, how it ended, and its user threads in the order
-/// of the list.
-///
-/// # Errors
-///
-/// There is no memory for the text.
-pub fn report_text(
-    alloc: Global,
-    events: u64,
-    end: End,
-    threads: &[ThreadState],
-) -> Result<String, AllocError>
-    ensures { IfOk result (λ text. string_bytes text ≡ definitions.report_text events end threads.now) }
-{
-    let mut text = end_lines(alloc, events, end)?;
-    push_threads(&mut text, threads)?;
-    Ok(text)
-}
-
 /// The lines of consoles in the order of the file, and of user threads in the order of the list.
 ///
 /// # Errors

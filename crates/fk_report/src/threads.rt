@@ -1,16 +1,15 @@
 //! The user threads of a store, as a report has them.
-ghost use Rattle.std.specs.Prelude.{◌≡◌, ◌<◌, ◌↔◌, IsTrue, IfOk, OnOk, IfSome, IfNone, Contains, Some, [], ◌∷◌, ◌++◌, reverse};
+ghost use Rattle.std.specs.Prelude.{◌≡◌, ◌<◌, IfOk, OnOk, IfSome, IfNone, Contains, Some, [], ◌∷◌, ◌++◌, reverse};
 ghost use Rattle.std.specs.Bool.{OnTrue};
 ghost use Rattle.std.specs.Cmp.Lexicographic.{slice_cmp};
 ghost use Rattle.std.specs.Ordering.{nat_cmp};
 ghost use Rattle.std.specs.declared.cmp.Ordering.TheVariants.{Less};
-ghost use Rattle.std.specs.List.{list_all};
 ghost use Rattle.std.specs.BTreeMap.{values, IsOrdered};
 ghost use Rattle.fk_store.specs.Store.Paths.{path};
 ghost use Rattle.fk_store.specs.Store.World.{world, place_of, IsLive};
 ghost use Rattle.fk_model.specs.Places.{Path};
 ghost use Rattle.fk_model.specs.World.{World};
-ghost use Rattle.fk_report.specs.Threads.{state_at, AreThreads, AreKept, IsLine, by_slots, is_halted, HaveHalted};
+ghost use Rattle.fk_report.specs.Threads.{state_at, AreThreads, AreKept, IsLine, by_slots};
 
 use fk_model::{List, Mode, NoMemory, Who};
 use fk_store::Store;
@@ -269,22 +268,4 @@ pub fn threads_of(alloc: Global, store: &Store) -> Result<List<ThreadState>, NoM
         Some(threads) => Ok(threads),
         None => in_order(alloc, store),
     }
-}
-
-/// Each of these threads has halted.
-fn each_has_halted(threads: &[ThreadState]) -> bool
-    ensures { result ≡ list_all (λ (t : ThreadState). is_halted t.mode) threads.now }
-{
-    threads
-        .iter()
-        .all(|thread| matches!(thread.mode, Mode::Halted(_)))
-}
-
-/// Whether each of these threads has halted. Where they are all user threads of a world, that says
-/// whether every user thread has.
-pub fn have_halted(threads: &[ThreadState]) -> bool
-    ensures each { result ≡ list_all (λ (t : ThreadState). is_halted t.mode) threads.now }
-    ensures world { (w : World) → AreThreads w threads.now → (IsTrue result ↔ HaveHalted w) }
-{
-    each_has_halted(threads)
 }

@@ -51,5 +51,6 @@ abbrev pub seen_by : Option Watch → Note → Bool
 seen_by None note = false
 seen_by (Some watch) note = watches watch note
 
+-- the observer at a place sees a note
 abbrev pub is_seen : ℕ → Note → Bool
 is_seen at note = seen_by (slice_get all_watches at) note

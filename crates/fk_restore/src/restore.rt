@@ -7,6 +7,8 @@
 //! and what it comes to is what the machine says.
 
 mod counting;
+mod end;
 mod restore;
 
-pub use restore::{Phase, Restore};
+pub use end::RestoreEnd;
+pub use restore::Restore;

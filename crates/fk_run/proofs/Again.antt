@@ -26,7 +26,7 @@ use Rattle.fk_plays.specs.Recorded.{IsWholeRecord}
 use Rattle.fk_plays.specs.Recording.{watch_place, IsRecordedFrom}
 use Rattle.fk_plays.specs.Recorded.{IsReplay, IsReplayedWith}
 use Rattle.fk_responders.specs.declared.note.Watch.{Watch}
-use Rattle.fk_run.proofs.Headline.{read-keeps}
+use Rattle.fk_run.proofs.Transparency.{read-keeps}
 use Rattle.fk_scenario.specs.Scenario.Kept.{KeepsScenario}
 use Rattle.fk_words.specs.Commands.{Command, Run, Play, Record, Replay, leaves}
 use Rattle.fk_puts.specs.Puts.{HasPut}

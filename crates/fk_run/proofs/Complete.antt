@@ -47,7 +47,7 @@ use Rattle.fk_report.specs.declared.end.End.TheVariants as ends
 use Rattle.fk_report.specs.declared.job_end.JobEnd.{JobEnd}
 use Rattle.fk_report.specs.Jobs.{refused_from}
 use Rattle.fk_run.proofs.Due.{done-whole, held}
-use Rattle.fk_run.proofs.Headline.{read-keeps}
+use Rattle.fk_run.proofs.Transparency.{read-keeps}
 use Rattle.fk_run.specs.Complete.{AreRight, HasImage, HasImages, HasReplay, HasTrace, IsComplete, IsImageFile, IsProgram, IsRight}
 use Rattle.fk_run.specs.Complete.{IsRecordFile, IsReplayFile, IsScenarioWith, IsTraceFile, IsWhole}
 use Rattle.fk_commands.specs.Tables.{Rules}

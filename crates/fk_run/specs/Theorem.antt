@@ -15,7 +15,7 @@ use Rattle.fk_commands.specs.Tables.{Rules}
 use Rattle.fk_puts.specs.Puts.{HasPut, HasPutSome, KeepsFiles}
 use Rattle.fk_run.specs.Again.{PlaysAgain}
 use Rattle.fk_run.specs.Complete.{IsComplete}
-use Rattle.fk_run.specs.Jobs.{HoldsOf}
+use Rattle.fk_run.specs.Jobs.{MadeReportIsTransparent}
 use Rattle.fk_run.specs.Top.{IsDone, IsCutOff, HasFailed, has_read_all}
 use Rattle.fk_words.specs.Commands.{Command, reads_source, uses_shelf, leaves}
 
@@ -107,7 +107,7 @@ pub record PutsFiles {R W H : Type 0} (rules : Rules) (command : Option Command)
   -- by the trace that a run has left `play` comes to the same status, report and text, and so does `replay` by the trace and the record
   pub again : OnTrue (has_put_all outcome.status) (PlaysAgain rules command after.files outcome.report)
 
--- ---- 7. Transparency, the headline, is `HoldsOf` in Jobs.antt: it is about the run in the report alone
+-- ---- 7. Transparency is `MadeReportIsTransparent` in Jobs.antt: it is about the run in the report alone
 
 -- ---- 8. Completeness: where no part of the outside failed in this call, right input is answered, unless memory lacks
 
@@ -127,5 +127,5 @@ pub record Theorem {R W H : Type 0} (rules : Rules) (command : Option Command) (
   pub hides : HidesNone before after outcome
   pub came : CameSoFar command before after outcome
   pub files : PutsFiles rules command before after outcome
-  pub headline : HoldsOf rules outcome.report
+  pub transparency : MadeReportIsTransparent rules outcome.report
   pub complete : AnswersRight rules command before after outcome

@@ -11,9 +11,9 @@ use Rattle.fk_report.specs.declared.job_end.JobEnd.TheVariants as told
 use Rattle.fk_words.specs.Commands.{Command, Run, Play}
 use Rattle.fk_plays.specs.Cores.{RunCore}
 use Rattle.fk_commands.specs.Files.{image_name}
-use Rattle.fk_plays.specs.Headline.{HasReportHeadline}
+use Rattle.fk_plays.specs.Transparency.{IsTransparentReport}
 use Rattle.fk_plays.specs.Images.{FindsImages}
-use Rattle.fk_run.specs.Jobs.{HoldsOf}
+use Rattle.fk_run.specs.Jobs.{MadeReportIsTransparent}
 use Rattle.fk_plays.specs.Made.{Images}
 use Rattle.fk_puts.specs.Puts.{PutsRun}
 use Rattle.fk_plays.specs.Runs.{IsReported}
@@ -33,7 +33,7 @@ pub record ReportedRun (files : FileMap) (report : Report) : Type 0 where
   pub found : FindsImages (Some files) [] scenario.jobs (Ok given)
   pub first : RunCore
   pub is : IsReported scenario.jobs given first scenario.budget report
-  pub headline : HasReportHeadline scenario given first report is
+  pub transparency : IsTransparentReport scenario given first report is
 
 -- ---- from a call of the top to its run
 
@@ -47,7 +47,7 @@ RunsJobs other = ⊥
 abbrev pub ReportsAreOfRuns : Type 0
 ReportsAreOfRuns = (rules : List (List ℕ × Rule)) (command : Command) (left : Option (List ℕ)) (files : FileMap) (outcome : Outcome) (report : Report)
     (text : List ℕ) → RunsJobs command → outcome.report ≡ Some report → IsDue rules (Some command) left (Some files) outcome text →
-    HoldsOf rules (Some report) → ReportedRun files report
+    MadeReportIsTransparent rules (Some report) → ReportedRun files report
 
 -- ---- from one run to the other
 

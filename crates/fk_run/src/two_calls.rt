@@ -3,7 +3,7 @@
 ghost use Rattle.fk_run.specs.TwoCalls.{CallsGoOn, ReportsAreOfRuns, SavedGoesOnInAnotherCall};
 
 /// A call of `run` or `play` that did what its words call for, over files that the shelf tells: its report is of a run of the scenario that
-/// it read, with the images that the files have, and that run has the headline.
+/// it read, with the images that the files have, and that run is transparent.
 pub fn reports_are_of_runs()
     ensures { ReportsAreOfRuns }
 {}

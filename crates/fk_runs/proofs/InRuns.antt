@@ -3,4 +3,4 @@ pub mod Books
 pub mod Made
 pub mod Replayed
 pub mod From
-pub mod Headlines
+pub mod Transparencies

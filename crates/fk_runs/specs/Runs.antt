@@ -4,5 +4,5 @@ pub use Rattle.fk_first.specs.First
 pub use Rattle.fk_workers.specs.Workers.Plays
 pub use Rattle.fk_workers.specs.Workers.Shown
 pub use Rattle.fk_first.specs.Cores
-pub mod Headline
+pub mod Transparency
 pub mod Runs

@@ -15,5 +15,5 @@ pub mod runs;
 
 pub use recordings::{a_record_plays_again, record_first, replay_first, replays_play_again};
 pub use runs::{
-    a_run_plays_again, maker_of, play_first, reports_have_the_headline, run_first, soak_first,
+    a_run_plays_again, maker_of, play_first, reports_are_transparent, run_first, soak_first,
 };

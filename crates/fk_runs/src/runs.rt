@@ -10,11 +10,11 @@
 
 mod again;
 mod begun;
-mod headline;
+mod transparency;
 mod whole;
 
 pub use again::a_run_plays_again;
 pub use begun::{play_first, run_first, soak_first};
 pub use fk_first::maker_of;
-pub use headline::reports_have_the_headline;
+pub use transparency::reports_are_transparent;
 pub use whole::play_core;

@@ -15,4 +15,4 @@ pub mod scenario;
 pub mod sections;
 
 pub use fields::{ScenarioError, ScenarioFail};
-pub use scenario::{Scenario, read_scenario, server_rules};
+pub use scenario::{Scenario, makes_image, read_scenario};

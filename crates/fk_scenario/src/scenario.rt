@@ -9,10 +9,9 @@
 mod aims;
 mod jobs;
 mod reading;
-mod rules;
 mod scenario;
 mod servers;
 
+pub use jobs::makes_image;
 pub use reading::read_scenario;
-pub use rules::server_rules;
 pub use scenario::Scenario;

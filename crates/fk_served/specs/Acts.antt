@@ -1,8 +1,7 @@
 -- Acts: which moves of users and servers are ready, and which servers can't act.
-use Rattle.std.specs.Prelude.{◌≡◌, ℕ, ◌<◌, ◌≤◌, Bool, true, false, Option, Some, None}
+use Rattle.std.specs.Prelude.{◌≡◌, ℕ, ◌<◌, ◌≤◌, true, false, Option, Some, None}
 use Rattle.std.specs.List.{slice_get}
 use Rattle.fk_model.specs.declared.moves.Ask.{Ask}
-use Rattle.fk_model.specs.declared.moves.Ask.TheVariants as asks
 use Rattle.fk_model.specs.declared.moves.Move.{Move}
 use Rattle.fk_model.specs.declared.names.Who.{Who}
 use Rattle.fk_model.specs.Who.{event_of}
@@ -11,6 +10,7 @@ use Rattle.laws_jobs.specs.Machines.{IsReadyAt}
 use Rattle.fk_kernel.specs.Events.{is_who}
 use Rattle.fk_natives.specs.Natives.{State}
 use Rattle.fk_served.specs.Served.{Services, asked}
+pub use Rattle.fk_model.specs.Moves.{is_act}
 
 -- a move is ready for what its mover asks for; who asks for nothing has none
 abbrev pub IsReadyFor : World → Move → Option Ask → Type 0
@@ -20,14 +20,6 @@ IsReadyFor w m (Some ask) = IsReadyAt w (event_of w ask m)
 -- a move of a user or a server is ready
 abbrev pub IsReadyAsked : Services → World → Move → Type 0
 IsReadyAsked services w m = IsReadyFor w m (asked services w m.who)
-
--- an act of a native server
-abbrev pub is_act : Ask → Bool
-is_act asks.Run = false
-is_act (asks.Call stage words) = false
-is_act asks.Accept = true
-is_act (asks.Give words len) = true
-is_act asks.Over = true
 
 -- the server of a port has no ready act
 abbrev pub HasNoAct : Services → World → Who → Type 0

@@ -9,7 +9,7 @@ use Rattle.fk_model.specs.declared.moves.Said.TheVariants as says
 use Rattle.fk_model.specs.declared.names.Who.{Who}
 use Rattle.fk_model.specs.Endings.{has_ended}
 use Rattle.fk_model.specs.Outcomes as outcomes
-use Rattle.fk_model.specs.Outcomes.Said.{Nothing, Answered, Taken, Words, Given, Full, Passed, Ended}
+use Rattle.fk_model.specs.Outcomes.Said.{Taken, Words, Given, Passed}
 use Rattle.fk_model.specs.Places.{Path, leads_to}
 use Rattle.fk_model.specs.Runs.{Event, after}
 use Rattle.fk_model.specs.Places.Ptr.{At}
@@ -50,6 +50,7 @@ asked_of (Some state) = asks_for state
 abbrev pub asked_at : Bool → Services → Who → Option Ask
 asked_at is_port services who = if is_port then asked_of (serving services who) else Some asks.Run
 
+-- what a mover asks for: what the server does whose port it is, or to run
 abbrev pub asked : Services → World → Who → Option Ask
 asked services w who = asked_at (is_served_port w (At (named w who))) services who
 
@@ -66,14 +67,11 @@ gives_words other = true
 
 -- what a move tells the server of the port at a path
 abbrev pub said_at : outcomes.Said → Path → Option News
-said_at Nothing port = None
-said_at (Answered status words) port = None
 said_at (Taken to client resumed turn moved) port = if leads_to port to then Some (natives.Taken turn moved) else None
 said_at (Words to words) port = if leads_to port to then Some (natives.Words words) else None
 said_at (Given to count) port = if leads_to port to then Some (natives.Given count) else None
-said_at (Full to) port = None
 said_at (Passed to) port = if leads_to port to then Some natives.Over else None
-said_at (Ended to) port = None
+said_at other port = None
 
 -- a server that had a client before the move and has none after it hears that the talk has ended, whoever moved; any other what the
 -- move tells it
@@ -93,6 +91,7 @@ servers = record { asks = asked; hears = λ services w e. map (hears_of w e) ser
 
 -- ---- the same by names
 
+-- what a server hears of what a move told
 abbrev pub said_to : says_of.Said → Who → Option News
 said_to says.Nothing who = None
 said_to (says.Answer answer) who = None
@@ -103,9 +102,11 @@ said_to (says.Full port) who = None
 said_to (says.Over port) who = if same_who who port then Some natives.Over else None
 said_to (says.Ended port) who = None
 
+-- and where it lost its client, that alone
 abbrev pub news_to : says_of.Said → Option Who → Who → Option News
 news_to said ended who = if is_who ended who then Some natives.Ended else said_to said who
 
+-- what becomes of a server
 abbrev pub told : says_of.Said → Option Who → Who × State → Who × State
 told said ended served = (served.0, after_news (news_to said ended served.0) served.1)
 
@@ -137,6 +138,7 @@ some_grow w e (s ∷ ss) = grows_at w e s || some_grow w e ss
 abbrev pub grows_told : says_of.Said → Option Who → Who × State → Bool
 grows_told said ended served = grows_by (said_to said served.0) served.1 || (is_who ended served.0 && natives.grows served.1 natives.Ended)
 
+-- some server grows by it
 abbrev pub some_told : says_of.Said → Option Who → Services → Bool
 some_told said ended [] = false
 some_told said ended (s ∷ ss) = grows_told said ended s || some_told said ended ss

@@ -112,7 +112,8 @@ fn asked_act<S: Service + Drop>(kernel: &Kernel, services: &Services<S>, port: W
     }
 }
 
-/// The same. What is asked for takes much room, so a server at its client's turn isn't asked.
+/// A ready act of the server of a port, by a look at its side of the talk first. What is asked for takes much room, so a server at its client's turn
+/// isn't asked.
 #[tactic(auto, using(crate::proofs::Idle::runs_alone, crate::proofs::Idle::asks_nothing))]
 pub fn ready_act<S: Service + Drop>(
     kernel: &Kernel,

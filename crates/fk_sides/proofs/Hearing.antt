@@ -13,7 +13,7 @@ use Rattle.fk_sides.specs.Cames.{HasCome, ComesTo, IsCome}
 use Rattle.fk_sides.specs.declared.far.Makes.{Makes}
 use Rattle.fk_sides.specs.declared.far.Makes.TheVariants as makes
 use Rattle.fk_sides.specs.declared.far.Stand.{Stand}
-use Rattle.fk_restore.specs.declared.restore.restore.Restore.{Restore}
+use Rattle.fk_restore.specs.Restore.Restores.{Restoring}
 use Rattle.fk_sides.specs.Fars.{IsFar, Begins, gone_on, slot_in, stand_of}
 use Rattle.fk_sides.specs.Sides.{FarSide, both}
 
@@ -61,7 +61,7 @@ never_so slot old p is f shows =
     subst (λ (m : Makes). IsFar m (far_told (both slot) f p)) (sym is) (ap (λ (x : FarSide). far_told (both slot) x p) its)
 
 -- one whose restore has begun
-pub restores_so : (slot : ℕ) (old : Makes) (r : Restore) (stand new : Stand) (p : Packet Piece Why) → old ≡ makes.Restores r stand
+pub restores_so : (slot : ℕ) (old : Makes) (r : Restoring) (stand new : Stand) (p : Packet Piece Why) → old ≡ makes.Restores r stand
     → stand_of r new ≡ far_told (both slot) (stand_of r stand) p → (f : FarSide) → IsFar old f → IsFar (makes.Restores r new) (far_told (both slot) f p)
 restores_so slot old r stand new p is told f shows =
     let its : IsFar (makes.Restores r stand) f = subst (λ (m : Makes). IsFar m f) is shows in

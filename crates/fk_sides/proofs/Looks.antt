@@ -1,7 +1,7 @@
 -- Where a restore stands after an answer.
 use Rattle.std.proofs.Common.{◌≡◌, ℕ, zero, suc, ◌-◌, arith, Bool, true, false, List, [], ◌∷◌, Some, refl, sym, ap}
-use Rattle.fk_finish.specs.declared.finish.Finish.{Finish}
 use Rattle.fk_image.specs.declared.image.image.Image.{Image}
+use Rattle.fk_restore.specs.declared.restore.end.RestoreEnd.{RestoreEnd}
 use Rattle.fk_restore.specs.Restore.Restores.{end_of, is_built}
 use Rattle.laws_jobs.specs.Machines.{IsAtCall}
 use Rattle.laws_jobs.specs.Machines.Head.{Asks, Stops}
@@ -43,10 +43,10 @@ over_so slot i (restores.Clears [] more port) end e = cc
 over_so slot i (restores.Clears (o ∷ os) more port) end e = cc
 over_so slot i (restores.Over other) end e = let same : other ≡ end = cc in ap (λ (x : restores.End). of_job i (made_end x)) same
 
--- how a finish is told, where it is neither of those two
-pub ended_so : (slot : ℕ) (i : Image) (s : restores.State) (finish : Finish) → restores.head slot s ≡ Stops (end_of finish)
-    → of_job i (made s) ≡ of_job i (made_end (end_of finish))
-ended_so slot i s finish e = over_so slot i s (end_of finish) e
+-- how an end is told, where it is neither of those two
+pub ended_so : (slot : ℕ) (i : Image) (s : restores.State) (end : RestoreEnd) → restores.head slot s ≡ Stops (end_of end)
+    → of_job i (made s) ≡ of_job i (made_end (end_of end))
+ended_so slot i s end e = over_so slot i s (end_of end) e
 
 -- ---- stages of destroying
 

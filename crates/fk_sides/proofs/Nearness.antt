@@ -96,7 +96,7 @@ over_asks_none slot (checks.Foreign place) = refl
 over_asks_none slot (checks.Done i) = refl
 
 phase_over : (slot : ℕ) (phase : Phase) → IsOver phase → near_call slot (near_at (phase_of slot phase)) ≡ None
-phase_over slot (phases.Over finish) over = over_asks_none slot (end_of finish)
+phase_over slot (phases.Over end) over = over_asks_none slot (end_of end)
 phase_over slot phases.Holds over = absurd over
 phase_over slot (phases.Readies scratch) over = absurd over
 phase_over slot (phases.Walks walk) over = absurd over
@@ -104,8 +104,9 @@ phase_over slot (phases.Seeks walk seek) over = absurd over
 phase_over slot (phases.Closed walk) over = absurd over
 phase_over slot (phases.Reads read) over = absurd over
 phase_over slot (phases.Gathers contents gather) over = absurd over
-phase_over slot (phases.Drops scratch ending) over = absurd over
-phase_over slot (phases.Releases way) over = absurd over
+phase_over slot (phases.Ends ending) over = absurd over
+phase_over slot (phases.Drops scratch end) over = absurd over
+phase_over slot (phases.Releases end) over = absurd over
 
 pub call_there : (slot : ℕ) (phase : Phase) (o : Option Stage) → gathered_in (phase_of slot phase) ≡ None
     → IfSome o (λ stage. checks.head slot (phase_of slot phase) ≡ Asks stage no_words) → IfNone o (IsOver phase)

@@ -1,8 +1,7 @@
 -- The far side of the code as the laws see it.
 use Rattle.std.specs.Prelude.{◌≡◌, ℕ, List, Option, None, Some, false}
 use Rattle.fk_image.specs.declared.image.image.Image.{Image}
-use Rattle.fk_restore.specs.declared.restore.restore.Restore.{Restore}
-use Rattle.fk_restore.specs.Restore.Restores.{state_of}
+use Rattle.fk_restore.specs.Restore.Restores.{Restoring}
 use Rattle.laws_restore.specs.Restore.Restore.{State}
 use Rattle.laws_restore.specs.Restore.Restore.State.{Makes as First}
 use Rattle.laws_handover.specs.FarSide as far
@@ -31,16 +30,16 @@ abbrev pub fails_so : Refusal → Made State Why
 fails_so refusal = far.Fails (refusal_of refusal)
 
 -- a restore as a job that knows its image
-abbrev pub job_of : Restore → Job
-job_of r = record { image = r.image; state = state_of r }
+abbrev pub job_of : Restoring → Job
+job_of r = record { image = r.image; state = r.state }
 
 -- where a restore stands after an answer
-abbrev pub look_of : Restore → Look → Made Job Why
+abbrev pub look_of : Restoring → Look → Made Job Why
 look_of r looks.Goes = far.Goes (job_of r)
 look_of r looks.Builds = far.Builds
 look_of r (looks.Fails why) = far.Fails (refusal_of why)
 
-abbrev pub stand_of : Restore → Stand → FarSide
+abbrev pub stand_of : Restoring → Stand → FarSide
 stand_of r stands.Works = far.Makes r.image (job_of r)
 stand_of r stands.Built = far.Built r.image
 stand_of r stands.Releases = far.Releases r.image

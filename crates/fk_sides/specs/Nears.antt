@@ -29,6 +29,7 @@ last_of since.Cleared = Some Gone
 last_of (since.Cancels why) = Some Cancel
 last_of (since.Cancelled why) = Some Cancel
 
+-- the near side in code as the laws see it
 abbrev pub saves_of : Saves → NearSide
 saves_of (saves.Works c) = near_at (state_of c)
 saves_of (saves.Gathered spelled s) = since_of spelled s

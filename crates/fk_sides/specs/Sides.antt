@@ -41,6 +41,7 @@ why_of whys.Occupied = Occupied
 why_of (whys.NoPort port) = NoPort port
 why_of whys.GaveUp = GaveUp
 
+-- a packet in code as the laws see it
 abbrev pub packet_of : CodePacket → Packet Piece Why
 packet_of (packets.Piece number total bytes len) = PieceOf (record { number = number; total = total; bytes = bytes; len = len })
 packet_of packets.Ready = Ready
@@ -57,6 +58,7 @@ option_list (Some x) = x ∷ []
 abbrev pub NearSide : Type 0
 NearSide = Near checks.State Image Why
 
+-- the far side of a migration: it restores an image
 abbrev pub FarSide : Type 0
 FarSide = Far Job Image Piece Why
 
@@ -75,10 +77,12 @@ abbrev pub call_with : Option Stage → List ℕ → Option Ask
 call_with None words = None
 call_with (Some stage) words = Some (asks.Call stage words)
 
+-- what a machine asks for next, if it has not ended
 abbrev pub asks_for : {A : Type 0} → Head A → Option Ask
 asks_for (Asks stage words) = Some (asks.Call stage words)
 asks_for (Stops end) = None
 
+-- the call for which the near side asks
 abbrev pub near_call : ℕ → NearSide → Option Ask
 near_call slot (near.Saves s) = asks_for (checks.head slot s)
 near_call slot (near.Clears i more) = Some (bare (Destroy OWN_SPACE slot))
@@ -88,6 +92,7 @@ near_call slot (near.Cleared i) = None
 near_call slot (near.Cancelled i why) = None
 near_call slot (near.Failed why) = None
 
+-- the call for which the far side asks
 abbrev pub far_call : ℕ → FarSide → Option Ask
 far_call slot (far.Makes i j) = asks_for (restores.head slot j.state)
 far_call slot (far.Undoes i j) = asks_for (restores.head slot j.state)
@@ -110,6 +115,7 @@ saved_so (near.Fails why) = near.Failed why
 abbrev pub near_at : checks.State → NearSide
 near_at s = saved_so (checked s)
 
+-- the near side once its call is answered
 abbrev pub near_heard : ℕ → NearSide → ℕ → List ℕ → NearSide
 near_heard slot (near.Saves s) status words = near_at (checks.next slot s status words)
 near_heard slot (near.Clears i zero) status words = near.Cleared i
@@ -134,6 +140,7 @@ undone_so i (far.Fails why) = far.Ended (Some i) false
 abbrev pub restored : ℕ → Job → ℕ → List ℕ → Made Job Why
 restored slot j status words = of_job j.image (made ((restore_of slot j.image []).next j.state status words))
 
+-- the far side once its call is answered
 abbrev pub far_heard : ℕ → FarSide → ℕ → List ℕ → FarSide
 far_heard slot (far.Makes i j) status words = made_so i (restored slot j status words)
 far_heard slot (far.Undoes i j) status words = undone_so i (restored slot j status words)

@@ -118,6 +118,10 @@ impl Came {
     }
 
     /// Takes a piece: gives the image that all spell together, once they do. What comes again changes nothing.
+    ///
+    /// # Errors
+    ///
+    /// There is no memory for the piece, or for the image.
     pub fn take(
         &mut self,
         number: u64,

@@ -2,8 +2,7 @@
 ghost use Rattle.std.specs.Prelude.{◌≡◌, ◌≤◌, [], ℕ, List, length, option_map, take, IfOk, OnErr, OnOk};
 ghost use Rattle.std.specs.List.{slice_get};
 ghost use Rattle.fk_model.specs.declared.limits.TheConstants.{LAST_USER_SLOT};
-ghost use Rattle.fk_restore.specs.declared.restore.restore.Restore.{Restore as restores};
-ghost use Rattle.fk_restore.specs.Restore.Restores.{end_of, state_of};
+ghost use Rattle.fk_restore.specs.Restore.Restores.{Restoring as restores, end_of};
 ghost use Rattle.fk_sides.specs.Cames.{IsCome};
 ghost use Rattle.fk_sides.specs.declared.far.Stand.TheVariants as stands;
 ghost use Rattle.fk_sides.specs.Fars.{fails_so, gone_on, look_of, refusal_of, slot_in, stand_of, Begins, IsFar};
@@ -18,10 +17,11 @@ ghost use Rattle.laws_migrate.specs.Migration.{made, made_end, of_job};
 use crate::blocks::Block;
 use crate::came::Came;
 use crate::restoring::Restoring;
-use fk_finish::{Finish, ValidImage};
+use fk_finish::ValidImage;
 use fk_model::limits::OWN_SPACE;
 use fk_model::{Answer, NoMemory, Stage};
 use fk_packets::{Packet, Why};
+use fk_restore::RestoreEnd;
 use std::alloc::Global;
 
 /// Why there is no copy.
@@ -87,26 +87,26 @@ pub struct Far {
 }
 
 /// Why there is no copy, by how a restore has ended.
-fn refusal_in(finish: &Finish) -> Refusal
-    ensures { made_end (end_of finish.now) ≡ fails_so result }
+fn refusal_in(end: &RestoreEnd) -> Refusal
+    ensures { made_end (end_of end.now) ≡ fails_so result }
 {
-    match finish {
-        Finish::Occupied => Refusal::Occupied,
-        Finish::NoPort(port) => Refusal::NoPort(*port),
-        Finish::Image(_) | Finish::Foreign(_) | Finish::Dead | Finish::Restored => Refusal::Never,
+    match end {
+        RestoreEnd::Done => Refusal::Never,
+        RestoreEnd::Occupied => Refusal::Occupied,
+        RestoreEnd::NoPort(port) => Refusal::NoPort(*port),
     }
 }
 
 /// Where a restore stands.
 fn seen_at(restore: &Restoring) -> Look
-    ensures { of_job restore.now.image (made (state_of restore.now)) ≡ look_of restore.now result }
+    ensures { of_job restore.now.image (made restore.now.state) ≡ look_of restore.now result }
 {
     if restore.built() {
         return Look::Builds;
     }
     match restore.end() {
         None => Look::Goes,
-        Some(finish) => Look::Fails(refusal_in(finish)),
+        Some(end) => Look::Fails(refusal_in(end)),
     }
 }
 
@@ -329,6 +329,10 @@ impl Far {
     }
 
     /// Takes a packet, of whatever kind, and however often it has come. Pieces may come in any order.
+    ///
+    /// # Errors
+    ///
+    /// There is no memory for the packet; all is as before.
     pub fn take(&mut self, packet: &Packet) -> Result<(), NoMemory>
         ensures slot { self.new.slot ≡ self.old.slot }
         ensures told { OnOk result ((f : FarSide) → IsFar self.old.makes f

@@ -259,6 +259,10 @@ impl Near {
     }
 
     /// Makes room for one answer, and changes nothing else.
+    ///
+    /// # Errors
+    ///
+    /// There is no memory for one answer.
     pub fn reserve(&mut self) -> Result<(), NoMemory>
         ensures slot { self.new.slot ≡ self.old.slot }
         ensures same { saves_of self.new.saves ≡ saves_of self.old.saves }
@@ -287,6 +291,10 @@ impl Near {
     }
 
     /// Writes the bytes of its image, where that is gathered, and changes nothing else.
+    ///
+    /// # Errors
+    ///
+    /// There is no memory for the bytes.
     pub fn spell(&mut self) -> Result<(), NoMemory>
         ensures slot { self.new.slot ≡ self.old.slot }
         ensures same { saves_of self.new.saves ≡ saves_of self.old.saves }
@@ -305,6 +313,10 @@ impl Near {
     }
 
     /// Takes a packet, of whatever kind, and however often it has come. For want of memory all is as before.
+    ///
+    /// # Errors
+    ///
+    /// There is no memory for the bytes of its image.
     pub fn take(&mut self, packet: Packet) -> Result<(), NoMemory>
         ensures slot { self.new.slot ≡ self.old.slot }
         ensures told { OnOk result (saves_of self.new.saves ≡ near_told (both self.old.slot) (saves_of self.old.saves) (packet_of packet)) }
@@ -332,6 +344,10 @@ impl Near {
     }
 
     /// Gives up waiting: it keeps its own. For want of memory all is as before.
+    ///
+    /// # Errors
+    ///
+    /// There is no memory for the bytes of its image.
     pub fn give_up(&mut self) -> Result<(), NoMemory>
         ensures slot { self.new.slot ≡ self.old.slot }
         ensures told { OnOk result (saves_of self.new.saves ≡ gives_up (both self.old.slot) (saves_of self.old.saves)) }
@@ -349,6 +365,10 @@ impl Near {
     }
 
     /// The packet with a number, counted from 0 in the order in which it has sent them. It is made of what the side has come to.
+    ///
+    /// # Errors
+    ///
+    /// There is no memory for the bytes of its image or for the packet.
     pub fn packet(&mut self, number: u64) -> Result<Option<Packet>, NoMemory>
         ensures slot { self.new.slot ≡ self.old.slot }
         ensures same { saves_of self.new.saves ≡ saves_of self.old.saves }

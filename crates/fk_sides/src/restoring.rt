@@ -1,7 +1,7 @@
 //! A restore with nothing bound, in a state in which its machine may be.
 ghost use Rattle.std.specs.Prelude.{◌≡◌, ◌≤◌, [], take, IfNone, IfSome};
 ghost use Rattle.fk_model.specs.declared.limits.TheConstants.{LAST_USER_SLOT};
-ghost use Rattle.fk_restore.specs.Restore.Restores.{end_of, is_built, state_of};
+ghost use Rattle.fk_restore.specs.Restore.Restores.{end_of, is_built};
 ghost use Rattle.fk_sides.specs.Sides.{asks_for, call_with};
 ghost use Rattle.laws_jobs.specs.Machines.{no_words, IsAtCall};
 ghost use Rattle.laws_jobs.specs.Machines.Head.{Stops};
@@ -12,9 +12,9 @@ ghost use Rattle.laws_restore.specs.Rooms.Rooms.{rooms_of};
 ghost use Rattle.laws_restore.specs.Rooms.Restoring.{restore_of};
 
 use crate::counting::count_objects;
-use fk_finish::{Finish, ValidImage};
+use fk_finish::ValidImage;
 use fk_model::{Answer, List, Stage};
-use fk_restore::Restore;
+use fk_restore::{Restore, RestoreEnd};
 use std::alloc::Global;
 use std::marker::Model;
 
@@ -28,16 +28,15 @@ pub struct Restoring {
 
 impl Model for Restoring {
     ghost use Rattle.std.specs.Prelude.{◌≡◌, []};
-    ghost use Rattle.fk_restore.specs.declared.restore.restore.Restore as restores;
-    ghost use Rattle.fk_restore.specs.Restore.Restores.{IsSound};
+    ghost use Rattle.fk_restore.specs.Restore.Restores as restores;
     ghost use Rattle.laws_restore.specs.Restore.Restore as machine;
     ghost use Rattle.laws_restore.specs.Rooms.Rooms.{rooms_of};
 
-    ghost Value = { restores.Restore };
+    ghost Value = { restores.Restoring };
 
     ghost view = { λ s. s.restore };
 
-    ghost invariant = { λ s. IsSound s.restore × (s.restore.pairs ≡ []) × (s.objects ≡ machine.objects (rooms_of s.restore.image)) };
+    ghost invariant = { λ s. (s.restore.pairs ≡ []) × (s.objects ≡ machine.objects (rooms_of s.restore.image)) };
 }
 
 impl Restoring {
@@ -46,7 +45,7 @@ impl Restoring {
         requires { slot ≤ LAST_USER_SLOT }
         ensures slot { result.slot ≡ slot }
         ensures image { result.image ≡ image }
-        ensures state { state_of result ≡ Makes }
+        ensures state { result.state ≡ Makes }
     {
         let objects = count_objects(&image);
         let _valid = image.get();
@@ -66,7 +65,7 @@ impl Restoring {
     /// Its next call, whose words it writes over zeros. It has none exactly where it has ended.
     pub fn next(&self, words: &mut [u64; 64]) -> Option<Stage>
         requires { words.old ≡ no_words }
-        ensures { call_with result words.new ≡ asks_for (machine.head self.now.slot (state_of self.now)) }
+        ensures { call_with result words.new ≡ asks_for (machine.head self.now.slot self.now.state) }
     {
         self.restore.next(words)
     }
@@ -75,23 +74,23 @@ impl Restoring {
     pub fn absorb(&mut self, answer: &Answer)
         ensures slot { self.new.slot ≡ self.old.slot }
         ensures image { self.new.image ≡ self.old.image }
-        ensures state { state_of self.new
-            ≡ (restore_of self.old.slot self.old.image []).next (state_of self.old) answer.now.status (take answer.now.len answer.now.words) }
+        ensures state { self.new.state
+            ≡ (restore_of self.old.slot self.old.image []).next self.old.state answer.now.status (take answer.now.len answer.now.words) }
     {
         self.restore.absorb(answer);
     }
 
     /// Whether only the release is left of a restore that will be done.
     pub fn built(&self) -> bool
-        ensures { result ≡ is_built (state_of self.now) }
+        ensures { result ≡ is_built self.now.state }
     {
         self.restore.built()
     }
 
     /// How it has ended. Nothing while it has a call to make.
-    pub fn end(&self) -> Option<&Finish>
-        ensures some { IfSome result (λ finish. machine.head self.now.slot (state_of self.now) ≡ Stops (end_of finish.now)) }
-        ensures none { IfNone result (IsAtCall (restore_of self.now.slot self.now.image []) (state_of self.now)) }
+    pub fn end(&self) -> Option<&RestoreEnd>
+        ensures some { IfSome result (λ end. machine.head self.now.slot self.now.state ≡ Stops (end_of end.now)) }
+        ensures none { IfNone result (IsAtCall (restore_of self.now.slot self.now.image []) self.now.state) }
     {
         self.restore.end()
     }

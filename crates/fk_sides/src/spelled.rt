@@ -79,6 +79,10 @@ fn piece_in(bytes: &[u8], number: u64) -> Option<Packet>
 
 impl Spelled {
     /// An image, of which the bytes are written.
+    ///
+    /// # Errors
+    ///
+    /// There is no memory for the image's bytes.
     pub fn new(alloc: Global, image: &ValidImage) -> Result<Spelled, NoMemory>
         ensures { IfOk result (λ spelled. spelled ≡ image.now) }
     {

@@ -186,7 +186,8 @@ fn copies_to(
     }
 }
 
-/// The same of a page and an address as they were asked for. Out of range they are refused.
+/// The words of a page of a space go to the caller, and then the page may go: a page and an address as they were asked for. Out of range they are
+/// refused.
 fn copies_within(
     store: &Store,
     caller: Caller,
@@ -234,7 +235,7 @@ pub fn page_take(
     copies_within(store, caller, space, page, true, address)
 }
 
-/// The same without the loss.
+/// A space shows the words of a page, which it keeps.
 ///
 /// # Errors
 ///

@@ -8,6 +8,7 @@ use Rattle.fk_store.specs.Store.Named.{OnPointer}
 use Rattle.fk_state.specs.declared.fields.Field.{Field}
 use Rattle.fk_state.specs.declared.fields.Field.TheVariants.{Pointer, NoThread}
 
+-- a pointer field, by paths
 abbrev pub field_by : (ℕ → Path) → Field → rows.Field
 field_by p (Pointer to) = rows.Field.Pointer (pointer_by p to)
 field_by p NoThread = rows.Field.NoThread

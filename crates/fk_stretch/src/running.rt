@@ -127,7 +127,7 @@ impl Running {
         self.operate(op as u8, word)
     }
 
-    /// The same of a word whose operation is this one.
+    /// Begins the instruction in a word whose operation is this one.
     #[inline(always)]
     fn operate(&mut self, op: u8, word: u64) -> Rest
         requires known { op ≤ CALL }

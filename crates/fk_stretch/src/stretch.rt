@@ -142,7 +142,8 @@ fn run_in(store: &Store, space: u32, words: &[u64; 64], running: &mut Running, m
     }
 }
 
-/// The same up to one that is in another page, or stores. That one is made too, where its page is there.
+/// Makes instructions whose words stand in the page of the counter, and then one that is in another page, or stores. That one is made too, where its
+/// page is there.
 #[inline(always)]
 fn run_page(store: &mut Store, space: u32, running: &mut Running, most: u64) -> u64
     requires space { IsSpace store.old space }

@@ -33,9 +33,11 @@ tapped_as watch other = OfTap watch [] other
 abbrev pub plain_seen : List (Who × Native) → List (Who × State)
 plain_seen servers = map (λ e. (e.0, both.meaning e.1)) servers
 
+-- posts by their meanings
 abbrev pub seen : List (Who × Post) → List (Who × State)
 seen servers = map (λ e. (e.0, meaning e.1)) servers
 
+-- a tap of each server that is no console
 abbrev pub all_tapped : ℕ → List (Who × State) → List (Who × State)
 all_tapped watch servers = map (λ e. (e.0, tapped_as watch e.1)) servers
 
@@ -56,6 +58,7 @@ abbrev pub after_replaying : List (List (List ℕ)) → State → List (List (Li
 after_replaying lists (OfConsole alias words side) = lists
 after_replaying lists other = lists_behind lists
 
+-- replays of these lists, in the place of the servers that are no consoles
 abbrev pub all_replaying : List (List (List ℕ)) → List (Who × State) → List (Who × State)
 all_replaying lists [] = []
 all_replaying lists (e ∷ es) = (e.0, replaying_as lists e.1) ∷ all_replaying (after_replaying lists e.1) es

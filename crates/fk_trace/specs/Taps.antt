@@ -19,5 +19,6 @@ has_room inner len capacity = inner && nat_le (len + 2) capacity
 abbrev pub to_come : List Reply → ℕ → List (List ℕ)
 to_come replies next = map reply_words (drop next replies)
 
+-- what a replay stands for
 abbrev pub replay_of : Replay → State
 replay_of r = OfReplay (to_come r.replies.items r.next) (reply_words r.left) r.side

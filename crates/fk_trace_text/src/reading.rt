@@ -73,7 +73,7 @@ fn first_lone(text: &[u8]) -> Option<(Move, &[u8])>
     Some((Move { who, pick: None }, after))
 }
 
-/// The same of any move.
+/// The move whose line a text begins with, whomever it picks, and what stands after that line.
 fn first_any(text: &[u8]) -> Option<(Move, &[u8])>
     ensures found { IfSome result (λ first. BeginsWith text.now first.0 first.1.now) }
     ensures none { IfNone result (BeginsWithNone (λ _. ⊤) text.now) }

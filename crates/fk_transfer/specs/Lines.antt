@@ -1,5 +1,5 @@
 -- Lines: a talk by paths, and who is at which end of it.
-use Rattle.std.specs.Prelude.{◌≡◌, ◌≤◌, ℕ, Bool, true, false, is_some, List, [], ◌∷◌, Option, Ok, ⊤}
+use Rattle.std.specs.Prelude.{◌≡◌, ◌≤◌, ℕ, Bool, true, false, is_some, [], ◌∷◌, Option, Ok}
 use Rattle.fk_model.specs.declared.stage.Stage.{Stage}
 use Rattle.fk_model.specs.declared.stage.Stage.TheVariants.{ClientOver, ClientSend, ServerOver, ServerSend}
 use Rattle.fk_model.specs.declared.thread.Turn.{Turn}
@@ -23,7 +23,9 @@ use Rattle.fk_plans.specs.declared.plans.plan.Verdict.{Verdict}
 use Rattle.fk_plans.specs.declared.plans.plan.Verdict.TheVariants as verdicts
 use Rattle.fk_transfer.specs.declared.lines.Line.{Line}
 use Rattle.fk_transfer.specs.declared.passing.Passage.{Passage}
+pub use Rattle.fk_changes.specs.Threads.Firsts.{IsFirst}
 
+-- a talk with who is at its ends, by paths
 abbrev pub line_by : (ℕ → Path) → Line → talks.Line
 line_by p line = record { client = place p line.client; talk = talk_by p line.talk; other = peer_by p line.other }
 
@@ -36,11 +38,6 @@ sending turns.Server address count = ServerSend address count
 abbrev pub over_on : Turn → Stage
 over_on turns.Client = ClientOver
 over_on turns.Server = ServerOver
-
--- a stage is the first of these, if there are any
-abbrev pub IsFirst : Stage → List Stage → Type 0
-IsFirst stage [] = ⊤
-IsFirst stage (first ∷ later) = first ≡ stage
 
 -- a thread is in no call, or at its Send on this side
 abbrev pub IsSender : World → Path → Turn → ℕ → ℕ → Type 0
@@ -56,6 +53,7 @@ pub record AreEnds (w : World) (sender receiver : Path) (address into : ℕ) : T
 abbrev pub passed_by : Who → Turn → Who → Option Bool → Verdict
 passed_by client turn peer came = verdicts.Done (plans.Two (deeds.Finishes peer came) (deeds.Passes client turn)) Nothing
 
+-- the verdict over a turn that passes to a thread at its Receive
 abbrev pub passed_of : Passage → Verdict
 passed_of h = passed_by h.client h.turn h.receiver h.came
 

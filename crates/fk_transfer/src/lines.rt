@@ -63,7 +63,7 @@ fn client_line(store: &Store, client: Who) -> Option<Line>
     }
 }
 
-/// The same talk as its server sees it.
+/// The talk of a client as its server sees it.
 fn at_client(store: &Store, client: Who) -> Option<Line>
     ensures line { option_map (line_by (path store.now)) result
         ≡ talks.line_from (place (path store.now) client) (λ talk. Server (At (place (path store.now) client)))

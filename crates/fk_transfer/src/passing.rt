@@ -188,7 +188,7 @@ pub fn over(store: &Store, caller: Caller, side: Turn) -> Result<Verdict, u8>
     hands_on(store, caller, side, None)
 }
 
-/// The same with the pointer of a reference of the caller, which is looked at first.
+/// Hands the turn to the other side with the pointer of a reference of the caller, which is looked at first.
 ///
 /// # Errors
 ///
@@ -237,7 +237,7 @@ pub fn handing(store: &Store, caller: Caller, side: Turn) -> Option<Passage>
     handing_to(store, caller, side, line.client, peer)
 }
 
-/// The same with this thread at the other end.
+/// What an Over comes to where the turn goes to this thread, if that is at its Receive.
 #[tactic(auto, unfolding(fk_store::specs::Store::Threads::is_free_at))]
 fn handing_to(store: &Store, caller: Caller, side: Turn, client: Who, peer: Who) -> Option<Passage>
     ensures outcome { (words : List ℕ) → IfSome result (λ h. outcome_by (world store.now) (path store.now) (caller_by (path store.now) caller words) (passed_of h)

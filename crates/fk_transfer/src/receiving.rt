@@ -45,7 +45,7 @@ pub fn receive(
     }
 }
 
-/// The same with a reference of the caller that is to take a pointer, which is looked at first.
+/// It waits for the other side's Send and Over with a reference of the caller that is to take a pointer, which is looked at first.
 ///
 /// # Errors
 ///

@@ -324,7 +324,7 @@ fn moves_into(
     }
 }
 
-/// The same where the other end is free.
+/// The words that move to a thread at the other end that is free, where that receives on a page that is there, and has room.
 #[tactic(auto, unfolding(fk_store::specs::Store::Threads::is_free_at))]
 fn moves_to_thread(
     store: &Store,

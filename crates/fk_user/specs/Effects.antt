@@ -21,6 +21,7 @@ abbrev pub verdict_of : Instruction → Verdict
 verdict_of (instructions.Runs e) = verdicts.Runs e
 verdict_of (instructions.Faults page write port) = verdicts.Faults page write port
 
+-- what an instruction comes to, by what is to be done for it
 abbrev pub outcome_at : Contents → Who → Thread → Verdict → Outcome
 outcome_at m me t (verdicts.Runs e) = effect_by (world m) (path m) (place (path m) me) e t.regs t.pc
 outcome_at m me t (verdicts.Faults page write port) = Goes (fault_on (place (path m) me) page write (At (place (path m) port)) ∷ []) Nothing

@@ -45,7 +45,7 @@ pub fn instruction(store: &Store, caller: Caller, thread: &Thread) -> Instructio
     }
 }
 
-/// The same as a verdict on the thread's stage.
+/// What the instruction of a running thread comes to, as a verdict on the thread's stage.
 pub fn judge(store: &Store, caller: Caller, thread: &Thread) -> Verdict
     requires user { caller.is_porter ≡ false }
     requires there { Some (thread_by (path store.now) thread.now) ≡ thread_at (world store.now) (place (path store.now) caller.who) }

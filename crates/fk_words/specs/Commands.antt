@@ -113,6 +113,7 @@ pub record Row : Type 0 where
   pub shelf : Bool
   -- whether workers share it
   pub shared : Bool
+  -- what a command leaves on the shelf
   pub leaves : Files
 
 abbrev pub row : Bool → Bool → Bool → Files → Row
@@ -132,12 +133,15 @@ row_of (Some (Replay name)) = row true true false NoFiles
 abbrev pub reads_source : Option Command → Bool
 reads_source command = (row_of command).source
 
+-- a command uses the shelf
 abbrev pub uses_shelf : Option Command → Bool
 uses_shelf command = (row_of command).shelf
 
+-- workers share what it does
 abbrev pub is_shared : Option Command → Bool
 is_shared command = (row_of command).shared
 
+-- which files a command leaves
 abbrev pub leaves : Option Command → Files
 leaves command = (row_of command).leaves
 

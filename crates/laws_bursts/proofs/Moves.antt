@@ -1,5 +1,6 @@
 -- Moves: so many instructions of a burst are as many moves of its thread.
-use Rattle.std.proofs.Common.{◌≡◌, ℕ, zero, suc, ◌<◌, ◌/◌, ◌%◌, ◌==◌, ◌&&◌, ◌||◌, Bool, true, false, cond, not, if◌then◌else◌, List, [], ◌∷◌, replicate, Option, Some, None, option_map, is_some, is_none, unwrap_or, slice_index, slice_set, refl, sym, ap, subst, ◌∙◌, arith, eqb-true, eq-eqb}
+use Rattle.std.proofs.Common.{◌≡◌, ℕ, zero, suc, ◌<◌, ◌/◌, ◌%◌, ◌==◌, ◌&&◌, ◌||◌, Bool, true, false, cond, not, if◌then◌else◌, List, [], ◌∷◌, replicate, Option}
+use Rattle.std.proofs.Common.{Some, None, option_map, is_some, is_none, unwrap_or, slice_index, slice_set, refl, sym, ap, subst, ◌∙◌, arith, eqb-true, eq-eqb}
 use Rattle.std.proofs.lemmas.Bool.{lt-ltb}
 use Rattle.std.proofs.lemmas.Option.{same_Some}
 use Rattle.fk_model.specs.declared.instruction.Act.{Act}
@@ -203,7 +204,8 @@ module _ (w : World) (k : ℕ) (s : Path) (uses : ℕ → Bool) (t : Thread) (th
   laid-thread : (b : Burst) → thread_at (laid b) (k ∷ s) ≡ Some (at_mode t (Running b.registers) b.counter)
   unfolding edited
   laid-thread b =
-      ap (λ m. and_then thread_of (cond m (option_map (edited (Proceed (Running b.registers) b.counter)) (w.body (k ∷ s))) (w.body (k ∷ s)))) (same_path_refl (k ∷ s))
+      ap (λ m. and_then thread_of (cond m (option_map (edited (Proceed (Running b.registers) b.counter)) (w.body (k ∷ s))) (w.body (k ∷ s))))
+      (same_path_refl (k ∷ s))
       ∙ ap (λ o. and_then thread_of (option_map (edited (Proceed (Running b.registers) b.counter)) o)) here
 
   laid-decider : (b : Burst) (y : Path) → decider (laid b) y ≡ decider w y
@@ -287,7 +289,12 @@ module _ (w : World) (k : ℕ) (s : Path) (uses : ℕ → Bool) (t : Thread) (th
   writes b page words is = (
     (laid-space b, (may-go b (Running b.registers) (next b.counter), tt)),
     λ i. record {
-      world = record { body = λ q. gone b b.registers (next b.counter) q i; page = λ q p. by q p (same_path q s) (p == page) (uses p) refl refl i; next = w.next };
+      world = record {
+        body = λ q. gone b b.registers (next b.counter) q i;
+        page = λ q p. by q p (same_path q s) (p == page)
+            (uses p) refl refl i;
+        next = w.next;
+      };
       said = Nothing;
     },
   )
@@ -393,8 +400,10 @@ module _ (w : World) (k : ℕ) (s : Path) (uses : ℕ → Bool) (t : Thread) (th
       standing : w.body (k ∷ s) ≡ option_map (edited (Proceed (Running b.registers) b.counter)) (w.body (k ∷ s))
       standing = here ∙ (λ i. Some (Thread_of (at_mode t (mode i) (counter i)))) ∙ sym (ap (option_map (edited (Proceed (Running b.registers) b.counter))) here)
 
-      by : (q : Path) (m : Bool) → same_path q (k ∷ s) ≡ m → w.body q ≡ cond m (option_map (edited (Proceed (Running b.registers) b.counter)) (w.body q)) (w.body q)
-      by q true e = subst (λ (y : Path). w.body y ≡ option_map (edited (Proceed (Running b.registers) b.counter)) (w.body y)) (sym (same_path_eq q (k ∷ s) e)) standing
+      by : (q : Path) (m : Bool) → same_path q (k ∷ s) ≡ m → w.body q ≡ cond m (option_map (edited (Proceed (Running b.registers) b.counter)) (w.body q))
+          (w.body q)
+      by q true e = subst (λ (y : Path). w.body y ≡ option_map (edited (Proceed (Running b.registers) b.counter)) (w.body y))
+          (sym (same_path_eq q (k ∷ s) e)) standing
       by q false e = refl
 
       of_body : (q : Path) → w.body q ≡ (laid b).body q

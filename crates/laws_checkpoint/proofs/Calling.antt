@@ -27,12 +27,12 @@ use Rattle.laws_moves.specs.Savable.Savable.{IsSound}
 use Rattle.laws_jobs.specs.Machines.{heard, porter, no_words, call_of, said_of, IsReadyAt}
 use Rattle.laws_jobs.specs.Machines.Head.{Stops, Asks}
 use Rattle.laws_jobs.specs.Jobs.{MayBegin}
-use Rattle.laws_jobs.specs.Calls.{IsCalm}
+use Rattle.laws_jobs.specs.Calls.{IsUnheldOutside}
 use Rattle.laws_jobs.specs.Leads.{held_world}
 use Rattle.laws_jobs.specs.Holds.{hold, IsSpaceAt, Held, Unheld}
 use Rattle.laws_jobs.proofs.Gone.{bodies_stay, pages_stay}
 use Rattle.laws_jobs.proofs.Holds.{hold_comes_to, release-row}
-use Rattle.laws_jobs.proofs.Ready.{calm_call_ready}
+use Rattle.laws_jobs.proofs.Ready.{unheld_call_ready}
 use Rattle.laws_jobs.proofs.Goings.{call_is_its_row}
 use Rattle.laws_jobs.proofs.Weaving.{last_sound}
 use Rattle.laws_checkpoint.specs.Foreign.{PLACES, TARGETS, STEPS}
@@ -254,12 +254,12 @@ module _ (nester : Path) (slot : ℕ) (low : slot ≤ LAST_USER_SLOT) where
     )
 
     ready_at : (v : World) (t : State) (stage : Stage) (words : List ℕ) → IsSound v → Came slot birth w nester low may v t → head slot t ≡ Asks stage words
-        → IsCalm root v →
+        → IsUnheldOutside root v →
         IsReadyAt v (call_of nester stage words)
     ready_at v t stage words now at e calm =
         let its = known_at v t stage words now at e in
         subst (λ (ws : List ℕ). IsReadyAt v (call_of nester stage ws)) (sym its.1.0)
-        (calm_call_ready nester slot v stage no_words its.1.1.changes (Answered its.1.1.status its.1.1.given) its.0 calm its.1.1.row)
+        (unheld_call_ready nester slot v stage no_words its.1.1.changes (Answered its.1.1.status its.1.1.given) its.0 calm its.1.1.row)
 
     first_leaves : IsSound (after w (hold nester slot)) → IsReadyAt w (hold nester slot) → Same w (after w (hold nester slot))
     first_leaves sound ready = by (hold_comes_to nester slot w low

@@ -45,7 +45,7 @@ use Rattle.laws_checkpoint.specs.Gather as gathers
 use Rattle.laws_checkpoint.specs.Checkpoint.{End, State, head, checkpoint}
 use Rattle.laws_checkpoint.specs.Checkpoint.End.{Gone, Foreign, Done}
 use Rattle.laws_checkpoint.specs.Checkpoint.State.{Holds, Readies, Over}
-use Rattle.laws_checkpoint.specs.Laws.{CheckpointIsTidy, CheckpointKeepsCut, EndsAsItWas, CheckpointEndsAsItWas}
+use Rattle.laws_checkpoint.specs.Laws.{CheckpointMeetsContract, CheckpointKeepsCut, EndsAsItWas, CheckpointEndsAsItWas}
 use Rattle.laws_checkpoint.proofs.Same.{inside-itself}
 use Rattle.laws_checkpoint.proofs.Mild.{IsOwnSlot}
 use Rattle.laws_checkpoint.proofs.Mild.IsOwnSlot.{Places, Targets, Steps}
@@ -371,8 +371,8 @@ module _ (slot birth : ℕ) (w : World) (nester : Path) (low : slot ≤ LAST_USE
   owed_later v t stage words (NeverHeld none same over) e = let both = sym (ap (head slot) over) ∙ e in cc
   owed_later v t stage words (InPhase held sound phase) e = owed_in held sound v t stage words phase e
 
-pub checkpoint_is_tidy : CheckpointIsTidy
-checkpoint_is_tidy slot birth low = record {
+pub checkpoint_meets_contract : CheckpointMeetsContract
+checkpoint_meets_contract slot birth low = record {
   first = λ w nester may stage words e. owed_first slot birth w nester low may stage words e;
   later = λ w nester v t may work stage words e. owed_later slot birth w nester low may v t stage words (came slot birth w nester low may v t work) e;
   stays = λ w nester v t may work stage words e. porter_stays slot birth w nester low may v t stage words (came slot birth w nester low may v t work) e;

@@ -21,7 +21,7 @@ use Rattle.laws_checkpoint.specs.Foreign.{Task, task_of, State, begin}
 use Rattle.laws_checkpoint.specs.Foreign.{seeker, IsScratched, ForeignIsExact, SeekerIsReady, SeekingKeepsOpenPlace}
 use Rattle.laws_jobs.proofs.LeadLaws.{open_same}
 use Rattle.laws_jobs.proofs.Weaving.{last_sound}
-use Rattle.laws_jobs.proofs.Ready.{calm_call_ready}
+use Rattle.laws_jobs.proofs.Ready.{unheld_call_ready}
 use Rattle.laws_checkpoint.proofs.Same.{inside-itself}
 use Rattle.laws_checkpoint.proofs.Tells.{root_kind}
 use Rattle.laws_checkpoint.proofs.Seeks.{Base, rests, led, AllTasks, Stands, begins, arrives, finds, comes_next}
@@ -156,7 +156,7 @@ seeker_is_ready nester slot w v t es stage words holding sound scratched run ask
     let valid = last_sound (seeker slot) nester w (begin slot (tasks nester slot w holding sound scratched)) es v t run in
     let comes = comes_next nester slot w root_near.0 v stands.base valid.whole.valid valid.whole.few t stage words stands.position stands.tasks asks in
     subst (λ (ws : List ℕ). IsReadyAt v (call_of nester stage ws)) (sym comes.0)
-    (calm_call_ready nester slot v stage no_words comes.1.changes (Answered comes.1.status comes.1.given) stands.base.holding calm comes.1.row)
+    (unheld_call_ready nester slot v stage no_words comes.1.changes (Answered comes.1.status comes.1.given) stands.base.holding calm comes.1.row)
 
 pub seeking_keeps_open_place : SeekingKeepsOpenPlace
 unfolding led

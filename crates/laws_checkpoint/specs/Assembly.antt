@@ -47,6 +47,7 @@ holder_task (k ∷ q) = record { path = k ∷ q; fields = 0 ∷ []; strict = fal
 abbrev pub content_tasks : Content → List Task
 content_tasks c = holder_task c.path ++ map (item_task c.path) c.objects
 
+-- whose pointers are read, in which order: those of all that was gathered
 abbrev pub gathered_tasks : List Content → List Task
 gathered_tasks contents = flat_map content_tasks contents
 
@@ -56,6 +57,7 @@ abbrev pub first_pointer : List Ptr → Ptr
 first_pointer [] = Null
 first_pointer (p ∷ ps) = p
 
+-- the pointer with an index among those that were read
 abbrev pub pointer_at : List Ptr → ℕ → Ptr
 pointer_at ps n = first_pointer (drop n ps)
 
@@ -105,6 +107,7 @@ rec_by kind sp words ps =
     else (if kind == number_of_kind kinds.Portset then recs.Portset
     else (if kind == number_of_kind kinds.Thread then recs.Thread (thread_from sp words ps) else recs.Reference (link_of sp (pointer_at ps 0))))))))
 
+-- the record of an object, by its words and by its pointers
 abbrev pub rec_from : List Path → List ℕ → List Ptr → Rec
 rec_from sp words ps = rec_by (word words 0) sp words ps
 
@@ -150,5 +153,6 @@ spaces_with sp (c ∷ cs) ps = space_with sp c ps ∷ spaces_with sp cs (drop (a
 abbrev pub paths_read : List Content → List Path
 paths_read contents = map (λ (c : Content). c.path) contents
 
+-- the image of what was gathered, with the pointers that were read
 abbrev pub assembled : List Content → List Ptr → Image
 assembled contents ps = record { spaces = spaces_with (paths_read contents) contents ps }

@@ -84,6 +84,7 @@ walking slot s = walks_on slot s (walks.head slot s)
 
 -- ---- the machine
 
+-- what it asks for, or with what it ends
 abbrev pub head : ℕ → State → Head End
 head slot Holds = Asks (SpaceHold OWN_SPACE slot) no_words
 head slot (Readies r rest) = Asks (Create OWN_SPACE r (number_of_kind kinds.Reference)) no_words
@@ -103,6 +104,7 @@ abbrev pub dropped : List ℕ → End → State
 dropped [] end = Releases end
 dropped (r ∷ rest) end = Drops r rest end
 
+-- what becomes of it by an answer
 abbrev pub next : ℕ → State → ℕ → List ℕ → State
 next slot Holds status words = if status == OK then Readies PLACES (TARGETS ∷ STEPS ∷ []) else Over Gone
 next slot (Readies r rest) status words = readied slot rest
@@ -114,5 +116,6 @@ next slot (Drops r rest end) status words = dropped rest end
 next slot (Releases end) status words = Over end
 next slot (Over end) status words = Over end
 
+-- the checkpoint of the subtree in a slot of its nester
 abbrev pub checkpoint : ℕ → Machine State End
 checkpoint slot = record { head = head slot; next = next slot }

@@ -66,6 +66,7 @@ abbrev pub begin_at : ℕ → Path → List Path → List Content → State
 begin_at slot [] qs got = Searches 0 [] [] qs got
 begin_at slot (j ∷ q) qs got = Down OWN_SPACE (slot ∷ way_from [] (j ∷ q)) (j ∷ q) qs got
 
+-- what is in these spaces is yet to be gathered
 abbrev pub begin : ℕ → List Path → List Content → State
 begin slot [] got = Over got
 begin slot (q ∷ qs) got = begin_at slot q qs got
@@ -74,6 +75,7 @@ abbrev pub arrive : List ℕ → Path → List Path → List Content → State
 arrive [] q qs got = Searches 0 [] q qs got
 arrive (way ∷ ways) q qs got = Down PLACES (way ∷ ways) q qs got
 
+-- what it asks for, or what it has gathered
 abbrev pub head : ℕ → State → Head (List Content)
 head slot (Down from [] q qs got) = Stops got
 head slot (Down from (way ∷ ways) q qs got) = Asks (Point OWN_SPACE PLACES from way) no_words
@@ -97,6 +99,7 @@ looked slot from objects pages q qs got status (page ∷ rest) =
     else begin slot qs (got ++ record { path = q; objects = objects; pages = pages } ∷ [])
 looked slot from objects pages q qs got status other = begin slot qs (got ++ record { path = q; objects = objects; pages = pages } ∷ [])
 
+-- what becomes of it by an answer
 abbrev pub next : ℕ → State → ℕ → List ℕ → State
 next slot (Down from [] q qs got) status words = Over got
 next slot (Down from (way ∷ ways) q qs got) status words = arrive ways q qs got

@@ -20,7 +20,7 @@ use Rattle.fk_model.specs.Closed.{Place, led_to_from_outside, open_place}
 use Rattle.fk_model.specs.Cut.{cut, cut_ptr, ports_of}
 use Rattle.laws_moves.specs.Frozen.Holding.{IsHolding}
 use Rattle.laws_moves.specs.Savable.Savable.{IsSound}
-use Rattle.laws_jobs.specs.Calls.{IsCalm}
+use Rattle.laws_jobs.specs.Calls.{IsUnheldOutside}
 use Rattle.laws_jobs.specs.Machines.{no_words, Head, Machine, Interleaved, own_moves, call_of, IsReadyAt}
 use Rattle.laws_jobs.specs.Machines.Head.{Stops, Asks}
 
@@ -40,6 +40,7 @@ STEPS = 242
 abbrev pub is_space_number : ℕ → Bool
 is_space_number kind = kind == number_of_kind kinds.Space
 
+-- the fields of an object that may lead out of the subtree, by its kind's number
 abbrev pub fields_by : ℕ → List ℕ
 fields_by kind =
     if kind == number_of_kind kinds.Thread then 0 ∷ 2 ∷ []
@@ -104,6 +105,7 @@ abbrev pub begin_at : ℕ → Path → Task → List Task → State
 begin_at slot [] t ts = Fields t.fields t ts
 begin_at slot (k ∷ q) t ts = Down OWN_SPACE (slot ∷ way_from [] q) t ts
 
+-- the fields of these objects are yet to be looked at
 abbrev pub begin : ℕ → List Task → State
 begin slot [] = Over None
 begin slot (t ∷ ts) = begin_at slot t.path t ts
@@ -112,6 +114,7 @@ abbrev pub arrive : List ℕ → Task → List Task → State
 arrive [] t ts = Fields t.fields t ts
 arrive (k ∷ ways) t ts = Down PLACES (k ∷ ways) t ts
 
+-- what it asks for, or the first field that leads out, if one does
 abbrev pub head : ℕ → State → Head (Option Place)
 head slot (Down from [] t ts) = Stops None
 head slot (Down from (k ∷ ways) t ts) = Asks (Point OWN_SPACE PLACES from k) no_words
@@ -135,6 +138,7 @@ abbrev pub tells_port : List ℕ → Bool
 tells_port (i ∷ far ∷ kind ∷ rest) = far == 0 && kind == number_of_kind kinds.Port
 tells_port other = false
 
+-- what becomes of it by an answer
 abbrev pub next : ℕ → State → ℕ → List ℕ → State
 next slot (Down from [] t ts) status words = Over None
 next slot (Down from (k ∷ ways) t ts) status words = arrive ways t ts
@@ -197,6 +201,7 @@ abbrev pub costs : List Task → ℕ
 costs [] = 0
 costs (t ∷ ts) = cost_of t + costs ts
 
+-- a seeker makes three calls for each field, one for each step down, and one for each object
 abbrev pub ForeignIsBounded : Type 0
 ForeignIsBounded = (nester : Path) (slot : ℕ) (w v : World) (t : State) (es : List Event) (ts : List Task) →
     (run : Interleaved (seeker slot) nester w (begin slot ts) es v t) → own_moves run ≤ costs ts
@@ -209,4 +214,4 @@ SeekerIsReady = (nester : Path) (slot : ℕ) (w v : World) (t : State) (es : Lis
     IsScratched nester w →
     Interleaved (seeker slot) nester w (begin slot (map (task_of (cut w nester slot)) ([] ∷ objects (cut w nester slot)))) es v t
     → head slot t ≡ Asks stage words →
-    IsCalm (slot ∷ nester) v → IsReadyAt v (call_of nester stage words)
+    IsUnheldOutside (slot ∷ nester) v → IsReadyAt v (call_of nester stage words)

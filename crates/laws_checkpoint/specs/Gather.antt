@@ -88,6 +88,7 @@ abbrev pub arrive : ℕ → List ℕ → Task → List Task → List Ptr → Sta
 arrive slot [] t ts got = go_on slot t.fields t ts got
 arrive slot (k ∷ ways) t ts got = Down PLACES (k ∷ ways) t ts got
 
+-- what it asks for, or the pointers that it has read
 abbrev pub head : ℕ → State → Head (List Ptr)
 head slot (Down from [] t ts got) = Stops got
 head slot (Down from (k ∷ ways) t ts got) = Asks (Point OWN_SPACE PLACES from k) no_words
@@ -111,6 +112,7 @@ looked slot at n fs t ts got (k ∷ far ∷ rest) =
     if far == 0 then (if k == OWN_SPACE then takes slot (At at) fs t ts got else takes slot (At (k ∷ at)) fs t ts got) else Leads k at n fs t ts got
 looked slot at n fs t ts got other = Over got
 
+-- what becomes of it by an answer
 abbrev pub next : ℕ → State → ℕ → List ℕ → State
 next slot (Down from [] t ts got) status words = Over got
 next slot (Down from (k ∷ ways) t ts got) status words = arrive slot ways t ts got

@@ -16,17 +16,17 @@ use Rattle.fk_image.specs.Image.Valid.{is_valid}
 use Rattle.laws_subtrees.specs.Further.ClosedLaws.{IsUsersAlone}
 use Rattle.laws_jobs.specs.Machines.{call_of, IsReadyAt, AtWork}
 use Rattle.laws_jobs.specs.Machines.Head.{Stops, Asks}
-use Rattle.laws_jobs.specs.Jobs.{MayBegin, IsTidyJob, Saves}
+use Rattle.laws_jobs.specs.Jobs.{MayBegin, MeetsContract, Saves}
 use Rattle.laws_jobs.specs.Holds.{hold, IsSpaceAt}
-use Rattle.laws_jobs.specs.Calls.{IsCalm}
+use Rattle.laws_jobs.specs.Calls.{IsUnheldOutside}
 use Rattle.laws_moves.specs.Savable.Savable.{IsSound}
 use Rattle.laws_checkpoint.specs.Checkpoint.{End, State, checkpoint}
 use Rattle.laws_checkpoint.specs.Checkpoint.End.{Gone, Foreign, Done}
 use Rattle.laws_checkpoint.specs.Checkpoint.State.{Holds}
 
 -- its calls are owed, its porter stays, and at its end no scratch is left
-abbrev pub CheckpointIsTidy : Type 0
-CheckpointIsTidy = (slot birth : ℕ) → slot ≤ LAST_USER_SLOT → IsTidyJob (checkpoint slot) birth Holds
+abbrev pub CheckpointMeetsContract : Type 0
+CheckpointMeetsContract = (slot birth : ℕ) → slot ≤ LAST_USER_SLOT → MeetsContract (checkpoint slot) birth Holds
 
 -- from its hold to behind its release the subtree's cut is what it was
 abbrev pub CheckpointKeepsCut : Type 0
@@ -39,6 +39,7 @@ EndsAsItWas w nester slot Gone = IsSpaceAt w (slot ∷ nester) → ⊥
 EndsAsItWas w nester slot (Foreign place) = IsSpaceAt w (slot ∷ nester) × (open_place w nester slot ≡ Some place)
 EndsAsItWas w nester slot (Done image) = IsSpaceAt w (slot ∷ nester) × IsClosed w nester slot
 
+-- a checkpoint ends as the subtree was when it began: no space in the slot; not closed, and the first place that says so; or closed
 abbrev pub CheckpointEndsAsItWas : Type 0
 CheckpointEndsAsItWas = (slot birth : ℕ) (w v : World) (nester : Path) (t : State) (end : End) → slot ≤ LAST_USER_SLOT → MayBegin w nester birth →
     AtWork (checkpoint slot) nester w Holds v t → (checkpoint slot).head t ≡ Stops end → EndsAsItWas w nester slot end
@@ -70,7 +71,7 @@ CheckpointSaves = (slot birth : ℕ) (w : World) (nester : Path) → slot ≤ LA
 abbrev pub CheckpointIsReady : Type 0
 CheckpointIsReady = (slot birth : ℕ) (w v : World) (nester : Path) (t : State) (stage : Stage) (words : List ℕ) → slot ≤ LAST_USER_SLOT
     → MayBegin w nester birth →
-    AtWork (checkpoint slot) nester w Holds v t → (checkpoint slot).head t ≡ Asks stage words → IsCalm (slot ∷ nester) v
+    AtWork (checkpoint slot) nester w Holds v t → (checkpoint slot).head t ≡ Asks stage words → IsUnheldOutside (slot ∷ nester) v
     → IsReadyAt v (call_of nester stage words)
 
 -- all but the porter's scratch and who holds the root
@@ -93,6 +94,7 @@ pub record LeavesRest (slot birth : ℕ) (w : World) (nester : Path) : Type 0 wh
       → IsSpaceAt w (slot ∷ nester) →
       holder_of (v.body (slot ∷ nester)) ≡ None
 
+-- each call of a checkpoint leaves all but its scratch and who holds the subtree's root, and at its end nobody holds that
 abbrev pub CheckpointLeavesRest : Type 0
 CheckpointLeavesRest = (slot birth : ℕ) (w : World) (nester : Path) → slot ≤ LAST_USER_SLOT → MayBegin w nester birth → IsSound (after w (hold nester slot))
     → LeavesRest slot birth w nester

@@ -21,12 +21,15 @@ within bound n = if nat_lt n bound then n else 0
 abbrev pub byte : ℕ → ℕ
 byte n = within 256 n
 
+-- a number of 16 bits
 abbrev pub half : ℕ → ℕ
 half n = within (2 ^ 16) n
 
+-- a number of 32 bits
 abbrev pub number : ℕ → ℕ
 number n = within (2 ^ 32) n
 
+-- a pointer whose numbers are narrow
 abbrev pub narrow_link : Link → Link
 narrow_link Null = Null
 narrow_link Dead = Dead
@@ -52,6 +55,7 @@ narrow_thread t = record {
   fault = option_map narrow_fault t.fault;
 }
 
+-- a record whose numbers are narrow
 abbrev pub narrow_rec : Rec → Rec
 narrow_rec (Mutex locked) = Mutex (byte locked)
 narrow_rec Cond = Cond
@@ -82,5 +86,6 @@ narrow_space s = record {
   pages = map narrow_page s.pages;
 }
 
+-- an image whose numbers are narrow
 abbrev pub narrowed : Image → Image
 narrowed i = record { spaces = map narrow_space i.spaces }

@@ -58,6 +58,7 @@ enters slot (i ∷ q) j got = Down PLACES (j ∷ []) (j ∷ i ∷ q) 0 got
 abbrev pub goes_on : ℕ → Path → ℕ → ℕ → List Met → State
 goes_on slot q j kind got = if kind == number_of_kind kinds.Space then enters slot q j got else Searches q (j + 1) got
 
+-- what it asks for, or the spaces and threads that it has met
 abbrev pub head : ℕ → State → Head (List Met)
 head slot (Down from [] q k got) = Stops got
 head slot (Down from (way ∷ ways) q k got) = Asks (Point OWN_SPACE PLACES from way) no_words
@@ -69,6 +70,7 @@ found slot q k got status (j ∷ kind ∷ rest) =
     if status == OK && (nat_le k j && nat_lt j SLOTS) then goes_on slot q j kind (got ++ record { path = j ∷ q; kind = kind } ∷ []) else leaves slot q got
 found slot q k got status other = leaves slot q got
 
+-- what becomes of it by an answer
 abbrev pub next : ℕ → State → ℕ → List ℕ → State
 next slot (Down from [] q k got) status words = Over got
 next slot (Down from (way ∷ ways) q k got) status words = arrive ways q k got
@@ -78,6 +80,7 @@ next slot (Over got) status words = Over got
 abbrev pub walker : ℕ → Machine State (List Met)
 walker slot = record { head = head slot; next = next slot }
 
+-- the walk through the subtree in a slot, from its root on
 abbrev pub begin : State
 begin = Searches [] 0 []
 

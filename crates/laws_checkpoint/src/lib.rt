@@ -6,7 +6,7 @@
 #![tactic(auto)]
 
 ghost use Rattle.laws_checkpoint.specs.Gather.{PointersAreGathered};
-ghost use Rattle.laws_checkpoint.specs.Laws.{CheckpointIsTidy, CheckpointKeepsCut, CheckpointEndsAsItWas, CheckpointImagesSubtree, CheckpointSaves};
+ghost use Rattle.laws_checkpoint.specs.Laws.{CheckpointMeetsContract, CheckpointKeepsCut, CheckpointEndsAsItWas, CheckpointImagesSubtree, CheckpointSaves};
 ghost use Rattle.laws_checkpoint.specs.Laws.{CheckpointIsReady, CheckpointLeavesRest};
 ghost use Rattle.laws_checkpoint.specs.Bounded.{CheckpointIsBounded};
 ghost use Rattle.laws_checkpoint.specs.Walk.{ObjectsAreMet};
@@ -59,8 +59,8 @@ pub fn the_spaces_are_read()
 
 /// What a run wants of a checkpoint: its calls are owed, its porter stays while it has any to make, and
 /// no scratch is left at its end.
-pub fn a_checkpoint_is_tidy()
-    ensures { CheckpointIsTidy }
+pub fn a_checkpoint_meets_the_contract()
+    ensures { CheckpointMeetsContract }
 {}
 
 /// While a checkpoint works, and behind its release, the subtree's cut is what it was.
@@ -80,7 +80,7 @@ pub fn a_checkpoint_images_its_subtree()
     ensures { CheckpointImagesSubtree }
 {}
 
-/// So it is what a run wants of a checkpoint.
+/// A checkpoint that is done saves its subtree, as a run wants of it.
 pub fn a_checkpoint_saves()
     ensures { CheckpointSaves }
 {}

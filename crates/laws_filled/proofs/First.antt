@@ -1,5 +1,6 @@
 -- A pager from its first state on.
-use Rattle.std.proofs.Common.{◌≡◌, ℕ, ◌<◌, ◌≤◌, Bool, true, false, cond, ◌&&◌, nat_le, nat_lt, is_some, if◌then◌else◌, List, [], ◌∷◌, length, Option, Some, None, option_map, refl, sym, ap, subst, ◌∙◌, arith, ◌⊎◌, inl, inr}
+use Rattle.std.proofs.Common.{◌≡◌, ℕ, ◌<◌, ◌≤◌, Bool, true, false, cond, ◌&&◌, nat_le, nat_lt, is_some, if◌then◌else◌, List, [], ◌∷◌, length, Option, Some}
+use Rattle.std.proofs.Common.{None, option_map, refl, sym, ap, subst, ◌∙◌, arith, ◌⊎◌, inl, inr}
 use Rattle.std.proofs.lemmas.Bool.{ltb-true, cases_lt, cases_Bool}
 use Rattle.fk_model.specs.declared.limits.TheConstants.{LAST_PORTER_SLOT, LAST_USER_SLOT}
 use Rattle.fk_model.specs.declared.moves.Ask.TheVariants as asks
@@ -12,7 +13,8 @@ use Rattle.fk_model.specs.Moves.{outcome, IsReady, stepped, step}
 use Rattle.fk_model.specs.Runs.{after, run, IsLegal}
 use Rattle.fk_model.proofs.walks.PlaceLaws.{same_path_refl}
 use Rattle.laws_filled.specs.Filled.{kept_fault, unfaulted, filled}
-use Rattle.laws_filled.specs.Pager.{stage_of, is_opening, IsPick, call_of, said_of, struck, Desk, Phase, State, at_phase, paging, words_of, next, hears, no_words, AreWithin, IsAt, IsGood, IsFirst, PagersAreHidden, IsOpening, HasAll, OpeningTakesAll, first}
+use Rattle.laws_filled.specs.Pager.{stage_of, is_opening, IsPick, call_of, said_of, struck, Desk, Phase, State, at_phase, paging, words_of, next, hears}
+use Rattle.laws_filled.specs.Pager.{no_words, AreWithin, IsAt, IsGood, IsFirst, PagersAreHidden, IsOpening, HasAll, OpeningTakesAll, first}
 use Rattle.laws_filled.specs.Pager.Phase.{Seeking, Taking, Waiting, Looking, Evicting, Giving, Ending}
 use Rattle.laws_filled.specs.Pager.IsOpening.{Opened, Opens}
 use Rattle.laws_filled.proofs.Own.{next_none, own, pagers_are_unseen_lem}

@@ -1,5 +1,6 @@
 -- What a pager keeps back is unseen by moves of users and of native servers.
-use Rattle.std.proofs.Common.{◌≡◌, ℕ, Bool, true, false, cond, ◌||◌, is_none, if◌then◌else◌, List, [], ◌∷◌, take, Option, Some, None, option_map, refl, sym, ap, subst, ◌∙◌}
+use Rattle.std.proofs.Common.{◌≡◌, ℕ, Bool, true, false, cond, ◌||◌, is_none, if◌then◌else◌, List, [], ◌∷◌, take, Option, Some, None, option_map, refl, sym, ap}
+use Rattle.std.proofs.Common.{subst, ◌∙◌}
 use Rattle.std.specs.List.{list_any}
 use Rattle.std.proofs.lemmas.Bool.{and_parts}
 use Rattle.fk_model.specs.declared.moves.Ask.{Ask}
@@ -8,7 +9,8 @@ use Rattle.fk_model.specs.declared.stage.Stage.{Stage}
 use Rattle.fk_model.specs.declared.stage.Stage.TheVariants.{Create, Destroy, Rename, Search, Point, Clear, Locate, CountIn, GetState, SetState, GetPtr, SetPtr}
 use Rattle.fk_model.specs.declared.stage.Stage.TheVariants.{SpaceHold, SpaceRelease, ThreadStop, ThreadGo, PageGive, PageTake, PageRead, PageNext, MutexLock}
 use Rattle.fk_model.specs.declared.stage.Stage.TheVariants.{MutexTrylock, MutexUnlock, CondWait, CondAsleep, CondSignal, CondBroadcast, Connect, ClientReceive}
-use Rattle.fk_model.specs.declared.stage.Stage.TheVariants.{ClientSend, ClientOver, Disconnect, ClientOverRef, ClientReceiveRef, Wait, ServerReceive, ServerSend}
+use Rattle.fk_model.specs.declared.stage.Stage.TheVariants.{ClientSend, ClientOver, Disconnect, ClientOverRef, ClientReceiveRef, Wait, ServerReceive}
+use Rattle.fk_model.specs.declared.stage.Stage.TheVariants.{ServerSend}
 use Rattle.fk_model.specs.declared.stage.Stage.TheVariants.{ServerOver, ServerEnd, FaultDone, ServerOverRef, ServerReceiveRef, LinkSet, LinkPark, FaultSet}
 use Rattle.fk_model.specs.declared.stage.Stage.TheVariants.{FaultPark, HoldSet, SpaceMakeHeld}
 use Rattle.fk_model.specs.declared.statuses.status.TheConstants.{DENIED}
@@ -27,15 +29,19 @@ use Rattle.fk_model.specs.Outcomes.Outcome.{Refused, Goes}
 use Rattle.fk_model.specs.Outcomes.Said.{Nothing}
 use Rattle.fk_model.specs.LinkRows.{user_at}
 use Rattle.fk_model.specs.Talks.{first_stage}
-use Rattle.fk_model.specs.Moves.{stage_row, is_for_users, is_for_porters, allowed_row, chooses, with_pick, closed, call_row, goes_on, user_move, outcome, GoesAllowed, stepped, step}
+use Rattle.fk_model.specs.Moves.{stage_row, is_for_users, is_for_porters, allowed_row, chooses, with_pick, closed, call_row, goes_on, user_move, outcome}
+use Rattle.fk_model.specs.Moves.{GoesAllowed, stepped, step}
 use Rattle.fk_model.proofs.walks.PlaceLaws.{same_path_eq}
 use Rattle.laws_filled.specs.Filled.{Paging, is_paged, kept_fault, unfaulted, filled, IsPaging, is_peek, peeks, is_raise}
 use Rattle.laws_filled.specs.Laws.{is_others, with_filled, FilledMovesAlike, RaisesAreUnseen}
 use Rattle.laws_filled.proofs.Changes.{AreTame, all-tame-calm, all_applied, all_allowed, calm-raises}
 use Rattle.laws_filled.proofs.Reading.{thread-same}
-use Rattle.laws_filled.proofs.Rows.{Seen, seen-when, free-seen, run_row-seen, search_row-seen, point-seen, clear-seen, locate-seen, thread_stop-seen, thread_go-seen}
-use Rattle.laws_filled.proofs.Rows.{mutex_lock-seen, mutex_trylock-seen, mutex_unlock-seen, cond_wait-seen, cond_asleep-seen, cond_signal-seen, cond_broadcast-seen}
-use Rattle.laws_filled.proofs.Rows.{connect-seen, receive-seen, receive_ref-seen, send-seen, over-seen, over_ref-seen, disconnect-seen, wait-seen, fault_done-seen, accept_row-seen, give_row-seen, over_row-seen}
+use Rattle.laws_filled.proofs.Rows.{Seen, seen-when, free-seen, run_row-seen, search_row-seen, point-seen, clear-seen, locate-seen, thread_stop-seen}
+use Rattle.laws_filled.proofs.Rows.{thread_go-seen}
+use Rattle.laws_filled.proofs.Rows.{mutex_lock-seen, mutex_trylock-seen, mutex_unlock-seen, cond_wait-seen, cond_asleep-seen, cond_signal-seen}
+use Rattle.laws_filled.proofs.Rows.{cond_broadcast-seen}
+use Rattle.laws_filled.proofs.Rows.{connect-seen, receive-seen, receive_ref-seen, send-seen, over-seen, over_ref-seen, disconnect-seen, wait-seen}
+use Rattle.laws_filled.proofs.Rows.{fault_done-seen, accept_row-seen, give_row-seen, over_row-seen}
 use Rattle.laws_filled.proofs.Rows.Seen.{Waiting, Refusing, Raising, Going}
 
 module _ (p : Paging) (w : World) (paging : IsPaging p w) where

@@ -1,5 +1,6 @@
 -- The opening is short: two calls for each page that was home, and one.
-use Rattle.std.proofs.Common.{◌≡◌, ℕ, zero, suc, ◌+◌, ◌*◌, ◌<◌, ◌≤◌, Bool, true, false, cond, if◌then◌else◌, ◌&&◌, ◌==◌, nat_le, is_some, List, ◌∷◌, Option, Some, None, refl, sym, ap, subst, ◌∙◌, arith, ◌⊎◌, inl, inr, eqb-true, eq-eqb}
+use Rattle.std.proofs.Common.{◌≡◌, ℕ, zero, suc, ◌+◌, ◌*◌, ◌<◌, ◌≤◌, Bool, true, false, cond, if◌then◌else◌, ◌&&◌, ◌==◌, nat_le, is_some, List, ◌∷◌, Option}
+use Rattle.std.proofs.Common.{Some, None, refl, sym, ap, subst, ◌∙◌, arith, ◌⊎◌, inl, inr, eqb-true, eq-eqb}
 use Rattle.std.proofs.lemmas.Bool.{cases_lt, ltb-true, ne_eqb}
 use Rattle.fk_model.specs.declared.limits.TheConstants.{LAST_PORTER_SLOT, LAST_USER_SLOT}
 use Rattle.fk_model.specs.declared.moves.Ask.TheVariants as asks
@@ -9,7 +10,8 @@ use Rattle.fk_model.specs.Outcomes.{Outcome}
 use Rattle.fk_model.specs.Moves.{outcome, IsReady, stepped, step}
 use Rattle.fk_model.specs.Runs.{after}
 use Rattle.fk_model.proofs.walks.PlaceLaws.{same_path_refl}
-use Rattle.laws_filled.specs.Pager.{spent_by, homes, spent_in, OpeningIsShort, stage_of, is_opening, IsPick, call_of, said_of, Desk, Phase, State, at_phase, words_of, next, hears, no_words, IsGood, IsOpening, first}
+use Rattle.laws_filled.specs.Pager.{spent_by, homes, spent_in, OpeningIsShort, stage_of, is_opening, IsPick, call_of, said_of, Desk, Phase, State, at_phase}
+use Rattle.laws_filled.specs.Pager.{words_of, next, hears, no_words, IsGood, IsOpening, first}
 use Rattle.laws_filled.specs.Pager.Phase.{Seeking, Taking, Waiting, Looking, Evicting, Giving, Ending}
 use Rattle.laws_filled.specs.Pager.IsOpening.{Opened, Opens}
 use Rattle.laws_filled.proofs.First.{first-good}

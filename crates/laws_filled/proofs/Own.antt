@@ -1,5 +1,7 @@
 -- The pager's own moves leave the filled world, and what holds at each moment.
-use Rattle.std.proofs.Common.{◌≡◌, ℕ, ◌+◌, ◌<◌, ◌≤◌, Bool, true, false, cond, ◌&&◌, ◌||◌, ◌==◌, nat_le, is_some, if◌then◌else◌, List, [], ◌∷◌, ◌++◌, drop, length, length-append, unwrap_or, Option, Some, None, option_map, refl, sym, ap, subst, ◌∙◌, arith, ◌⊎◌, inl, inr, eqb-true, eq-eqb}
+use Rattle.std.proofs.Common.{◌≡◌, ℕ, ◌+◌, ◌<◌, ◌≤◌, Bool, true, false, cond, ◌&&◌, ◌||◌, ◌==◌, nat_le, is_some, if◌then◌else◌, List, [], ◌∷◌, ◌++◌, drop}
+use Rattle.std.proofs.Common.{length, length-append, unwrap_or, Option, Some, None, option_map, refl, sym, ap, subst, ◌∙◌, arith, ◌⊎◌, inl, inr, eqb-true}
+use Rattle.std.proofs.Common.{eq-eqb}
 use Rattle.std.proofs.lemmas.Bool.{and_parts, leb-true, leb-false, le-leb, ltb-true, lt-ltb, cases_lt}
 use Rattle.std.proofs.lemmas.Option.{same_Some}
 use Rattle.fk_model.specs.declared.limits.TheConstants.{LAST_PORTER_SLOT, LAST_USER_SLOT, PAGES}
@@ -29,11 +31,15 @@ use Rattle.laws_filled.specs.Laws.{PagesStay}
 use Rattle.laws_filled.proofs.Kept.{paging_stays_lem}
 use Rattle.laws_filled.proofs.Moves.{filled_moves_alike_lem, raises_are_unseen_lem}
 use Rattle.laws_filled.specs.Pager.IsPaged.{Here, Another, Own}
-use Rattle.laws_filled.specs.Pager.{stage_of, is_opening, IsPick, call_of, said_of, IsOthers, unless_raised, struck, IsUnseen, Desk, Phase, State, at_phase, put, paging, no_words, words_of, makes_room, looked, next, hears, IsAmong, IsClear, AreListed, IsAt, IsGood, PagersAreUnseen}
+use Rattle.laws_filled.specs.Pager.{stage_of, is_opening, IsPick, call_of, said_of, IsOthers, unless_raised, struck, IsUnseen, Desk, Phase, State, at_phase}
+use Rattle.laws_filled.specs.Pager.{put, paging, no_words, words_of, makes_room, looked, next, hears, IsAmong, IsClear, AreListed, IsAt, IsGood}
+use Rattle.laws_filled.specs.Pager.{PagersAreUnseen}
 use Rattle.laws_filled.specs.Pager.Phase.{Seeking, Taking, Waiting, Looking, Evicting, Giving, Ending}
 use Rattle.laws_filled.proofs.Lists.{among_more, among_last, among_either, among_rest, rest_among}
-use Rattle.laws_filled.proofs.Refilled.{taken-refilled, taken-paging, listed-same, clear-same, given-refilled, given-paging, heard-refilled, heard-paging, freed-refilled, freed-paging}
-use Rattle.laws_filled.proofs.Results.{is_call, next_result, take_result, give_result, done_result, wait_result, lowest_least, NextResult, TakeResult, GiveResult, DoneResult, WaitResult}
+use Rattle.laws_filled.proofs.Refilled.{taken-refilled, taken-paging, listed-same, clear-same, given-refilled, given-paging, heard-refilled, heard-paging}
+use Rattle.laws_filled.proofs.Refilled.{freed-refilled, freed-paging}
+use Rattle.laws_filled.proofs.Results.{is_call, next_result, take_result, give_result, done_result, wait_result, lowest_least, NextResult, TakeResult}
+use Rattle.laws_filled.proofs.Results.{GiveResult, DoneResult, WaitResult}
 use Rattle.laws_filled.proofs.Results.NextResult.{NoneLeft, Found}
 use Rattle.laws_filled.proofs.Results.TakeResult.{TakeHeld, TakeBad, TakeGone, TookPage}
 use Rattle.laws_filled.proofs.Results.GiveResult.{GiveHeld, GiveBad, Occupied, Gave}

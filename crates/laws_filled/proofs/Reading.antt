@@ -1,5 +1,6 @@
 -- Readers of objects read the same in a filled world, but for the faults of threads.
-use Rattle.std.proofs.Common.{◌≡◌, ℕ, zero, suc, Bool, true, false, cond, ◌&&◌, ◌==◌, nat_le, is_some, if◌then◌else◌, [], ◌∷◌, filter, flat_map, Option, Some, None, option_map, Ok, Err, refl, ap}
+use Rattle.std.proofs.Common.{◌≡◌, ℕ, zero, suc, Bool, true, false, cond, ◌&&◌, ◌==◌, nat_le, is_some, if◌then◌else◌, [], ◌∷◌, filter, flat_map, Option, Some}
+use Rattle.std.proofs.Common.{None, option_map, Ok, Err, refl, ap}
 use Rattle.std.specs.Prelude.{find}
 use Rattle.fk_model.specs.declared.limits.TheConstants.{LAST_USER_SLOT, OWN_SPACE, SLOTS}
 use Rattle.fk_model.specs.declared.names.Kind.{Kind}
@@ -11,14 +12,17 @@ use Rattle.fk_model.specs.declared.thread.Turn.{Turn}
 use Rattle.fk_model.specs.declared.thread.Turn.TheVariants as turns
 use Rattle.fk_model.specs.Places.{Path, same_path, parent, slot_of, Ptr, leads_to}
 use Rattle.fk_model.specs.Places.Ptr.{At}
-use Rattle.fk_model.specs.Objects.{Mode, Peer, Talk, Thread, Body, kind_of, number_of_kind, mutex_of, port_of, space_of, thread_of, reference_of, and_then, holds}
+use Rattle.fk_model.specs.Objects.{Mode, Peer, Talk, Thread, Body, kind_of, number_of_kind, mutex_of, port_of, space_of, thread_of, reference_of, and_then}
+use Rattle.fk_model.specs.Objects.{holds}
 use Rattle.fk_model.specs.Objects.Peer.{Server, Service, Parked}
 use Rattle.fk_model.specs.Objects.Body.{Thread_of, Reference}
 use Rattle.fk_model.specs.World.{World, serves}
-use Rattle.fk_model.specs.Searches.{lowest, slots, residents, beneath_by, beneath, depth, objects, thread_at, talk_at, fault_at, client_of, is_service, client_at}
+use Rattle.fk_model.specs.Searches.{lowest, slots, residents, beneath_by, beneath, depth, objects, thread_at, talk_at, fault_at, client_of, is_service}
+use Rattle.fk_model.specs.Searches.{client_at}
 use Rattle.fk_model.specs.Outcomes.{Caller, or_refuse}
 use Rattle.fk_model.specs.Readers.{and_read, slot_for, seen_as, object_in, kind_at, is_kind, led_to, handled, handle, path_at, space_argument}
-use Rattle.fk_model.specs.Talks.{Line, line_from, line, first_stage, receive_on, awaited, is_handled, receiving, path_to, if_talking, talking_end, served_end, ends_beyond}
+use Rattle.fk_model.specs.Talks.{Line, line_from, line, first_stage, receive_on, awaited, is_handled, receiving, path_to, if_talking, talking_end, served_end}
+use Rattle.fk_model.specs.Talks.{ends_beyond}
 use Rattle.fk_model.specs.SyncRows.{cond_of, asleep_on, woken, sleepers}
 use Rattle.fk_model.specs.LinkRows.{if_read, user_at, port_named, connecting_to, is_member, slot_in_set, portset_of}
 use Rattle.fk_model.specs.NativeRows.{awaited_at}

@@ -1,5 +1,6 @@
 -- Changes of a pager's own leave the filled world.
-use Rattle.std.proofs.Common.{◌≡◌, ℕ, Bool, true, false, cond, ◌&&◌, ◌==◌, nat_lt, is_some, if◌then◌else◌, List, Option, Some, None, option_map, refl, sym, ap, subst, ◌∙◌, eqb-true}
+use Rattle.std.proofs.Common.{◌≡◌, ℕ, Bool, true, false, cond, ◌&&◌, ◌==◌, nat_lt, is_some, if◌then◌else◌, List, Option, Some, None, option_map, refl, sym, ap}
+use Rattle.std.proofs.Common.{subst, ◌∙◌, eqb-true}
 use Rattle.fk_model.specs.declared.limits.TheConstants.{PAGES}
 use Rattle.fk_model.specs.Places.{Path, same_path, leads_to}
 use Rattle.fk_model.specs.Objects.{Peer, Fault, Body, and_then, or_else}

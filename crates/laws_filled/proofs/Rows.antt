@@ -1,5 +1,6 @@
 -- Each row comes to the same in a filled world, unless it waits or raises a fault of the pager's.
-use Rattle.std.proofs.Common.{◌≡◌, ℕ, ◌%◌, Bool, true, false, not, cond, ◌&&◌, ◌||◌, ◌==◌, nat_le, is_some, is_none, if◌then◌else◌, List, [], ◌∷◌, ◌++◌, flat_map, slice_set, Option, Some, None, option_map, Result, Ok, Err, refl, sym, ap, ◌∙◌, ◌⊎◌, inl, inr}
+use Rattle.std.proofs.Common.{◌≡◌, ℕ, ◌%◌, Bool, true, false, not, cond, ◌&&◌, ◌||◌, ◌==◌, nat_le, is_some, is_none, if◌then◌else◌, List, [], ◌∷◌, ◌++◌}
+use Rattle.std.proofs.Common.{flat_map, slice_set, Option, Some, None, option_map, Result, Ok, Err, refl, sym, ap, ◌∙◌, ◌⊎◌, inl, inr}
 use Rattle.std.specs.Prelude.{find}
 use Rattle.std.proofs.lemmas.Bool.{and_parts, cases_Bool}
 use Rattle.fk_model.specs.declared.instruction.Act.{Act}
@@ -30,20 +31,28 @@ use Rattle.fk_model.specs.Outcomes.Outcome.{Refused, Waits, Goes}
 use Rattle.fk_model.specs.Readers.{kind_at, and_read, seen_as, object_in, handle, fault_on, missed, accessed, own_page_at, own_page, their_page_at, their_page}
 use Rattle.fk_model.specs.Talks.{Line, awaited, is_handled, receiving, same_side, other_side, path_to, thread_led_to, is_service_free, ends_beyond}
 use Rattle.fk_model.specs.UserRows.{word_at, halts_with, proceeds, loads, stores, enters, performs, executes, run_row, run_row_by}
-use Rattle.fk_model.specs.SyncRows.{mutex_lock, mutex_trylock, mutex_unlock, cond_wait, cond_asleep, woken, asleep_on, sleepers, signals, unless_slept_on, picks_sleeper, cond_signal, cond_broadcast}
+use Rattle.fk_model.specs.SyncRows.{mutex_lock, mutex_trylock, mutex_unlock, cond_wait, cond_asleep, woken, asleep_on, sleepers, signals, unless_slept_on}
+use Rattle.fk_model.specs.SyncRows.{picks_sleeper, cond_signal, cond_broadcast}
 use Rattle.fk_model.specs.SpaceRows.{thread_by_handle, thread_stop, thread_go}
-use Rattle.fk_model.specs.TransferRows.{at_turn, in_turn, has_sent, sends_words, sends_into, sends_to_thread, sends_to, sends, send, awaits, receive, receive_ref, passes, fills_in, takes_turn, may_carry, passes_to_thread, passes_to, passes_on, over, over_ref, overwritten, block, moved_words}
-use Rattle.fk_model.specs.LinkRows.{connect, Candidate, is_open, is_parked, slot_in_set, candidate_by, candidate, takes_candidate, takes_picked, wait, end_all, removes, disconnect}
+use Rattle.fk_model.specs.TransferRows.{at_turn, in_turn, has_sent, sends_words, sends_into, sends_to_thread, sends_to, sends, send, awaits, receive}
+use Rattle.fk_model.specs.TransferRows.{receive_ref, passes, fills_in, takes_turn, may_carry, passes_to_thread, passes_to, passes_on, over, over_ref}
+use Rattle.fk_model.specs.TransferRows.{overwritten, block, moved_words}
+use Rattle.fk_model.specs.LinkRows.{connect, Candidate, is_open, is_parked, slot_in_set, candidate_by, candidate, takes_candidate, takes_picked, wait, end_all}
+use Rattle.fk_model.specs.LinkRows.{removes, disconnect}
 use Rattle.fk_model.specs.LinkRows.Candidate.{Faulting, Connecting, Resuming}
 use Rattle.fk_model.specs.FaultRows.{frees, fault_done}
-use Rattle.fk_model.specs.NativeRows.{is_serving_port, connects_here, parked_here, takes_up, accepts_thread, takes_client, accept_row, if_receiving, with_client, gives_words, gives_to, has_turn, give_row, awaited_at, passes_client, over_row}
+use Rattle.fk_model.specs.NativeRows.{is_serving_port, connects_here, parked_here, takes_up, accepts_thread, takes_client, accept_row, if_receiving}
+use Rattle.fk_model.specs.NativeRows.{with_client, gives_words, gives_to, has_turn, give_row, awaited_at, passes_client, over_row}
 use Rattle.fk_model.specs.ObjectRows.{search as search_row, point, clear, locate, kind_number}
 use Rattle.fk_model.proofs.walks.PlaceLaws.{same_path_refl, same_path_sym, leads_to_at}
 use Rattle.laws_filled.specs.Filled.{Paging, is_listed, is_paged, kept_fault, unfaulted, filled, IsOurs, IsPaging}
 use Rattle.laws_filled.proofs.Changes.{AreTame, tame-then, decider-same, frozen_for-same, leads-same}
 use Rattle.laws_filled.proofs.Memory.{Reached, reached_word, words-same}
 use Rattle.laws_filled.proofs.Memory.Reached.{AtHome, KeptBack, Missed, Nowhere}
-use Rattle.laws_filled.proofs.Reading.{blind-port, view-same, thread-same, blind-reference, blind-mutex, blind-cond, blind-portset, object_in-same, handle-same, space_argument-same, pointer_in-same, kind_number-same, taken_from-same, talk-same, fault-same, objects-same, client_of-same, client_at-same, receiving-same, awaited_at-same, line-same, ends-same, asleep-same, sleepers-same, slot_in_set-same, connecting_to-same}
+use Rattle.laws_filled.proofs.Reading.{blind-port, view-same, thread-same, blind-reference, blind-mutex, blind-cond, blind-portset, object_in-same, handle-same}
+use Rattle.laws_filled.proofs.Reading.{space_argument-same, pointer_in-same, kind_number-same, taken_from-same, talk-same, fault-same, objects-same}
+use Rattle.laws_filled.proofs.Reading.{client_of-same, client_at-same, receiving-same, awaited_at-same, line-same, ends-same, asleep-same, sleepers-same}
+use Rattle.laws_filled.proofs.Reading.{slot_in_set-same, connecting_to-same}
 
 -- what a row comes to in a world, and in the filled one
 pub data Seen (p : Paging) (w : World) (me : Path) : Outcome → Outcome → Type 0 where

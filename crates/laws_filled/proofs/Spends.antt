@@ -1,5 +1,6 @@
 -- A pager makes few calls for each fault.
-use Rattle.std.proofs.Common.{◌≡◌, ℕ, ◌+◌, ◌≤◌, Bool, true, false, cond, if◌then◌else◌, ◌&&◌, ◌==◌, nat_le, List, [], ◌∷◌, ◌++◌, drop, length, slice_index, refl, arith}
+use Rattle.std.proofs.Common.{◌≡◌, ℕ, ◌+◌, ◌≤◌, Bool, true, false, cond, if◌then◌else◌, ◌&&◌, ◌==◌, nat_le, List, [], ◌∷◌, ◌++◌, drop, length, slice_index}
+use Rattle.std.proofs.Common.{refl, arith}
 use Rattle.fk_model.specs.declared.statuses.status.TheConstants.{OK, HELD}
 use Rattle.laws_filled.specs.Pager.{Desk, State, Phase, at_phase, put, counted, makes_room, looked, next, is_opening, left_of, spent, begun, CallsAreFew}
 use Rattle.laws_filled.specs.Pager.Phase.{Seeking, Taking, Waiting, Looking, Evicting, Giving, Ending}

@@ -1,5 +1,6 @@
 -- The pager takes one fault at a time; and where none of its moves is ready, no fault of its own is left.
-use Rattle.std.proofs.Common.{◌≡◌, ℕ, ◌≤◌, Bool, true, false, not, cond, ◌&&◌, ◌==◌, nat_le, is_some, List, [], ◌∷◌, Option, Some, None, option_map, refl, sym, ap, subst, ◌∙◌, ◌⊎◌, inl, inr}
+use Rattle.std.proofs.Common.{◌≡◌, ℕ, ◌≤◌, Bool, true, false, not, cond, ◌&&◌, ◌==◌, nat_le, is_some, List, [], ◌∷◌, Option, Some, None, option_map, refl, sym}
+use Rattle.std.proofs.Common.{ap, subst, ◌∙◌, ◌⊎◌, inl, inr}
 use Rattle.std.specs.List.{list_any}
 use Rattle.std.proofs.lemmas.Bool.{and_parts}
 use Rattle.std.proofs.lemmas.Option.{same_Some}
@@ -25,12 +26,15 @@ use Rattle.fk_model.proofs.walks.Members.{find_some}
 use Rattle.fk_model.proofs.walks.PlaceLaws.{same_path_eq, same_path_refl, leads_to_at}
 use Rattle.fk_model.proofs.walks.WalkLaws.{no_faulter}
 use Rattle.laws_filled.specs.Filled.{is_paged, IsOurs}
-use Rattle.laws_filled.specs.Pager.{is_held_fault, HasTakenNone, HasTakenOne, HasTaken, PagersTakeOne, HasDesk, NoFaultIsLeft, FaultsEndAtHome, makes_room, looked, stage_of, IsPick, call_of, said_of, IsOwn, Desk, Phase, State, at_phase, paging, words_of, no_words, next, hears, IsAt, IsGood}
+use Rattle.laws_filled.specs.Pager.{is_held_fault, HasTakenNone, HasTakenOne, HasTaken, PagersTakeOne, HasDesk, NoFaultIsLeft, FaultsEndAtHome, makes_room}
+use Rattle.laws_filled.specs.Pager.{looked, stage_of, IsPick, call_of, said_of, IsOwn, Desk, Phase, State, at_phase, paging, words_of, no_words, next, hears}
+use Rattle.laws_filled.specs.Pager.{IsAt, IsGood}
 use Rattle.laws_filled.specs.Pager.Phase.{Seeking, Taking, Waiting, Looking, Evicting, Giving, Ending}
 use Rattle.laws_filled.specs.Pager.IsPaged.{Here, Another, Own}
 use Rattle.laws_filled.proofs.Kept.{fault_of, paging_stays_lem}
 use Rattle.laws_filled.proofs.Own.{own, others-good}
-use Rattle.laws_filled.proofs.Results.{is_call, next_result, take_result, give_result, done_result, wait_result, wait_is, NextResult, TakeResult, GiveResult, DoneResult, WaitResult}
+use Rattle.laws_filled.proofs.Results.{is_call, next_result, take_result, give_result, done_result, wait_result, wait_is, NextResult, TakeResult, GiveResult}
+use Rattle.laws_filled.proofs.Results.{DoneResult, WaitResult}
 use Rattle.laws_filled.proofs.Results.NextResult.{NoneLeft, Found}
 use Rattle.laws_filled.proofs.Results.TakeResult.{TakeHeld, TakeBad, TakeGone, TookPage}
 use Rattle.laws_filled.proofs.Results.GiveResult.{GiveHeld, GiveBad, Occupied, Gave}

@@ -60,11 +60,14 @@ PagingStays = (p : Paging) (w : World) (x : Path) (pick : Option Path) (ask : As
 abbrev pub NamesLeadAlike : Type 0
 NamesLeadAlike = (p : Paging) (w : World) (who : Who) → named (filled p w) who ≡ named w who
 
+-- a port is served in the filled world where it is served in the world
 abbrev pub PortsAreServedAlike : Type 0
 PortsAreServedAlike = (p : Paging) (w : World) (port : Ptr) → is_served_port (filled p w) port ≡ is_served_port w port
 
+-- a native server loses its client by the same moves in the filled world
 abbrev pub TalksEndAlike : Type 0
 TalksEndAlike = (p : Paging) (w v : World) (port : Path) → has_ended (filled p w) (filled p v) port ≡ has_ended w v port
 
+-- where a move leaves the filled world as it was no native server loses its client
 abbrev pub UnseenEndsNoTalk : Type 0
 UnseenEndsNoTalk = (p q : Paging) (w v : World) → filled q v ≡ filled p w → (port : Path) → has_ended w v port ≡ false

@@ -1,5 +1,6 @@
 -- The pager as a machine over answers, and its moves among those of others.
-use Rattle.std.specs.Prelude.{◌≡◌, ℕ, zero, suc, ◌+◌, ◌*◌, ◌≤◌, ◌<◌, Bool, true, false, ◌&&◌, ◌==◌, nat_le, nat_lt, is_some, List, [], ◌∷◌, ◌++◌, drop, length, min, replicate, Option, Some, None, unwrap_or, if◌then◌else◌, slice_index}
+use Rattle.std.specs.Prelude.{◌≡◌, ℕ, zero, suc, ◌+◌, ◌*◌, ◌≤◌, ◌<◌, Bool, true, false, ◌&&◌, ◌==◌, nat_le, nat_lt, is_some, List, [], ◌∷◌, ◌++◌, drop, length}
+use Rattle.std.specs.Prelude.{min, replicate, Option, Some, None, unwrap_or, if◌then◌else◌, slice_index}
 use Rattle.std.specs.List.{list_any}
 use Rattle.fk_model.specs.declared.limits.TheConstants.{LAST_PORTER_SLOT, LAST_USER_SLOT, PAGES, PAGE_WORDS}
 use Rattle.fk_model.specs.declared.moves.Ask.TheVariants as asks
@@ -214,6 +215,7 @@ pub record IsUnseen (d : Desk) (w : World) (s : State) (struck : List Event) (v 
   pub world : run (filled (paging d s) w) struck ≡ filled (paging d t) v
   pub good : IsGood d v t
 
+-- the moves of others among those of a pager are a run of their own in the filled world
 abbrev pub PagersAreUnseen : Type 0
 PagersAreUnseen = (d : Desk) (w : World) (s : State) (es : List Event) (v : World) (t : State) → nat_le d.slot LAST_USER_SLOT ≡ true → 1 ≤ d.room →
     IsGood d w s →
@@ -221,6 +223,7 @@ PagersAreUnseen = (d : Desk) (w : World) (s : State) (es : List Event) (v : Worl
 
 -- ---- from the first world on
 
+-- a pager that has done nothing yet
 unfoldable pub first : State
 first = record { backing = λ page. None; inside = []; faults = 0; phase = Seeking 0 }
 
@@ -240,6 +243,7 @@ pub record IsHidden (d : Desk) (w : World) (struck : List Event) (v : World) (t 
   pub world : run w struck ≡ filled (paging d t) v
   pub within : is_opening t.phase ≡ false → AreWithin d v t × (length t.inside ≤ d.room)
 
+-- from a world in which nobody has a fault these are a run of that very world, and few pages are home
 abbrev pub PagersAreHidden : Type 0
 PagersAreHidden = (d : Desk) (w : World) (es : List Event) (v : World) (t : State) → nat_le d.slot LAST_USER_SLOT ≡ true → 1 ≤ d.room → IsFirst d w →
     (moves : IsPaged d w first es v t) → IsHidden d w (struck moves) v t
@@ -257,6 +261,7 @@ pub record HasAll (d : Desk) (w v : World) (t : State) : Type 0 where
   pub list : (page : ℕ) → t.backing page ≡ w.page (d.slot ∷ d.nester) page
   pub away : (page : ℕ) → v.page (d.slot ∷ d.nester) page ≡ None
 
+-- the opening takes every page that was home, and no other
 abbrev pub OpeningTakesAll : Type 0
 OpeningTakesAll = (d : Desk) (w v : World) (t : State) → nat_le d.slot LAST_USER_SLOT ≡ true → 1 ≤ d.room → IsFirst d w → IsOpening d w first v t →
     HasAll d w v t
@@ -284,6 +289,7 @@ HasTaken d w (Evicting old page) = HasTakenOne d w page
 HasTaken d w (Giving page) = HasTakenOne d w page
 HasTaken d w (Ending page) = HasTakenOne d w page
 
+-- a pager has taken no fault while it waits, and one at most while it works on one
 abbrev pub PagersTakeOne : Type 0
 PagersTakeOne = (d : Desk) (w : World) (s : State) (es : List Event) (v : World) (t : State) → nat_le d.slot LAST_USER_SLOT ≡ true → 1 ≤ d.room → IsGood d w s →
     HasTaken d w s.phase → IsPaged d w s es v t → HasTaken d v t.phase
@@ -326,6 +332,7 @@ abbrev pub begun : Phase → ℕ
 begun Waiting = 5
 begun other = 0
 
+-- a pager makes at most five calls for each fault that it takes, besides those that are refused HELD
 abbrev pub CallsAreFew : Type 0
 CallsAreFew = (d : Desk) (s : State) (phase : Phase) (status : ℕ) (words : List ℕ) → is_opening phase ≡ false → (phase ≡ Waiting → status ≡ OK) →
     left_of (next d (at_phase s phase) phase status words).phase + spent status ≤ left_of phase + begun phase

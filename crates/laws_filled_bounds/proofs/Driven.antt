@@ -1,5 +1,6 @@
 -- A pager makes few calls along a run.
-use Rattle.std.proofs.Common.{◌≡◌, ℕ, ◌+◌, ◌*◌, ◌≤◌, Bool, true, false, cond, if◌then◌else◌, ◌&&◌, ◌==◌, nat_le, is_some, List, [], ◌∷◌, ◌++◌, drop, length, slice_index, Option, Some, None, refl, sym, ap, subst, ◌∙◌, arith}
+use Rattle.std.proofs.Common.{◌≡◌, ℕ, ◌+◌, ◌*◌, ◌≤◌, Bool, true, false, cond, if◌then◌else◌, ◌&&◌, ◌==◌, nat_le, is_some, List, [], ◌∷◌, ◌++◌, drop, length}
+use Rattle.std.proofs.Common.{slice_index, Option, Some, None, refl, sym, ap, subst, ◌∙◌, arith}
 use Rattle.fk_model.specs.declared.limits.TheConstants.{LAST_PORTER_SLOT, LAST_USER_SLOT}
 use Rattle.fk_model.specs.declared.moves.Ask.{Ask}
 use Rattle.fk_model.specs.declared.moves.Ask.TheVariants as asks
@@ -25,7 +26,8 @@ use Rattle.laws_filled.proofs.Results.{is_call, wait_result, WaitResult}
 use Rattle.laws_filled.proofs.Results.WaitResult.{Idle, TookFault}
 use Rattle.laws_filled_bounds.specs.Taken.{taken_in, raised_in, AreSparing, IsSparing}
 use Rattle.laws_filled_bounds.specs.Taken.IsSparing.{Here as Nothing_moves, Goes}
-use Rattle.laws_filled_bounds.specs.Driven.{port_at, porter_at, changes_of, IsDriven, CallsAreBounded}
+use Rattle.laws_filled_bounds.specs.Driven.{port_at, porter_at, IsDriven, CallsAreBounded}
+use Rattle.fk_model.specs.Seen.{changes_of}
 use Rattle.laws_filled_bounds.specs.Driven.IsDriven.{Here, Another, Own}
 use Rattle.laws_filled_bounds.proofs.Tracked.{taken_are_raised_lem}
 

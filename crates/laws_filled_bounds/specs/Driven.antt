@@ -1,12 +1,13 @@
 -- How many calls a pager makes along one run, whoever else moves.
-use Rattle.std.specs.Prelude.{◌≡◌, ℕ, ◌+◌, ◌*◌, ◌≤◌, false, true, nat_le, List, ◌∷◌, Option, is_some}
+use Rattle.std.specs.Prelude.{◌≡◌, ℕ, ◌+◌, ◌*◌, ◌≤◌, false, true, nat_le, ◌∷◌, Option, is_some}
 use Rattle.fk_model.specs.declared.limits.TheConstants.{LAST_PORTER_SLOT, LAST_USER_SLOT, PAGES}
 use Rattle.fk_model.specs.declared.moves.Ask.{Ask}
 use Rattle.fk_model.specs.Places.{Path, same_path}
-use Rattle.fk_model.specs.World.{World, Change}
+use Rattle.fk_model.specs.World.{World}
 use Rattle.fk_model.specs.Outcomes.{listed}
 use Rattle.fk_model.specs.Moves.{outcome}
 use Rattle.fk_model.specs.Runs.{Event, after}
+use Rattle.fk_model.specs.Seen.{changes_of}
 use Rattle.laws_filled.specs.Pager.{Desk, State, first, hears, is_opening, call_of, said_of, spent_by, IsOwn, IsFirst, homes}
 use Rattle.laws_filled_bounds.specs.Taken.{raised_in, AreSparing}
 
@@ -15,9 +16,6 @@ port_at d = d.port ∷ d.nester
 
 abbrev pub porter_at : Desk → Path
 porter_at d = LAST_PORTER_SLOT ∷ d.nester
-
-abbrev pub changes_of : World → Event → List Change
-changes_of w e = listed (outcome w e.mover e.pick e.ask)
 
 -- moves of a pager, and of anybody else once the opening is done, with how many calls it made that weren't refused HELD, and how many faults were raised at its
 -- port. Others may peek. Neither its port nor its porter is destroyed or renamed, and what the porter takes is at the port

@@ -1,5 +1,6 @@
 -- Acts of native servers in a settled world.
-use Rattle.std.proofs.Common.{◌≡◌, ℕ, Bool, true, false, not, cond, ◌&&◌, ◌||◌, ◌==◌, is_some, is_none, if◌then◌else◌, List, [], ◌∷◌, take, Option, Some, None, option_map, refl, sym, ap, subst, ◌∙◌, inl, inr}
+use Rattle.std.proofs.Common.{◌≡◌, ℕ, Bool, true, false, not, cond, ◌&&◌, ◌||◌, ◌==◌, is_some, is_none, if◌then◌else◌, List, [], ◌∷◌, take, Option, Some, None}
+use Rattle.std.proofs.Common.{option_map, refl, sym, ap, subst, ◌∙◌, inl, inr}
 use Rattle.std.proofs.lemmas.Bool.{cases_Bool, and_parts}
 use Rattle.fk_model.specs.declared.moves.Ask.{Ask}
 use Rattle.fk_model.specs.declared.moves.Ask.TheVariants as asks
@@ -17,7 +18,8 @@ use Rattle.fk_model.specs.Outcomes.Said.{Given}
 use Rattle.fk_model.specs.Places.Ptr.{At}
 use Rattle.fk_model.specs.Readers.{handle, their_page_at, their_page}
 use Rattle.fk_model.specs.Talks.{same_side, awaited, is_handled, receiving}
-use Rattle.fk_model.specs.NativeRows.{is_serving_port, accepts_thread, accepts_found, takes_client, accept_row, if_receiving, with_client, gives_words, gives_to, has_turn, give_row, passes_client, over_row}
+use Rattle.fk_model.specs.NativeRows.{is_serving_port, accepts_thread, accepts_found, takes_client, accept_row, if_receiving, with_client, gives_words}
+use Rattle.fk_model.specs.NativeRows.{gives_to, has_turn, give_row, passes_client, over_row}
 use Rattle.fk_model.specs.Moves.{with_pick, outcome}
 use Rattle.laws_waits.specs.Touching.{is_home}
 use Rattle.laws_waits.specs.Stuck.{is_resting, awaits_on}

@@ -1,5 +1,6 @@
 -- Whoever has a reason to stay has one in the filled world.
-use Rattle.std.proofs.Common.{◌≡◌, ℕ, zero, suc, ◌/◌, ◌≤◌, Bool, true, false, not, cond, ◌&&◌, ◌||◌, ◌==◌, nat_lt, is_some, if◌then◌else◌, List, [], ◌∷◌, Option, Some, None, option_map, refl, sym, ap, subst, ◌∙◌, ◌⊎◌, inl, inr}
+use Rattle.std.proofs.Common.{◌≡◌, ℕ, zero, suc, ◌/◌, ◌≤◌, Bool, true, false, not, cond, ◌&&◌, ◌||◌, ◌==◌, nat_lt, is_some, if◌then◌else◌, List, [], ◌∷◌}
+use Rattle.std.proofs.Common.{Option, Some, None, option_map, refl, sym, ap, subst, ◌∙◌, ◌⊎◌, inl, inr}
 use Rattle.std.proofs.lemmas.Option.{same_Some}
 use Rattle.fk_model.specs.declared.limits.TheConstants.{MAPPINGS, PAGE_WORDS, SPACE_WORDS}
 use Rattle.fk_model.specs.declared.moves.Ask.TheVariants as asks
@@ -21,9 +22,11 @@ use Rattle.fk_model.specs.Moves.{user_move, outcome, GoesAllowed, IsReady}
 use Rattle.fk_model.specs.Valid.{IsValid, kind_there}
 use Rattle.laws_waits.specs.Touching.{is_home}
 use Rattle.laws_waits.specs.Complete.{is_barred, HasReason}
-use Rattle.laws_waits.specs.Stuck.{stage_at, is_resting, IsBeneath, is_held, is_at_hand, End, IsAtHome, IsReached, HasRoom, awaits_on, receive_stage, send_stage, over_stage, Reason, IsStuck}
+use Rattle.laws_waits.specs.Stuck.{stage_at, is_resting, IsBeneath, is_held, is_at_hand, End, IsAtHome, IsReached, HasRoom, awaits_on, receive_stage}
+use Rattle.laws_waits.specs.Stuck.{send_stage, over_stage, Reason, IsStuck}
 use Rattle.laws_waits.specs.Stuck.End.{Absent, Unnamed, Covered, Unclaimed, Closed}
-use Rattle.laws_waits.specs.Stuck.Reason.{Resting, Beneath, Locking, Sleeping, Connecting, Receiving, Passing, Sending, Lacking, Ending, Holding, Waiting, WaitingOut, Barred}
+use Rattle.laws_waits.specs.Stuck.Reason.{Resting, Beneath, Locking, Sleeping, Connecting, Receiving, Passing, Sending, Lacking, Ending, Holding, Waiting}
+use Rattle.laws_waits.specs.Stuck.Reason.{WaitingOut, Barred}
 use Rattle.laws_waits.proofs.Complete.{has_reason}
 use Rattle.laws_waits.proofs.Unready.{stuck_is_unready_lem}
 use Rattle.laws_filled.specs.Filled.{Paging, is_paged, kept_fault, unfaulted, kept_back, filled}

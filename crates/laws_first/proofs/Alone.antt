@@ -32,7 +32,8 @@ use Rattle.fk_scenario.specs.declared.entries.jobs.JobKind.TheVariants as kinds
 use Rattle.fk_scenario.specs.Sections.Kept.{EachAfter, KeepsSpace}
 use Rattle.fk_scenario.specs.Sections.Spaces.{has_space, has_space_or_root, may_stand, count_beneath}
 use Rattle.fk_scenario.specs.declared.scenario.scenario.Scenario.{Scenario}
-use Rattle.fk_scenario.specs.Scenario.Jobs.{first_number, nester_from, is_beneath, has_nester, has_server, is_made, subtree_of, may_be_done, job_spec, job_after}
+use Rattle.fk_scenario.specs.Scenario.Jobs.{first_number, nester_from, is_beneath, has_nester, has_server, is_made, subtree_of, may_be_done, job_spec}
+use Rattle.fk_scenario.specs.Scenario.Jobs.{job_after}
 use Rattle.fk_scenario.specs.Scenario.Jobs.{jobs_from}
 use Rattle.fk_scenario.specs.Scenario.Kept.{KeepsScenario}
 use Rattle.fk_store.specs.Store.World.{first_world}

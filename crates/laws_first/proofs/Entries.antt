@@ -1,4 +1,4 @@
--- The headline, entry by entry of a scenario's jobs.
+-- Transparency, entry by entry of a scenario's jobs.
 use Rattle.std.proofs.Common.{◌≡◌, ℕ, zero, suc, ◌<◌, Bool, true, false, cond, List, [], ◌∷◌, ◌++◌, append_assoc, append-nil, take, drop, Option, Some, None}
 use Rattle.std.proofs.Common.{option_map, refl, ap, subst, ◌∙◌, arith}
 use Rattle.std.specs.List.{slice_get}

@@ -5,8 +5,8 @@ use Rattle.fk_model.specs.Sound.{IsUncut, IsClean}
 use Rattle.fk_boot.specs.FirstWorld.{booted}
 use Rattle.laws_moves.specs.Savable.Savable.{IsSound}
 use Rattle.laws_house.specs.Laws.{SaveUsersAlone}
-use Rattle.laws_house.proofs.Headline.{headline_holds}
-use Rattle.laws_first.specs.Grounded.{ScenariosAreGrounded, ScenariosHaveTheHeadline}
+use Rattle.laws_house.proofs.Transparency.{runs_transparent}
+use Rattle.laws_first.specs.Grounded.{ScenariosAreGrounded, ScenariosRunTransparently}
 use Rattle.laws_first.proofs.First.{first_world_is_ground}
 
 pub scenarios_are_grounded : {V : Type 0} → ScenariosAreGrounded V
@@ -32,6 +32,6 @@ scenarios_are_grounded s jobs servers first past begins within =
       alone = subst (SaveUsersAlone jobs) back begins.alone;
     }
 
-pub scenarios_have_the_headline : {V : Type 0} → ScenariosHaveTheHeadline V
-scenarios_have_the_headline s jobs servers first c past run begins within = headline_holds jobs servers first c past run
+pub scenarios_run_transparently : {V : Type 0} → ScenariosRunTransparently V
+scenarios_run_transparently s jobs servers first c past run begins within = runs_transparent jobs servers first c past run
     (scenarios_are_grounded s jobs servers first past begins within)

@@ -21,7 +21,7 @@ use Rattle.laws_checkpoint.proofs.Ended.{checkpoint_ends_as_it_was}
 use Rattle.laws_runs.specs.Cores.{world_at}
 use Rattle.laws_house.specs.Houses.{house}
 use Rattle.laws_house.specs.Laws.{IsUnserved}
-use Rattle.laws_house.proofs.House.{house_is_tidy, ended_checkpoint}
+use Rattle.laws_house.proofs.House.{jobs_meet_contract, ended_checkpoint}
 use Rattle.laws_house.proofs.Kept.{uncut_at, Stood, stood_at}
 use Rattle.laws_first.specs.Entries.{SavedIsPlain}
 
@@ -94,7 +94,7 @@ saved_is_plain jobs servers first c past run grounded index j slot hold release 
     let e = ended_checkpoint jobs servers first c past run grounded index j slot hold release (Done image) its is ended in
     let w = world_at run hold in
     let native = (called e.nester w e.work.stage e.work.words e.work.ready).native in
-    let stood = stood_at (house jobs servers) first grounded.users (house_is_tidy jobs servers grounded.slots) grounded.start grounded.uncut run
+    let stood = stood_at (house jobs servers) first grounded.users (jobs_meet_contract jobs servers grounded.slots) grounded.start grounded.uncut run
     grounded.few hold in
     let was = checkpoint_ends_as_it_was slot j.nester w (world_at run (release + 1)) e.nester e.state (Done image) e.low e.may e.work e.stopped in
     let before = grounded.alone index j slot its is e.nester (sym (stood.births e.nester native) ∙ e.may.named) in

@@ -1,10 +1,10 @@
--- The runs of the program have the headline.
+-- The runs of the program are transparent.
 use Rattle.std.proofs.Common.{subst}
 use Rattle.fk_served.specs.Served.{servers}
 use Rattle.laws_moves.specs.Savable.Savable.{IsSound}
 use Rattle.laws_house.specs.Houses.{jobs_of}
-use Rattle.laws_house.proofs.Headline.{headline_holds}
-use Rattle.laws_first.specs.Programs.{ProgramsAreGrounded, ProgramsHaveTheHeadline}
+use Rattle.laws_house.proofs.Transparency.{runs_transparent}
+use Rattle.laws_first.specs.Programs.{ProgramsAreGrounded, ProgramsRunTransparently}
 use Rattle.laws_first.proofs.Apart.{jobs_save_users_alone}
 use Rattle.laws_first.proofs.Users.{servers_ask_as_users, scenario_jobs_name_users_slots}
 use Rattle.laws_first.proofs.Grounded.{scenarios_are_grounded}
@@ -23,7 +23,7 @@ programs_are_grounded s images first past keeps world sound ends work events wit
       alone = jobs_save_users_alone s keeps images;
     }) within
 
-pub programs_have_the_headline : ProgramsHaveTheHeadline
-programs_have_the_headline s images first c past run keeps world sound ends work events within =
-    headline_holds (jobs_of s.jobs images) servers first c past run
+pub programs_run_transparently : ProgramsRunTransparently
+programs_run_transparently s images first c past run keeps world sound ends work events within =
+    runs_transparent (jobs_of s.jobs images) servers first c past run
     (programs_are_grounded s images first past keeps world sound ends work events within)

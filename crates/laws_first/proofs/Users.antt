@@ -9,8 +9,8 @@ use Rattle.fk_model.specs.Sound.{are_user_pairs}
 use Rattle.fk_scenario.specs.Scenario.Kept.{HasSlots}
 use Rattle.fk_scenario.specs.Entries.Kept.{ArePairs}
 use Rattle.fk_served.proofs.Acts.{servers_ask_as_users as asked_as_users}
-use Rattle.laws_house.specs.Headline.{NamesSlots}
-use Rattle.laws_house.proofs.Headline.{jobs_name_users_slots}
+use Rattle.laws_house.specs.Transparency.{NamesSlots}
+use Rattle.laws_house.proofs.Transparency.{jobs_name_users_slots}
 use Rattle.laws_first.specs.Users.{ServersAskAsUsers, ScenarioJobsNameUsersSlots}
 
 pub servers_ask_as_users : ServersAskAsUsers

@@ -1,4 +1,4 @@
--- What the headline says of the entries of a scenario's jobs.
+-- What transparency says of the entries of a scenario's jobs.
 use Rattle.std.specs.Prelude.{◌≡◌, ℕ, zero, suc, ◌+◌, ◌<◌, true, List, take, drop, Option, Some, None}
 use Rattle.std.specs.List.{slice_get}
 use Rattle.fk_model.specs.declared.job.JobSpec.{JobSpec}
@@ -15,12 +15,12 @@ use Rattle.laws_restore.specs.Restore.Restore as restores
 use Rattle.laws_restore.specs.Rooms.Restoring.{bound_by}
 use Rattle.laws_runs.specs.Cores.{JobEnd, Servers, Core, IsRun, world_at}
 use Rattle.laws_runs.specs.Cores.JobEnd.{Worked}
-use Rattle.laws_runs.specs.Headline.{Checkpointed, Restored as Restored_there}
+use Rattle.laws_runs.specs.Transparency.{Checkpointed, Restored as Restored_there}
 use Rattle.laws_house.specs.Houses.{Job, State, End, house, maker_from, given_first, jobs_of}
 use Rattle.laws_house.specs.Houses.Task.{Checkpoint as Saves}
 use Rattle.laws_house.specs.Houses.End.{Checked, Restored}
 use Rattle.laws_house.specs.Laws.{GoesOnAgain, IsGrounded}
-use Rattle.laws_house.specs.Headline.{HasHeadline}
+use Rattle.laws_house.specs.Transparency.{IsTransparent}
 
 -- the image that is given for the job with an index
 abbrev pub given_at : ℕ → List (Option Image) → Option Image
@@ -36,7 +36,7 @@ pub data IsFrom (specs : List JobSpec) (images : List (Option Image)) (ends : Li
 -- a checkpoint that is done: its image is valid, and is what its entry's subtree was, from its hold to behind its release
 abbrev pub EntriesAreSaved : Type 0 → Type 0
 EntriesAreSaved V = (specs : List JobSpec) (images : List (Option Image)) (servers : Servers V) (first c : Core State End V) (past : List Move)
-    (run : IsRun (house (jobs_of specs images) servers) first past c) → HasHeadline run →
+    (run : IsRun (house (jobs_of specs images) servers) first past c) → IsTransparent run →
     (index moment birth : ℕ) (path : List ℕ) (slot : ℕ) (name : List ℕ) (image : Image) (hold release : ℕ) →
     slice_get specs index ≡ Some (Checkpoint moment birth path slot name) → slice_get c.ends index ≡ Some (Worked (Checked (Done image)) hold release) →
     (is_valid image ≡ true) × Checkpointed run birth slot hold release (picture image)
@@ -44,7 +44,7 @@ EntriesAreSaved V = (specs : List JobSpec) (images : List (Option Image)) (serve
 -- a restore that is done has made its image's picture, with the ports bound as its entry says; and knows whence it had the image
 abbrev pub EntriesAreMade : Type 0 → Type 0
 EntriesAreMade V = (specs : List JobSpec) (images : List (Option Image)) (servers : Servers V) (first c : Core State End V) (past : List Move)
-    (run : IsRun (house (jobs_of specs images) servers) first past c) → HasHeadline run →
+    (run : IsRun (house (jobs_of specs images) servers) first past c) → IsTransparent run →
     (index moment birth slot : ℕ) (name : List ℕ) (bind : List (ℕ × ℕ)) (make release : ℕ) →
     slice_get specs index ≡ Some (Restore moment birth slot name bind) → slice_get c.ends index ≡ Some (Worked (Restored restores.Done) make release) →
     (image : Image) × IsFrom specs images c.ends index name image × (is_valid image ≡ true)
@@ -53,7 +53,7 @@ EntriesAreMade V = (specs : List JobSpec) (images : List (Option Image)) (server
 -- and if an earlier job of the same run has made that image, what stands there has exactly the further runs of what was saved
 abbrev pub EntriesGoOn : Type 0 → Type 0
 EntriesGoOn V = (specs : List JobSpec) (images : List (Option Image)) (servers : Servers V) (first c : Core State End V) (past : List Move)
-    (run : IsRun (house (jobs_of specs images) servers) first past c) → HasHeadline run →
+    (run : IsRun (house (jobs_of specs images) servers) first past c) → IsTransparent run →
     (from index moment birth : ℕ) (path : List ℕ) (slot : ℕ) (made : List ℕ) (later other place : ℕ) (name : List ℕ) (bind : List (ℕ × ℕ)) (image : Image)
     (hold release make done : ℕ) →
     slice_get specs from ≡ Some (Checkpoint moment birth path slot made) → slice_get c.ends from ≡ Some (Worked (Checked (Done image)) hold release) →
@@ -61,7 +61,7 @@ EntriesGoOn V = (specs : List JobSpec) (images : List (Option Image)) (servers :
     maker_from 0 (take index specs) name ≡ Some from → from < index →
     GoesOnAgain birth slot (world_at run hold) other place (world_at run make) (world_at run (done + 1)) (bound_by bind)
 
--- what was saved was plain at its hold: so from there on too, as `HasHeadline` says of a plain subtree, what it sees of the history, up to
+-- what was saved was plain at its hold: so from there on too, as `IsTransparent` says of a plain subtree, what it sees of the history, up to
 -- the first move that it sees as other, is a further run of it
 abbrev pub SavedIsPlain : Type 0 → Type 0
 SavedIsPlain V = (jobs : List Job) (servers : Servers V) (first c : Core State End V) (past : List Move) (run : IsRun (house jobs servers) first past c) →
@@ -69,6 +69,7 @@ SavedIsPlain V = (jobs : List Job) (servers : Servers V) (first c : Core State E
     j.task ≡ Saves slot → slice_get c.ends index ≡ Some (Worked (Checked (Done image)) hold release) → (nester : Path) →
     birth_at (world_at run hold) nester ≡ Some j.nester → IsPlain (world_at run hold) nester slot
 
+-- a saved subtree was plain at its hold, so that from there on the history's moves that it sees are a further run of it
 abbrev pub EntriesArePlain : Type 0 → Type 0
 EntriesArePlain V = (specs : List JobSpec) (images : List (Option Image)) (servers : Servers V) (first c : Core State End V) (past : List Move)
     (run : IsRun (house (jobs_of specs images) servers) first past c) → IsGrounded (jobs_of specs images) servers first past →

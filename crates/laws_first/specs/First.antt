@@ -22,6 +22,8 @@ pub record IsGround (s : Scenario) (w : World) : Type 0 where
   pub served : (y : Path) → holds is_served (w.body y) ≡ is_listed (map reverse (served_ports s.servers)) y
   pub one_each : are_apart same_path (map reverse (served_ports s.servers)) ≡ true
 
+-- no scratch stands in it, it has given out at most 256 birth numbers, its pointers lead somewhere in it or nowhere, nothing is under way, porters stand where
+-- the scenario has nesters and served ports where it has servers, and nowhere else
 abbrev pub FirstWorldIsGround : Type 0
 FirstWorldIsGround = (s : Scenario) → KeepsScenario s → IsGround s (booted s)
 

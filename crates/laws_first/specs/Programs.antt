@@ -10,7 +10,7 @@ use Rattle.laws_moves.specs.Savable.Savable.{IsSound}
 use Rattle.laws_runs.specs.Cores.{Core, IsRun}
 use Rattle.laws_house.specs.Houses.{State, End, house, jobs_of}
 use Rattle.laws_house.specs.Laws.{IsGrounded}
-use Rattle.laws_house.specs.Headline.{HasHeadline}
+use Rattle.laws_house.specs.Transparency.{IsTransparent}
 
 -- whatever images are given for its jobs, each is as the laws over runs suppose
 abbrev pub ProgramsAreGrounded : Type 0
@@ -19,7 +19,7 @@ ProgramsAreGrounded = (s : Scenario) (images : List (Option Image)) (first : Cor
     IsGrounded (jobs_of s.jobs images) servers first past
 
 -- so all of them hold of it
-abbrev pub ProgramsHaveTheHeadline : Type 0
-ProgramsHaveTheHeadline = (s : Scenario) (images : List (Option Image)) (first c : Core State End Services) (past : List Move)
+abbrev pub ProgramsRunTransparently : Type 0
+ProgramsRunTransparently = (s : Scenario) (images : List (Option Image)) (first c : Core State End Services) (past : List Move)
     (run : IsRun (house (jobs_of s.jobs images) servers) first past c) → KeepsScenario s → first.world ≡ booted s → IsSound first.world →
-    first.ends ≡ [] → first.work ≡ None → first.events ≡ 0 → length past ≤ s.budget → HasHeadline run
+    first.ends ≡ [] → first.work ≡ None → first.events ≡ 0 → length past ≤ s.budget → IsTransparent run

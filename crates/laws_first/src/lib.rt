@@ -6,9 +6,9 @@
 
 ghost use Rattle.laws_first.specs.First.{FirstWorldIsGround, ScenariosBeginSoundly};
 ghost use Rattle.laws_first.specs.Entries.{EntriesAreSaved, EntriesAreMade, EntriesArePlain, EntriesGoOn};
-ghost use Rattle.laws_first.specs.Programs.{ProgramsAreGrounded, ProgramsHaveTheHeadline};
+ghost use Rattle.laws_first.specs.Programs.{ProgramsAreGrounded, ProgramsRunTransparently};
 ghost use Rattle.laws_first.specs.Users.{ServersAskAsUsers, ScenarioJobsNameUsersSlots, ScenarioJobsSaveUsersAlone};
-ghost use Rattle.laws_first.specs.Grounded.{ScenariosAreGrounded, ScenariosHaveTheHeadline};
+ghost use Rattle.laws_first.specs.Grounded.{ScenariosAreGrounded, ScenariosRunTransparently};
 
 /// No scratch stands in it, it has given out at most 256 birth numbers, its pointers lead somewhere in it or nowhere, nothing is under way,
 /// porters stand where the scenario has nesters and served ports where it has servers, and nowhere else.
@@ -21,15 +21,15 @@ pub fn scenarios_begin_soundly()
     ensures { ScenariosBeginSoundly }
 {}
 
-/// So a run from there is as the laws of checkpoints and restores suppose, where its servers ask for what users may, its jobs name
+/// A run from a scenario's first world is as the laws of checkpoints and restores suppose, where its servers ask for what users may, its jobs name
 /// users' slots, and no porter and no served port lies in what they save.
 pub fn scenarios_are_grounded<V>()
     ensures { ScenariosAreGrounded V }
 {}
 
-/// And all of those laws hold of it.
-pub fn scenarios_have_the_headline<V>()
-    ensures { ScenariosHaveTheHeadline V }
+/// All laws of checkpoints and restores hold of a run from a scenario's first world.
+pub fn scenarios_run_transparently<V>()
+    ensures { ScenariosRunTransparently V }
 {}
 
 /// The program's native servers ask for what users may.
@@ -37,7 +37,7 @@ pub fn servers_ask_as_users()
     ensures { ServersAskAsUsers }
 {}
 
-/// And the jobs of a scenario name users' slots.
+/// The jobs of a scenario name users' slots.
 pub fn scenario_jobs_name_users_slots()
     ensures { ScenarioJobsNameUsersSlots }
 {}
@@ -47,14 +47,14 @@ pub fn scenario_jobs_save_users_alone()
     ensures { ScenarioJobsSaveUsersAlone }
 {}
 
-/// So each run of the program from the first world of a scenario that was read is as the laws over runs suppose.
+/// Each run of the program from the first world of a scenario that was read is as the laws over runs suppose.
 pub fn programs_are_grounded()
     ensures { ProgramsAreGrounded }
 {}
 
-/// And it has all of it, whatever images are given for its jobs.
-pub fn programs_have_the_headline()
-    ensures { ProgramsHaveTheHeadline }
+/// All those laws hold of each run of the program, whatever images are given for its jobs.
+pub fn programs_run_transparently()
+    ensures { ProgramsRunTransparently }
 {}
 
 /// Entry by entry: what a checkpoint that is done has saved.
@@ -72,7 +72,7 @@ pub fn entries_are_made<V>()
     ensures { EntriesAreMade V }
 {}
 
-/// And if an earlier job had made that image, what stands there has exactly the further runs of what was saved.
+/// If an earlier job had made the image of a restore that is done, what stands there has exactly the further runs of what was saved.
 pub fn entries_go_on<V>()
     ensures { EntriesGoOn V }
 {}

@@ -48,6 +48,7 @@ NeverBoth W E S V F T I P Y = (k : Kernels W E S V F T I P Y) → k.codec.reads 
 abbrev pub Extends : {A : Type 0} → List A → List A → Type 0
 Extends {A} xs ys = (more : List A) × (ys ≡ xs ++ more)
 
+-- a packet keeps its number
 abbrev pub SentStays : (W E S V F T I P Y : Type 0) → Type 0
 SentStays W E S V F T I P Y = (k : Kernels W E S V F T I P Y) (w : W) (v : V) (es : List (Event E F)) (e : Event E F) →
     Extends (sent_near k.codec (run k (first k w v) es).near) (sent_near k.codec (run k (first k w v) (es ++ e ∷ [])).near) ×

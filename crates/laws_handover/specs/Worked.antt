@@ -41,6 +41,7 @@ moving =
     NearOwn ∷ NearOwn ∷ ToFar 1 ∷ ToFar 1 ∷ ToFar 0 ∷ ToFar 0 ∷ FarOwn ∷ ToNear 0 ∷ ToNear 0 ∷ NearOwn ∷ NearOwn ∷ ToFar 2 ∷ ToFar 2 ∷ ToFar 1 ∷ FarOwn
     ∷ []
 
+-- lists of events over small kernels, and how they end
 pub record ListsEndSo : Type 0 where
   pub moves : (ends true moving).far ≡ far.Moved 7
   pub clears : (ends true moving).near ≡ near.Cleared 7

@@ -29,7 +29,7 @@ use Rattle.laws_house.specs.Houses.End.{Checked, Restored}
 use Rattle.laws_house.specs.Laws.{NameUsersSlots}
 use Rattle.laws_house.specs.Moves.{JobsAskFitly}
 use Rattle.laws_house.proofs.Parts.{asks_part}
-use Rattle.laws_house.proofs.House.{checkpoint_part, restore_part, house_is_tidy}
+use Rattle.laws_house.proofs.House.{checkpoint_part, restore_part, jobs_meet_contract}
 use Rattle.laws_house.proofs.Moving.{Starts, starts}
 use Rattle.laws_house.proofs.Moving.Starts.{AsCheckpoint, AsRestore}
 
@@ -65,7 +65,7 @@ module _ {V : Type 0} (jobs : List Job) (servers : Servers V) (first c : Core St
   -- one that is at work asks for what it owes, and its porter is there
   later_call : (k : Work State) → c.work ≡ Some k → k.state ≡ t → Fits stage
   later_call k works is =
-      let tidy = house_is_tidy jobs servers slots in
+      let tidy = jobs_meet_contract jobs servers slots in
       let all = stands h first users tidy start run few in
       let w = all.working k works in
       let sound : IsSound c.world = subst IsSound all.last (all.sound (length past) (omega arith)) in

@@ -23,7 +23,7 @@ use Rattle.fk_image.specs.Image.Valid.{is_valid}
 use Rattle.laws_moves.specs.Savable.Savable.{IsSound}
 use Rattle.laws_jobs.specs.Machines.{no_words, call_of, IsReadyAt, AtWork, LiesWithin}
 use Rattle.laws_jobs.specs.Machines.Head.{Stops, Asks}
-use Rattle.laws_jobs.specs.Jobs.{MayBegin, IsTidyJob, Saves, Restores}
+use Rattle.laws_jobs.specs.Jobs.{MayBegin, MeetsContract, Saves, Restores}
 use Rattle.laws_jobs.specs.Holds.{hold, IsSpaceAt}
 use Rattle.laws_jobs.proofs.Goings.{called}
 use Rattle.laws_jobs.proofs.Weaving.{first_sound}
@@ -35,7 +35,7 @@ use Rattle.laws_checkpoint.specs.Checkpoint.State.{Holds}
 use Rattle.laws_checkpoint.specs.Bounded.{count_of}
 use Rattle.laws_checkpoint.specs.Laws.{MaySave, IsSameBeside, picture_of}
 use Rattle.laws_checkpoint.proofs.Bounds.{checkpoint_is_bounded}
-use Rattle.laws_checkpoint.proofs.Ended.{checkpoint_is_tidy, checkpoint_ends_as_it_was}
+use Rattle.laws_checkpoint.proofs.Ended.{checkpoint_meets_contract, checkpoint_ends_as_it_was}
 use Rattle.laws_checkpoint.proofs.Saved.{checkpoint_saves, checkpoint_images_subtree}
 use Rattle.laws_checkpoint.proofs.Calling.{checkpoint_leaves_rest}
 use Rattle.laws_restore.specs.Restore.Restore as restores
@@ -43,7 +43,7 @@ use Rattle.laws_restore.specs.Restore.Restore.State.{Makes}
 use Rattle.laws_restore.specs.Restore.Bounded as made
 use Rattle.laws_restore.specs.Rooms.Rooms.{rooms_of}
 use Rattle.laws_restore.specs.Rooms.Restoring.{bound_by, restore_of}
-use Rattle.laws_restore.proofs.InRestore.Owing.{is_tidy as restore_is_tidy}
+use Rattle.laws_restore.proofs.InRestore.Owing.{meets_contract as restore_meets_contract}
 use Rattle.laws_restore.proofs.InRooms.Roomed.{valid_is_roomed}
 use Rattle.laws_restore.proofs.InRooms.Restored.{pairs_bind, image_is_restored, image_restore_is_bounded}
 use Rattle.laws_runs.specs.Cores.{Core, IsRun, JobEnd, Servers, world_at}
@@ -53,16 +53,17 @@ use Rattle.laws_runs.specs.Composed.{IsComposed, job_moves, WorksSo, HasWorked, 
 use Rattle.laws_runs.specs.Turning.{asker_at, MovesAt}
 use Rattle.laws_runs.proofs.Composing.{composed}
 use Rattle.laws_runs.proofs.Turning.{moves_in_history}
-use Rattle.laws_runs.proofs.Headline.{checkpoints_hold, restores_hold, restored_go_on}
+use Rattle.laws_runs.proofs.Transparency.{checkpoints_hold, restores_hold, restored_go_on}
 use Rattle.laws_house.specs.Houses.{Job, Task, Source, State, End, machine, image_made, sourced, valid_one, begins_by, house}
 use Rattle.laws_house.specs.Houses.Source.{Given, MadeBy}
 use Rattle.laws_house.specs.Houses.Task.{Checkpoint, Restore}
 use Rattle.laws_house.specs.Houses.State.{Checking, Restoring}
 use Rattle.laws_house.specs.Houses.End.{Checked, Restored}
 use Rattle.laws_house.specs.Parts.{IsPart}
-use Rattle.laws_house.specs.Laws.{NamesUsersSlots, IsUnserved, HouseIsTidy, RunStaysUncut, IsGrounded, CheckpointsAreBrief, RestoresAreBrief, LeftBeside}
+use Rattle.laws_house.specs.Laws.{NamesUsersSlots, IsUnserved, JobsMeetTheirContract, RunStaysUncut, IsGrounded, CheckpointsAreBrief, RestoresAreBrief}
+use Rattle.laws_house.specs.Laws.{LeftBeside}
 use Rattle.laws_house.specs.Laws.{CheckpointsLeaveTheRest, CheckpointsEndAsItWas, CheckpointsSave, RestoresMake, SavedGoesOn}
-use Rattle.laws_house.proofs.Parts.{asks_part, stops_part, works, parts_are_tidy}
+use Rattle.laws_house.proofs.Parts.{asks_part, stops_part, works, parts_meet_contract}
 use Rattle.laws_house.proofs.Kept.{uncut_at, Stood, stood_at}
 
 -- ---- the two parts
@@ -134,25 +135,26 @@ restores_whole slot birth image pairs w nester law = record {
 pub slots_of : (j : Job) (task : Task) → j.task ≡ task → NamesUsersSlots j.task → NamesUsersSlots task
 slots_of j task is names = subst NamesUsersSlots is names
 
-pub house_is_tidy : {V : Type 0} → HouseIsTidy V
-house_is_tidy jobs servers names index j ends s its starts = by j.task starts (names index j its)
+pub jobs_meet_contract : {V : Type 0} → JobsMeetTheirContract V
+jobs_meet_contract jobs servers names index j ends s its starts = by j.task starts (names index j its)
   where
     made : (slot : ℕ) (pairs : List (ℕ × ℕ)) → NamesUsersSlots (Restore slot pairs (Given None)) → (o : Option Image)
         → ((image : Image) → o ≡ Some image → is_valid image ≡ true) →
-        option_map (λ image. Restoring slot pairs image Makes) o ≡ Some s → IsTidyJob machine j.nester s
+        option_map (λ image. Restoring slot pairs image Makes) o ≡ Some s → MeetsContract machine j.nester s
     made slot pairs names None valid e = cc
     made slot pairs names (Some image) valid e =
         let is = same_state (Restoring slot pairs image Makes) s e in
-        subst (IsTidyJob machine j.nester) is
-        (parts_are_tidy (restore_of slot image pairs) machine (Restoring slot pairs image) Restored j.nester Makes (restore_part slot pairs image)
-        (restore_is_tidy slot j.nester (bound_by pairs) (picture image) (rooms_of image) names.0
+        subst (MeetsContract machine j.nester) is
+        (parts_meet_contract (restore_of slot image pairs) machine (Restoring slot pairs image) Restored j.nester Makes (restore_part slot pairs image)
+        (restore_meets_contract slot j.nester (bound_by pairs) (picture image) (rooms_of image) names.0
         (valid_is_roomed (bound_by pairs) image (pairs_bind pairs names.1) (valid image refl))))
 
-    by : (task : Task) → begins_by task ends ≡ Some s → NamesUsersSlots task → IsTidyJob machine j.nester s
+    by : (task : Task) → begins_by task ends ≡ Some s → NamesUsersSlots task → MeetsContract machine j.nester s
     by (Checkpoint slot) e low =
         let is = same_state (Checking slot Holds) s e in
-        subst (IsTidyJob machine j.nester) is
-        (parts_are_tidy (checkpoint slot) machine (Checking slot) Checked j.nester Holds (checkpoint_part slot) (checkpoint_is_tidy slot j.nester low))
+        subst (MeetsContract machine j.nester) is
+        (parts_meet_contract (checkpoint slot) machine (Checking slot) Checked j.nester Holds (checkpoint_part slot)
+        (checkpoint_meets_contract slot j.nester low))
     by (Restore slot pairs source) e names = made slot pairs names (valid_one (sourced ends source)) (λ image from. valid_is (sourced ends source) image from) e
 
 -- ---- each world of a run is nobody's cut
@@ -163,7 +165,7 @@ run_stays_uncut jobs servers first c past run uncut k = uncut_at (house jobs ser
 module _ {V : Type 0} (jobs : List Job) (servers : Servers V) (first c : Core State End V) (past : List Move) (run : IsRun (house jobs servers) first past c)
     (grounded : IsGrounded jobs servers first past) where
   whole : IsComposed run
-  whole = composed (house jobs servers) first c past run grounded.users (house_is_tidy jobs servers grounded.slots) grounded.start grounded.few
+  whole = composed (house jobs servers) first c past run grounded.users (jobs_meet_contract jobs servers grounded.slots) grounded.start grounded.few
 
   checkpoint_brief : (index begun upto : ℕ) (ends : List (JobEnd End)) (its : HasWorked run index ends begun upto) (slot d k : ℕ)
       → its.job.task ≡ Checkpoint slot →
@@ -268,7 +270,7 @@ module _ {V : Type 0} (jobs : List Job) (servers : Servers V) (first c : Core St
       (m : Move) × LeftBeside past k m slot (world_at run begun) (world_at run k) (world_at run (k + 1))
   leaves_rest k begun slot s stage words low e =
       let its = moves_in_history (house jobs servers) first c past run grounded.users
-      (house_is_tidy jobs servers grounded.slots) grounded.start grounded.few k begun (Checking slot s) stage words low e in
+      (jobs_meet_contract jobs servers grounded.slots) grounded.start grounded.few k begun (Checking slot s) stage words low e in
       by its
     where
       Left : Type 0
@@ -471,7 +473,7 @@ alone_there jobs servers first c past run grounded index j slot begun last image
     let e = ended_checkpoint jobs servers first c past run grounded index j slot begun last (Done image) its is ended in
     let native = (called e.nester (world_at run begun) e.work.stage e.work.words e.work.ready).native in
     let stood = stood_at (house jobs servers) first grounded.users
-    (house_is_tidy jobs servers grounded.slots) grounded.start grounded.uncut run grounded.few begun in
+    (jobs_meet_contract jobs servers grounded.slots) grounded.start grounded.uncut run grounded.few begun in
     let was = checkpoint_ends_as_it_was slot j.nester (world_at run begun) (world_at run (last + 1)) e.nester e.state
     (Done image) e.low e.may e.work e.stopped in
     let before = grounded.alone index j slot its is e.nester (sym (stood.births e.nester native) ∙ e.may.named) in
@@ -488,7 +490,8 @@ checkpoints_save jobs servers first c past run grounded index j slot begun last 
       (checkpoint_images_subtree slot j.nester (world_at run begun) (world_at run (last + 1)) e.nester e.state image e.low e.may
           (may_save e.nester e.may.named) e.work e.stopped).0,
       checkpoints_hold (house jobs servers) first c past run grounded.users
-          (house_is_tidy jobs servers grounded.slots) grounded.start grounded.few index j slot pictured (Checked (Done image)) begun last (picture image) its
+          (jobs_meet_contract jobs servers grounded.slots) grounded.start grounded.few index j slot pictured (Checked (Done image)) begun last
+          (picture image) its
           (λ nester ends s named starts. subst (λ x. Saves machine j.nester slot pictured (world_at run begun) nester x)
           (sym (starts_checkpoint j.task ends slot s is starts))
           (saves_whole slot j.nester (world_at run begun) nester
@@ -498,7 +501,7 @@ checkpoints_save jobs servers first c past run grounded index j slot begun last 
 pub restores_make : {V : Type 0} → RestoresMake V
 restores_make jobs servers first c past run grounded index j slot begun last pairs source image its is from ended =
     let names = slots_of j (Restore slot pairs source) is (grounded.slots index j its) in
-    restores_hold (house jobs servers) first c past run grounded.users (house_is_tidy jobs servers grounded.slots) grounded.start grounded.few index j slot
+    restores_hold (house jobs servers) first c past run grounded.users (jobs_meet_contract jobs servers grounded.slots) grounded.start grounded.few index j slot
     (bound_by pairs) (picture image) is_made (Restored restores.Done) begun last its
     (λ nester s named starts. subst (λ x. Restores machine j.nester slot (bound_by pairs) (picture image) is_made (world_at run begun) nester x)
     (sym (starts_restore j.task (take index c.ends) slot pairs source image s is from starts))
@@ -529,7 +532,7 @@ saved_goes_on jobs servers first c past run grounded from to i j slot place hold
       there = restored.nester;
       named_there = restored.named;
       further = λ ms. restored_go_on (house jobs servers) first c past run grounded.users
-          (house_is_tidy jobs servers grounded.slots) grounded.start grounded.few i.nester slot holds release (picture image) saved.1
+          (jobs_meet_contract jobs servers grounded.slots) grounded.start grounded.few i.nester slot holds release (picture image) saved.1
           (uncut_at (house jobs servers) first run grounded.uncut holds)
           (alone_there jobs servers first c past run grounded from i slot holds release image its is ended saved.1.nester saved.1.named) j.nester place made
           done (bound_by pairs) restored ms;

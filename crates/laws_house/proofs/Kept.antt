@@ -22,7 +22,7 @@ use Rattle.laws_runs.specs.Cores.{House, Core, Asker, asker, job_moved, moved_by
 use Rattle.laws_runs.specs.Cores.Settles.{Stays, Ends}
 use Rattle.laws_runs.specs.Cores.IsRun.{Begins, Goes}
 use Rattle.laws_runs.specs.Cores.Asker.{Nobody, Others, Job as Asked_by_job}
-use Rattle.laws_runs.specs.Composed.{AskAsUsers, AreTidy, IsStart}
+use Rattle.laws_runs.specs.Composed.{AskAsUsers, JobsMeetContract, IsStart}
 use Rattle.laws_runs.proofs.Composing.{stands, made_here}
 
 -- ---- each world of a run is nobody's cut
@@ -73,7 +73,7 @@ stood_on first w e uncut sound fit stood = record {
   births = λ x there. porters_space_stays w e uncut sound.whole.valid sound.whole.few fit x there ∙ stood.births x (porters_stood w e uncut x there);
 }
 
-module _ {J S A V : Type 0} (h : House J S A V) (first : Core S A V) (users : AskAsUsers h) (tidy : AreTidy h) (start : IsStart first)
+module _ {J S A V : Type 0} (h : House J S A V) (first : Core S A V) (users : AskAsUsers h) (tidy : JobsMeetContract h) (start : IsStart first)
     (uncut : IsUncut first.world) where
   stood_now : {c : Core S A V} {past : List Move} (run : IsRun h first past c) → first.world.next + length past ≤ depth → Stood first.world c.world
   stood_now Begins left = record { porters = λ x there. there; served = λ x there. there; births = λ x there. refl }

@@ -61,7 +61,7 @@ use Rattle.laws_house.specs.Laws.{NamesUsersSlots, IsGrounded}
 use Rattle.laws_house.specs.Moves.{LeftFar, RestoresLeaveTheRest, NextIsReady, JobsAreReady, EndedSo, RestoresEndSo, IsLastCall, LastCallIsKnown, GoneLeavesAll}
 use Rattle.laws_house.proofs.Parts.{asks_part, stops_part, works}
 use Rattle.laws_house.proofs.There.{PlacedFrom, works_there, missed_there}
-use Rattle.laws_house.proofs.House.{checkpoint_part, restore_part, same_state, valid_is, starts_restore, slots_of, house_is_tidy}
+use Rattle.laws_house.proofs.House.{checkpoint_part, restore_part, same_state, valid_is, starts_restore, slots_of, jobs_meet_contract}
 
 -- ---- what a job of the house starts with
 
@@ -186,7 +186,7 @@ module _ {V : Type 0} (jobs : List Job) (servers : Servers V) (first c : Core St
     unfolding Left
     leaves_the_rest low e =
         let its = moves_in_history (house jobs servers) first c past run grounded.users
-        (house_is_tidy jobs servers grounded.slots) grounded.start grounded.few k begun (Restoring slot pairs image s) stage words low e in
+        (jobs_meet_contract jobs servers grounded.slots) grounded.start grounded.few k begun (Restoring slot pairs image s) stage words low e in
         left_by its (starts its.job its.ends its.start (grounded.slots its.index its.job its.its) its.starts)
 
   -- ---- the next move
@@ -194,16 +194,16 @@ module _ {V : Type 0} (jobs : List Job) (servers : Servers V) (first c : Core St
   next_ready : (k : Work State) → c.work ≡ Some k → (j : Job) × (slice_get jobs (length c.ends) ≡ Some j) × NextIsReady j.nester k.state c.world
   next_ready k working =
       let w = (stands (house jobs servers) first grounded.users
-      (house_is_tidy jobs servers grounded.slots) grounded.start run grounded.few).working k working in
+      (jobs_meet_contract jobs servers grounded.slots) grounded.start run grounded.few).working k working in
       (w.worked.job, w.worked.its, by w (starts w.worked.job c.ends w.worked.start (grounded.slots (length c.ends) w.worked.job w.worked.its) w.worked.starts))
     where
-      named : (w : Working (house jobs servers) first grounded.users (house_is_tidy jobs servers grounded.slots) grounded.start run k)
+      named : (w : Working (house jobs servers) first grounded.users (jobs_meet_contract jobs servers grounded.slots) grounded.start run k)
           → birth_at c.world w.worked.nester ≡ Some w.worked.job.nester
       named w =
-          let law = house_is_tidy jobs servers grounded.slots (length c.ends) w.worked.job c.ends w.worked.start w.worked.its w.worked.starts in
+          let law = jobs_meet_contract jobs servers grounded.slots (length c.ends) w.worked.job c.ends w.worked.start w.worked.its w.worked.starts in
           (law.stays (world_at run k.begun) w.worked.nester c.world k.state w.worked.may w.now.work w.stage w.words w.asked).named
 
-      by : (w : Working (house jobs servers) first grounded.users (house_is_tidy jobs servers grounded.slots) grounded.start run k)
+      by : (w : Working (house jobs servers) first grounded.users (jobs_meet_contract jobs servers grounded.slots) grounded.start run k)
           → Starts w.worked.job w.worked.start → NextIsReady w.worked.job.nester k.state c.world
       by w (AsCheckpoint slot user start) =
           let there = subst (λ x. AtWork machine w.worked.nester (world_at run k.begun) x c.world k.state) start w.now.work in
@@ -238,7 +238,7 @@ module _ {V : Type 0} (jobs : List Job) (servers : Servers V) (first c : Core St
       valid_one (sourced (take index c.ends) source) ≡ Some image → slice_get c.ends index ≡ Some (Worked (Restored end) begun last) →
       EndedSo run j.nester slot pairs image begun last end
   ended_so index j slot begun last pairs source image end its is from ended =
-      by (ends_are_there (house jobs servers) first c past run grounded.users (house_is_tidy jobs servers grounded.slots) grounded.start grounded.few index
+      by (ends_are_there (house jobs servers) first c past run grounded.users (jobs_meet_contract jobs servers grounded.slots) grounded.start grounded.few index
       (Restored end) begun last ended)
     where
       same_end : (a b : restores.End) → Restored a ≡ Restored b → a ≡ b

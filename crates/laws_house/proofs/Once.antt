@@ -38,7 +38,7 @@ use Rattle.laws_house.specs.Laws.{IsGrounded}
 use Rattle.laws_house.specs.Moves.{IsLastCall}
 use Rattle.laws_house.specs.Places.{GoneAtOnce, OccupiedAtOnce}
 use Rattle.laws_house.proofs.Parts.{works}
-use Rattle.laws_house.proofs.House.{checkpoint_part, restore_part, house_is_tidy}
+use Rattle.laws_house.proofs.House.{checkpoint_part, restore_part, jobs_meet_contract}
 use Rattle.laws_house.proofs.Moving.{Starts, starts}
 use Rattle.laws_house.proofs.Moving.Starts.{AsCheckpoint, AsRestore}
 use Rattle.laws_house.proofs.Places.{checkpoints_move_so, restores_move_so}
@@ -99,7 +99,7 @@ module _ {V : Type 0} (jobs : List Job) (servers : Servers V) (first c : Core St
       → asker_at run last ≡ Asked_by_job begun (Checking slot s) stage words → finds_none s ≡ true → begun ≡ last
   at_once slot begun last s stage words low e none =
       let its = moves_in_history (house jobs servers) first c past run grounded.users
-      (house_is_tidy jobs servers grounded.slots) grounded.start grounded.few last begun (Checking slot s) stage words low e in
+      (jobs_meet_contract jobs servers grounded.slots) grounded.start grounded.few last begun (Checking slot s) stage words low e in
       by its (starts its.job its.ends its.start (grounded.slots its.index its.job its.its) its.starts) its.at
     where
       by : (its : MovesAt run last begun (Checking slot s) stage words) → Starts its.job its.start → ((begun ≡ last) × (Checking slot s ≡ its.start))
@@ -127,7 +127,7 @@ module _ {V : Type 0} (jobs : List Job) (servers : Servers V) (first c : Core St
       → asker_at run last ≡ Asked_by_job begun (Restoring slot pairs image s) stage words → s ≡ restores.Makes → begun ≡ last
   made_at_once slot begun last pairs image s stage words low e makes =
       let its = moves_in_history (house jobs servers) first c past run grounded.users
-      (house_is_tidy jobs servers grounded.slots) grounded.start grounded.few last begun now stage words low e in
+      (jobs_meet_contract jobs servers grounded.slots) grounded.start grounded.few last begun now stage words low e in
       by its (starts its.job its.ends its.start (grounded.slots its.index its.job its.its) its.starts) its.at
     where
       now : State

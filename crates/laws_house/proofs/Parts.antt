@@ -8,7 +8,7 @@ use Rattle.laws_jobs.specs.Machines.{Head, Machine, reply_of, heard, call_of, sa
 use Rattle.laws_jobs.specs.Machines.Head.{Stops, Asks}
 use Rattle.laws_jobs.specs.Machines.Interleaved.{Here, Another, Own}
 use Rattle.laws_house.specs.Houses.{ends_as}
-use Rattle.laws_house.specs.Parts.{IsPart, PartWorks, PartsWork, PartsAreTidy}
+use Rattle.laws_house.specs.Parts.{IsPart, PartWorks, PartsWork, PartsMeetTheContract}
 
 module _ {A B : Type 0} (ends_in : A → B) where
   abbrev asking : Stage → List ℕ → Head B
@@ -85,8 +85,8 @@ module _ {S A T B : Type 0} (m : Machine S A) (whole : Machine T B) (into : S �
 pub parts_work : {S A T B : Type 0} → PartsWork S A T B
 parts_work m whole into ends_in nester w s v t part work = works m whole into ends_in nester part w s v t work
 
-pub parts_are_tidy : {S A T B : Type 0} → PartsAreTidy S A T B
-parts_are_tidy {S = S} {T = T} m whole into ends_in birth s part tidy = record {
+pub parts_meet_contract : {S A T B : Type 0} → PartsMeetTheContract S A T B
+parts_meet_contract {S = S} {T = T} m whole into ends_in birth s part tidy = record {
   first = λ w nester may stage words asked. tidy.first w nester may stage words (asks_part m whole into ends_in nester part (into s) s stage words refl asked);
   later = λ w nester v t may work stage words asked. (let its = works m whole into ends_in nester part w s v t work in
       tidy.later w nester v its.state may its.part stage words (asks_part m whole into ends_in nester part t its.state stage words its.is asked));

@@ -52,7 +52,7 @@ use Rattle.laws_house.specs.Laws.{IsGrounded}
 use Rattle.laws_house.specs.Places.{CheckpointMoves, CheckpointsMoveSo, RestoreMoves, RestoresMoveSo, JobsEndClean, CheckpointsRelease, RestoresWantAnImage}
 use Rattle.laws_house.specs.Places.{IsDone, RestoresWantTheirMaker}
 use Rattle.laws_house.proofs.Parts.{asks_part, stops_part}
-use Rattle.laws_house.proofs.House.{checkpoint_part, restore_part, house_is_tidy, starts_checkpoint, starts_restore, got_before, ended_checkpoint}
+use Rattle.laws_house.proofs.House.{checkpoint_part, restore_part, jobs_meet_contract, starts_checkpoint, starts_restore, got_before, ended_checkpoint}
 use Rattle.laws_house.proofs.House.{checkpoints_save}
 use Rattle.laws_house.proofs.Moving.{last_call_is_known}
 
@@ -339,9 +339,9 @@ restores_want_their_maker jobs servers first c past run grounded from index i j 
 pub jobs_end_clean : {V : Type 0} → JobsEndClean V
 jobs_end_clean jobs servers first c past run grounded index begun last end ended =
     let e = (composed (house jobs servers) first c past run grounded.users
-    (house_is_tidy jobs servers grounded.slots) grounded.start grounded.few).ended index end begun last ended in
+    (jobs_meet_contract jobs servers grounded.slots) grounded.start grounded.few).ended index end begun last ended in
     let w = e.worked in
-    (house_is_tidy jobs servers grounded.slots index w.job (take index c.ends) w.start w.its w.starts).ends (world_at run begun) w.nester
+    (jobs_meet_contract jobs servers grounded.slots index w.job (take index c.ends) w.start w.its w.starts).ends (world_at run begun) w.nester
     (world_at run (last + 1)) e.state end w.may e.there.work e.stopped
 
 pub checkpoints_release : {V : Type 0} → CheckpointsRelease V

@@ -1,7 +1,6 @@
 -- The house of a scenario's jobs: checkpoints and restores, one after the other in the order of the file, each a machine of its own.
-use Rattle.std.specs.Prelude.{ℕ, ◌+◌, Bool, false, List, [], ◌∷◌, ◌++◌, drop, Option, Some, None, option_map, if◌then◌else◌}
+use Rattle.std.specs.Prelude.{ℕ, ◌+◌, List, [], ◌∷◌, ◌++◌, drop, Option, Some, None, option_map, if◌then◌else◌}
 use Rattle.std.specs.List.{slice_get}
-use Rattle.std.specs.Str.{bytes_eq}
 use Rattle.fk_model.specs.declared.job.JobSpec.{JobSpec}
 use Rattle.fk_model.specs.declared.job.JobSpec.TheVariants as specs_of
 use Rattle.fk_image.specs.declared.image.image.Image.{Image}
@@ -17,6 +16,7 @@ use Rattle.laws_restore.specs.Restore.Restore.State.{Makes}
 use Rattle.laws_restore.specs.Rooms.Restoring.{restore_of}
 use Rattle.laws_runs.specs.Cores.{JobEnd, Servers, House}
 use Rattle.laws_runs.specs.Cores.JobEnd.{Worked}
+pub use Rattle.fk_model.specs.Jobs.{makes_image}
 
 -- ---- jobs
 
@@ -71,6 +71,7 @@ abbrev pub image_of_end : End → Option Image
 image_of_end (Checked (Done image)) = Some image
 image_of_end other = None
 
+-- the image that a job has made, by how it has ended
 abbrev pub image_made : Option (JobEnd End) → Option Image
 image_made (Some (Worked end begun last)) = image_of_end end
 image_made other = None
@@ -104,14 +105,10 @@ house jobs servers = record {
 
 -- ---- a scenario's jobs
 
-abbrev pub makes : List ℕ → JobSpec → Bool
-makes image (specs_of.Checkpoint moment nester path slot made) = bytes_eq made image
-makes image (specs_of.Restore moment nester slot used bind) = false
-
 -- the place of the job that makes an image, where the first of these has place n
 unfoldable pub maker_from : ℕ → List JobSpec → List ℕ → Option ℕ
 maker_from n [] image = None
-maker_from n (j ∷ js) image = if makes image j then Some n else maker_from (n + 1) js image
+maker_from n (j ∷ js) image = if makes_image image j then Some n else maker_from (n + 1) js image
 
 -- what no earlier job makes was given
 abbrev pub source_of : Option ℕ → Option Image → Source
@@ -133,5 +130,6 @@ unfoldable pub jobs_from : List JobSpec → List JobSpec → List (Option Image)
 jobs_from before [] images = []
 jobs_from before (j ∷ js) images = job_of before j (given_first images) ∷ jobs_from (before ++ j ∷ []) js (drop 1 images)
 
+-- the jobs of a scenario, with the images that its files hold
 abbrev pub jobs_of : List JobSpec → List (Option Image) → List Job
 jobs_of specs images = jobs_from [] specs images

@@ -29,10 +29,10 @@ use Rattle.laws_restore.specs.Rooms.Restoring.{bound_by}
 use Rattle.laws_runs.specs.Cores.{JobEnd, Servers, Core, IsRun, world_at}
 use Rattle.laws_runs.specs.Cores.JobEnd.{Worked}
 use Rattle.laws_runs.specs.Cores.Asker.{Job as Asked_by_job}
-use Rattle.laws_runs.specs.Composed.{AskAsUsers, AreTidy, IsStart, job_moves, HasWorked}
+use Rattle.laws_runs.specs.Composed.{AskAsUsers, JobsMeetContract, IsStart, job_moves, HasWorked}
 use Rattle.laws_runs.specs.Turning.{asker_at}
 use Rattle.laws_runs.specs.Onwards.{GoesOnAs}
-use Rattle.laws_runs.specs.Headline.{Checkpointed, Restored as Restored_there}
+use Rattle.laws_runs.specs.Transparency.{Checkpointed, Restored as Restored_there}
 use Rattle.laws_house.specs.Houses.{Job, Task, Source, State, End, valid_one, sourced, house}
 use Rattle.laws_house.specs.Houses.Source.{MadeBy}
 use Rattle.laws_house.specs.Houses.Task.{Checkpoint, Restore}
@@ -44,12 +44,13 @@ abbrev pub NamesUsersSlots : Task → Type 0
 NamesUsersSlots (Checkpoint slot) = slot ≤ LAST_USER_SLOT
 NamesUsersSlots (Restore slot pairs source) = (slot ≤ LAST_USER_SLOT) × (are_user_pairs pairs ≡ true)
 
+-- jobs work in users' slots of their nesters, and bind users' slots
 abbrev pub NameUsersSlots : List Job → Type 0
 NameUsersSlots jobs = (index : ℕ) (j : Job) → slice_get jobs index ≡ Some j → NamesUsersSlots j.task
 
--- such jobs are tidy, whatever native servers there are
-abbrev pub HouseIsTidy : Type 0 → Type 0
-HouseIsTidy V = (jobs : List Job) (servers : Servers V) → NameUsersSlots jobs → AreTidy (house jobs servers)
+-- jobs in users' slots meet their contract, whatever native servers there are
+abbrev pub JobsMeetTheirContract : Type 0 → Type 0
+JobsMeetTheirContract V = (jobs : List Job) (servers : Servers V) → NameUsersSlots jobs → JobsMeetContract (house jobs servers)
 
 -- no porter and no served port lies beneath what stands in the slot of a nester
 pub record IsUnserved (w : World) (nester : Path) (slot : ℕ) : Type 0 where
@@ -78,6 +79,7 @@ RunStaysUncut V = (jobs : List Job) (servers : Servers V) (first c : Core State 
 
 -- ---- how many moves a job makes in a history, ended or not
 
+-- ended or not, a checkpoint of a run has made at most 100 (n + 1) (d + 1) of its moves, where its subtree had n bodies and pages, none deeper than d
 abbrev pub CheckpointsAreBrief : Type 0 → Type 0
 CheckpointsAreBrief V = (jobs : List Job) (servers : Servers V) (first c : Core State End V) (past : List Move)
     (run : IsRun (house jobs servers) first past c) →
@@ -85,6 +87,7 @@ CheckpointsAreBrief V = (jobs : List Job) (servers : Servers V) (first c : Core 
     its.job.task ≡ Checkpoint slot → LiesWithin (cut (world_at run begun) its.nester slot) d → begun < k → k ≤ upto →
     job_moves run k ≤ job_moves run begun + 100 * ((count_of (cut (world_at run begun) its.nester slot) + 1) * (d + 1))
 
+-- ended or not, a restore of a run has made at most 40 (n + 1) (d + 1) of its moves, where its image has n bodies and pages, none deeper than d
 abbrev pub RestoresAreBrief : Type 0 → Type 0
 RestoresAreBrief V = (jobs : List Job) (servers : Servers V) (first c : Core State End V) (past : List Move) (run : IsRun (house jobs servers) first past c) →
     IsGrounded jobs servers first past → (index begun upto : ℕ) (ends : List (JobEnd End)) (its : HasWorked run index ends begun upto) (slot d k : ℕ)
@@ -102,6 +105,7 @@ pub record LeftBeside (past : List Move) (k : ℕ) (m : Move) (slot : ℕ) (begi
   pub stays : birth_at w nester ≡ Some m.who.space
   pub same : IsSameBeside nester slot w v
 
+-- each move of a checkpoint leaves every page, and every object but its nester's scratch and who holds the subtree's root
 abbrev pub CheckpointsLeaveTheRest : Type 0 → Type 0
 CheckpointsLeaveTheRest V = (jobs : List Job) (servers : Servers V) (first c : Core State End V) (past : List Move)
     (run : IsRun (house jobs servers) first past c) →
@@ -117,12 +121,15 @@ pub record EndedAsItWas (birth slot : ℕ) (w : World) (end : checkpoints.End) :
   pub named : birth_at w nester ≡ Some birth
   pub was : EndsAsItWas w nester slot end
 
+-- a checkpoint of a run ends as its subtree was at its first move: no space in the slot; not closed, and the first place that says so; or closed
 abbrev pub CheckpointsEndAsItWas : Type 0 → Type 0
 CheckpointsEndAsItWas V = (jobs : List Job) (servers : Servers V) (first c : Core State End V) (past : List Move)
     (run : IsRun (house jobs servers) first past c) →
     IsGrounded jobs servers first past → (index : ℕ) (j : Job) (slot begun last : ℕ) (end : checkpoints.End) → slice_get jobs index ≡ Some j →
     j.task ≡ Checkpoint slot → slice_get c.ends index ≡ Some (Worked (Checked end) begun last) → EndedAsItWas j.nester slot (world_at run begun) end
 
+-- one that is done began at a closed subtree; its image is valid, and its picture is that subtree's cut, which was the same from its first move to behind its
+-- last
 abbrev pub CheckpointsSave : Type 0 → Type 0
 CheckpointsSave V = (jobs : List Job) (servers : Servers V) (first c : Core State End V) (past : List Move) (run : IsRun (house jobs servers) first past c) →
     IsGrounded jobs servers first past → (index : ℕ) (j : Job) (slot begun last : ℕ) (image : Image) → slice_get jobs index ≡ Some j →
@@ -131,6 +138,7 @@ CheckpointsSave V = (jobs : List Job) (servers : Servers V) (first c : Core Stat
 
 -- ---- what a done restore has made
 
+-- a restore that is done leaves a plain subtree, which is its image's picture with its ports bound
 abbrev pub RestoresMake : Type 0 → Type 0
 RestoresMake V = (jobs : List Job) (servers : Servers V) (first c : Core State End V) (past : List Move) (run : IsRun (house jobs servers) first past c) →
     IsGrounded jobs servers first past → (index : ℕ) (j : Job) (slot begun last : ℕ) (pairs : List (ℕ × ℕ)) (source : Source) (image : Image) →

@@ -3,4 +3,4 @@ pub mod Parts
 pub mod Laws
 pub mod Moves
 pub mod Places
-pub mod Headline
+pub mod Transparency

@@ -19,7 +19,7 @@ use Rattle.fk_image.specs.Image.Picture.{picture}
 use Rattle.laws_jobs.specs.Machines.{call_of, IsReadyAt, AtWork}
 use Rattle.laws_jobs.specs.Machines.Head.{Stops, Asks}
 use Rattle.laws_jobs.specs.Jobs.{MayBegin}
-use Rattle.laws_jobs.specs.Calls.{IsCalm}
+use Rattle.laws_jobs.specs.Calls.{IsUnheldOutside}
 use Rattle.laws_checkpoint.specs.Checkpoint as checkpoints
 use Rattle.laws_restore.specs.Restore.Restore as restores
 use Rattle.laws_restore.specs.Sites.Orders.{stage_of}
@@ -70,7 +70,7 @@ slot_of_state (Restoring slot pairs image s) = slot
 pub record NextIsReady (birth : ℕ) (state : State) (v : World) : Type 0 where
   pub nester : Path
   pub named : birth_at v nester ≡ Some birth
-  pub ready : (stage : Stage) (words : List ℕ) → machine.head state ≡ Asks stage words → IsCalm (slot_of_state state ∷ nester) v
+  pub ready : (stage : Stage) (words : List ℕ) → machine.head state ≡ Asks stage words → IsUnheldOutside (slot_of_state state ∷ nester) v
       → IsReadyAt v (call_of nester stage words)
 
 -- at each place of a run, of the job that is at work there
@@ -87,6 +87,7 @@ AsksFitly jobs servers c = (who : Who) (begun : ℕ) (s : State) (stage : Stage)
     asker (house jobs servers) c who ≡ Asked_by_job begun s stage words →
     (is_fit c.world (named c.world who) (asks.Call stage words) ≡ true) × (chooses stage ≡ false)
 
+-- what a job asks for in the last core of a run is fit there, and picks nobody
 abbrev pub JobsAskFitly : Type 0 → Type 0
 JobsAskFitly V = (jobs : List Job) (servers : Servers V) (first c : Core State End V) (past : List Move) (run : IsRun (house jobs servers) first past c) →
     AskAsUsers (house jobs servers) → NameUsersSlots jobs → IsStart first → first.world.next + length past ≤ depth → AsksFitly jobs servers c
@@ -123,6 +124,8 @@ pub record EndedSo {V : Type 0} {jobs : List Job} {servers : Servers V} {first c
   pub missing : EndsByMiss slot (bound_by pairs) (rooms_of image) work.run end
   pub missed_at : (port : ℕ) → end ≡ restores.NoPort port → MissedAt run slot pairs image nester begun (begun + 1) (last + 1) (bound_by pairs port)
 
+-- a restore of a run ends so: its subtree stands where nothing stood; its slot was taken, which it is told exactly there, and nothing is changed; or a port was
+-- missing, which it is told exactly where it led to a slot without one, and nothing stands in the slot
 abbrev pub RestoresEndSo : Type 0 → Type 0
 RestoresEndSo V = (jobs : List Job) (servers : Servers V) (first c : Core State End V) (past : List Move) (run : IsRun (house jobs servers) first past c) →
     IsGrounded jobs servers first past → (index : ℕ) (j : Job) (slot begun last : ℕ) (pairs : List (ℕ × ℕ)) (source : Source) (image : Image)
@@ -137,6 +140,7 @@ IsLastCall slot checkpoints.Gone s stage = (s ≡ checkpoints.Holds) ⊎ (s ≡ 
 IsLastCall slot (checkpoints.Foreign place) s stage = stage ≡ SpaceRelease OWN_SPACE slot
 IsLastCall slot (checkpoints.Done image) s stage = stage ≡ SpaceRelease OWN_SPACE slot
 
+-- a checkpoint's last call is its release, but for one that found no space
 abbrev pub LastCallIsKnown : Type 0
 LastCallIsKnown = (slot : ℕ) (s : checkpoints.State) (stage : Stage) (words : List ℕ) (status : ℕ) (told : List ℕ) (end : checkpoints.End) →
     checkpoints.head slot s ≡ Asks stage words → checkpoints.next slot s status told ≡ checkpoints.Over end → IsLastCall slot end s stage

@@ -3,7 +3,7 @@ use Rattle.std.specs.Prelude.{◌≡◌, ℕ, List}
 use Rattle.fk_model.specs.Places.{Path}
 use Rattle.fk_model.specs.World.{World}
 use Rattle.laws_jobs.specs.Machines.{Machine, AtWork, calls_made}
-use Rattle.laws_jobs.specs.Jobs.{IsTidyJob}
+use Rattle.laws_jobs.specs.Jobs.{MeetsContract}
 use Rattle.laws_house.specs.Houses.{ends_as}
 
 -- it asks for the same and hears the same
@@ -19,10 +19,12 @@ pub record PartWorks {S A T B : Type 0} (m : Machine S A) (whole : Machine T B) 
   pub part : AtWork m nester w s v state
   pub count : calls_made work ≡ calls_made part
 
+-- a machine that is a part of another one is at work where that one is in this part, with as many calls
 abbrev pub PartsWork : Type 0 → Type 0 → Type 0 → Type 0 → Type 0
 PartsWork S A T B = (m : Machine S A) (whole : Machine T B) (into : S → T) (ends_in : A → B) (nester : Path) (w : World) (s : S) (v : World) (t : T) →
     IsPart m whole into ends_in → (work : AtWork whole nester w (into s) v t) → PartWorks m whole into nester w s v t work
 
-abbrev pub PartsAreTidy : Type 0 → Type 0 → Type 0 → Type 0 → Type 0
-PartsAreTidy S A T B = (m : Machine S A) (whole : Machine T B) (into : S → T) (ends_in : A → B) (birth : ℕ) (s : S) → IsPart m whole into ends_in →
-    IsTidyJob m birth s → IsTidyJob whole birth (into s)
+-- what meets a job's contract by itself meets it as a part
+abbrev pub PartsMeetTheContract : Type 0 → Type 0 → Type 0 → Type 0 → Type 0
+PartsMeetTheContract S A T B = (m : Machine S A) (whole : Machine T B) (into : S → T) (ends_in : A → B) (birth : ℕ) (s : S) → IsPart m whole into ends_in →
+    MeetsContract m birth s → MeetsContract whole birth (into s)

@@ -43,6 +43,7 @@ pub record CheckpointMoves {V : Type 0} {jobs : List Job} {servers : Servers V} 
   pub ends : asker_at run last ≡ Asked_by_job begun (Checking slot state) stage words
   pub last_call : IsLastCall slot end state stage
 
+-- the first move of a checkpoint that has ended is its hold, and its last one its release, but for one that found no space
 abbrev pub CheckpointsMoveSo : Type 0 → Type 0
 CheckpointsMoveSo V = (jobs : List Job) (servers : Servers V) (first c : Core State End V) (past : List Move) (run : IsRun (house jobs servers) first past c) →
     IsStart first → (index : ℕ) (j : Job) (slot begun last : ℕ) (end : checkpoints.End) → slice_get jobs index ≡ Some j → j.task ≡ Checkpoint slot →
@@ -65,6 +66,7 @@ pub record RestoreMoves {V : Type 0} {jobs : List Job} {servers : Servers V} {fi
   pub ends : asker_at run last ≡ Asked_by_job begun (Restoring slot pairs image state) stage words
   pub last_call : restored.IsLastCall slot end state stage
 
+-- the first move of a restore that has ended makes its space, held, and its last one is its release, a stage of destroying that space, or the first move itself
 abbrev pub RestoresMoveSo : Type 0 → Type 0
 RestoresMoveSo V = (jobs : List Job) (servers : Servers V) (first c : Core State End V) (past : List Move) (run : IsRun (house jobs servers) first past c) →
     IsStart first → (index : ℕ) (j : Job) (slot begun last : ℕ) (pairs : List (ℕ × ℕ)) (source : Source) (image : Image) (end : restores.End) →
@@ -92,6 +94,7 @@ pub record LeftUnheld (birth slot : ℕ) (w v : World) : Type 0 where
   pub named : birth_at w nester ≡ Some birth
   pub unheld : IsSpaceAt w (slot ∷ nester) → holder_of (v.body (slot ∷ nester)) ≡ None
 
+-- behind the last move of a checkpoint nobody holds the space that it looked at
 abbrev pub CheckpointsRelease : Type 0 → Type 0
 CheckpointsRelease V = (jobs : List Job) (servers : Servers V) (first c : Core State End V) (past : List Move) (run : IsRun (house jobs servers) first past c) →
     IsGrounded jobs servers first past → (index : ℕ) (j : Job) (slot begun last : ℕ) (end : checkpoints.End) → slice_get jobs index ≡ Some j →

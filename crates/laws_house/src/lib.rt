@@ -4,11 +4,12 @@
 //! It stands on `laws_runs`, `laws_checkpoint` and `laws_restore::rooms`.
 #![tactic(auto)]
 
-ghost use Rattle.laws_house.specs.Laws.{HouseIsTidy, RunStaysUncut, CheckpointsAreBrief, RestoresAreBrief, CheckpointsLeaveTheRest, CheckpointsEndAsItWas};
+ghost use Rattle.laws_house.specs.Laws.{JobsMeetTheirContract, RunStaysUncut, CheckpointsAreBrief, RestoresAreBrief, CheckpointsLeaveTheRest};
+ghost use Rattle.laws_house.specs.Laws.{CheckpointsEndAsItWas};
 ghost use Rattle.laws_house.specs.Laws.{CheckpointsSave, RestoresMake, SavedGoesOn};
 ghost use Rattle.laws_house.specs.Moves.{RestoresLeaveTheRest, JobsAreReady, JobsAskFitly, RestoresEndSo, LastCallIsKnown, GoneLeavesAll};
-ghost use Rattle.laws_house.specs.Parts.{PartsWork, PartsAreTidy};
-ghost use Rattle.laws_house.specs.Headline.{JobsNameUsersSlots, HeadlineHolds};
+ghost use Rattle.laws_house.specs.Parts.{PartsWork, PartsMeetTheContract};
+ghost use Rattle.laws_house.specs.Transparency.{JobsNameUsersSlots, RunsAreTransparent};
 ghost use Rattle.laws_house.specs.Places.{CheckpointsMoveSo, RestoresMoveSo, JobsEndClean, CheckpointsRelease, RestoresWantAnImage, RestoresWantTheirMaker};
 ghost use Rattle.laws_house.specs.Places.{GoneAtOnce, OccupiedAtOnce};
 
@@ -17,14 +18,14 @@ pub fn a_part_works<S, A, T, B>()
     ensures { PartsWork S A T B }
 {}
 
-/// What is tidy by itself is tidy as a part.
-pub fn a_part_is_tidy<S, A, T, B>()
-    ensures { PartsAreTidy S A T B }
+/// A machine that meets a job's contract by itself meets it as a part.
+pub fn a_part_meets_the_contract<S, A, T, B>()
+    ensures { PartsMeetTheContract S A T B }
 {}
 
 /// Jobs that name users' slots, as the reader of scenarios asks, are such as a run wants them.
-pub fn a_house_is_tidy<V>()
-    ensures { HouseIsTidy V }
+pub fn jobs_meet_their_contract<V>()
+    ensures { JobsMeetTheirContract V }
 {}
 
 /// Each world of a run that begins in a world that is nobody's cut is nobody's cut.
@@ -38,7 +39,7 @@ pub fn checkpoints_are_brief<V>()
     ensures { CheckpointsAreBrief V }
 {}
 
-/// And a restore at most 40 (n + 1) (d + 1), by its image.
+/// Ended or not, a restore of a run has made at most 40 (n + 1) (d + 1) of its moves, where its image has n bodies and pages, none deeper than d.
 pub fn restores_are_brief<V>()
     ensures { RestoresAreBrief V }
 {}
@@ -129,7 +130,7 @@ pub fn jobs_end_clean<V>()
     ensures { JobsEndClean V }
 {}
 
-/// And behind a checkpoint's nobody holds the space that it looked at.
+/// Behind a checkpoint's last move nobody holds the space that it looked at.
 pub fn checkpoints_release<V>()
     ensures { CheckpointsRelease V }
 {}
@@ -139,7 +140,7 @@ pub fn restores_want_an_image<V>()
     ensures { RestoresWantAnImage V }
 {}
 
-/// And where a checkpoint is to make it, exactly where that one isn't done.
+/// Where a checkpoint is to make the image of a restore, there is none exactly where that checkpoint isn't done.
 pub fn restores_want_their_maker<V>()
     ensures { RestoresWantTheirMaker V }
 {}
@@ -152,6 +153,6 @@ pub fn jobs_name_users_slots()
 /// All together, over any run from a first world that is grounded: its history is legal; each checkpoint and each restore ends as
 /// it should, by its own moves, at their places, and leaves the rest; and what was saved and made again goes on exactly as it would
 /// have.
-pub fn the_headline_holds<V>()
-    ensures { HeadlineHolds V }
+pub fn runs_are_transparent<V>()
+    ensures { RunsAreTransparent V }
 {}

@@ -15,11 +15,13 @@ use Rattle.fk_image.specs.declared.image.image.SpaceRec.{SpaceRec}
 use Rattle.fk_image.specs.Image.Links.{is_set_of}
 use Rattle.fk_image.specs.Format.Fields.{◌>>=◌}
 use Rattle.fk_image.specs.Format.Spelling.{link_bytes}
-use Rattle.fk_image.specs.Format.Offsets.{Named, with_peer, is_named, Walk, expect_at, peer_walk, port_walk, talk_walk, taker_walk, fault_walk, past, link_walk, thread_walk}
+use Rattle.fk_image.specs.Format.Offsets.{Named, with_peer, is_named, Walk, expect_at, peer_walk, port_walk, talk_walk, taker_walk, fault_walk, past, link_walk}
+use Rattle.fk_image.specs.Format.Offsets.{thread_walk}
 use Rattle.fk_image.specs.Format.Offsets.{set_walk, body_walk, objects_walk, space_walk, spaces_walk}
 use Rattle.fk_image.specs.Form.Holding.{PointerField}
 use Rattle.fk_image.specs.Form.Holding.PointerField.{Holder, MappedRegion, Keeper, Target, AtPort, Server}
-use Rattle.fk_image.specs.Form.Standing.{link_size, talk_size, taker_size, fault_size, talk_begins, fault_begins, body_size, object_size, objects_begin, space_size}
+use Rattle.fk_image.specs.Form.Standing.{link_size, talk_size, taker_size, fault_size, talk_begins, fault_begins, body_size, object_size, objects_begin}
+use Rattle.fk_image.specs.Form.Standing.{space_size}
 use Rattle.laws_image_faults.proofs.Holding.{may}
 
 -- ---- places, and what stands there

@@ -10,7 +10,8 @@ use Rattle.fk_image.specs.declared.image.image.Link.TheVariants.{Null, Dead, In,
 use Rattle.fk_image.specs.declared.image.image.ObjectRec.{ObjectRec}
 use Rattle.fk_image.specs.declared.image.image.SpaceRec.{SpaceRec}
 use Rattle.fk_image.specs.Image.Objects.{kind_in}
-use Rattle.fk_image.specs.Image.Links.{kind_in_space, lies_in, has_space_at, is_space_within, is_thread_kind, is_portset_kind, is_region_kind, is_port_kind, is_referable}
+use Rattle.fk_image.specs.Image.Links.{kind_in_space, lies_in, has_space_at, is_space_within, is_thread_kind, is_portset_kind, is_region_kind, is_port_kind}
+use Rattle.fk_image.specs.Image.Links.{is_referable}
 use Rattle.fk_image.specs.Image.Links.{may_hold, leads_to_region, leads_to_keeper, may_refer, leads_to_port, serves_port, is_set_of}
 use Rattle.fk_image.specs.Form.Order.{LiesIn, IsWithin, AreInOrder}
 use Rattle.fk_image.specs.Form.Holding.{PointerField, IsThere, IsReferable, MayHold, MayBeSet}

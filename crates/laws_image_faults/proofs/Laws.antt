@@ -1,5 +1,6 @@
 -- Laws: a fault that is told is the first, and what breaks the form is told.
-use Rattle.std.proofs.Common.{◌≡◌, ℕ, ◌-◌, ◌==◌, ◌&&◌, Bool, true, false, not, if◌then◌else◌, List, [], ◌∷◌, ◌++◌, length, Option, Some, None, Result, Ok, Err, refl, sym, ap, subst, ◌∙◌, arith}
+use Rattle.std.proofs.Common.{◌≡◌, ℕ, ◌-◌, ◌==◌, ◌&&◌, Bool, true, false, not, if◌then◌else◌, List, [], ◌∷◌, ◌++◌, length, Option, Some, None, Result, Ok, Err}
+use Rattle.std.proofs.Common.{refl, sym, ap, subst, ◌∙◌, arith}
 use Rattle.std.proofs.lemmas.Bool.{ne_eqb}
 use Rattle.std.proofs.lemmas.List.{length-append, append-nil}
 use Rattle.fk_image.specs.declared.image.image.Image.{Image}
@@ -83,7 +84,8 @@ module _ (bytes : List ℕ) where
   of_pointer new i (Some at) offset reason whole is told =
       let order = image-ordered bytes ((new, i), []) whole in
       subst (Says bytes offset) (same_reason at reasons.POINTER offset reason told)
-      (OfPointer offset new i (all_held (new, i) whole) (((wrong-first i.spaces order).0 offset).0 (is ∙ ap Some (same_offset at reasons.POINTER offset reason told))))
+      (OfPointer offset new i (all_held (new, i) whole)
+      (((wrong-first i.spaces order).0 offset).0 (is ∙ ap Some (same_offset at reasons.POINTER offset reason told))))
 
   of_rest : (i : Bool × Image) (rest : List ℕ) (offset reason : ℕ) → run image bytes ≡ Ok (i, rest) → (rest ≡ [] → ⊥) →
       ◌≡◌ {A = Result Image (ℕ × ℕ)} (Err (length bytes - length rest, reasons.LEFT_OVER)) (Err (offset, reason)) → Says bytes offset reason

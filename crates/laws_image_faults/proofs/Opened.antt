@@ -199,6 +199,6 @@ module _ (new : Bool) where
 pub image-ordered : (bytes : List ℕ) (x : (Bool × Image) × List ℕ) → run forms.image bytes ≡ Ok x → AreInOrder x.0.1.spaces
 unfolding forms.image run
 image-ordered bytes x is =
-    let head = run-parts forms.head _ bytes x is in
+    let head = run-parts forms.header _ bytes x is in
     let spaces = run-parts (many (forms.space head.0.0.0) with_space head.0.0.1 [] []) _ head.0.1 x head.2 in
     subst (λ (i : Bool × Image). AreInOrder i.1.spaces) (same_said _ _ _ _ spaces.2) (spaces-ordered head.0.0.0 head.0.0.1 head.0.1 spaces.0 spaces.1)

@@ -287,7 +287,8 @@ object_off new false floor slot bytes rest is = refl
 same-object : (new : Bool) (floor : ℕ) (bytes : List ℕ) → read_object new floor bytes ≡ run (forms.object new floor) bytes
 unfolding read_object forms.object
 same-object new floor bytes = below_then 240 bytes (object_rest new floor bytes)
-    ∙ go-byte (forms.is_slot_from floor) (λ b. (if nat_lt b.0 240 then Ok b else refuse_field bytes reasons.RANGE) >>= object_rest new floor bytes) (object_of new)
+    ∙ go-byte (forms.is_slot_from floor) (λ b. (if nat_lt b.0 240 then Ok b else refuse_field bytes reasons.RANGE) >>= object_rest new floor bytes)
+    (object_of new)
     slot_reason bytes
     (λ slot rest is. object_fits new (nat_lt slot 240) floor slot bytes rest is)
     (λ slot rest is. object_off new (nat_lt slot 240) floor slot bytes rest is)

@@ -15,10 +15,12 @@ use Rattle.fk_image.specs.declared.image.image.ObjectRec.{ObjectRec}
 use Rattle.fk_image.specs.declared.image.image.SpaceRec.{SpaceRec}
 use Rattle.fk_image.specs.Form.Holding.{PointerField}
 use Rattle.fk_image.specs.Form.Holding.PointerField.{Holder, MappedRegion, Keeper, Target, AtPort, Server}
-use Rattle.fk_image.specs.Form.Standing.{link_size, talk_size, taker_size, fault_size, talk_begins, fault_begins, body_size, object_size, objects_begin, space_size}
+use Rattle.fk_image.specs.Form.Standing.{link_size, talk_size, taker_size, fault_size, talk_begins, fault_begins, body_size, object_size, objects_begin}
+use Rattle.fk_image.specs.Form.Standing.{space_size}
 use Rattle.fk_image.specs.Form.Standing.{SpaceAt, ObjectAt, HasPointer}
 use Rattle.fk_image.specs.Form.Standing.HasPointer.{OfMapping, OfRegion, OfReference, TalkPort, TalkServer, FaultPort, FaultTaker}
-use Rattle.laws_image_faults.proofs.Events.{What, Event, event, talk_events, taker_events, fault_events, body_events, objects_events, space_events, spaces_events}
+use Rattle.laws_image_faults.proofs.Events.{What, Event, event, talk_events, taker_events, fault_events, body_events, objects_events, space_events}
+use Rattle.laws_image_faults.proofs.Events.{spaces_events}
 use Rattle.laws_image_faults.proofs.Events.What.{Points, Sets}
 use Rattle.laws_image_faults.proofs.Judged.{Among, among-first, among-behind, among-cons, among-none, among-append, Rises, rises-append}
 use Rattle.laws_image_faults.proofs.Judged.Among.{Here, Later}

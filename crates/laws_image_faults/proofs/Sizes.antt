@@ -15,7 +15,8 @@ use Rattle.fk_image.specs.declared.image.image.Rec.TheVariants.{Mutex, Cond, Por
 use Rattle.fk_image.specs.declared.image.image.ObjectRec.{ObjectRec}
 use Rattle.fk_image.specs.declared.image.image.PageRec.{PageRec}
 use Rattle.fk_image.specs.Image.Ranges.{is_word, are_words, fits_body, fits_talk, fits_fault, is_mode_byte, is_byte, is_code, is_half}
-use Rattle.fk_image.specs.Format.Spelling.{link_bytes, words_bytes, talk_bytes, taker_bytes, fault_bytes, thread_bytes, body_bytes, object_bytes, page_bytes, contents_bytes}
+use Rattle.fk_image.specs.Format.Spelling.{link_bytes, words_bytes, talk_bytes, taker_bytes, fault_bytes, thread_bytes, body_bytes, object_bytes, page_bytes}
+use Rattle.fk_image.specs.Format.Spelling.{contents_bytes}
 use Rattle.fk_image.specs.Form.Standing.{link_size, talk_size, taker_size, fault_size, fault_begins, body_size, object_size}
 use Rattle.fk_image.specs.Form.Formed.{Each, IsObject, IsPage}
 use Rattle.fk_image.proofs.InFormat.Basics.{and2, wide16, wide32, wide64}

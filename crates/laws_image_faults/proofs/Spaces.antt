@@ -13,7 +13,8 @@ use Rattle.fk_image.specs.declared.image.open.Open.{Open}
 use Rattle.fk_image.specs.Image.Ranges.{is_slot, is_byte, is_half, are_words, fits_link, fits_body}
 use Rattle.fk_image.specs.Image.Preorder.{room_under, has_room, root_path, path_after, after_space}
 use Rattle.fk_image.specs.Image.Links.{kind_in_space}
-use Rattle.fk_image.specs.Image.Valid.{all_from, after_object, after_page, fits_object, fits_page, fits_objects, fits_pages, is_null, is_first, is_next, fits_space, fits_spaces}
+use Rattle.fk_image.specs.Image.Valid.{all_from, after_object, after_page, fits_object, fits_page, fits_objects, fits_pages, is_null, is_first, is_next}
+use Rattle.fk_image.specs.Image.Valid.{fits_space, fits_spaces}
 use Rattle.fk_image.specs.Form.Order.{Follows, AreInOrder}
 use Rattle.fk_image.specs.Form.Formed.{Each, Rises, IsObject, IsPage, IsSpace, IsRoot, AreSpaces}
 use Rattle.fk_image.proofs.InFormat.Basics.{both, and2, and3, and5, all3, all5, not_true, not_false}

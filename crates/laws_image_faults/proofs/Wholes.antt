@@ -180,7 +180,8 @@ same-version bytes = version_then bytes ∙ go-number forms.is_version (λ versi
     fits n rest is = by (n == 1) refl (n == 2) refl is
       where
         by : (one : Bool) → (n == 1) ≡ one → (two : Bool) → (n == 2) ≡ two → (one || two) ≡ true →
-            ((if one then Ok (false, rest) else if two then Ok (true, rest) else refuse_field bytes reasons.VERSION) >>= count_read) ≡ run (forms.count_of two) rest
+            ((if one then Ok (false, rest) else if two then Ok (true, rest) else refuse_field bytes reasons.VERSION) >>= count_read) ≡ run
+            (forms.count_of two) rest
         by true first true second is = let no = other n first in absurd (cc)
         by true first false second is = same-count false rest
         by false first true second is = same-count true rest
@@ -196,8 +197,8 @@ same-version bytes = version_then bytes ∙ go-number forms.is_version (λ versi
         by false true is = absurd (cc)
         by false false is = refl
 
-same-head : (bytes : List ℕ) → read_head bytes ≡ run forms.head bytes
-unfolding read_head forms.head run ◌>>>◌ field_at
+same-head : (bytes : List ℕ) → read_head bytes ≡ run forms.header bytes
+unfolding read_head forms.header run ◌>>>◌ field_at
 same-head bytes = by (nat_lt (length bytes) 8) (pointwise nat_eq (take 8 bytes) magic)
   where
     by : (t u : Bool) → (expect (not t) bytes reasons.CUT >>= λ _. expect u bytes reasons.MAGIC >>= λ _. read_version (drop 8 bytes) >>= count_read)
@@ -234,7 +235,7 @@ image_is bytes = by (read_head bytes)
 
 pub same-image : (bytes : List ℕ) → spaces_read bytes ≡ run forms.image bytes
 unfolding forms.image run
-same-image bytes = go (read_head bytes) _ forms.head _ bytes (same-head bytes)
+same-image bytes = go (read_head bytes) _ forms.header _ bytes (same-head bytes)
     (λ head. go (read_many (read_space head.0.0) after_space head.0.1 ([], root_path) [] head.1) _
     (forms.many (forms.space head.0.0) forms.with_space head.0.1 [] []) _ head.1
     (same-many (read_space head.0.0) (opened.space head.0.0) after_space (same-space head.0.0) head.0.1 ([], root_path) [] head.1

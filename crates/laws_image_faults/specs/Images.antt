@@ -1,6 +1,7 @@
 -- The form of an image: its fields from left to right, each with what it may hold and the reason where it holds something else. Where
 -- pointers lead isn't asked, nor whether a count can be filled.
-use Rattle.std.specs.Prelude.{ℕ, zero, suc, Bool, true, not, ◌&&◌, ◌||◌, ◌-◌, ◌==◌, nat_lt, nat_eq, List, [], ◌∷◌, ◌++◌, length, drop, Option, Some, None, is_some, if◌then◌else◌}
+use Rattle.std.specs.Prelude.{ℕ, zero, suc, Bool, true, not, ◌&&◌, ◌||◌, ◌-◌, ◌==◌, nat_lt, nat_eq, List, [], ◌∷◌, ◌++◌, length, drop, Option, Some, None}
+use Rattle.std.specs.Prelude.{is_some, if◌then◌else◌}
 use Rattle.std.specs.Prelude.{slice_index}
 use Rattle.std.specs.List.{list_all}
 use Rattle.std.specs.Cmp.Lexicographic.{pointwise}
@@ -272,14 +273,14 @@ abbrev pub count_of : Bool → Form (Bool × ℕ)
 count_of new = number w32 is_some_number >>= λ count. Whole (new, count)
 
 -- whether it is the new version, and how many spaces there are
-unfoldable pub head : Form (Bool × ℕ)
-head = do
+unfoldable pub header : Form (Bool × ℕ)
+header = do
   _ ← begins
   version ← number_for reasons.VERSION w16 is_version
   count_of (version == 2)
 
 unfoldable pub image : Form (Bool × Image)
 image = do
-  head ← head
+  head ← header
   spaces ← many (space head.0) with_space head.1 [] []
   Whole (head.0, record { spaces = spaces })

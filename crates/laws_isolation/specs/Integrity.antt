@@ -28,6 +28,7 @@ pub record IsUntouched (w : World) (nester : Path) (slot : ℕ) (e : Event) : Ty
   pub plain : IsPlain (after w e) nester slot
   pub same : cut (after w e) nester slot ≡ cut w nester slot
 
+-- a ready move of a stranger isn't seen by a plain subtree, which stays plain, and its cut stays as it was. No mapping outside may lead to a region inside
 abbrev pub StrangersLeaveTheCut : Type 0
 StrangersLeaveTheCut = (w : World) (nester : Path) (slot : ℕ) (e : Event) → IsWhole w → IsPlain w nester slot → HasNoWindow w nester slot →
     is_fit w e.mover e.ask ≡ true → IsReady w e.mover e.pick e.ask → IsStrangersMove w nester slot e → IsUntouched w nester slot e
@@ -40,6 +41,7 @@ AreStrangersMoves nester slot w [] = Unit {0}
 AreStrangersMoves nester slot w (e ∷ es) =
     IsReady w e.mover e.pick e.ask × HasNoWindow w nester slot × IsStrangersMove w nester slot e × AreStrangersMoves nester slot (after w e) es
 
+-- after strangers' moves alone the subtree is plain, and its cut is what it was
 abbrev pub StrangersRunsLeaveTheCut : Type 0
 StrangersRunsLeaveTheCut = (w : World) (nester : Path) (slot : ℕ) (es : List Event) → IsRunnable w → w.next + length es ≤ depth → AreProper w es →
     IsPlain w nester slot → AreStrangersMoves nester slot w es → IsPlain (run w es) nester slot × (cut (run w es) nester slot ≡ cut w nester slot)

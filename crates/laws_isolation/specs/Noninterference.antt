@@ -37,6 +37,8 @@ pub record IsTheSameInBoth (w v : World) (nester other : Path) (slot place : ℕ
   pub in_other : Tells v other place fs came told
   pub cuts : cut (run w es) nester slot ≡ cut (run v fs) other place
 
+-- if two plain subtrees, of two worlds or of one, have the same cut, and see the same moves, they tell the outside the same and end in the same cut, whatever
+-- else goes on in their worlds
 abbrev pub Noninterference : Type 0
 Noninterference = (w v : World) (nester other : Path) (slot place : ℕ) (es fs : List Event) (came : List Onward) →
     IsWatchedRun w nester slot es came → IsWatchedRun v other place fs came → cut w nester slot ≡ cut v other place →

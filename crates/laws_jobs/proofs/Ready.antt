@@ -21,9 +21,9 @@ use Rattle.fk_model.proofs.walks.PlaceLaws.{same_path_refl, strip_some, strip-ap
 use Rattle.laws_moves.specs.Frozen.Holding.{IsHolding}
 use Rattle.laws_moves.proofs.InFrozen.Holding.{decider_none}
 use Rattle.laws_jobs.specs.Machines.{porter}
-use Rattle.laws_jobs.specs.Calls.{IsCalm, CalmCallIsReady}
+use Rattle.laws_jobs.specs.Calls.{IsUnheldOutside, UnheldCallIsReady}
 
-module _ (nester : Path) (slot : ℕ) (w : World) (holding : IsHolding nester slot w) (calm : IsCalm (slot ∷ nester) w) where
+module _ (nester : Path) (slot : ℕ) (w : World) (holding : IsHolding nester slot w) (calm : IsUnheldOutside (slot ∷ nester) w) where
   abbrev root : Path
   root = slot ∷ nester
 
@@ -117,5 +117,5 @@ module _ (nester : Path) (slot : ℕ) (w : World) (holding : IsHolding nester sl
       by (Some (Reference to)) h = cc
       by None h = cc
 
-pub calm_call_ready : CalmCallIsReady
-calm_call_ready nester slot w stage words changes said holding calm row = ready nester slot w holding calm stage words changes said row
+pub unheld_call_ready : UnheldCallIsReady
+unheld_call_ready nester slot w stage words changes said holding calm row = ready nester slot w holding calm stage words changes said row

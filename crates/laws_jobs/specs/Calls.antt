@@ -47,10 +47,10 @@ CallIsItsRow = (nester : Path) (w : World) (stage : Stage) (words : List ℕ) (c
 -- ---- readiness
 
 -- no space outside the subtree is held
-abbrev pub IsCalm : Path → World → Type 0
-IsCalm root w = (y : Path) → is_within root y ≡ false → holder_of (w.body y) ≡ None
+abbrev pub IsUnheldOutside : Path → World → Type 0
+IsUnheldOutside root w = (y : Path) → is_within root y ≡ false → holder_of (w.body y) ≡ None
 
 -- a call that comes to something is ready where nothing outside the porter's own subtree is held
-abbrev pub CalmCallIsReady : Type 0
-CalmCallIsReady = (nester : Path) (slot : ℕ) (w : World) (stage : Stage) (words : List ℕ) (changes : List Change) (said : Said) → IsHolding nester slot w →
-    IsCalm (slot ∷ nester) w → call_row w (porter nester words) None stage ≡ Goes changes said → IsReadyAt w (call_of nester stage words)
+abbrev pub UnheldCallIsReady : Type 0
+UnheldCallIsReady = (nester : Path) (slot : ℕ) (w : World) (stage : Stage) (words : List ℕ) (changes : List Change) (said : Said) → IsHolding nester slot w →
+    IsUnheldOutside (slot ∷ nester) w → call_row w (porter nester words) None stage ≡ Goes changes said → IsReadyAt w (call_of nester stage words)

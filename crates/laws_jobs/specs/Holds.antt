@@ -62,5 +62,6 @@ pub record Released (nester : Path) (slot : ℕ) (w : World) : Type 0 where
   pub unheld : holder_of ((released_world nester slot w).body (slot ∷ nester)) ≡ None
   pub cut : cut (released_world nester slot w) nester slot ≡ cut w nester slot
 
+-- a release of what the porter holds is done, and leaves the cut
 abbrev pub ReleaseComesTo : Type 0
 ReleaseComesTo = (nester : Path) (slot : ℕ) (w : World) → IsHolding nester slot w → IsReadyAt w (release nester slot) → Released nester slot w

@@ -27,7 +27,7 @@ pub record HasPorter (v : World) (nester : Path) (birth : ℕ) : Type 0 where
   pub named : birth_at v nester ≡ Some birth
 
 -- what a job's own law gives to the run in which the job works. Its later worlds are sound, as those of each interleaving
-pub record IsTidyJob {S A : Type 0} (m : Machine S A) (birth : ℕ) (s : S) : Type 0 where
+pub record MeetsContract {S A : Type 0} (m : Machine S A) (birth : ℕ) (s : S) : Type 0 where
   -- its first call is owed
   pub first : (w : World) (nester : Path) → MayBegin w nester birth → (stage : Stage) (words : List ℕ) → m.head s ≡ Asks stage words →
       IsOwedCall w nester stage words

@@ -113,10 +113,12 @@ pub record IsOwedCall (w : World) (nester : Path) (stage : Stage) (words : List 
 
 -- ---- an interleaving goes on at its end, by a move of others or by its machine's next call, where what comes of it is sound
 
+-- a job at work goes on with each move of another, where the world after it is sound
 abbrev pub GoesOnByOthers : Type 0 → Type 0 → Type 0
 GoesOnByOthers S A = (m : Machine S A) (nester : Path) (w : World) (s : S) (v : World) (t : S) (e : Event) → AtWork m nester w s v t → IsAtCall m t →
     IsUsersMove nester v e → IsSound (after v e) → AtWork m nester w s (after v e) t
 
+-- a job at work goes on with its own next call, where the world after it is sound
 abbrev pub GoesOnByOwn : Type 0 → Type 0 → Type 0
 GoesOnByOwn S A = (m : Machine S A) (nester : Path) (w : World) (s : S) (v : World) (t : S) (stage : Stage) (words : List ℕ) → AtWork m nester w s v t →
     m.head t ≡ Asks stage words → IsReadyAt v (call_of nester stage words) → IsSound (after v (call_of nester stage words)) →

@@ -7,7 +7,7 @@
 
 ghost use Rattle.laws_jobs.specs.Machines.{GoesOnByOthers, GoesOnByOwn, NowIsSound};
 ghost use Rattle.laws_jobs.specs.Nesters.{UsersFillLow, NesterStays};
-ghost use Rattle.laws_jobs.specs.Calls.{CallIsItsRow, CalmCallIsReady};
+ghost use Rattle.laws_jobs.specs.Calls.{CallIsItsRow, UnheldCallIsReady};
 ghost use Rattle.laws_jobs.specs.Holds.{HoldComesTo, ReleaseComesTo};
 ghost use Rattle.laws_jobs.specs.Leads.{OthersKeepLeads, OthersKeepUnled, OthersKeepOpenPlace, OwnKeepOpenPlace, HoldKeepsOpenPlace, CountsTell};
 ghost use Rattle.laws_jobs.specs.Leads.{ReferenceGoesAlone};
@@ -56,7 +56,7 @@ pub fn own_changes_keep_the_open_place()
     ensures { OwnKeepOpenPlace }
 {}
 
-/// So does the hold itself.
+/// A porter's hold of a subtree keeps the place where that isn't closed.
 pub fn a_hold_keeps_the_open_place()
     ensures { HoldKeepsOpenPlace }
 {}
@@ -67,8 +67,8 @@ pub fn a_call_is_its_row()
 {}
 
 /// A call that comes to something is ready where nothing outside the porter's subtree is held.
-pub fn a_calm_call_is_ready()
-    ensures { CalmCallIsReady }
+pub fn an_unheld_call_is_ready()
+    ensures { UnheldCallIsReady }
 {}
 
 /// A ready hold of a porter without scratch is done exactly where a space stands in the slot; the

@@ -21,7 +21,7 @@ use Rattle.laws_moves.proofs.InFrozen.Holding.{others_keep_hold}
 use Rattle.laws_moves.specs.Savable.Savable.{IsSound}
 use Rattle.laws_moves.proofs.InMachine.validity.Edits.{outline-edited}
 use Rattle.laws_moves.proofs.InMachine.validity.Kills.{outline-without}
-use Rattle.laws_jobs.specs.Calls.{IsCalm}
+use Rattle.laws_jobs.specs.Calls.{IsUnheldOutside}
 use Rattle.laws_jobs.specs.Machines.{no_words, call_of, IsReadyAt, Interleaved, own_moves}
 use Rattle.laws_jobs.specs.Machines.Head.{Stops}
 use Rattle.laws_jobs.specs.Machines.Interleaved.{Here, Another, Own}
@@ -219,7 +219,7 @@ module _ (nester : Path) (slot birth : ℕ) where
       let here = left_own w sound (subst (IsReadyAt w) (sym same) ready) more (subst (λ (e : Event). IsSound (after w e)) (sym same) later) left in
       still_left (after w (call_of nester stage words)) v es more less (subst (λ (e : Event). IsLeft (after w e) more) same here) rest
 
-  pub left_ready : (v : World) (more : ℕ) → IsSound v → IsCalm root v → IsLeft v more → IsReadyAt v (destroying nester slot)
+  pub left_ready : (v : World) (more : ℕ) → IsSound v → IsUnheldOutside root v → IsLeft v more → IsReadyAt v (destroying nester slot)
   left_ready v more sound calm left = calm_ready nester slot v sound.whole.valid left.xs left.emptied calm
 
 pub subtree_is_destroyed : SubtreeIsDestroyed

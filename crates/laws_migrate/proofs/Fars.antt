@@ -30,7 +30,7 @@ use Rattle.laws_restore.specs.Restore.Restore as restores
 use Rattle.laws_restore.specs.Restore.Restore.{objects, looked_at}
 use Rattle.laws_restore.specs.Restore.Script.{script}
 use Rattle.laws_restore.proofs.InRestore.Coming.{Came, came}
-use Rattle.laws_restore.proofs.InRestore.Owing.{is_tidy}
+use Rattle.laws_restore.proofs.InRestore.Owing.{meets_contract}
 use Rattle.laws_restore.specs.Rooms.Rooms.{rooms_of}
 use Rattle.laws_restore.specs.Rooms.Restoring.{bound_by, restore_of}
 use Rattle.laws_restore.proofs.InRooms.Restored.{roomed, image_restore_ends_so}
@@ -429,7 +429,7 @@ module _ (P : Type 0) (slot : ℕ) (low : slot ≤ LAST_USER_SLOT) where
       → Worked image w v s n → restores.head slot s ≡ Asks stage words → IsReadyAt v (call_of top stage words) → HasRoom v
       → Worked image w (after v (call_of top stage words)) (heard (machine image) s (said_of v (call_of top stage words))) (suc n)
   worked_own image valid n w v s stage words began work e ready room =
-      let tidy = is_tidy slot began.birth (bound_by []) (picture image) (rooms_of image) low (roomed slot image [] (image_job slot low image valid)) in
+      let tidy = meets_contract slot began.birth (bound_by []) (picture image) (rooms_of image) low (roomed slot image [] (image_job slot low image valid)) in
       let owed = tidy.later w top v s began.may work.work stage words e in
       count_goes_on (machine image) top w restores.Makes v s stage words n work e ready (owed_sound slot low v stage words owed
       (worked_sound image w v s n work) room)
@@ -445,7 +445,7 @@ module _ (P : Type 0) (slot : ℕ) (low : slot ≤ LAST_USER_SLOT) where
       → Worked image w v s n → made s ≡ goes s → IsCopy w v → restores.head slot s ≡ Asks stage words → IsReadyAt v (call_of top stage words) → HasRoom v
       → Lands image w (after v (call_of top stage words)) (heard (machine image) s (said_of v (call_of top stage words)))
   own_lands image valid n w v s stage words began work going copy asks ready room =
-      let tidy = is_tidy slot began.birth (bound_by []) (picture image) (rooms_of image) low (roomed slot image [] (image_job slot low image valid)) in
+      let tidy = meets_contract slot began.birth (bound_by []) (picture image) (rooms_of image) low (roomed slot image [] (image_job slot low image valid)) in
       let owed = tidy.later w top v s began.may work.work stage words asks in
       let sound = worked_sound image w v s n work in
       let on = worked_own image valid n w v s stage words began work asks ready room in
@@ -492,7 +492,7 @@ module _ (P : Type 0) (slot : ℕ) (low : slot ≤ LAST_USER_SLOT) where
       → Comes image 0 v v (restores.head slot restores.Makes) restores.Makes
   first_comes image valid v began empty ready room =
       let e = call_of top (SpaceMakeHeld slot) no_words in
-      let tidy = is_tidy slot began.birth (bound_by []) (picture image) (rooms_of image) low (roomed slot image [] (image_job slot low image valid)) in
+      let tidy = meets_contract slot began.birth (bound_by []) (picture image) (rooms_of image) low (roomed slot image [] (image_job slot low image valid)) in
       let owed = tidy.first v top began.may _ _ refl in
       let on : Worked image v (after v e) (heard (machine image) restores.Makes (said_of v e)) 1 =
       count_begins (machine image) top v restores.Makes _ _ refl ready (owed_sound slot low v _ _ owed empty.sound room) in

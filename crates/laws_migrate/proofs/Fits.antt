@@ -9,11 +9,11 @@ use Rattle.fk_image.specs.Image.Picture.{picture}
 use Rattle.laws_jobs.specs.Machines.{Head}
 use Rattle.laws_jobs.specs.Machines.Head.{Asks}
 use Rattle.laws_checkpoint.specs.Checkpoint as checks
-use Rattle.laws_checkpoint.proofs.Ended.{checkpoint_is_tidy}
+use Rattle.laws_checkpoint.proofs.Ended.{checkpoint_meets_contract}
 use Rattle.laws_restore.specs.Restore.Restore as restores
 use Rattle.laws_restore.specs.Rooms.Rooms.{rooms_of}
 use Rattle.laws_restore.specs.Rooms.Restoring.{bound_by}
-use Rattle.laws_restore.proofs.InRestore.Owing.{is_tidy}
+use Rattle.laws_restore.proofs.InRestore.Owing.{meets_contract}
 use Rattle.laws_restore.proofs.InRooms.Restored.{roomed}
 use Rattle.laws_handover.specs.NearSide.{Near}
 use Rattle.laws_handover.specs.FarSide.{Far}
@@ -41,7 +41,7 @@ module _ (P : Type 0) (slot : ℕ) (low : slot ≤ LAST_USER_SLOT) where
   near_fit _ _ v _ (NearAt.Fresh _ fresh) = first_near slot v
   near_fit _ _ v _ (NearAt.Saving n w _ s began work going works) =
       asked_so v (checks.head slot s) works.0 works.1 works.2
-      ((checkpoint_is_tidy slot began.birth low).later w top v s began.may work.work works.0 works.1 works.2).proper.fit
+      ((checkpoint_meets_contract slot began.birth low).later w top v s began.may work.work works.0 works.1 works.2).proper.fit
   near_fit _ _ v _ (NearAt.Waiting n w _ image began work) = tt
   near_fit _ _ v _ (NearAt.Clearing n w _ image more number m u began of named sound left before spends) = tt
   near_fit _ _ v _ (NearAt.Cleared n w _ image number m u began of named sound spent before spends) = tt
@@ -53,7 +53,7 @@ module _ (P : Type 0) (slot : ℕ) (low : slot ≤ LAST_USER_SLOT) where
       → IsCallFit v (restores.head slot s)
   makes_fit image _ _ v _ (MakesAt.Begins _ valid empty) = first_far slot v
   makes_fit image _ _ v _ (MakesAt.Goes_on n w _ s valid began work going works copy) =
-      let tidy = is_tidy slot began.birth (bound_by []) (picture image) (rooms_of image) low (roomed slot image [] (image_job slot low image valid)) in
+      let tidy = meets_contract slot began.birth (bound_by []) (picture image) (rooms_of image) low (roomed slot image [] (image_job slot low image valid)) in
       asked_so v (restores.head slot s) works.0 works.1 works.2 (tidy.later w top v s began.may work.work works.0 works.1 works.2).proper.fit
 
   far_fit : (n : ℕ) (o : Option World) (v : World) (f : Far Job Image P Why) → FarAt P slot low n o v f → IsFarFit slot v f

@@ -59,7 +59,7 @@ use Rattle.laws_checkpoint.proofs.Working.Phase.{AtFirst, AtSecond, AtThird, AtW
 use Rattle.laws_checkpoint.proofs.Working.Phase.{AtOver}
 use Rattle.laws_checkpoint.proofs.Ended.{Came, came}
 use Rattle.laws_checkpoint.proofs.Ended.Came.{NeverHeld, InPhase}
-use Rattle.laws_checkpoint.proofs.Ended.{checkpoint_is_tidy}
+use Rattle.laws_checkpoint.proofs.Ended.{checkpoint_meets_contract}
 use Rattle.laws_checkpoint.proofs.Imaged.{in_cut}
 use Rattle.laws_restore.specs.Restore.Restore.{objects}
 use Rattle.laws_restore.specs.Rooms.Rooms.{rooms_of}
@@ -432,7 +432,7 @@ module _ (slot : ℕ) (low : slot ≤ LAST_USER_SLOT) where
       → IsReadyAt v (call_of top stage words) → HasRoom v
       → Worked w (after v (call_of top stage words)) (heard (checkpoint slot) s (said_of v (call_of top stage words))) (suc n)
   worked_own n w v s stage words began work e ready room =
-      let owed = (checkpoint_is_tidy slot began.birth low).later w top v s began.may work.work stage words e in
+      let owed = (checkpoint_meets_contract slot began.birth low).later w top v s began.may work.work stage words e in
       let sound = now_sound (checkpoint slot) top w checks.Holds v s work.work in
       count_goes_on (checkpoint slot) top w checks.Holds v s stage words n work e ready (owed_sound v stage words owed sound room)
 
@@ -450,7 +450,7 @@ module _ (slot : ℕ) (low : slot ≤ LAST_USER_SLOT) where
       (saved_so (checked (told (checkpoint slot) v checks.Holds (checks.head slot checks.Holds))))
   first_own v fresh ready room =
       let began = began_from v fresh in
-      let owed = (checkpoint_is_tidy slot began.birth low).first v top began.may _ _ refl in
+      let owed = (checkpoint_meets_contract slot began.birth low).first v top began.may _ _ refl in
       lands 1 v _ _ began (count_begins (checkpoint slot) top v checks.Holds _ _ refl ready (owed_sound v _ _ owed fresh.sound room))
       (λ image is. not_done slot checks.Holds _ [] image refl is)
 

@@ -21,7 +21,7 @@ use Rattle.fk_model.specs.Outcomes.Outcome.{Waits, Goes}
 use Rattle.fk_model.specs.Moves.{closed, with_pick, call_row, porter_move, outcome, GoesAllowed}
 use Rattle.fk_image.specs.declared.image.image.Image.{Image}
 use Rattle.fk_image.specs.Image.Picture.{picture}
-use Rattle.laws_jobs.specs.Calls.{IsCalm}
+use Rattle.laws_jobs.specs.Calls.{IsUnheldOutside}
 use Rattle.laws_jobs.specs.Machines.{Head, porter, no_words, call_of, IsReadyAt}
 use Rattle.laws_jobs.specs.Machines.Head.{Asks}
 use Rattle.laws_checkpoint.specs.Checkpoint as checks
@@ -53,7 +53,7 @@ use Rattle.laws_migrate.proofs.Migrates.{stands_here, exactly}
 -- ---- the first call of a restore
 
 module _ (slot : ℕ) (v : World) (low : slot ≤ LAST_USER_SLOT) (native : holds is_native (v.body (LAST_PORTER_SLOT ∷ top)) ≡ true)
-    (calm : IsCalm (slot ∷ top) v) where
+    (calm : IsUnheldOutside (slot ∷ top) v) where
   abbrev root : Path
   root = slot ∷ top
 
@@ -141,7 +141,8 @@ module _ {P : Type 0} (codec : Codec Image P) (slot : ℕ) (low : slot ≤ LAST_
       → IsCalled u h
   called_by u h stage words e ready = subst (IsCalled u) (sym e) ready
 
-  near_ready : (c : ℕ) (o : Option World) (u : World) (n : Near checks.State Image Why) → NearAt slot low c o u n → (o ≡ None → ⊥) → IsCalm (slot ∷ top) u
+  near_ready : (c : ℕ) (o : Option World) (u : World) (n : Near checks.State Image Why) → NearAt slot low c o u n → (o ≡ None → ⊥) → IsUnheldOutside
+      (slot ∷ top) u
       → near_asks n ≡ true → IsNearReady slot u n
   near_ready _ _ u _ (NearAt.Saving n w _ s began work going works) held calm asks =
       called_by u (checks.head slot s) works.0 works.1 works.2
@@ -158,7 +159,7 @@ module _ {P : Type 0} (codec : Codec Image P) (slot : ℕ) (low : slot ≤ LAST_
   near_ready _ _ u _ (NearAt.Failed n w x _ end why began work is sound) held calm asks = cc
 
   makes_ready : (image : Image) (n : ℕ) (o : Option World) (u : World) (s : restores.State) → MakesAt P slot low image n o u s
-      → (is_first s ≡ true → HasPorter u) → IsCalm (slot ∷ top) u → IsCalled u (restores.head slot s)
+      → (is_first s ≡ true → HasPorter u) → IsUnheldOutside (slot ∷ top) u → IsCalled u (restores.head slot s)
   makes_ready image _ _ u _ (MakesAt.Begins _ valid empty) native calm = first_is_ready slot u low (native refl) calm
   makes_ready image n _ u _ (MakesAt.Goes_on _ w _ s valid began work going works copy) native calm =
       called_by u (restores.head slot s) works.0 works.1 works.2
@@ -167,7 +168,7 @@ module _ {P : Type 0} (codec : Codec Image P) (slot : ℕ) (low : slot ≤ LAST_
       began.may work.work works.2 calm)
 
   far_ready : (n : ℕ) (o : Option World) (u : World) (f : Far Job Image P Why) → FarAt P slot low n o u f → (is_unmade f ≡ true → HasPorter u)
-      → IsCalm (slot ∷ top) u → far_asks f ≡ true → IsFarReady slot u f
+      → IsUnheldOutside (slot ∷ top) u → far_asks f ≡ true → IsFarReady slot u f
   far_ready _ _ u _ (FarAt.Making n o _ image s makes) native calm asks = makes_ready image n o u s makes native calm
   far_ready _ _ u _ (FarAt.Undoing n o _ image s makes) native calm asks = makes_ready image n o u s makes native calm
   far_ready _ _ u _ (FarAt.Releasing n w _ image stands) native calm asks =

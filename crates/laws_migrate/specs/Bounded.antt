@@ -14,6 +14,7 @@ abbrev pub NearIsBounded : Type 0 → Type 0
 NearIsBounded P = (codec : Codec Image P) (slot : ℕ) (w v : World) (es : List (Step codec slot)) (h : World) (d : ℕ) → Happens codec slot w v es h →
     LiesWithin (cut h top slot) d → counted_from is_near_own 0 es ≤ 101 * ((count_of (cut h top slot) + 1) * (d + 1))
 
+-- ended or not, the far porter makes at most 41 (n + 1) (d + 1) calls
 abbrev pub FarIsBounded : Type 0 → Type 0
 FarIsBounded P = (codec : Codec Image P) (slot : ℕ) (w v : World) (es : List (Step codec slot)) (h : World) (d : ℕ) → Happens codec slot w v es h →
     LiesWithin (cut h top slot) d → counted_from is_far_own 0 es ≤ 41 * ((count_of (cut h top slot) + 1) * (d + 1))

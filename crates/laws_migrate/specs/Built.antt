@@ -27,6 +27,7 @@ pub record Built (nester : Path) (slot : ℕ) (image : Image) (v : World) : Type
   pub same : cut v nester slot ≡ picture image
   pub may_clear : MayClear nester slot number (picture image) v
 
+-- where only the release is left of a restore its copy stands, held, and such as its porter can destroy
 abbrev pub BuiltIsCopy : Type 0
 BuiltIsCopy = (slot birth : ℕ) (image : Image) (w v : World) (nester : Path) → IsRestoreJob slot image [] → MayBegin w nester birth →
     AtWork (restore_of slot image []) nester w Makes v (Works []) → Built nester slot image v

@@ -8,7 +8,7 @@ use Rattle.fk_model.specs.Runs.{Event}
 use Rattle.fk_model.specs.Valid.{birth_at}
 use Rattle.fk_model.specs.World.{World}
 use Rattle.laws_moves.specs.Frozen.Holding.{IsHolding}
-use Rattle.laws_jobs.specs.Calls.{IsCalm}
+use Rattle.laws_jobs.specs.Calls.{IsUnheldOutside}
 use Rattle.laws_jobs.specs.Machines.{no_words, Head, Machine, call_of, IsReadyAt, Interleaved, own_moves}
 use Rattle.laws_jobs.specs.Machines.Head.{Stops, Asks}
 use Rattle.laws_restore.specs.Restore.Restore.{objects}
@@ -56,5 +56,5 @@ SubtreeIsDestroyed = (nester : Path) (slot birth : ℕ) (bind : ℕ → ℕ) (c 
 abbrev pub ClearingIsReady : Type 0
 ClearingIsReady = (nester : Path) (slot birth : ℕ) (bind : ℕ → ℕ) (c : World) (rooms : List Room) (w v : World) (es : List Event)
     (more : ℕ) → IsRoomed bind c rooms →
-    MayClear nester slot birth c w → Interleaved (clearing slot) nester w (Left (objects rooms)) es v (Left more) → IsCalm (slot ∷ nester) v →
+    MayClear nester slot birth c w → Interleaved (clearing slot) nester w (Left (objects rooms)) es v (Left more) → IsUnheldOutside (slot ∷ nester) v →
     IsReadyAt v (destroying nester slot)

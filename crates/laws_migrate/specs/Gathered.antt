@@ -33,6 +33,8 @@ pub record Gathered (w : World) (nester : Path) (slot number : ℕ) (image : Ima
   pub same : cut v nester slot ≡ cut w nester slot
   pub may_clear : MayClear nester slot number (picture image) v
 
+-- where only the release is left of a checkpoint that will be done, its image is valid and is the picture of the subtree at the hold, which is closed, as it
+-- was, held, and such as its porter can destroy
 abbrev pub GatheredImageIsSubtree : Type 0
 GatheredImageIsSubtree = (slot birth number : ℕ) (w v : World) (nester : Path)
     (image : Image) → slot ≤ LAST_USER_SLOT → MayBegin w nester birth → MaySave w nester slot →

@@ -16,6 +16,7 @@ valid_image (Err fault) = None
 abbrev pub read_bytes : List ℕ → Option Image
 read_bytes bytes = valid_image (image_reading bytes)
 
+-- how an image goes in pieces: its spelling in blocks, and back
 abbrev pub image_codec : Codec Image Piece
 image_codec = codec spelling read_bytes
 

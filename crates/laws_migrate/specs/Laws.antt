@@ -78,6 +78,7 @@ SaysWhy h slot Dead = IsSpaceAt h (slot ∷ top) → ⊥
 SaysWhy h slot (Foreign place) = IsSpaceAt h (slot ∷ top) × (open_place h top slot ≡ Some place)
 SaysWhy h slot other = ⊥
 
+-- a checkpoint that has failed says why, as it was at the hold
 abbrev pub FailedSaysWhy : Type 0 → Type 0
 FailedSaysWhy P = (codec : Codec Image P) (slot : ℕ) (w v : World) (es : List (Step codec slot)) (h : World) (why : Why) → Happens codec slot w v es h →
     (pair_after codec slot w v es).near ≡ near.Failed why → SaysWhy h slot why
@@ -92,6 +93,7 @@ RefusesSo m slot image (NoPort port) =
     × MissesFirst slot (bound_by []) (rooms_of image) port work.run)
 RefusesSo m slot image other = ⊥
 
+-- a far restore that has ended without a copy says why: its slot was taken, or there was no port in a slot to which the image leads out
 abbrev pub RefusedSaysWhy : Type 0 → Type 0
 RefusedSaysWhy P = (codec : Codec Image P) (slot : ℕ) (w v : World) (es : List (Step codec slot)) (h m : World) (image : Image) (why : Why) →
     Happens codec slot w v es h → make_from codec slot None (first (kernels codec slot) w v) es ≡ Some m →

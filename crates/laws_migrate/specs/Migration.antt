@@ -161,6 +161,7 @@ IsFarReady slot v (far.Moved image) = ⊥
 IsFarReady slot v (far.Refuses image why) = ⊥
 IsFarReady slot v (far.Ended image ready) = ⊥
 
+-- the near side waits, so that it may give up
 abbrev pub may_give_up : Near checks.State Image Why → Type 0
 may_give_up (near.Waits image) = Unit {0}
 may_give_up other = ⊥

@@ -107,7 +107,7 @@ pub fn a_root_keeps_its_porter()
     ensures { RootKeepsPorter }
 {}
 
-/// So a porter's call is ready then wherever the far root had its porter at the beginning, whatever was done before the copy is made.
+/// A porter's call is ready wherever the far root had its porter at the beginning, whatever was done before the copy is made.
 pub fn a_migration_goes_on<P>()
     ensures { MigrationGoesOn P }
 {}

@@ -52,6 +52,7 @@ record_replays g first c past run fresh watch sees port are apart small entries 
     λ i. (let none : 0 + i ≡ i = omega arith in ap (λ k. notes_of_place k entries) none ∙ (ap (λ es. notes_of_place i es) (sym one) ∙ back.1.notes i)) in
     let all : all_replaying (lists_of entries 0 (length noted)) first.servers ≡ all_replayed (λ e. replies_of (notes_at run e)) first.servers =
     ap (λ ls. all_replaying ls first.servers) (lists_are entries 0 noted places)
-    ∙ posts port (λ e. seen_of watch (notes_at run e)) (λ e. replies_of (notes_at run e)) (λ e. replies_are_seen watch (notes_at run e) sees) first.servers fresh in
+    ∙ posts port (λ e. seen_of watch (notes_at run e)) (λ e. replies_of (notes_at run e))
+    (λ e. replies_are_seen watch (notes_at run e) sees) first.servers fresh in
     let goes = replays_run g first c past run in
     (subst (λ v. IsRunWith run servers v (all_replayed (λ e. []) c.servers)) (sym all) goes.0, goes.1)

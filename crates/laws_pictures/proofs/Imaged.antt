@@ -20,7 +20,8 @@ use Rattle.fk_model.proofs.walks.PlaceLaws.{same_path_refl, same_path_eq}
 use Rattle.fk_model.proofs.calls.CallLaws.{words_read_back_lem}
 use Rattle.fk_image.specs.declared.image.image.Rec.{Rec}
 use Rattle.fk_image.specs.declared.image.image.SpaceRec.{SpaceRec}
-use Rattle.fk_image.specs.Image.Picture.{child, space_number, path_within, space_path, ptr, mode, mode_while_calling, rec_in, page_in, pictured_holder, pictured_talk}
+use Rattle.fk_image.specs.Image.Picture.{child, space_number, path_within, space_path, ptr, mode, mode_while_calling, rec_in, page_in, pictured_holder}
+use Rattle.fk_image.specs.Image.Picture.{pictured_talk}
 use Rattle.fk_image.specs.Image.Picture.{pictured_fault, pictured_body, pictured_body_in, pictured_body_at, pictured_page_at, picture}
 use Rattle.laws_pictures.specs.Tree.{IsTree}
 use Rattle.laws_pictures.specs.Imaged.{rank, link_of, peer_link, talk_rec, fault_rec, rec_of, with_object, objects_from, with_page, pages_from, rec_at}

@@ -21,7 +21,8 @@ use Rattle.fk_image.specs.declared.image.image.ObjectRec.{ObjectRec}
 use Rattle.fk_image.specs.declared.image.image.SpaceRec.{SpaceRec}
 use Rattle.fk_image.specs.Image.Objects.{kind_of_rec, kind_in}
 use Rattle.fk_image.specs.Image.Preorder.{run_beneath}
-use Rattle.fk_image.specs.Image.Links.{kind_in_space, lies_in, has_space_at, end_of, is_space_within, is_region_kind, is_port_kind, is_portset_kind, is_thread_kind}
+use Rattle.fk_image.specs.Image.Links.{kind_in_space, lies_in, has_space_at, end_of, is_space_within, is_region_kind, is_port_kind, is_portset_kind}
+use Rattle.fk_image.specs.Image.Links.{is_thread_kind}
 use Rattle.fk_image.specs.Image.Links.{is_referable, may_hold, leads_to_region, leads_to_keeper, may_refer, leads_to_port, serves_port, is_set_of, talk_leads}
 use Rattle.fk_image.specs.Image.Links.{taker_leads, fault_leads, body_leads, space_leads, spaces_lead}
 use Rattle.laws_pictures.specs.Imaged.{rank, link_of, peer_link, talk_rec, fault_rec, rec_of, rec_at, with_object, objects_from, holder_link, space_rec}

@@ -26,6 +26,7 @@ pub record IsSavedSubtree (w : World) (nester : Path) (slot : ℕ) : Type 0 wher
   -- no mapping inside leads to a port outside
   pub windows : (x : Path) (m : Window) → (cut w nester slot).body x ≡ Some (Mapping m) → is_out m.region ≡ false
 
+-- a plain subtree of a whole and savable world, without porters and scratch, is such as an image needs
 abbrev pub SubtreeIsSound : Type 0
 SubtreeIsSound = (w : World) (nester : Path) (slot : ℕ) → IsSavedSubtree w nester slot → IsAlone (cut w nester slot) × IsSound (cut w nester slot)
 

@@ -9,7 +9,7 @@
 
 ghost use Rattle.laws_restore.specs.Restore.Laws.{ScriptMakes, RestoresPicture, NeverLost};
 ghost use Rattle.laws_restore.specs.Restore.Example.{SmallIsRoomed, OneScript};
-ghost use Rattle.laws_restore.specs.Restore.Ends.{RestoreEndsSo, RestoreIsOwed, RestoreIsTidy, RestoreIsCounted, RestoreRestores};
+ghost use Rattle.laws_restore.specs.Restore.Ends.{RestoreEndsSo, RestoreIsOwed, RestoreMeetsContract, RestoreIsCounted, RestoreRestores};
 ghost use Rattle.laws_restore.specs.Restore.Exact.{RestoreIsReady, NoPortIsExact};
 ghost use Rattle.laws_restore.specs.Restore.Rest.{RestoreLeavesFar, LastCallIsKnown, OccupiedIsExact};
 ghost use Rattle.laws_restore.specs.Restore.Bounded.{ScriptIsBounded, RestoreIsBounded};
@@ -40,9 +40,9 @@ pub fn a_restores_calls_are_owed()
     ensures { RestoreIsOwed }
 {}
 
-/// It is tidy: its calls are owed, its porter stays while it has one to make, and no scratch is left at its end.
-pub fn a_restore_is_tidy()
-    ensures { RestoreIsTidy }
+/// A restore meets a job's contract: its calls are owed, its porter stays while it has one to make, and no scratch is left at its end.
+pub fn a_restore_meets_the_contract()
+    ensures { RestoreMeetsContract }
 {}
 
 /// Its next call is ready wherever its porter is free and no space outside the new one is held.

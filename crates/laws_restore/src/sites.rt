@@ -61,7 +61,7 @@ pub fn others_keep_what_a_pin_tells()
     ensures { OthersKeepLooks }
 {}
 
-/// So does the call that leads scratch there too.
+/// The call that leads scratch to a slot keeps what the pin there tells.
 pub fn scratch_keeps_what_a_pin_tells()
     ensures { TakesKeepLooks }
 {}
@@ -101,7 +101,7 @@ pub fn others_come_not_to_lead_in()
     ensures { OthersKeepNewUnled }
 {}
 
-/// Nor by the restorer's own calls.
+/// Nobody outside comes to lead in by the restorer's own calls.
 pub fn own_calls_lead_nobody_in()
     ensures { NearCallsKeepUnled }
 {}

@@ -35,7 +35,7 @@ use Rattle.laws_runs.specs.Cores.Settles.{Stays, Ends}
 use Rattle.laws_runs.specs.Cores.IsRun.{Begins, Goes}
 use Rattle.laws_runs.specs.Onwards.{event_by}
 use Rattle.laws_jobs.specs.Jobs.{MayBegin}
-use Rattle.laws_runs.specs.Composed.{AskAsUsers, AreTidy, IsStart, is_jobs, job_moves, WorksSo, HasWorked, HasEnded, RunIsComposed}
+use Rattle.laws_runs.specs.Composed.{AskAsUsers, JobsMeetContract, IsStart, is_jobs, job_moves, WorksSo, HasWorked, HasEnded, RunIsComposed}
 use Rattle.laws_runs.proofs.Named.{named_is, named_there, unpicked, caller_there, apart_from_porter}
 use Rattle.laws_runs.proofs.Counting.{work_begins, work_waits, work_goes_on}
 use Rattle.laws_runs.proofs.Asking.{JobAsks, job_of, others_of, goes_on_work, begins_work}
@@ -85,7 +85,7 @@ splits k n low = by (nat_le k n) refl
     by true e = inl (leb-true k n e)
     by false e = let high = leb-false k n e in inr (omega (arith, low, high))
 
-module _ {J S A V : Type 0} (h : House J S A V) (first : Core S A V) (users : AskAsUsers h) (tidy : AreTidy h) (start : IsStart first) where
+module _ {J S A V : Type 0} (h : House J S A V) (first : Core S A V) (users : AskAsUsers h) (tidy : JobsMeetContract h) (start : IsStart first) where
   -- ---- jobs that end without a move
 
   record Settled (c d : Core S A V) : Type 0 where

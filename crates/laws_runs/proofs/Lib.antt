@@ -4,7 +4,7 @@ pub mod Counting
 pub mod Composing
 pub mod Onwards
 pub mod Seen
-pub mod Headline
+pub mod Transparency
 pub mod Same
 pub mod Turning
 pub mod Events

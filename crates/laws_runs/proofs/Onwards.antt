@@ -19,7 +19,7 @@ use Rattle.laws_subtrees.proofs.InFurther.Runs.{proper_run_keeps, cut_is_cut_wor
 use Rattle.laws_subtrees.proofs.InCut.joined.Rebinding.{run_rebinds}
 use Rattle.laws_runs.specs.Cores.{House, Core, asker, IsReadyIn, moved, Settles, IsRun, world_at}
 use Rattle.laws_runs.specs.Cores.IsRun.{Begins, Goes}
-use Rattle.laws_runs.specs.Composed.{AskAsUsers, AreTidy, IsStart}
+use Rattle.laws_runs.specs.Composed.{AskAsUsers, JobsMeetContract, IsStart}
 use Rattle.laws_runs.specs.Onwards.{event_by, events_of, between, RestoredGoesOn}
 use Rattle.laws_runs.proofs.Composing.{Stands, stands, made_here, splits, take_all}
 
@@ -68,7 +68,7 @@ take_both k n xs =
 
 -- ---- a run as its events
 
-module _ {J S A V : Type 0} (h : House J S A V) (first : Core S A V) (users : AskAsUsers h) (tidy : AreTidy h) (start : IsStart first) where
+module _ {J S A V : Type 0} (h : House J S A V) (first : Core S A V) (users : AskAsUsers h) (tidy : JobsMeetContract h) (start : IsStart first) where
   record Traced {c : Core S A V} {past : List Move} (run : IsRun h first past c) : Type 0 where
     proper : AreProper first.world (events_of run)
     long : length (events_of run) ≡ length past
@@ -181,6 +181,7 @@ pub restored_goes_on : RestoredGoesOn
 restored_goes_on w v nester other slot place bind ms plain same =
     let law = run_rebinds bind (cut w nester slot) ms (cut_is_cut_world w nester slot plain) in
     record {
-      forth = λ told later run. subst (λ d. IsFurther d (map (rebound_move bind) ms) (map (rebound_told bind) told) (rebound bind later)) (sym same) (law.forth told later run);
+      forth = λ told later run. subst (λ d. IsFurther d (map (rebound_move bind) ms) (map (rebound_told bind) told) (rebound bind later)) (sym same)
+          (law.forth told later run);
       back = λ heard after run. law.back heard after (subst (λ d. IsFurther d (map (rebound_move bind) ms) heard after) same run);
     }

@@ -29,7 +29,7 @@ use Rattle.laws_runs.specs.Cores.{House, JobEnd, Work, Core, current, Asker, ask
 use Rattle.laws_runs.specs.Cores.{IsRun, world_at}
 use Rattle.laws_runs.specs.Cores.Asker.{Nobody, Others, Job}
 use Rattle.laws_runs.specs.Cores.JobEnd.{Worked}
-use Rattle.laws_runs.specs.Composed.{AskAsUsers, AreTidy, IsStart}
+use Rattle.laws_runs.specs.Composed.{AskAsUsers, JobsMeetContract, IsStart}
 use Rattle.laws_runs.specs.Turning.{asker_at}
 use Rattle.laws_runs.specs.Events.{core_at, IsTurn}
 use Rattle.laws_runs.specs.Placed.{IsOthers, IsPlaced, WorksThere, EndedThere, EndsAreThere}
@@ -84,7 +84,7 @@ module _ {J S A V T B : Type 0} {h : House J S A V} {first c : Core S A V} {past
       (omega (arith, place)) asked ready later mine goes in
       (Own w s early given (es ++ e ∷ []) (after v e) (heard m t (said_of v e)) sound was went more.0, (at.0, at.1, more.1))
 
-module _ {J S A V : Type 0} (h : House J S A V) (first : Core S A V) (users : AskAsUsers h) (tidy : AreTidy h)
+module _ {J S A V : Type 0} (h : House J S A V) (first : Core S A V) (users : AskAsUsers h) (tidy : JobsMeetContract h)
     (start : IsStart first) {c : Core S A V} {past : List Move} (run : IsRun h first past c)
     (left : first.world.next + length past ≤ depth) where
   abbrev at : ℕ → Core S A V

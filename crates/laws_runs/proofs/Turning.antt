@@ -20,7 +20,7 @@ use Rattle.laws_runs.specs.Cores.{House, Work, Core, IsRun, asker, work_of, IsRe
 use Rattle.laws_runs.specs.Cores.Asker.{Job}
 use Rattle.laws_runs.specs.Cores.IsRun.{Begins, Goes}
 use Rattle.laws_jobs.specs.Jobs.{MayBegin}
-use Rattle.laws_runs.specs.Composed.{AskAsUsers, AreTidy, IsStart}
+use Rattle.laws_runs.specs.Composed.{AskAsUsers, JobsMeetContract, IsStart}
 use Rattle.laws_runs.specs.Onwards.{event_by}
 use Rattle.laws_runs.specs.Turning.{IsJobsMove, JobsMoves, asker_at, MovesAt, JobsMovesInHistory}
 use Rattle.laws_runs.proofs.Named.{named_is, named_there, unpicked, caller_there}
@@ -28,7 +28,7 @@ use Rattle.laws_runs.proofs.Asking.{JobAsks, job_of, goes_on_work, begins_work}
 use Rattle.laws_runs.proofs.Composing.{Stands, stands, made_here}
 use Rattle.laws_runs.proofs.Events.{got_front, got_last}
 
-module _ {J S A V : Type 0} (h : House J S A V) (first : Core S A V) (users : AskAsUsers h) (tidy : AreTidy h) (start : IsStart first) where
+module _ {J S A V : Type 0} (h : House J S A V) (first : Core S A V) (users : AskAsUsers h) (tidy : JobsMeetContract h) (start : IsStart first) where
   module _ (past : List Move) (c : Core S A V) (run : IsRun h first past c) (stand : Stands h first users tidy start run) (m : Move) where
     sound_now : IsSound c.world
     sound_now = subst IsSound stand.last (stand.sound (length past) (omega arith))
@@ -119,7 +119,7 @@ jobs_moves h first c past run users tidy start left m begun t stage words e read
 
 -- ---- at each place
 
-module _ {J S A V : Type 0} (h : House J S A V) (first : Core S A V) (users : AskAsUsers h) (tidy : AreTidy h) (start : IsStart first) where
+module _ {J S A V : Type 0} (h : House J S A V) (first : Core S A V) (users : AskAsUsers h) (tidy : JobsMeetContract h) (start : IsStart first) where
   module _ (past : List Move) (c : Core S A V) (m : Move) (d : Core S A V) (run : IsRun h first past c) (ready : IsReadyIn h c m)
       (settles : Settles h (moved h c m) d)
       (stand : Stands h first users tidy start run) (left : first.world.next + (length past + 1) ≤ depth) where

@@ -13,7 +13,7 @@ use Rattle.laws_jobs.specs.Machines.{Machine, AtWork, calls_made}
 use Rattle.fk_model.specs.World.{World}
 use Rattle.fk_model.specs.Sound.{IsClean}
 use Rattle.laws_jobs.specs.Machines.Head.{Stops}
-use Rattle.laws_jobs.specs.Jobs.{MayBegin, IsTidyJob}
+use Rattle.laws_jobs.specs.Jobs.{MayBegin, MeetsContract}
 use Rattle.laws_runs.specs.Cores.{JobEnd, House, Work, Core, Asker, asker, IsRun, world_at}
 use Rattle.laws_runs.specs.Cores.Asker.{Job}
 use Rattle.laws_runs.specs.Cores.IsRun.{Begins, Goes}
@@ -24,10 +24,10 @@ module _ {J S A V : Type 0} where
   abbrev pub AskAsUsers : House J S A V → Type 0
   AskAsUsers h = (v : V) (w : World) (who : Who) (ask : Ask) → h.servers.asks v w who ≡ Some ask → is_users ask ≡ true
 
-  -- what is at work is one of the scenario's jobs, however those before it have ended
-  abbrev pub AreTidy : House J S A V → Type 0
-  AreTidy h = (index : ℕ) (j : J) (ends : List (JobEnd A)) (s : S) → slice_get h.jobs index ≡ Some j → h.begins j ends ≡ Some s →
-      IsTidyJob h.machine (h.nester j) s
+  -- each of the scenario's jobs meets its contract, however those before it have ended
+  abbrev pub JobsMeetContract : House J S A V → Type 0
+  JobsMeetContract h = (index : ℕ) (j : J) (ends : List (JobEnd A)) (s : S) → slice_get h.jobs index ≡ Some j → h.begins j ends ≡ Some s →
+      MeetsContract h.machine (h.nester j) s
 
 -- a run may begin so
 pub record IsStart {S A V : Type 0} (c : Core S A V) : Type 0 where
@@ -83,12 +83,14 @@ pub record IsComposed {J S A V : Type 0} {h : House J S A V} {first c : Core S A
   pub ended : (index : ℕ) (end : A) (begun last : ℕ) → slice_get c.ends index ≡ Some (Worked end begun last) → HasEnded run index end begun last
   pub working : (k : Work S) → c.work ≡ Some k → HasWorked run (length c.ends) c.ends k.begun (length past)
 
+-- whatever the moves of a run, each job's moves are its machine's among others' moves
 abbrev pub RunIsComposed : Type 0 → Type 0 → Type 0 → Type 0 → Type 0
 RunIsComposed J S A V = (h : House J S A V) (first c : Core S A V) (past : List Move) (run : IsRun h first past c) →
-    AskAsUsers h → AreTidy h → IsStart first → first.world.next + length past ≤ depth → IsComposed run
+    AskAsUsers h → JobsMeetContract h → IsStart first → first.world.next + length past ≤ depth → IsComposed run
 
 -- ---- a history has one run
 
+-- a history has one run: the core that it comes to is determined, and so is the world after each of its moves
 abbrev pub OneRun : Type 0 → Type 0 → Type 0 → Type 0 → Type 0
 OneRun J S A V = (h : House J S A V) (first c d : Core S A V) (past : List Move) (run : IsRun h first past c) (other : IsRun h first past d) →
     (c ≡ d) × ((k : ℕ) → world_at run k ≡ world_at other k)

@@ -129,27 +129,17 @@ module _ {J S A V : Type 0} where
   abbrev pub IsReadyIn : House J S A V → Core S A V → Move → Type 0
   IsReadyIn h c m = IsReadyBy h c m (asker h c m.who)
 
+  -- one move more is made, and the jobs have come to this
+  abbrev pub one_more : House J S A V → Core S A V → Event → List (JobEnd A) → Option (Work S) → Core S A V
+  one_more h c e ends work = record { world = after c.world e; servers = h.servers.hears c.servers c.world e; ends = ends; work = work; events = c.events + 1 }
+
   abbrev pub others_moved : House J S A V → Core S A V → Event → Core S A V
-  others_moved h c e = record { world = after c.world e; servers = h.servers.hears c.servers c.world e; ends = c.ends; work = c.work; events = c.events + 1 }
+  others_moved h c e = one_more h c e c.ends c.work
 
   -- the job goes on, or has ended with this move
   abbrev pub job_moved : House J S A V → Core S A V → Event → ℕ → S → Head A → Core S A V
-  job_moved h c e begun s (Asks stage words) =
-      record {
-        world = after c.world e;
-        servers = h.servers.hears c.servers c.world e;
-        ends = c.ends;
-        work = Some (record { begun = begun; state = s });
-        events = c.events + 1;
-      }
-  job_moved h c e begun s (Stops end) =
-      record {
-        world = after c.world e;
-        servers = h.servers.hears c.servers c.world e;
-        ends = c.ends ++ Worked end begun c.events ∷ [];
-        work = None;
-        events = c.events + 1;
-      }
+  job_moved h c e begun s (Asks stage words) = one_more h c e c.ends (Some (record { begun = begun; state = s }))
+  job_moved h c e begun s (Stops end) = one_more h c e (c.ends ++ Worked end begun c.events ∷ []) None
 
   abbrev pub job_hears : House J S A V → Core S A V → Event → ℕ → S → Core S A V
   job_hears h c e begun s = let t = heard h.machine s (said_of c.world e) in job_moved h c e begun t (h.machine.head t)

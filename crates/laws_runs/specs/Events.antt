@@ -19,6 +19,7 @@ pub record IsItsEvents {J S A V : Type 0} {h : House J S A V} {first c : Core S 
   pub worlds : (k : ℕ) → k ≤ length past → world_after first.world (take k (events_of run)) ≡ world_at run k
   pub last : world_at run (length past) ≡ c.world
 
+-- a history is one event a move, each ready in the world that those before it leave, and these worlds are the run's
 abbrev pub HistoryIsEvents : Type 0 → Type 0 → Type 0 → Type 0 → Type 0
 HistoryIsEvents J S A V = (h : House J S A V) (first c : Core S A V) (past : List Move) (run : IsRun h first past c) → IsItsEvents run
 

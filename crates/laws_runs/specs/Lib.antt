@@ -2,7 +2,7 @@ pub mod Cores
 pub mod Composed
 pub mod Turning
 pub mod Onwards
-pub mod Headline
+pub mod Transparency
 pub mod Events
 pub mod Ended
 pub mod Placed

@@ -14,7 +14,7 @@ use Rattle.laws_subtrees.specs.Further.Runs.{IsSeenRun, SeesNoOther}
 use Rattle.laws_runs.specs.Cores.{House, Core, Asker, asker, IsRun, world_at}
 use Rattle.laws_runs.specs.Cores.Asker.{Nobody, Others, Job}
 use Rattle.laws_runs.specs.Cores.IsRun.{Begins, Goes}
-use Rattle.laws_runs.specs.Composed.{AskAsUsers, AreTidy, IsStart}
+use Rattle.laws_runs.specs.Composed.{AskAsUsers, JobsMeetContract, IsStart}
 
 -- the event that a move is
 abbrev pub event_by : {S : Type 0} → World → Move → Asker S → List Event
@@ -45,7 +45,7 @@ pub record GoesOn {J S A V : Type 0} {h : House J S A V} {first c : Core S A V} 
 -- so it is from any place of the history on where a subtree is plain, and up to the first move that it sees as other
 abbrev pub RunGoesOn : Type 0 → Type 0 → Type 0 → Type 0 → Type 0
 RunGoesOn J S A V = (h : House J S A V) (first c : Core S A V) (past : List Move) (run : IsRun h first past c) →
-    AskAsUsers h → AreTidy h → IsStart first → first.world.next + length past ≤ depth →
+    AskAsUsers h → JobsMeetContract h → IsStart first → first.world.next + length past ≤ depth →
     (k n : ℕ) → k + n ≤ length past → (nester : Path) (slot : ℕ) → IsPlain (world_at run k) nester slot →
     SeesNoOther nester slot (world_at run k) (between run k n) → GoesOn run k n nester slot
 
@@ -55,6 +55,7 @@ pub record IsSeenOnce (nester : Path) (slot : ℕ) (w : World) (es : List Event)
   pub no_other : (ms : List Onward) → IsSeenRun nester slot w es ms → SeesNoOther nester slot w es
   pub one : (ms ns : List Onward) → IsSeenRun nester slot w es ms → IsSeenRun nester slot w es ns → ms ≡ ns
 
+-- ready moves, one after the other, are seen as a list of moves exactly where none of them is seen as other; and then as one list alone
 abbrev pub MovesAreSeenOnce : Type 0
 MovesAreSeenOnce = (w : World) (nester : Path) (slot : ℕ) (es : List Event) → IsLegal w es → IsSeenOnce nester slot w es
 
@@ -65,6 +66,7 @@ pub record GoesOnAs (bind : ℕ → ℕ) (c d : World) (ms : List Onward) : Type
   pub back : (heard : List Told) (after : World) → IsFurther d (map (rebound_move bind) ms) heard after →
       (told : List Told) × (later : World) × IsFurther c ms told later × (heard ≡ map (rebound_told bind) told) × (after ≡ rebound bind later)
 
+-- a subtree whose cut is another's with other outward ports has exactly the further runs of the other, with these ports
 abbrev pub RestoredGoesOn : Type 0
 RestoredGoesOn = (w v : World) (nester other : Path) (slot place : ℕ) (bind : ℕ → ℕ) (ms : List Onward) → IsPlain w nester slot →
     cut v other place ≡ rebound bind (cut w nester slot) → GoesOnAs bind (cut w nester slot) (cut v other place) ms

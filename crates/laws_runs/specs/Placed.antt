@@ -13,7 +13,7 @@ use Rattle.laws_jobs.specs.Jobs.{MayBegin}
 use Rattle.laws_runs.specs.Cores.{House, Core, Asker, IsRun, world_at}
 use Rattle.laws_runs.specs.Cores.Asker.{Nobody, Others, Job}
 use Rattle.laws_runs.specs.Cores.JobEnd.{Worked}
-use Rattle.laws_runs.specs.Composed.{AskAsUsers, AreTidy, IsStart}
+use Rattle.laws_runs.specs.Composed.{AskAsUsers, JobsMeetContract, IsStart}
 use Rattle.laws_runs.specs.Turning.{asker_at}
 
 abbrev pub IsOthers : {S : Type 0} → Asker S → Type 0
@@ -52,7 +52,9 @@ pub record EndedThere {J S A V : Type 0} {h : House J S A V} {first c : Core S A
   pub there : WorksThere run (λ (s : S). s) begun work
   pub stopped : h.machine.head state ≡ Stops end
 
+-- one that has ended was at work at its places: what its machine did among others' moves are the run's moves from its first to its last, and its own are those
+-- for which it asked there
 abbrev pub EndsAreThere : Type 0 → Type 0 → Type 0 → Type 0 → Type 0
 EndsAreThere J S A V = (h : House J S A V) (first c : Core S A V) (past : List Move) (run : IsRun h first past c) →
-    AskAsUsers h → AreTidy h → IsStart first → first.world.next + length past ≤ depth →
+    AskAsUsers h → JobsMeetContract h → IsStart first → first.world.next + length past ≤ depth →
     (index : ℕ) (end : A) (begun last : ℕ) → slice_get c.ends index ≡ Some (Worked end begun last) → EndedThere run index end begun last

@@ -16,7 +16,7 @@ use Rattle.laws_runs.specs.Cores.{JobEnd, House, Core, IsRun, Asker, current, as
 use Rattle.laws_runs.specs.Cores.Asker.{Nobody, Job}
 use Rattle.laws_runs.specs.Cores.IsRun.{Begins, Goes}
 use Rattle.laws_jobs.specs.Jobs.{MayBegin}
-use Rattle.laws_runs.specs.Composed.{AskAsUsers, AreTidy, IsStart}
+use Rattle.laws_runs.specs.Composed.{AskAsUsers, JobsMeetContract, IsStart}
 
 pub record IsJobsMove {J S A V : Type 0} {h : House J S A V} {first c : Core S A V} {past : List Move} (run : IsRun h first past c) (m : Move)
     (begun : ℕ) (t : S) (stage : Stage) (words : List ℕ) : Type 0 where
@@ -33,9 +33,10 @@ pub record IsJobsMove {J S A V : Type 0} {h : House J S A V} {first c : Core S A
   -- it is the job's first move, or one of its later ones
   pub at : ((begun ≡ length past) × (t ≡ start)) ⊎ AtWork h.machine nester (world_at run begun) start c.world t
 
+-- a move of a job is its machine's call at that moment, in a run in which the job has worked alone among others
 abbrev pub JobsMoves : Type 0 → Type 0 → Type 0 → Type 0 → Type 0
 JobsMoves J S A V = (h : House J S A V) (first c : Core S A V) (past : List Move) (run : IsRun h first past c) →
-    AskAsUsers h → AreTidy h → IsStart first → first.world.next + length past ≤ depth →
+    AskAsUsers h → JobsMeetContract h → IsStart first → first.world.next + length past ≤ depth →
     (m : Move) (begun : ℕ) (t : S) (stage : Stage) (words : List ℕ) → asker h c m.who ≡ Job begun t stage words → IsReadyIn h c m →
     IsJobsMove run m begun t stage words
 
@@ -67,7 +68,8 @@ pub record MovesAt {J S A V : Type 0} {h : House J S A V} {first c : Core S A V}
   pub goes : world_at run (k + 1) ≡ after (world_at run k) (call_of nester stage words)
   pub at : ((begun ≡ k) × (t ≡ start)) ⊎ AtWork h.machine nester (world_at run begun) start (world_at run k) t
 
+-- each move of a history that a job has made leads from the world before it to the world after it by a call of its machine
 abbrev pub JobsMovesInHistory : Type 0 → Type 0 → Type 0 → Type 0 → Type 0
 JobsMovesInHistory J S A V = (h : House J S A V) (first c : Core S A V) (past : List Move) (run : IsRun h first past c) →
-    AskAsUsers h → AreTidy h → IsStart first → first.world.next + length past ≤ depth →
+    AskAsUsers h → JobsMeetContract h → IsStart first → first.world.next + length past ≤ depth →
     (k begun : ℕ) (t : S) (stage : Stage) (words : List ℕ) → k < length past → asker_at run k ≡ Job begun t stage words → MovesAt run k begun t stage words

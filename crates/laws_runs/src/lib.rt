@@ -7,7 +7,7 @@
 
 ghost use Rattle.laws_runs.specs.Composed.{RunIsComposed, OneRun};
 ghost use Rattle.laws_runs.specs.Turning.{JobsMoves, JobsMovesInHistory};
-ghost use Rattle.laws_runs.specs.Headline.{CheckpointsHold, RestoresHold, RestoredGoOn};
+ghost use Rattle.laws_runs.specs.Transparency.{CheckpointsHold, RestoresHold, RestoredGoOn};
 ghost use Rattle.laws_runs.specs.Onwards.{RunGoesOn, RestoredGoesOn, MovesAreSeenOnce};
 ghost use Rattle.laws_runs.specs.Events.{HistoryIsEvents};
 ghost use Rattle.laws_runs.specs.Ended.{EndsAreSo};
@@ -24,8 +24,7 @@ pub fn a_jobs_move_is_its_call<J, S, A, V>()
     ensures { JobsMoves J S A V }
 {}
 
-/// And each move of a history that a job has made leads from the world before it to the world after
-/// it by such a call.
+/// Each move of a history that a job has made leads from the world before it to the world after it by a call of its machine.
 pub fn a_historys_moves_are_calls<J, S, A, V>()
     ensures { JobsMovesInHistory J S A V }
 {}

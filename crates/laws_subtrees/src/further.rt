@@ -19,7 +19,7 @@ pub fn a_cut_shows_itself()
     ensures { CutIsCutWorld }
 {}
 
-/// And so is what each further run of it ends in.
+/// What a further run of a subtree seen alone ends in is a world that shows nothing but what lies in it.
 pub fn further_runs_show_themselves()
     ensures { FurtherStaysCutWorld }
 {}
@@ -61,7 +61,7 @@ pub fn a_strangers_move_is_unseen()
     ensures { StrangersMoveUnseen }
 {}
 
-/// Nor is an act of a native server whose port is a stranger's.
+/// An act of a native server whose port is a stranger's isn't seen.
 pub fn a_strangers_act_is_unseen()
     ensures { StrangersActUnseen }
 {}

@@ -1,5 +1,6 @@
 -- What is noted of servers, and servers that reply by it.
-use Rattle.std.proofs.Common.{◌≡◌, ℕ, zero, suc, Bool, true, false, cond, List, [], ◌∷◌, ◌++◌, append_assoc, map, drop, replicate, length, ◌-◌, Option, Some, None, refl, sym, ap, subst, ◌∙◌, inl, inr, arith}
+use Rattle.std.proofs.Common.{◌≡◌, ℕ, zero, suc, Bool, true, false, cond, List, [], ◌∷◌, ◌++◌, append_assoc, map, drop, replicate, length, ◌-◌, Option, Some}
+use Rattle.std.proofs.Common.{None, refl, sym, ap, subst, ◌∙◌, inl, inr, arith}
 use Rattle.std.proofs.lemmas.List.{append-nil, take-append-le, take_all}
 use Rattle.std.proofs.lemmas.List.Elements.{filter-append}
 use Rattle.std.specs.List.{slice_get}
@@ -12,14 +13,16 @@ use Rattle.fk_model.specs.Who.{named}
 use Rattle.fk_model.specs.Places.Ptr.{At}
 use Rattle.fk_model.specs.Valid.{is_served_port}
 use Rattle.fk_natives.specs.declared.service.Side.TheVariants as sides
-use Rattle.fk_natives.specs.Natives.{State, OfConsole, OfServer, OfReplay, OfTap, News, Taken, Words, Over, Given, Ended, asks_for, hears, gives_left, given_by, notes_by}
+use Rattle.fk_natives.specs.Natives.{State, OfConsole, OfServer, OfReplay, OfTap, News, Taken, Words, Over, Given, Ended, asks_for, hears, gives_left, given_by}
+use Rattle.fk_natives.specs.Natives.{notes_by}
 use Rattle.fk_natives.specs.Natives.{seen_of, alias_of, printed_by}
 use Rattle.fk_natives.specs.Answers.{after}
 use Rattle.fk_responders.specs.Notes as notes
 use Rattle.fk_responders.specs.Notes.{is_seen}
 use Rattle.laws_trace.specs.Following.{Told, told_in, hears_all, house_with, IsRunWith}
 use Rattle.fk_served.specs.Served.{Services, serving, asked_of, asked, asked_at, news_at, after_news, hears_of, servers}
-use Rattle.laws_trace.specs.Notes.{news_list, heard_by, noted_of, notes_at, bare, all_bare, printed_of, ServersComeTo, TapsChangeNothing, TapsNote, replies_of, replayed, all_replayed}
+use Rattle.laws_trace.specs.Notes.{news_list, heard_by, noted_of, notes_at, bare, all_bare, printed_of, ServersComeTo, TapsChangeNothing, TapsNote, replies_of}
+use Rattle.laws_trace.specs.Notes.{replayed, all_replayed}
 use Rattle.laws_trace.specs.Notes.{ReplaysRun, RepliesAreSeen}
 use Rattle.laws_trace.proofs.Following.{servers_hear, follows}
 
@@ -172,7 +175,8 @@ taps_note g first c past run k who watch noted s is =
 
 given_left : (left : List ℕ) → given_by (Some (gives_left left)) ≡ left
 given_left [] = refl
-given_left (w ∷ ws) = take-append-le (length (w ∷ ws)) (w ∷ ws) (replicate (64 - length (w ∷ ws)) 0) (omega arith) ∙ take_all (length (w ∷ ws)) (w ∷ ws) (omega arith)
+given_left (w ∷ ws) = take-append-le (length (w ∷ ws)) (w ∷ ws) (replicate (64 - length (w ∷ ws)) 0) (omega arith) ∙ take_all (length (w ∷ ws)) (w ∷ ws)
+    (omega arith)
 
 replayed_asks : (replies : List (List ℕ)) (s : State) → asks_for (replayed replies s) ≡ asks_for s
 replayed_asks replies (OfConsole alias words side) = refl

@@ -21,7 +21,7 @@ pub fn seen_servers_run<J, S, A, V, U>()
     ensures { SeenServersRun J S A V U }
 {}
 
-/// And a run with the others is one with these.
+/// Where servers are seen as others, a run with the others is one with these.
 pub fn servers_run_seen<J, S, A, V, U>()
     ensures { ServersRunSeen J S A V U }
 {}

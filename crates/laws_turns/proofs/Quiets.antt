@@ -23,7 +23,7 @@ use Rattle.laws_bursts.proofs.Moves.{bursts_are_moves_lem, instructed-used}
 use Rattle.laws_runs.specs.Cores.{House, JobEnd, Work, IsGone, others_ask, asks_of_job, work_asks, work_of, current, asker}
 use Rattle.laws_runs.specs.Cores.Asker.{Others}
 use Rattle.laws_turns.specs.Quiet.{HearNothing, ThreadsRun, IsNoPorter, BurstsAreQuiet}
-use Rattle.laws_turns.specs.Turns.{core_in, IsQuiet, AreQuiet}
+use Rattle.laws_turns.specs.Turns.{core_in, IsUnheard, AreUnheard}
 use Rattle.laws_turns.proofs.Stays.{committed_alike, born-same, client-same}
 
 -- ---- the last of several events
@@ -110,13 +110,13 @@ module _ {J S A V : Type 0} (h : House J S A V) (servers : V) (m : Move) (w : Wo
   gone-same : (c d : Burst) (birth : ℕ) → IsGone (after_burst c) birth → IsGone (after_burst d) birth
   gone-same c d birth gone y there = gone y ((committed_alike w x c).births y ∙ sym ((committed_alike w x d).births y) ∙ there)
 
-  quiets : (n : ℕ) (c : Burst) → made n b ≡ Some c → HasPages w x c b → AreQuiet h servers m n w (after_burst c)
+  quiets : (n : ℕ) (c : Burst) → made n b ≡ Some c → HasPages w x c b → AreUnheard h servers m n w (after_burst c)
   unfolding made run
   quiets zero c is has = (bursts_are_moves_lem w m.who.slot (space_born w m.who.space) zero b c paged began is has).world
   quiets (suc n) c is has = by (made n b) refl is (λ d so pages. quiets n d so pages)
     where
       by : (o : Option Burst) → made n b ≡ o → and_then instructed o ≡ Some c →
-          ((d : Burst) → made n b ≡ Some d → HasPages w x d b → AreQuiet h servers m n w (after_burst d)) → AreQuiet h servers m (suc n) w (after_burst c)
+          ((d : Burst) → made n b ≡ Some d → HasPages w x d b → AreUnheard h servers m n w (after_burst d)) → AreUnheard h servers m (suc n) w (after_burst c)
       by None so is rest = absurd (cc)
       by (Some d) so next rest = (after_burst d, rest d so pages, quiet)
         where
@@ -132,7 +132,7 @@ module _ {J S A V : Type 0} (h : House J S A V) (servers : V) (m : Move) (w : Wo
           goes : after (after_burst d) (move_of x) ≡ after_burst c
           goes = ap (λ v. after v (move_of x)) (sym before.world) ∙ last-goes (move_of x) n w ∙ behind.world
 
-          quiet : IsQuiet h servers m (after_burst d) (after_burst c)
+          quiet : IsUnheard h servers m (after_burst d) (after_burst c)
           quiet = record {
             runs = asks-so d;
             ready = subst (λ (e : Event). IsReady (after_burst d) e.mover e.pick e.ask) (sym (event-same d))

@@ -34,7 +34,7 @@ use Rattle.laws_bursts.specs.Laws.{IsWhereItBegan, HasPages, committed, move_of,
 use Rattle.laws_bursts.proofs.Moves.{bursts_are_moves_lem, instructed-used}
 use Rattle.laws_runs.specs.Cores.{House}
 use Rattle.laws_turns.specs.Quiet.{HearNothing, ThreadsRun, IsNoPorter, IsRunningMove, LeadRunning, RunningMovesAreQuiet, BurstsRun}
-use Rattle.laws_turns.specs.Turns.{IsQuiet, AreQuiet}
+use Rattle.laws_turns.specs.Turns.{IsUnheard, AreUnheard}
 use Rattle.laws_turns.proofs.Quiets.{asks_run, no-end, last-ready, last-goes, has-thread}
 use Rattle.laws_turns.proofs.Stays.{IsAlike, alike_at, committed_alike, some-proceeds, birth-proceeds, talk-proceeds, talk_in}
 use Rattle.laws_turns.proofs.Stays.{born-same, client-same, gone-there, gone-here}
@@ -154,7 +154,7 @@ event-of w m unpicked = λ i. record { mover = named w m.who; pick = option_map 
 
 module _ {J S A V : Type 0} (h : House J S A V) (servers : V) (m : Move) (hear : HearNothing h servers) (threads : ThreadsRun h servers)
     (no_porter : IsNoPorter h m) (unpicked : m.pick ≡ None) where
-  moves-quietly : (u v : World) → IsRunningMove m u v → IsQuiet h servers m u v
+  moves-quietly : (u v : World) → IsRunningMove m u v → IsUnheard h servers m u v
   unfolding step
   moves-quietly u v move = record {
     runs = λ ends work events. asks_run h servers m u ends work events no_porter (threads u m move.thread move.there);
@@ -178,7 +178,7 @@ module _ {J S A V : Type 0} (h : House J S A V) (servers : V) (m : Move) (hear :
       alike : IsAlike u v
       alike = subst (IsAlike u) move.goes goes_alike
 
-  move-quietly : (n : ℕ) (w v : World) → LeadRunning m n w v → AreQuiet h servers m n w v
+  move-quietly : (n : ℕ) (w v : World) → LeadRunning m n w v → AreUnheard h servers m n w v
   move-quietly zero w v led = led
   move-quietly (suc n) w v led = (led.0, move-quietly n w led.0 led.1, moves-quietly led.0 v led.2)
 

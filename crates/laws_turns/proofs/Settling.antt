@@ -13,7 +13,7 @@ use Rattle.laws_runs.specs.Cores.JobEnd.{Idle}
 use Rattle.laws_runs.specs.Cores.Unmoved.{NoImage, Dead}
 use Rattle.laws_runs.specs.Cores.Settles.{Stays, Ends}
 use Rattle.laws_runs.specs.Cores.IsRun.{Begins, Goes}
-use Rattle.laws_turns.specs.Turns.{core_in, IsQuiet, AreQuiet, QuietMovesAreTurns}
+use Rattle.laws_turns.specs.Turns.{core_in, IsUnheard, AreUnheard, UnheardMovesAreTurns}
 
 snoc-replicate : {X : Type 0} (n : ℕ) (x : X) → replicate n x ++ x ∷ [] ≡ x ∷ replicate n x
 snoc-replicate zero x = refl
@@ -24,10 +24,11 @@ module _ {J S A V : Type 0} (h : House J S A V) (servers : V) (m : Move) where
   at w ends work events = core_in h servers m w ends work events
 
   -- where the move is ready nobody else has to wait
-  other-ready : (w v : World) (ends : List (JobEnd A)) (work : Option (Work S)) (events : ℕ) → IsQuiet h servers m w v → IsOtherReady h (at w ends work events)
+  other-ready : (w v : World) (ends : List (JobEnd A)) (work : Option (Work S)) (events : ℕ) → IsUnheard h servers m w v → IsOtherReady h
+      (at w ends work events)
   other-ready w v ends work events quiet = (m, asks.Run, quiet.runs ends work events, quiet.ready)
 
-  module _ (w v : World) (quiet : IsQuiet h servers m w v) (work : Option (Work S)) (early late : ℕ) (rises : early ≤ late) where
+  module _ (w v : World) (quiet : IsUnheard h servers m w v) (work : Option (Work S)) (early late : ℕ) (rises : early ≤ late) where
     -- whoever ends before the move ends behind it
     later-why : (ends : List (JobEnd A)) (j : J) (why : Unmoved) → EndsFor h (at w ends work early) j why → EndsFor h (at v ends work late) j why
     later-why ends j NoImage ends-so = ends-so
@@ -100,7 +101,7 @@ module _ {J S A V : Type 0} (h : House J S A V) (servers : V) (m : Move) where
 
   -- a quiet move is a turn
   turn : (w v : World) (first d : Core S A V) (past : List Move) (ends : List (JobEnd A)) (work : Option (Work S)) (events : ℕ) →
-      IsQuiet h servers m w v → IsRun h first past (at w ends work events) → Settles h (at v ends work (events + 1)) d → IsRun h first (past ++ m ∷ []) d
+      IsUnheard h servers m w v → IsRun h first past (at w ends work events) → Settles h (at v ends work (events + 1)) d → IsRun h first (past ++ m ∷ []) d
   turn w v first d past ends work events quiet run settles = Goes past c m d run
       (subst (IsReadyBy h c m) (sym asked) quiet.ready)
       (subst (λ k. Settles h k d) (sym goes) settles)
@@ -116,10 +117,10 @@ module _ {J S A V : Type 0} (h : House J S A V) (servers : V) (m : Move) where
           ∙ (λ i. record { world = quiet.goes i; servers = quiet.unheard i; ends = ends; work = work; events = events + 1 })
 
   pub turns : (n : ℕ) (w v : World) (ends : List (JobEnd A)) (work : Option (Work S)) (events : ℕ) (d : Core S A V) →
-      AreQuiet h servers m (suc n) w v → Settles h (at v ends work (events + suc n)) d → IsRun h (at w ends work events) (replicate (suc n) m) d
+      AreUnheard h servers m (suc n) w v → Settles h (at v ends work (events + suc n)) d → IsRun h (at w ends work events) (replicate (suc n) m) d
   turns zero w v ends work events d led settles =
       let one : events + suc zero ≡ events + 1 = refl in
-      turn w v (at w ends work events) d [] ends work events (subst (λ u. IsQuiet h servers m u v) (sym led.1) led.2) Begins
+      turn w v (at w ends work events) d [] ends work events (subst (λ u. IsUnheard h servers m u v) (sym led.1) led.2) Begins
       (subst (λ (k : ℕ). Settles h (at v ends work k) d) one settles)
   turns (suc n) w v ends work events d led settles =
       let rises : events + suc n ≤ events + suc (suc n) = omega arith in
@@ -130,5 +131,5 @@ module _ {J S A V : Type 0} (h : House J S A V) (servers : V) (m : Move) where
       (turn led.0 v (at w ends work events) d (replicate (suc n) m) halves.0 work (events + suc n) led.2 so_far
       (subst (λ (k : ℕ). Settles h (at v halves.0 work k) d) more halves.2))
 
-pub quiet_moves_are_turns_lem : {J S A V : Type 0} → QuietMovesAreTurns J S A V
+pub quiet_moves_are_turns_lem : {J S A V : Type 0} → UnheardMovesAreTurns J S A V
 quiet_moves_are_turns_lem h servers m n w v ends work events d led settles = turns h servers m n w v ends work events d led settles

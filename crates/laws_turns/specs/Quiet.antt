@@ -17,7 +17,7 @@ use Rattle.laws_bursts.specs.Bursts.{Burst, made}
 use Rattle.laws_bursts.specs.Laws.{IsWhereItBegan, HasPages, committed}
 use Rattle.laws_jobs.specs.Machines.{IsReadyAt}
 use Rattle.laws_runs.specs.Cores.{House, is_porter_of}
-use Rattle.laws_turns.specs.Turns.{AreQuiet}
+use Rattle.laws_turns.specs.Turns.{AreUnheard}
 
 -- servers hear nothing of what tells nothing and ends no talk of theirs
 abbrev pub HearNothing : {J S A V : Type 0} → House J S A V → V → Type 0
@@ -37,7 +37,7 @@ abbrev pub BurstsAreQuiet : Type 0 → Type 0 → Type 0 → Type 0 → Type 0
 BurstsAreQuiet J S A V = (h : House J S A V) (servers : V) (m : Move) (w : World) (n : ℕ) (b c : Burst) →
     HearNothing h servers → ThreadsRun h servers → IsNoPorter h m → m.pick ≡ None →
     IsPaged w → IsWhereItBegan w (named w m.who) b → made n b ≡ Some c → HasPages w (named w m.who) c b →
-    AreQuiet h servers m n w (committed w (named w m.who) c)
+    AreUnheard h servers m n w (committed w (named w m.who) c)
 
 -- ---- moves of a thread that runs
 
@@ -58,7 +58,7 @@ LeadRunning m (suc n) w v = (u : World) × LeadRunning m n w u × IsRunningMove 
 -- so many ready moves of a thread that runs are as many quiet moves, whatever its instructions
 abbrev pub RunningMovesAreQuiet : Type 0 → Type 0 → Type 0 → Type 0 → Type 0
 RunningMovesAreQuiet J S A V = (h : House J S A V) (servers : V) (m : Move) (n : ℕ) (w v : World) →
-    HearNothing h servers → ThreadsRun h servers → IsNoPorter h m → m.pick ≡ None → LeadRunning m n w v → AreQuiet h servers m n w v
+    HearNothing h servers → ThreadsRun h servers → IsNoPorter h m → m.pick ≡ None → LeadRunning m n w v → AreUnheard h servers m n w v
 
 -- and those of a burst are such moves
 abbrev pub BurstsRun : Type 0

@@ -16,7 +16,7 @@ module _ {J S A V : Type 0} (h : House J S A V) (servers : V) (m : Move) where
 
   -- the move leads from one world to another: its mover runs, whatever has become of the jobs, it is ready, no server hears of it, and
   -- no space comes or goes
-  pub record IsQuiet (w v : World) : Type 0 where
+  pub record IsUnheard (w v : World) : Type 0 where
     pub runs : (ends : List (JobEnd A)) (work : Option (Work S)) (events : ℕ) → asker h (core_in w ends work events) m.who ≡ Others asks.Run
     pub ready : IsReadyAt w (event_of w asks.Run m)
     pub goes : after w (event_of w asks.Run m) ≡ v
@@ -25,12 +25,12 @@ module _ {J S A V : Type 0} (h : House J S A V) (servers : V) (m : Move) where
     pub comes : (birth : ℕ) → IsGone v birth → IsGone w birth
 
   -- and so many of them do, one after the other
-  abbrev pub AreQuiet : ℕ → World → World → Type 0
-  AreQuiet zero w v = w ≡ v
-  AreQuiet (suc n) w v = (u : World) × AreQuiet n w u × IsQuiet u v
+  abbrev pub AreUnheard : ℕ → World → World → Type 0
+  AreUnheard zero w v = w ≡ v
+  AreUnheard (suc n) w v = (u : World) × AreUnheard n w u × IsUnheard u v
 
 -- so many quiet moves, at least one, and then the ends of jobs that need no move, are so many turns
-abbrev pub QuietMovesAreTurns : Type 0 → Type 0 → Type 0 → Type 0 → Type 0
-QuietMovesAreTurns J S A V = (h : House J S A V) (servers : V) (m : Move) (n : ℕ) (w v : World) (ends : List (JobEnd A)) (work : Option (Work S))
-    (events : ℕ) (d : Core S A V) → AreQuiet h servers m (suc n) w v → Settles h (core_in h servers m v ends work (events + suc n)) d →
+abbrev pub UnheardMovesAreTurns : Type 0 → Type 0 → Type 0 → Type 0 → Type 0
+UnheardMovesAreTurns J S A V = (h : House J S A V) (servers : V) (m : Move) (n : ℕ) (w v : World) (ends : List (JobEnd A)) (work : Option (Work S))
+    (events : ℕ) (d : Core S A V) → AreUnheard h servers m (suc n) w v → Settles h (core_in h servers m v ends work (events + suc n)) d →
     IsRun h (core_in h servers m w ends work events) (replicate (suc n) m) d

@@ -7,7 +7,7 @@
 #![tactic(auto)]
 
 ghost use Rattle.laws_turns.specs.Quiet.{BurstsAreQuiet, BurstsRun, RunningMovesAreQuiet};
-ghost use Rattle.laws_turns.specs.Turns.{QuietMovesAreTurns};
+ghost use Rattle.laws_turns.specs.Turns.{UnheardMovesAreTurns};
 
 /// Each instruction of a burst is a move of its thread that no server hears and by which no space comes or goes.
 pub fn bursts_are_quiet<J, S, A, V>()
@@ -26,5 +26,5 @@ pub fn running_moves_are_quiet<J, S, A, V>()
 
 /// So many quiet moves of a thread, and then the ends of jobs that need no move, are so many turns of a run.
 pub fn quiet_moves_are_turns<J, S, A, V>()
-    ensures { QuietMovesAreTurns J S A V }
+    ensures { UnheardMovesAreTurns J S A V }
 {}

@@ -16,13 +16,13 @@ use Rattle.laws_restore.specs.Restore.Restore as restores
 use Rattle.laws_restore.specs.Rooms.Restoring.{bound_by}
 use Rattle.laws_runs.specs.Cores.{Servers, House, Core, IsRun, world_at}
 use Rattle.laws_runs.specs.Cores.JobEnd.{Worked}
-use Rattle.laws_runs.specs.Headline.{Checkpointed, Restored as Restored_there}
+use Rattle.laws_runs.specs.Transparency.{Checkpointed, Restored as Restored_there}
 use Rattle.laws_runs.specs.Onwards.{between}
 use Rattle.laws_house.specs.Houses.{Job, State, End, house}
 use Rattle.laws_house.specs.Houses.Source.{Given}
 use Rattle.laws_house.specs.Houses.Task.{Checkpoint, Restore}
 use Rattle.laws_house.specs.Houses.End.{Checked, Restored}
-use Rattle.laws_house.specs.Headline.{HasHeadline}
+use Rattle.laws_house.specs.Transparency.{IsTransparent}
 use Rattle.laws_house.specs.Laws.{GoesOnAgain}
 
 -- a checkpoint of one run has saved what an image shows, and a restore of another run has made that: it has exactly the further runs that the
@@ -40,7 +40,7 @@ CopiesGoOn J S A V K T B U = (h : House J S A V) (first c : Core S A V) (past : 
 abbrev pub SavedSubtreesGoOnInAnotherRun : Type 0 → Type 0 → Type 0
 SavedSubtreesGoOnInAnotherRun V U = (jobs others : List Job) (servers : Servers V) (fellows : Servers U) (first c : Core State End V)
     (start d : Core State End U) (past moves : List Move) (run : IsRun (house jobs servers) first past c)
-    (other : IsRun (house others fellows) start moves d) → HasHeadline run → HasHeadline other →
+    (other : IsRun (house others fellows) start moves d) → IsTransparent run → IsTransparent other →
     (from to : ℕ) (i j : Job) (slot place hold release made done : ℕ) (pairs : List (ℕ × ℕ)) (saved given : Image) (bytes : List ℕ) →
     slice_get jobs from ≡ Some i → i.task ≡ Checkpoint slot → slice_get c.ends from ≡ Some (Worked (Checked (Done saved)) hold release) →
     SpellsImage bytes saved → SpellsImage bytes given → slice_get others to ≡ Some j → j.task ≡ Restore place pairs (Given (Some given)) →
@@ -66,7 +66,7 @@ pub record GoOnAlike {V U : Type 0} {jobs others : List Job} {servers : Servers 
 abbrev pub CopiesTellTheSame : Type 0 → Type 0 → Type 0
 CopiesTellTheSame V U = (jobs others : List Job) (servers : Servers V) (fellows : Servers U) (first c : Core State End V)
     (start d : Core State End U) (past moves : List Move) (run : IsRun (house jobs servers) first past c)
-    (other : IsRun (house others fellows) start moves d) → HasHeadline run → HasHeadline other →
+    (other : IsRun (house others fellows) start moves d) → IsTransparent run → IsTransparent other →
     (image : Image) (birth slot hold release birth_there place made done : ℕ) (bind : ℕ → ℕ) → is_valid image ≡ true →
     (from : Checkpointed run birth slot hold release (picture image)) → (to : Restored_there other birth_there place made done bind (picture image)) →
     (k n : ℕ) (came : List Onward) → hold + k ≤ length past → done + 1 + n ≤ length moves → IsPlain (world_at run hold) from.nester slot →

@@ -1,5 +1,6 @@
 -- While nothing is held, a thread that isn't ready has a reason.
-use Rattle.std.proofs.Common.{◌≡◌, ℕ, ◌≤◌, Bool, true, false, not, if◌then◌else◌, ◌&&◌, ◌||◌, ◌==◌, ◌%◌, nat_le, is_some, List, [], ◌∷◌, Option, Some, None, cond, eq-eqb}
+use Rattle.std.proofs.Common.{◌≡◌, ℕ, ◌≤◌, Bool, true, false, not, if◌then◌else◌, ◌&&◌, ◌||◌, ◌==◌, ◌%◌, nat_le, is_some, List, [], ◌∷◌, Option, Some, None}
+use Rattle.std.proofs.Common.{cond, eq-eqb}
 use Rattle.std.proofs.Common.{option_map, Result, Ok, Err, refl, ap, sym, subst, ◌∙◌, ◌⊎◌, inl, inr}
 use Rattle.std.specs.List.{list_any, flat_map}
 use Rattle.std.proofs.lemmas.Bool.{and_parts}
@@ -10,7 +11,8 @@ use Rattle.fk_model.specs.declared.instruction.Act.TheVariants as acts_of
 use Rattle.fk_model.specs.declared.names.Kind.{Kind}
 use Rattle.fk_model.specs.declared.names.Kind.TheVariants as kinds
 use Rattle.fk_model.specs.declared.stage.Stage.{Stage}
-use Rattle.fk_model.specs.declared.stage.Stage.TheVariants.{Create, SpaceHold, MutexLock, CondAsleep, CondSignal, Connect, ClientReceive, ClientSend, ClientOverRef, ClientReceiveRef}
+use Rattle.fk_model.specs.declared.stage.Stage.TheVariants.{Create, SpaceHold, MutexLock, CondAsleep, CondSignal, Connect, ClientReceive, ClientSend}
+use Rattle.fk_model.specs.declared.stage.Stage.TheVariants.{ClientOverRef, ClientReceiveRef}
 use Rattle.fk_model.specs.declared.stage.Stage.TheVariants.{ClientOver, Wait, ServerReceive, ServerSend, ServerOver, FaultDone, ServerOverRef, ServerReceiveRef}
 use Rattle.fk_model.specs.declared.statuses.status.TheConstants as status
 use Rattle.fk_model.specs.declared.thread.Turn.{Turn}
@@ -52,7 +54,8 @@ use Rattle.fk_model.specs.Reach.{Reach, reach_word, words_at}
 use Rattle.fk_model.specs.Reach.Reach.{Home, Missing, Bad}
 use Rattle.fk_model.specs.Readers.{own_page_at}
 use Rattle.fk_model.specs.Talks.{Line, line_from, line, same_side, other_side, receiving, thread_led_to, is_service_free}
-use Rattle.fk_model.specs.TransferRows.{at_turn, in_turn, receive, passes, passes_to, passes_to_thread, over, overwritten, block, moved_words, has_sent, may_carry, over_ref}
+use Rattle.fk_model.specs.TransferRows.{at_turn, in_turn, receive, passes, passes_to, passes_to_thread, over, overwritten, block, moved_words, has_sent}
+use Rattle.fk_model.specs.TransferRows.{may_carry, over_ref}
 use Rattle.fk_model.specs.TransferRows.{sends_words, sends_into, sends_to_thread, sends_to_service, sends_to, sends, send, passes_on, receive_ref, takes_turn}
 use Rattle.laws_waits.specs.Touching.{is_home}
 use Rattle.fk_model.specs.FaultRows.{frees, fault_done}
@@ -819,11 +822,13 @@ module _ (w : World) (k : ℕ) (s : Path) where
       calling-reason (ServerSend address count) todo rest mode = plain-reason (ServerSend address count) todo rest mode refl
           (send-reason turns.Server address count)
       calling-reason ClientOver todo rest mode = plain-reason ClientOver todo rest mode refl (λ at h. over-reason turns.Client None None at refl h)
-      calling-reason (ClientOverRef reference) todo rest mode = plain-reason (ClientOverRef reference) todo rest mode refl (over_ref-reason turns.Client reference)
+      calling-reason (ClientOverRef reference) todo rest mode = plain-reason (ClientOverRef reference) todo rest mode refl
+          (over_ref-reason turns.Client reference)
       calling-reason (ClientReceiveRef into room reference) todo rest mode = plain-reason (ClientReceiveRef into room reference) todo rest mode refl
           (receive_ref-at turns.Client into room reference)
       calling-reason ServerOver todo rest mode = plain-reason ServerOver todo rest mode refl (λ at h. over-reason turns.Server None None at refl h)
-      calling-reason (ServerOverRef reference) todo rest mode = plain-reason (ServerOverRef reference) todo rest mode refl (over_ref-reason turns.Server reference)
+      calling-reason (ServerOverRef reference) todo rest mode = plain-reason (ServerOverRef reference) todo rest mode refl
+          (over_ref-reason turns.Server reference)
       calling-reason (ServerReceiveRef into room reference) todo rest mode = plain-reason (ServerReceiveRef into room reference) todo rest mode refl
           (receive_ref-at turns.Server into room reference)
       calling-reason (Wait set) todo rest mode = wait-reason set todo rest mode

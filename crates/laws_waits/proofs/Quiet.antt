@@ -4,7 +4,8 @@ use Rattle.std.proofs.Common.{◌∙◌}
 use Rattle.fk_model.specs.declared.limits.TheConstants.{MOST_MOVED}
 use Rattle.fk_model.specs.declared.names.Kind.TheVariants as kinds
 use Rattle.fk_model.specs.declared.stage.Stage.{Stage}
-use Rattle.fk_model.specs.declared.stage.Stage.TheVariants.{Create, ClientReceive, ClientSend, ServerReceive, ServerSend, Connect, ClientReceiveRef, ServerReceiveRef}
+use Rattle.fk_model.specs.declared.stage.Stage.TheVariants.{Create, ClientReceive, ClientSend, ServerReceive, ServerSend, Connect, ClientReceiveRef}
+use Rattle.fk_model.specs.declared.stage.Stage.TheVariants.{ServerReceiveRef}
 use Rattle.fk_model.specs.declared.thread.Turn.{Turn}
 use Rattle.fk_model.specs.declared.thread.Turn.TheVariants as turns
 use Rattle.fk_model.specs.Objects.{Mode, Talk, Thread, Body, kind_of, thread_of, holds}

@@ -1,5 +1,6 @@
 -- A change that leaves a reason leaves it true.
-use Rattle.std.proofs.Common.{◌≡◌, ℕ, ◌/◌, Bool, true, false, not, cond, ◌&&◌, ◌==◌, is_some, List, [], ◌∷◌, Option, Some, None, option_map, Ok, refl, ap, ◌∙◌, nat_le}
+use Rattle.std.proofs.Common.{◌≡◌, ℕ, ◌/◌, Bool, true, false, not, cond, ◌&&◌, ◌==◌, is_some, List, [], ◌∷◌, Option, Some, None, option_map, Ok, refl, ap, ◌∙◌}
+use Rattle.std.proofs.Common.{nat_le}
 use Rattle.std.proofs.Common.{◌⊎◌, inl, inr, sym}
 use Rattle.fk_model.specs.declared.limits.TheConstants.{PAGE_WORDS, LAST_USER_SLOT}
 use Rattle.fk_model.specs.declared.names.Kind.TheVariants as kinds
@@ -21,8 +22,10 @@ use Rattle.fk_model.specs.Moves.{outcome, step, stepped}
 use Rattle.laws_moves.specs.Machine.Frame.{names_body}
 use Rattle.fk_model.proofs.walks.PlaceLaws.{same_path_refl}
 use Rattle.laws_waits.specs.Touching.{remakes, stirs, reholds, takes_page}
-use Rattle.laws_waits.specs.Stuck.{is_resting, IsBeneath, End, talk_place, is_talk_of, is_with, is_at_hand, IsGone, IsTalking, IsTalkingTo, IsAtHome, IsReached, LeavesHandle}
-use Rattle.laws_waits.specs.Stuck.{LeavesPage, LeavesPlace, IsPlace, HasTaken, comes_to, Reason, IsAtStage, IsStuck, LeavesEnd, AreUntouched, awaits_on, is_at_hand_else}
+use Rattle.laws_waits.specs.Stuck.{is_resting, IsBeneath, End, talk_place, is_talk_of, is_with, is_at_hand, IsGone, IsTalking, IsTalkingTo, IsAtHome, IsReached}
+use Rattle.laws_waits.specs.Stuck.{LeavesHandle}
+use Rattle.laws_waits.specs.Stuck.{LeavesPage, LeavesPlace, IsPlace, HasTaken, comes_to, Reason, IsAtStage, IsStuck, LeavesEnd, AreUntouched, awaits_on}
+use Rattle.laws_waits.specs.Stuck.{is_at_hand_else}
 use Rattle.laws_waits.specs.Stuck.End.{Absent, Covered, Unclaimed, Closed, Unnamed}
 use Rattle.laws_waits.specs.Stuck.Reason.{Resting, Beneath, Locking, Sleeping, Connecting, Receiving, Passing, Sending, Lacking, Ending, Holding, Waiting}
 use Rattle.laws_waits.specs.Stuck.Reason.{WaitingOut, Barred}
@@ -96,7 +99,8 @@ module _ (w : World) (c : Change) where
   end-kept side (Absent y) gone quiet =
       thread-kept (λ o. holds (is_at_hand (other_side side)) o ≡ false) w y (λ e t at off away. quiet_away (other_side side) e t off away) c quiet gone
   end-kept side (Unnamed y k) gone out = (
-    thread-kept (λ o. holds (is_at_hand_else (other_side side) k) o ≡ false) w y (λ e t at off away. quiet_else (other_side side) k e t off away) c out.0 gone.0,
+    thread-kept (λ o. holds (is_at_hand_else (other_side side) k) o ≡ false) w y
+        (λ e t at off away. quiet_else (other_side side) k e t off away) c out.0 gone.0,
     reference-kept (parent y) k out.1 ∙ gone.1,
   )
   end-kept side (Covered y space) gone out = beneath-kept space y gone out

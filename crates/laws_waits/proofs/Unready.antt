@@ -6,7 +6,8 @@ use Rattle.fk_model.specs.declared.limits.TheConstants.{LAST_USER_SLOT}
 use Rattle.fk_model.specs.declared.moves.Ask.TheVariants as asks
 use Rattle.fk_model.specs.declared.names.Kind.TheVariants as kinds
 use Rattle.fk_model.specs.declared.stage.Stage.{Stage}
-use Rattle.fk_model.specs.declared.stage.Stage.TheVariants.{SpaceHold, MutexLock, CondAsleep, Connect, Wait, ClientReceive, ClientSend, ClientOver, ClientOverRef, ClientReceiveRef}
+use Rattle.fk_model.specs.declared.stage.Stage.TheVariants.{SpaceHold, MutexLock, CondAsleep, Connect, Wait, ClientReceive, ClientSend, ClientOver}
+use Rattle.fk_model.specs.declared.stage.Stage.TheVariants.{ClientOverRef, ClientReceiveRef}
 use Rattle.fk_model.specs.declared.stage.Stage.TheVariants.{ServerReceive, ServerSend, ServerOver, FaultDone, ServerOverRef, ServerReceiveRef}
 use Rattle.fk_model.specs.declared.thread.Turn.{Turn}
 use Rattle.fk_model.specs.declared.thread.Turn.TheVariants as turns
@@ -27,7 +28,8 @@ use Rattle.fk_model.specs.Outcomes.Outcome.{Waits}
 use Rattle.fk_model.specs.Readers.{seen_as, handled, handle, space_argument, own_page_at, own_page, their_page_at, object_in}
 use Rattle.fk_model.specs.Talks.{Line, first_stage, receiving, other_side, is_service_free, awaited, is_handled}
 use Rattle.fk_model.specs.SyncRows.{cond_of, mutex_lock, cond_asleep}
-use Rattle.fk_model.specs.TransferRows.{awaits, receive, sends, sends_to, sends_to_thread, sends_into, send, passes_to, passes_to_thread, over, may_carry, over_ref, passes_on}
+use Rattle.fk_model.specs.TransferRows.{awaits, receive, sends, sends_to, sends_to_thread, sends_into, send, passes_to, passes_to_thread, over, may_carry}
+use Rattle.fk_model.specs.TransferRows.{over_ref, passes_on}
 use Rattle.fk_model.specs.TransferRows.{receive_ref}
 use Rattle.fk_model.specs.LinkRows.{user_at, connect, connecting_to, is_parked, is_open, portset_of, slot_in_set, Candidate, faulting, connecting, resuming}
 use Rattle.fk_model.specs.LinkRows.{candidate_by, candidate, takes_picked, takes_candidate, wait}
@@ -35,8 +37,10 @@ use Rattle.fk_model.specs.LinkRows.Candidate.{Faulting, Connecting as Connects, 
 use Rattle.fk_model.specs.Moves.{with_pick, closed, GoesAllowed, call_row, IsReady}
 use Rattle.fk_model.specs.Valid.{kind_there, IsValid}
 use Rattle.fk_model.proofs.walks.PlaceLaws.{same_path_eq, leads_to_at}
-use Rattle.laws_waits.specs.Stuck.{is_resting, IsBeneath, End, talk_place, is_talk_of, is_with, is_at_hand, IsGone, IsTalking, IsTalkingTo, IsReached, IsPlace, awaits_on}
-use Rattle.laws_waits.specs.Stuck.{HasRoom, HasTaken, Reason, IsAtStage, IsStuck, is_served_by, IsSet, is_in, comes_to, comes_connecting, comes_resuming, is_at_hand_else}
+use Rattle.laws_waits.specs.Stuck.{is_resting, IsBeneath, End, talk_place, is_talk_of, is_with, is_at_hand, IsGone, IsTalking, IsTalkingTo, IsReached, IsPlace}
+use Rattle.laws_waits.specs.Stuck.{awaits_on}
+use Rattle.laws_waits.specs.Stuck.{HasRoom, HasTaken, Reason, IsAtStage, IsStuck, is_served_by, IsSet, is_in, comes_to, comes_connecting, comes_resuming}
+use Rattle.laws_waits.specs.Stuck.{is_at_hand_else}
 use Rattle.laws_waits.specs.Stuck.{names_slot}
 use Rattle.laws_waits.specs.Stuck.End.{Absent, Covered, Unclaimed, Closed, Unnamed}
 use Rattle.laws_waits.specs.Stuck.Reason.{Resting, Beneath, Locking, Sleeping, Connecting, Receiving, Passing, Sending, Lacking, Ending, Holding, Waiting}
@@ -85,7 +89,8 @@ sleep-waits w x c m low also cond mutex =
 
 -- nothing can be moved to who stands at the other end
 pub data Gone (w : World) (side : Turn) (talk : Talk) : Peer → Type 0 where
-  ByThread : (y : Path) → ((t : Thread) → thread_at w y ≡ Some t → (is_free w (parent y) t && is_some (receiving w (parent y) (other_side side) t.mode)) ≡ false) →
+  ByThread : (y : Path) →
+      ((t : Thread) → thread_at w y ≡ Some t → (is_free w (parent y) t && is_some (receiving w (parent y) (other_side side) t.mode)) ≡ false) →
       Gone w side talk (Server (At y))
   ByNobody : Gone w side talk Parked
   ByService : is_service_free w talk.port ≡ false → Gone w side talk Service
@@ -228,7 +233,8 @@ module _ (w : World) (k : ℕ) (s : Path) where
       free_by y t true e off = into-waits side l.client y address count page (receiving w (parent y) (other_side side) t.mode) off
       free_by y t false e off = refl
 
-      met : (y : Path) (o : Option Thread) → ((t : Thread) → o ≡ Some t → (is_free w (parent y) t && is_some (receiving w (parent y) (other_side side) t.mode)) ≡ false) →
+      met : (y : Path) (o : Option Thread) →
+          ((t : Thread) → o ≡ Some t → (is_free w (parent y) t && is_some (receiving w (parent y) (other_side side) t.mode)) ≡ false) →
           sends_to_thread w (user_at me) side l.client address count page (and_then (λ t. Some (y, t)) o) ≡ Waits
       met y None unmet = refl
       met y (Some t) unmet = free_by y t (is_free w (parent y) t) refl (unmet t refl)
@@ -248,7 +254,8 @@ module _ (w : World) (k : ℕ) (s : Path) where
         ∙ awaits-waits into room far page
 
     receive_ref-waits : (side : Turn) (into room reference : ℕ) (far : Bool) (client : Path) → IsTalking w me side (other_side side) client →
-        ((room == 0) ≡ true) ⊎ IsReached w s into true far → is_handled w s (Some reference) ≡ true → receive_ref w (user_at me) side into room reference ≡ Waits
+        ((room == 0) ≡ true) ⊎ IsReached w s into true far → is_handled w s (Some reference) ≡ true → receive_ref w (user_at me) side into room reference
+        ≡ Waits
     unfolding receive_ref
     receive_ref-waits side into room reference far client talking page handled =
         let at = reference-in w s reference handled in

@@ -37,6 +37,7 @@ pub record HasReason (w : World) (x : Path) : Type 0 where
   pub stuck : IsStuck w x reason
   pub named : is_barred reason ≡ false
 
+-- while no space is held, every thread that isn't ready has a reason, and it isn't the last
 abbrev pub UnheldThreadsHaveReasons : Type 0
 UnheldThreadsHaveReasons = (w : World) (k : ℕ) (s : Path) (t : Thread) → IsValid w → w.next ≤ depth → IsWholeWorld w → ((q : Path) → decider w q ≡ None) →
     thread_at w (k ∷ s) ≡ Some t → ((rest : List ℕ) → t.mode ≡ Calling [] rest → ⊥) → ((pick : Option Path) → IsReady w (k ∷ s) pick asks.Run → ⊥) →

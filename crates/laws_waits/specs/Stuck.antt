@@ -6,7 +6,8 @@ use Rattle.std.specs.Prelude.{◌≡◌, ℕ, ◌/◌, Bool, true, false, not, �
 use Rattle.fk_model.specs.declared.limits.TheConstants.{OWN_SPACE, LAST_USER_SLOT, PAGE_WORDS, SPACE_WORDS}
 use Rattle.fk_model.specs.declared.names.Kind.TheVariants as kinds
 use Rattle.fk_model.specs.declared.stage.Stage.{Stage}
-use Rattle.fk_model.specs.declared.stage.Stage.TheVariants.{SpaceHold, MutexLock, CondAsleep, Connect, Wait, ClientReceive, ClientReceiveRef, ClientSend, ClientOver}
+use Rattle.fk_model.specs.declared.stage.Stage.TheVariants.{SpaceHold, MutexLock, CondAsleep, Connect, Wait, ClientReceive, ClientReceiveRef, ClientSend}
+use Rattle.fk_model.specs.declared.stage.Stage.TheVariants.{ClientOver}
 use Rattle.fk_model.specs.declared.stage.Stage.TheVariants.{ServerReceive, ServerSend, ServerOver, FaultDone, ClientOverRef, ServerOverRef, ServerReceiveRef}
 use Rattle.fk_model.specs.declared.thread.Turn.{Turn}
 use Rattle.fk_model.specs.declared.thread.Turn.TheVariants as turns

@@ -43,7 +43,7 @@ pub fn calm_touches_nobody()
     ensures { CalmTouchesNobody }
 {}
 
-/// Nor do changes by several threads, each such a change of its own thread, and mutexes that are set, but for those who lock
+/// Changes by several threads, each such a change of its own thread, and mutexes that are set, touch nobody else's reason, but of those who lock
 /// these.
 #[tactic(auto, using(crate::proofs::Mild::mild_changes_touch_nobody_lem))]
 pub fn mild_changes_touch_nobody()

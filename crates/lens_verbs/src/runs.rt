@@ -90,7 +90,7 @@ impl<H: Shelf> Showing<'_, H> {
         }
     }
 
-    /// The same, by the moves' own lines.
+    /// Lets a run be shown by the moves' own lines, and says what is wrong with the trace.
     fn step<K: Keeps>(
         &mut self,
         table: &Table,

@@ -1,8 +1,7 @@
 //! Who shows a run.
 use fk_first::{Ready, Seen, Stop, Watcher};
-use fk_jobs::Jobs;
+use fk_jobs::{Jobs, Porter};
 use fk_model::Move;
-use fk_porters::Porter;
 use lens_text::{Programs, Scene, Sheet, push_tree};
 
 /// Who shows a run on a sheet.

@@ -163,6 +163,10 @@ fn outcome_of<R: Threads + Wait + Sync>(
 }
 
 /// Makes the call of a case.
+///
+/// # Errors
+///
+/// There is no memory for what the call is handed.
 pub fn call<R: Print + AllocGlobal + Threads + Wait + Sync>(
     rt: &R,
     table: &Table,

@@ -216,6 +216,10 @@ impl Case {
     }
 
     /// The numbers of an object's calls that fail, behind so many others.
+    ///
+    /// # Errors
+    ///
+    /// There is no memory for the numbers.
     pub fn fails_of(
         &self,
         alloc: Global,

@@ -7,6 +7,10 @@ use fk_model::{Body, Mode, NoMemory, Thread, Who};
 use fk_store::Store;
 
 /// Puts a porter into a slot of a space, if that is live and the slot empty. The world stays valid.
+///
+/// # Errors
+///
+/// There is no memory for the porter.
 pub fn put_porter(store: &mut Store, who: Who) -> Result<(), NoMemory>
     requires { IsValid (world store.old) }
     ensures { OnOk result (IsValid (world store.new)) }

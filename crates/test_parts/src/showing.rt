@@ -1,8 +1,9 @@
 //! What a store shows.
 use crate::numbers::Numbers;
 use fk_cut::{CutPtr, closed, cut};
-use fk_model::{Body, Ptr, Who};
-use fk_report::{End, have_halted, report_text, threads_of};
+use fk_model::{Body, NoMemory, Ptr, Who};
+use fk_natives::Native;
+use fk_report::{End, all_halted, outs_text, run_text, threads_of};
 use fk_store::{Reach, Store};
 use std::alloc::Global;
 
@@ -94,21 +95,27 @@ pub fn say_reach(store: &Store, who: Who, write: bool, found: &mut Numbers) {
     }
 }
 
-/// The length of the report, and the numbers of a short one, of a run that has come to this store by so many moves, if all its user threads have halted.
+/// The report of a run without servers and jobs that has come to this store by so many moves, after which all its user threads have halted.
+fn report_of(alloc: Global, store: &Store, events: u64) -> Result<String, NoMemory> {
+    let threads = threads_of(alloc, store)?;
+    let none: [(Who, Native); 0] = [];
+    let outs = outs_text(alloc, &none, threads.as_slice())?;
+    Ok(run_text(alloc, events, End::Halted, &[], &[], outs.as_str())?)
+}
+
+/// The length of that report, and the numbers of a short one, if all user threads have halted.
 pub fn say_report(alloc: Global, store: &Store, events: u64, found: &mut Numbers) {
-    let Ok(threads) = threads_of(alloc, store) else {
-        return found.fail();
-    };
-    if have_halted(threads.as_slice()) {
-        match report_text(alloc, events, End::Halted, threads.as_slice()) {
-            Ok(text) => {
-                found.say(text.len() as u64);
-                if text.len() < 200 {
-                    found.take_text(text.as_str());
-                }
+    if !all_halted(store) {
+        return;
+    }
+    match report_of(alloc, store, events) {
+        Ok(text) => {
+            found.say(text.len() as u64);
+            if text.len() < 200 {
+                found.take_text(text.as_str());
             }
-            Err(_) => found.fail(),
         }
+        Err(_) => found.fail(),
     }
 }
 

@@ -28,8 +28,8 @@ use anyhow::{Context, bail};
 use fk_boot::first_store;
 use fk_burst::{Leased, commit, count, lease, run};
 use fk_kernel::Kernel;
-use fk_model::{Answer, Ask, Body, Move, Said, Todo, Turn, Who};
-use fk_scenario::{read_scenario, server_rules};
+use fk_model::{Answer, Ask, Body, Move, NoMemory, Rule, Said, Todo, Turn, Who};
+use fk_scenario::read_scenario;
 use fk_stages::todo;
 use std::alloc::Global;
 
@@ -46,6 +46,15 @@ pub struct World {
     ended: Option<Who>,
     /// The lease that was taken last, until it is committed.
     held: Option<Leased>,
+}
+
+/// The rules that native servers may have here, by name.
+fn server_rules(alloc: Global) -> Result<Vec<(String, Rule)>, NoMemory> {
+    let mut rules = Vec::new(alloc);
+    rules.push((String::from_str(alloc, "echo")?, Rule::Echo))?;
+    rules.push((String::from_str(alloc, "feed")?, Rule::Feed))?;
+    rules.push((String::from_str(alloc, "sum")?, Rule::Sum))?;
+    Ok(rules)
 }
 
 /// The kernel of a scenario, with a porter in a slot.

@@ -11,6 +11,7 @@ use Rattle.fk_burst.specs.declared.copies.copied.Copied.{Copied}
 abbrev pub for_page : {A : Type 0} → ℕ → List A → A → ℕ → A
 for_page first list other page = if nat_le first page then slice_index_or list (page - first) other else other
 
+-- a copy as the laws of bursts have it
 unfoldable pub burst_of : Copied → Burst
 burst_of c = record {
   registers = c.registers;

@@ -146,7 +146,8 @@ fn hand_back(k: &mut Kernel, thread: Who, now: &Copied, pages: &[BurstPage])
     k.replace(thread, &now.registers, now.counter, pages);
 }
 
-/// The same, with the pages that are used laid out. It stands apart, since four pages are large and most copies use two at most.
+/// The thread in a slot becomes as a copy has it, and so do the pages that the copy has used, which are laid out. It stands apart, since four pages
+/// are large and most copies use two at most.
 #[inline(never)]
 fn put_back_far(k: &mut Kernel, thread: Who, now: &Copied)
     requires running { is_running (thread_at (world_of k.old) (named (world_of k.old) thread)) ≡ true }
@@ -162,7 +163,7 @@ fn put_back_far(k: &mut Kernel, thread: Who, now: &Copied)
     hand_back(k, thread, now, front(&pages, used));
 }
 
-/// The same, where only pages of the first two places are used.
+/// The thread in a slot becomes as a copy has it, and so do the pages that the copy has used, which are of the first two places.
 fn put_back_near(k: &mut Kernel, thread: Who, now: &Copied)
     requires running { is_running (thread_at (world_of k.old) (named (world_of k.old) thread)) ≡ true }
     requires ready { IsReady (world_of k.old) (named (world_of k.old) thread) None asks.Run }
@@ -229,7 +230,7 @@ pub fn commit(k: &mut Kernel, l: Leased, left: u64) -> bool
     commit_held(k, &l, left)
 }
 
-/// The same of a lease that stays where it is.
+/// Commits the burst of a lease that stays where it is, where so many moves are left.
 pub fn commit_held(k: &mut Kernel, l: &Leased, left: u64) -> bool
     ensures moves { OnTrue result (LeadQuietly (world_of k.old) (replicate l.now.count (move_of (named (world_of k.old) l.now.thread))) (world_of k.new)) }
     ensures running { OnTrue result (LeadRunning (record { who = l.now.thread; pick = None }) l.now.count (world_of k.old) (world_of k.new)) }

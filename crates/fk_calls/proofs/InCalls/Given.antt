@@ -1,16 +1,14 @@
--- Given: the words that a porter gives for a stage are in range, and who may make it.
-use Rattle.std.proofs.Common.{◌≡◌, ℕ, Bool, true, false, cond, ◌&&◌, List, replicate, refl}
+-- Given: the words that a porter gives for a stage are in range.
+use Rattle.std.proofs.Common.{◌≡◌, ℕ, Bool, true, false, ◌&&◌, List, replicate, refl}
 use Rattle.fk_model.specs.declared.moves.Ask.{Ask}
 use Rattle.fk_model.specs.declared.moves.Ask.TheVariants as asks
 use Rattle.fk_model.specs.declared.stage.Stage.{Stage}
 use Rattle.fk_model.specs.declared.stage.Stage.TheVariants.{LinkSet, LinkPark, FaultSet, FaultPark}
-use Rattle.fk_model.specs.Moves.{is_denied, porter_at}
+use Rattle.fk_model.specs.Moves.{porter_at}
 use Rattle.fk_model.specs.Outcomes as outcomes
 use Rattle.fk_model.specs.Places.{Path}
 use Rattle.fk_model.specs.Valid.{is_fit, is_fit_stage}
 use Rattle.fk_model.specs.World.{World}
-use Rattle.fk_plans.specs.Plans.Plans.{caller_by}
-use Rattle.fk_changes.specs.declared.readers.caller.Caller.{Caller}
 use Rattle.fk_calls.specs.Calls.Rows.{are_given, are_given_for, restores}
 
 first_true : (a b : Bool) → (a && b) ≡ true → a ≡ true
@@ -51,24 +49,3 @@ ones_given (LinkPark s x port) = refl
 ones_given (FaultSet s x port taker) = refl
 ones_given (FaultPark s x port taken) = refl
 ones_given other = refl
-
--- ---- who makes a stage that isn't denied
-
--- one that is for users
-pub by_user : (is_porter : Bool) → cond is_porter true false ≡ false → is_porter ≡ false
-by_user true allowed = absurd (cc)
-by_user false allowed = refl
-
--- one that is for porters
-pub by_porter : (is_porter : Bool) → cond is_porter false true ≡ false → is_porter ≡ true
-by_porter true allowed = refl
-by_porter false allowed = absurd (cc)
-
--- so a porter's words are in range whoever makes it
-pub allowed_given : (c : Caller) (p : ℕ → Path) (words : List ℕ) (stage : Stage) → is_denied (caller_by p c words) stage ≡ false →
-    (c.is_porter ≡ true → are_given stage words ≡ true) → are_given stage words ≡ true
-allowed_given c p words (LinkSet s x port server) allowed given = given (by_porter c.is_porter allowed)
-allowed_given c p words (LinkPark s x port) allowed given = given (by_porter c.is_porter allowed)
-allowed_given c p words (FaultSet s x port taker) allowed given = given (by_porter c.is_porter allowed)
-allowed_given c p words (FaultPark s x port taken) allowed given = given (by_porter c.is_porter allowed)
-allowed_given c p words other allowed given = refl

@@ -30,14 +30,7 @@ use Rattle.fk_changes.specs.Threads.Shifted.{address_of, IsLow}
 use Rattle.fk_changes.specs.Threads.Answers.{came_answers}
 use Rattle.fk_calls.specs.declared.acts.act.Act.{Act}
 use Rattle.fk_calls.specs.declared.acts.act.Act.TheVariants as acts
-
--- a native server asks for it
-abbrev pub is_act : Ask → Bool
-is_act asks.Run = false
-is_act (asks.Call stage words) = false
-is_act asks.Accept = true
-is_act (asks.Give words len) = true
-is_act asks.Over = true
+pub use Rattle.fk_model.specs.Moves.{is_act}
 
 -- the words that a server gives
 abbrev pub words_of : Ask → List ℕ

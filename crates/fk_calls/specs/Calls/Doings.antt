@@ -14,6 +14,7 @@ use Rattle.fk_calls.specs.declared.calls.doing.Doing.{Doing}
 use Rattle.fk_calls.specs.declared.calls.doing.Doing.TheVariants as doings
 use Rattle.fk_model.specs.Searches.{thread_at}
 
+-- the first of a call's stages, if the registers name a call
 abbrev pub first_of : Option (List Stage) → Option Stage
 first_of None = None
 first_of (Some []) = None

@@ -126,6 +126,7 @@ is_orderly (ClientOver ∷ todo) = is_behind_over turns.Client todo
 is_orderly (ServerOver ∷ todo) = is_behind_over turns.Server todo
 is_orderly other = true
 
+-- a thread is at this stage, and the rest of its call can be told by its registers' code alone
 pub record IsAtOrderly (w : World) (x : Path) (stage : Stage) : Type 0 where
   pub later : List Stage
   pub todo : todo_at w x ≡ stage ∷ later
@@ -167,6 +168,7 @@ abbrev pub touched_in : Talked → Touched
 touched_in (talkeds.Sends client receiver sender) = Few (Some client) (Some receiver) (Some sender)
 touched_in (talkeds.Passes client receiver) = Few (Some receiver) (Some client) None
 
+-- what such a stage has done is what its row says
 abbrev pub HasTalkRow : Contents → Who → Talked → Type 0
 HasTalkRow m who (talkeds.Sends client receiver sender) = HasSent m who client receiver
 HasTalkRow m who (talkeds.Passes client receiver) = HasPassed m who client receiver

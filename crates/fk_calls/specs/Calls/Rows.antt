@@ -38,6 +38,7 @@ are_words_of Rebuilds_nothing words = true
 abbrev pub are_given : Stage → List ℕ → Bool
 are_given stage words = are_words_of (facts_of stage).rebuilds words
 
+-- the words that a mover gives for what he asks are in range
 abbrev pub are_given_for : Ask → Bool
 are_given_for (asks.Call stage words) = are_given stage words
 are_given_for other = true

@@ -36,5 +36,6 @@ leaves_running (effects.Stores space page at value) = true
 abbrev pub is_under_way : Thread → Bool
 is_under_way t = is_running_mode t.mode && (t.stops == 0 && is_none t.fault)
 
+-- the thread in a slot runs, is not stopped and has no fault
 abbrev pub is_under_way_at : Contents → Who → Bool
 is_under_way_at m who = holds is_under_way (thread_at (world m) (place (path m) who))

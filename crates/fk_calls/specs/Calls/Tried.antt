@@ -49,6 +49,7 @@ abbrev pub tried_if : Bool → Told → Option Told
 tried_if true told = Some told
 tried_if false told = None
 
+-- what came of a move that may not have been made
 abbrev pub tried_of : {E : Type 0} → Result Bool E → Told → Result (Option Told) E
 tried_of (Ok made) told = Ok (tried_if made told)
 tried_of (Err lacking) told = Err lacking

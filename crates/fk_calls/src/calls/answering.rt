@@ -72,7 +72,8 @@ fn make(
     Ok(true)
 }
 
-/// The same of one that is refused. It stands apart, since a verdict takes room that is cleared at entry.
+/// Makes a porter's move that is refused, where it is ready, and answers whether it was. It stands apart, since a verdict takes room that is cleared
+/// at entry.
 #[inline(never)]
 fn refuse(
     store: &mut Store,
@@ -114,7 +115,7 @@ pub fn may_pick(chooses: bool, pick: Option<Who>) -> bool
     chooses || pick.is_none()
 }
 
-/// The same of one that changes nothing, and is answered a few words.
+/// Makes a porter's move that changes nothing and is answered a few words, where it is ready, and answers whether it was.
 fn tell(
     store: &Store,
     m: &Move,
@@ -263,7 +264,7 @@ fn answer_judged(
     }
 }
 
-/// The same of any stage of a free porter.
+/// Makes any stage of a free porter, where it is ready, and answers whether it was.
 #[inline(never)]
 fn call_any(
     store: &mut Store,
@@ -303,8 +304,9 @@ fn call_any(
     )
 }
 
-/// The same of a search, judged by its judge alone. What a judge answers takes much room, which is cleared at entry and copied by each function on the
-/// way: so the stages of which a job makes most stand apart, each with the answer of its judge alone.
+/// Makes a porter's search, judged by its judge alone, where it is ready, and answers whether it was. What a judge answers takes much room, which is
+/// cleared at entry and copied by each function on the way: so the stages of which a job makes most stand apart, each with the answer of its judge
+/// alone.
 #[inline(never)]
 fn call_search(
     store: &mut Store,
@@ -349,7 +351,7 @@ fn call_search(
     }
 }
 
-/// The same of a reference that is pointed elsewhere.
+/// Makes a porter's stage that points a reference elsewhere, where it is ready, and answers whether it was.
 #[inline(never)]
 fn call_point(
     store: &mut Store,
@@ -394,7 +396,7 @@ fn call_point(
     }
 }
 
-/// The same of a stage that asks where an object lies.
+/// Makes a porter's stage that asks where an object lies, where it is ready, and answers whether it was.
 #[inline(never)]
 fn call_locate(
     store: &mut Store,
@@ -439,7 +441,7 @@ fn call_locate(
     }
 }
 
-/// The same of a stage that counts the pointers to an object.
+/// Makes a porter's stage that counts the pointers to an object, where it is ready, and answers whether it was.
 #[inline(never)]
 fn call_count_in(
     store: &mut Store,
@@ -484,7 +486,7 @@ fn call_count_in(
     }
 }
 
-/// The same of a stage that reads an object.
+/// Makes a porter's stage that reads an object, where it is ready, and answers whether it was.
 #[inline(never)]
 fn call_state(
     store: &mut Store,
@@ -543,7 +545,7 @@ fn call_state(
     }
 }
 
-/// The same of a stage that reads pages.
+/// Makes a porter's stage that reads pages, where it is ready, and answers whether it was.
 #[inline(never)]
 fn call_pages(
     store: &mut Store,

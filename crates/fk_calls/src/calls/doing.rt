@@ -52,7 +52,7 @@ pub fn next_of(thread: &Thread) -> Doing
 
 /// The first stage of the call that the registers name, if they name one.
 #[inline(always)]
-fn first_stage(registers: &[u64; 16]) -> Option<Stage>
+pub fn first_stage(registers: &[u64; 16]) -> Option<Stage>
     ensures { first_of (todo_of registers.now) ≡ result }
 {
     match todo(registers)? {

@@ -28,7 +28,7 @@ pub fn foretell(store: &Store, m: &Move, ask: &Ask) -> Option<Told>
     }
 }
 
-/// The same of an act of a native server. By no act does a server lose its client.
+/// What an act of a native server would tell native servers; none where it isn't ready. By no act does a server lose its client.
 fn foretell_act(store: &Store, m: &Move, ask: &Ask) -> Option<Told>
     requires valid { IsValid (world store.now) }
     requires act { is_act ask.now ≡ true }
@@ -40,7 +40,8 @@ fn foretell_act(store: &Store, m: &Move, ask: &Ask) -> Option<Told>
     Some(Told { said, ended: None })
 }
 
-/// The same of a move of a user or a porter.
+/// What a move of a user or a porter would tell native servers, and the port whose native server would lose its client by it; none where it isn't
+/// ready.
 fn foretell_judged(store: &Store, m: &Move, ask: &Ask) -> Option<Told>
     requires valid { IsValid (world store.now) }
     requires thread { is_act ask.now ≡ false }

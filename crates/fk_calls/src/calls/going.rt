@@ -101,7 +101,7 @@ pub fn go(store: &mut Store, who: Who) -> Went
     go_at(store, who)
 }
 
-/// The same, with all that it comes to in one clause.
+/// Makes the next stage of the user in a slot by one look at it, with all that it comes to in one clause.
 #[inline(always)]
 fn go_at(store: &mut Store, who: Who) -> Went
     requires valid { IsValid (world store.old) }
@@ -150,7 +150,7 @@ pub fn may_talk(store: &Store, who: Who) -> bool
     }
 }
 
-/// The same at this stage of it.
+/// Whether the user in a slot meets a thread by this stage, a Send or an Over of it.
 #[inline(always)]
 fn meets(store: &Store, who: Who, stage: Stage) -> bool
     requires valid { IsValid (world store.now) }
@@ -168,7 +168,7 @@ fn meets(store: &Store, who: Who, stage: Stage) -> bool
     }
 }
 
-/// The same at this stage of it.
+/// Whether the user in a slot finds the mutex open at this stage of it.
 #[inline(always)]
 fn is_unlocked(store: &Store, who: Who, stage: Stage) -> bool
     requires unheld { (q : Path) → decider (world store.now) q ≡ None }
@@ -182,7 +182,7 @@ fn is_unlocked(store: &Store, who: Who, stage: Stage) -> bool
     }
 }
 
-/// The same of this mutex.
+/// Whether this mutex, which the user in a slot names, is open.
 #[inline(always)]
 fn is_open(store: &Store, who: Who, m: u64) -> bool
     requires unheld { (q : Path) → decider (world store.now) q ≡ None }

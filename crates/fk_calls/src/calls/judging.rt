@@ -146,9 +146,9 @@ fn is_held(store: &Store, space: u32) -> bool
     store.is_frozen(space)
 }
 
-/// It runs or calls.
+/// Whether a thread in this mode runs or calls.
 #[inline(always)]
-fn is_user(mode: Mode) -> bool
+pub fn is_user(mode: Mode) -> bool
     ensures { (registers : List ℕ) → result ≡ holds.is_user (mode_by mode registers) }
 {
     match mode {
@@ -168,7 +168,7 @@ pub fn moving_of(store: &Store, m: &Move, ask: &Ask) -> Option<Moving>
     }
 }
 
-/// The same of a user.
+/// The words that a move of a user sends to a thread that receives them; none where it isn't so.
 fn user_moving(store: &Store, m: &Move) -> Option<Moving>
     requires valid { IsValid (world store.now) }
     ensures { IfSome result (λ moving. IsMoving store.now m.now asks.Run moving) }
@@ -186,7 +186,7 @@ fn user_moving(store: &Store, m: &Move) -> Option<Moving>
     }
 }
 
-/// The same of this stage, the first of its call.
+/// The words that this stage of a free user, the first of its call, sends to a thread that receives them; none where it isn't so.
 fn stage_moving(store: &Store, m: &Move, stage: &Stage) -> Option<Moving>
     requires valid { IsValid (world store.now) }
     requires free { is_free_at (world store.now) (place (path store.now) m.now.who) ≡ true }

@@ -132,7 +132,8 @@ pub fn attempt(
     }
 }
 
-/// The same, of a move of a user or a native server. It stands apart, since a porter's call needs none of the room for what these tell.
+/// Makes a move of a user or a native server where it is ready, and gives what it tells, and the port whose native server lost its client by it; none
+/// where it isn't ready. It stands apart, since a porter's call needs none of the room for what these tell.
 #[inline(never)]
 fn attempt_other(
     store: &mut Store,
@@ -176,7 +177,7 @@ fn attempt_other(
     attempt_judged(store, m, ask, touched)
 }
 
-/// The same, of an act of a native server.
+/// Makes an act of a native server where it is ready, and gives what it tells; none where it isn't ready.
 fn attempt_act(store: &mut Store, m: &Move, ask: &Ask, touched: &mut Touched) -> Option<Told>
     requires valid { IsValid (world store.old) }
     requires act { is_act ask.now ≡ true }
@@ -343,7 +344,7 @@ fn make_instruction(
     true
 }
 
-/// The same, of words that go to a thread that receives them.
+/// Moves words to a thread that receives them, where that is ready, and gives what it tells; none where it isn't.
 fn attempt_moving(
     store: &mut Store,
     m: &Move,
@@ -381,7 +382,7 @@ fn attempt_moving(
     })
 }
 
-/// The same, of any move of a user or a porter. It is judged once.
+/// Makes any move of a user or a porter where it is ready, and gives what it tells; none where it isn't ready. It is judged once.
 fn attempt_judged(
     store: &mut Store,
     m: &Move,

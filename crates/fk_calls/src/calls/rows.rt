@@ -1,5 +1,5 @@
 //! The match from a stage to its judge.
-ghost use Rattle.std.specs.Prelude.{◌≡◌, ℕ, List, true, false, IfOk, length};
+ghost use Rattle.std.specs.Prelude.{◌≡◌, Bool, Option, true, false, IfOk, length};
 ghost use Rattle.fk_model.specs.Moves as machine;
 ghost use Rattle.fk_model.specs.Moves.{allowed_row, stage_row};
 ghost use Rattle.fk_model.specs.Places.{Path};
@@ -9,7 +9,7 @@ ghost use Rattle.fk_store.specs.Store.Paths.{path, place};
 ghost use Rattle.fk_store.specs.Store.Threads.{todo_at};
 ghost use Rattle.fk_store.specs.Store.World.{world, IsLive, IsSpace};
 ghost use Rattle.fk_plans.specs.Plans.Plans.{caller_by};
-ghost use Rattle.fk_plans.specs.Plans.Verdicts.{JudgesGiven, IsVerdict, IsSureVerdict, outcome_by, outcome_of};
+ghost use Rattle.fk_plans.specs.Plans.Verdicts.{Judges, JudgesGiven, IsVerdict, IsSureVerdict, outcome_by, outcome_of};
 ghost use Rattle.fk_calls.specs.Calls.Rows as stages;
 ghost use Rattle.fk_calls.specs.Calls.Rows.{are_given, takes_memory, IsFirst};
 
@@ -49,99 +49,6 @@ pub fn restores(stage: &Stage) -> bool
             | Stage::FaultSet { .. }
             | Stage::FaultPark { .. }
     )
-}
-
-/// What a stage comes to, by its row. A porter gives these words.
-#[inline(always)]
-fn row(
-    store: &Store,
-    caller: Caller,
-    given: &[u64],
-    stage: &Stage,
-    pick: Option<Who>,
-) -> Result<Verdict, u8>
-    requires space { IsSpace store.now caller.who.space }
-    requires live { IsLive store.now caller.who }
-    requires valid { IsValid (world store.now) }
-    requires first { IsFirst stage.now (todo_at (world store.now) (place (path store.now) caller.who)) }
-    requires allowed { machine.is_denied (caller_by (path store.now) caller given.now) stage.now ≡ false }
-    requires given { caller.is_porter ≡ true → length given.now ≡ 64 }
-    requires words { are_given stage.now given.now ≡ true }
-    ensures row { JudgesGiven store.now caller given.now result (λ w c. stage_row w c (picked_by (path store.now) pick) stage.now) }
-    ensures sure { takes_memory true stage.now ≡ false → IfOk result IsSureVerdict }
-{
-    match *stage {
-        Stage::Create { s, x, kind } => create(store, caller, s, x, kind),
-        Stage::Destroy { s, x } => destroy(store, caller, s, x),
-        Stage::Rename { s, x, y } => rename(store, caller, s, x, y),
-        Stage::Search { s, from } => search(store, caller, s, from),
-        Stage::Point { s, x, s2, x2 } => point(store, caller, s, x, s2, x2),
-        Stage::Clear { s, x } => clear(store, caller, s, x),
-        Stage::Locate { reference, s } => locate(store, caller, reference, s),
-        Stage::CountIn { base, s, x } => count_in(store, caller, base, s, x),
-        Stage::GetState { s, x, addr } => get_state(store, caller, s, x, addr),
-        Stage::SetState { s, x, addr } => set_state(store, caller, given, s, x, addr),
-        Stage::GetPtr {
-            s,
-            x,
-            field: n,
-            reference: r,
-        } => get_ptr(store, caller, s, x, n, r),
-        Stage::SetPtr {
-            s,
-            x,
-            field: n,
-            reference: r,
-        } => set_ptr(store, caller, s, x, n, r),
-        Stage::SpaceHold { s, x } => space_hold(store, caller, s, x),
-        Stage::SpaceRelease { s, x } => space_release(store, caller, s, x),
-        Stage::ThreadStop { h } => thread_stop(store, caller, h),
-        Stage::ThreadGo { h } => thread_go(store, caller, h),
-        Stage::PageGive { s, page, addr } => page_give(store, caller, s, page, addr),
-        Stage::PageTake { s, page, addr } => page_take(store, caller, s, page, addr),
-        Stage::PageRead { s, page, addr } => page_read(store, caller, s, page, addr),
-        Stage::PageNext { s, from } => page_next(store, caller, s, from),
-        Stage::MutexLock { m } => mutex_lock(store, caller, m),
-        Stage::MutexTrylock { m } => mutex_trylock(store, caller, m),
-        Stage::MutexUnlock { m } => mutex_unlock(store, caller, m),
-        Stage::CondWait { c, m } => cond_wait(store, caller, c, m),
-        Stage::CondAsleep { c, m } => cond_asleep(store, caller, c, m),
-        Stage::CondSignal { c } => cond_signal(store, caller, c, pick),
-        Stage::CondBroadcast { c } => cond_broadcast(store, caller, c),
-        Stage::ClientReceive { addr, room } => receive(store, caller, Turn::Client, addr, room),
-        Stage::ClientSend { addr, count } => send(store, caller, Turn::Client, addr, count),
-        Stage::ClientOver => over(store, caller, Turn::Client),
-        Stage::ClientOverRef { reference } => over_ref(store, caller, Turn::Client, reference),
-        Stage::ClientReceiveRef {
-            addr,
-            room,
-            reference,
-        } => receive_ref(store, caller, Turn::Client, addr, room, reference),
-        Stage::ServerReceive { addr, room } => receive(store, caller, Turn::Server, addr, room),
-        Stage::ServerSend { addr, count } => send(store, caller, Turn::Server, addr, count),
-        Stage::ServerOver => over(store, caller, Turn::Server),
-        Stage::ServerOverRef { reference } => over_ref(store, caller, Turn::Server, reference),
-        Stage::ServerReceiveRef {
-            addr,
-            room,
-            reference,
-        } => receive_ref(store, caller, Turn::Server, addr, room, reference),
-        Stage::Connect { h } => connect(store, caller, h),
-        Stage::Disconnect => disconnect(store, caller, Turn::Client),
-        Stage::Wait { set } => wait(store, caller, set, pick),
-        Stage::ServerEnd => disconnect(store, caller, Turn::Server),
-        Stage::FaultDone => fault_done(store, caller),
-        Stage::LinkSet { s, x, port, server } => {
-            link_set(store, caller, given, s, x, port, server)
-        }
-        Stage::LinkPark { s, x, port } => link_park(store, caller, given, s, x, port),
-        Stage::FaultSet { s, x, port, taker } => fault_set(store, caller, given, s, x, port, taker),
-        Stage::FaultPark { s, x, port, taken } => {
-            fault_park(store, caller, given, s, x, port, taken)
-        }
-        Stage::HoldSet { s, x, thread } => hold_set(store, caller, s, x, thread),
-        Stage::SpaceMakeHeld { x } => space_make_held(store, caller, x),
-    }
 }
 
 /// A stage that porters alone make: it makes a part of a saved subtree again, or counts pointers.
@@ -189,16 +96,183 @@ fn is_for_users(stage: &Stage) -> bool
     )
 }
 
-/// A stage that is for the other kind of caller.
+/// What a stage comes to that users alone make, by its row.
 #[inline(always)]
-fn is_denied(caller: Caller, stage: &Stage) -> bool
-    ensures { (p : ℕ → Path) (words : List ℕ) → result ≡ machine.is_denied (caller_by p caller words) stage.now }
+fn row_of_users(
+    store: &Store,
+    caller: Caller,
+    stage: &Stage,
+    pick: Option<Who>,
+) -> Result<Verdict, u8>
+    requires user { caller.is_porter ≡ false }
+    requires live { IsLive store.now caller.who }
+    requires valid { IsValid (world store.now) }
+    requires first { IsFirst stage.now (todo_at (world store.now) (place (path store.now) caller.who)) }
+    requires stage { machine.is_for_users stage.now ≡ true }
+    ensures row { Judges store.now caller result (λ w c. stage_row w c (picked_by (path store.now) pick) stage.now) }
+    ensures sure { IfOk result IsSureVerdict }
+{
+    match *stage {
+        Stage::MutexLock { m } => mutex_lock(store, caller, m),
+        Stage::MutexTrylock { m } => mutex_trylock(store, caller, m),
+        Stage::MutexUnlock { m } => mutex_unlock(store, caller, m),
+        Stage::CondWait { c, m } => cond_wait(store, caller, c, m),
+        Stage::CondAsleep { c, m } => cond_asleep(store, caller, c, m),
+        Stage::CondSignal { c } => cond_signal(store, caller, c, pick),
+        Stage::CondBroadcast { c } => cond_broadcast(store, caller, c),
+        Stage::Connect { h } => connect(store, caller, h),
+        Stage::ClientReceive { addr, room } => receive(store, caller, Turn::Client, addr, room),
+        Stage::ClientSend { addr, count } => send(store, caller, Turn::Client, addr, count),
+        Stage::ClientOver => over(store, caller, Turn::Client),
+        Stage::ClientOverRef { reference } => over_ref(store, caller, Turn::Client, reference),
+        Stage::ClientReceiveRef {
+            addr,
+            room,
+            reference,
+        } => receive_ref(store, caller, Turn::Client, addr, room, reference),
+        Stage::Disconnect => disconnect(store, caller, Turn::Client),
+        Stage::ServerReceive { addr, room } => receive(store, caller, Turn::Server, addr, room),
+        Stage::ServerSend { addr, count } => send(store, caller, Turn::Server, addr, count),
+        Stage::ServerOver => over(store, caller, Turn::Server),
+        Stage::ServerOverRef { reference } => over_ref(store, caller, Turn::Server, reference),
+        Stage::ServerReceiveRef {
+            addr,
+            room,
+            reference,
+        } => receive_ref(store, caller, Turn::Server, addr, room, reference),
+        Stage::ServerEnd => disconnect(store, caller, Turn::Server),
+        _ => unreachable!(),
+    }
+}
+
+/// What a stage comes to that porters alone make, by its row, with the words that the porter gives.
+#[inline(always)]
+fn row_of_porters(
+    store: &Store,
+    caller: Caller,
+    given: &[u64],
+    stage: &Stage,
+) -> Result<Verdict, u8>
+    requires space { IsSpace store.now caller.who.space }
+    requires live { IsLive store.now caller.who }
+    requires given { length given.now ≡ 64 }
+    requires words { are_given stage.now given.now ≡ true }
+    requires stage { machine.is_for_porters stage.now ≡ true }
+    ensures row { (pick : Option Path) → JudgesGiven store.now caller given.now result (λ w c. stage_row w c pick stage.now) }
+    ensures sure { takes_memory true stage.now ≡ false → IfOk result IsSureVerdict }
+{
+    match *stage {
+        Stage::CountIn { base, s, x } => count_in(store, caller, base, s, x),
+        Stage::LinkSet { s, x, port, server } => {
+            link_set(store, caller, given, s, x, port, server)
+        }
+        Stage::LinkPark { s, x, port } => link_park(store, caller, given, s, x, port),
+        Stage::FaultSet { s, x, port, taker } => fault_set(store, caller, given, s, x, port, taker),
+        Stage::FaultPark { s, x, port, taken } => {
+            fault_park(store, caller, given, s, x, port, taken)
+        }
+        Stage::HoldSet { s, x, thread } => hold_set(store, caller, s, x, thread),
+        Stage::SpaceMakeHeld { x } => space_make_held(store, caller, x),
+        _ => unreachable!(),
+    }
+}
+
+/// What a stage comes to that anybody makes, by its row. A porter gives these words.
+#[inline(always)]
+fn row_of_anybody(
+    store: &Store,
+    caller: Caller,
+    given: &[u64],
+    stage: &Stage,
+    pick: Option<Who>,
+) -> Result<Verdict, u8>
+    requires space { IsSpace store.now caller.who.space }
+    requires live { IsLive store.now caller.who }
+    requires valid { IsValid (world store.now) }
+    requires first { IsFirst stage.now (todo_at (world store.now) (place (path store.now) caller.who)) }
+    requires given { caller.is_porter ≡ true → length given.now ≡ 64 }
+    requires users { machine.is_for_users stage.now ≡ false }
+    requires porters { machine.is_for_porters stage.now ≡ false }
+    ensures row { JudgesGiven store.now caller given.now result (λ w c. stage_row w c (picked_by (path store.now) pick) stage.now) }
+    ensures sure { (is_porter : Bool) → takes_memory is_porter stage.now ≡ false → IfOk result IsSureVerdict }
+{
+    match *stage {
+        Stage::Create { s, x, kind } => create(store, caller, s, x, kind),
+        Stage::Destroy { s, x } => destroy(store, caller, s, x),
+        Stage::Rename { s, x, y } => rename(store, caller, s, x, y),
+        Stage::Search { s, from } => search(store, caller, s, from),
+        Stage::Point { s, x, s2, x2 } => point(store, caller, s, x, s2, x2),
+        Stage::Clear { s, x } => clear(store, caller, s, x),
+        Stage::Locate { reference, s } => locate(store, caller, reference, s),
+        Stage::GetState { s, x, addr } => get_state(store, caller, s, x, addr),
+        Stage::SetState { s, x, addr } => set_state(store, caller, given, s, x, addr),
+        Stage::GetPtr {
+            s,
+            x,
+            field: n,
+            reference: r,
+        } => get_ptr(store, caller, s, x, n, r),
+        Stage::SetPtr {
+            s,
+            x,
+            field: n,
+            reference: r,
+        } => set_ptr(store, caller, s, x, n, r),
+        Stage::SpaceHold { s, x } => space_hold(store, caller, s, x),
+        Stage::SpaceRelease { s, x } => space_release(store, caller, s, x),
+        Stage::ThreadStop { h } => thread_stop(store, caller, h),
+        Stage::ThreadGo { h } => thread_go(store, caller, h),
+        Stage::PageGive { s, page, addr } => page_give(store, caller, s, page, addr),
+        Stage::PageTake { s, page, addr } => page_take(store, caller, s, page, addr),
+        Stage::PageRead { s, page, addr } => page_read(store, caller, s, page, addr),
+        Stage::PageNext { s, from } => page_next(store, caller, s, from),
+        Stage::Wait { set } => wait(store, caller, set, pick),
+        Stage::FaultDone => fault_done(store, caller),
+        _ => unreachable!(),
+    }
+}
+
+/// What a stage comes to that users alone make. A porter is denied it.
+#[inline(always)]
+fn judged_of_users(
+    store: &Store,
+    caller: Caller,
+    stage: &Stage,
+    pick: Option<Who>,
+) -> Result<Verdict, u8>
+    requires live { IsLive store.now caller.who }
+    requires valid { IsValid (world store.now) }
+    requires first { IsFirst stage.now (todo_at (world store.now) (place (path store.now) caller.who)) }
+    requires stage { machine.is_for_users stage.now ≡ true }
+    ensures row { Judges store.now caller result (λ w c. allowed_row w c (picked_by (path store.now) pick) stage.now) }
+    ensures sure { IfOk result IsSureVerdict }
 {
     if caller.is_porter {
-        is_for_users(stage)
-    } else {
-        is_for_porters(stage)
+        return Err(DENIED);
     }
+    row_of_users(store, caller, stage, pick)
+}
+
+/// What a stage comes to that porters alone make, with the words that a porter gives. A user is denied it.
+#[inline(always)]
+fn judged_of_porters(
+    store: &Store,
+    caller: Caller,
+    given: &[u64],
+    stage: &Stage,
+) -> Result<Verdict, u8>
+    requires space { IsSpace store.now caller.who.space }
+    requires live { IsLive store.now caller.who }
+    requires given { caller.is_porter ≡ true → length given.now ≡ 64 }
+    requires words { caller.is_porter ≡ true → are_given stage.now given.now ≡ true }
+    requires stage { machine.is_for_porters stage.now ≡ true }
+    ensures row { (pick : Option Path) → JudgesGiven store.now caller given.now result (λ w c. allowed_row w c pick stage.now) }
+    ensures sure { takes_memory caller.is_porter stage.now ≡ false → IfOk result IsSureVerdict }
+{
+    if caller.is_porter {
+        return row_of_porters(store, caller, given, stage);
+    }
+    Err(DENIED)
 }
 
 /// What a stage comes to, where a porter gives these words, or why it is refused. One for the other kind of caller is
@@ -226,13 +300,16 @@ pub fn judged(
     ensures fits { IfOk result (IsVerdict store.now caller) }
     ensures sure { takes_memory caller.is_porter stage.now ≡ false → IfOk result IsSureVerdict }
 {
-    if is_denied(caller, stage) {
-        return Err(DENIED);
+    if is_for_users(stage) {
+        return judged_of_users(store, caller, stage, pick);
     }
-    row(store, caller, given, stage, pick)
+    if is_for_porters(stage) {
+        return judged_of_porters(store, caller, given, stage);
+    }
+    row_of_anybody(store, caller, given, stage, pick)
 }
 
-/// The same as a verdict.
+/// What a stage comes to, as a verdict: a refusal is one too.
 pub fn judge(
     store: &Store,
     caller: Caller,

@@ -73,7 +73,8 @@ pub fn say(store: &mut Store, who: Who, room: &mut [u64; 64], touched: &mut Touc
     say_stage(store, who, &stage, room, touched)
 }
 
-/// The same of this stage of a free user, the first of its call. It is judged where it stands, so that no answer of the judge is handed on.
+/// Makes this stage of a free user, the first of its call, where it sends words to a native server and is ready. It is judged where it stands, so
+/// that no answer of the judge is handed on.
 #[inline(always)]
 fn say_stage(
     store: &mut Store,

@@ -104,7 +104,7 @@ fn make_stage(store: &mut Store, who: Who, stage: &Stage, touched: &mut Touched)
     }
 }
 
-/// The same of the stage that makes an object.
+/// Makes the stage of a free user that makes an object.
 #[inline(never)]
 fn make_create(
     store: &mut Store,
@@ -138,7 +138,7 @@ fn make_create(
     }
 }
 
-/// The same of the stage that destroys an object.
+/// Makes the stage of a free user that destroys an object.
 #[inline(never)]
 fn make_destroy(store: &mut Store, who: Who, s: u64, x: u64, touched: &mut Touched) -> bool
     requires valid { IsValid (world store.old) }
@@ -170,7 +170,7 @@ fn make_destroy(store: &mut Store, who: Who, s: u64, x: u64, touched: &mut Touch
     }
 }
 
-/// The same of any stage.
+/// Makes any stage of a free user.
 #[inline(never)]
 fn make_other(store: &mut Store, who: Who, stage: &Stage, touched: &mut Touched) -> bool
     requires valid { IsValid (world store.old) }

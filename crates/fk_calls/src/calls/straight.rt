@@ -137,7 +137,7 @@ pub fn point_at(
     true
 }
 
-/// The same of one that shows words and changes nothing.
+/// Makes a porter's move that shows words and changes nothing, where it is ready, and answers whether it was.
 ///
 /// # Errors
 ///

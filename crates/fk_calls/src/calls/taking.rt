@@ -43,7 +43,8 @@ pub fn take_up(store: &mut Store, who: Who, pick: Option<Who>, touched: &mut Tou
     }
 }
 
-/// The same of this stage of a free user, the first of its call.
+/// Makes this stage of a free user, the first of its call, with this pick, where that tells nobody of anything and is ready, and answers whether it
+/// did.
 #[inline(never)]
 fn take_stage(
     store: &mut Store,
@@ -72,7 +73,7 @@ fn take_stage(
     }
 }
 
-/// The same where it is judged so.
+/// Makes a stage that is judged so, with this pick, where it is ready, and answers whether it did.
 #[inline(always)]
 fn take_verdict(
     store: &mut Store,
@@ -174,7 +175,7 @@ pub fn raise(store: &mut Store, who: Who, touched: &mut Touched) -> bool
     raise_judged(store, who, &verdict, touched)
 }
 
-/// The same of an instruction that is judged so.
+/// Raises the fault of an instruction that is judged so, and answers whether it did.
 #[inline(always)]
 fn raise_judged(store: &mut Store, who: Who, verdict: &Verdict, touched: &mut Touched) -> bool
     requires valid { IsValid (world store.old) }

@@ -25,6 +25,7 @@ begins_talking turns.Server n = n == SERVER_RECEIVE || n == SERVER_SEND || n == 
 abbrev pub talking : Turn → Option Body → Bool
 talking side b = holds (λ (t : Thread). is_talking side t.mode) (and_then thread_of b)
 
+-- a path is one of these
 abbrev pub is_in_list : Path → List Path → Bool
 is_in_list q xs = list_any (same_path q) xs
 

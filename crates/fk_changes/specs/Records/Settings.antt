@@ -37,5 +37,6 @@ abbrev pub sets_of : World → Path → Path → List ℕ → Option Body → Li
 sets_of w space x words None = []
 sets_of w space x words (Some b) = if takes_state w space b words then map (Alter x) (set_edits b words) else []
 
+-- the changes by which an object takes the state of a record
 abbrev pub sets_at : World → Path → Path → List ℕ → List Change
 sets_at w space x words = sets_of w space x words (w.body x)

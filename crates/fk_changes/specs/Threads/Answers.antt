@@ -8,12 +8,14 @@ use Rattle.fk_changes.specs.declared.threads.answers.Answers.{Answers}
 use Rattle.fk_changes.specs.declared.threads.answers.Four.{Four}
 use Rattle.fk_changes.specs.declared.threads.answers.Answers.TheVariants.{Nothing, One, Two, Three}
 
+-- answers, as a list
 abbrev pub listed : Answers → List ℕ
 listed Nothing = []
 listed (One a) = a ∷ []
 listed (Two a b) = a ∷ b ∷ []
 listed (Three a b c) = a ∷ b ∷ c ∷ []
 
+-- four answers, as a list
 abbrev pub all_four : Four → List ℕ
 all_four answers = answers.first ∷ answers.second ∷ answers.third ∷ answers.fourth ∷ []
 

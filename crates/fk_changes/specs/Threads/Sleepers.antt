@@ -14,6 +14,7 @@ asleep_in cond g = if slice_index g 0 == COND_ASLEEP then (if slice_index g 1 ==
 abbrev pub IsAsleep : World → Path → ℕ → Type 0
 IsAsleep w x mutex = (cond : ℕ) × (todo_at w x ≡ CondAsleep cond mutex ∷ [])
 
+-- something is changed
 abbrev pub is_changed : List Change → Bool
 is_changed [] = false
 is_changed (change ∷ changes) = true

@@ -80,7 +80,7 @@ fn end_talking(store: &mut Store, who: Who, side: Turn)
     }
 }
 
-/// The same, of a thread that may be missing.
+/// Ends the call of a thread that may be missing, if it is at a Send, an Over or a Receive on this side of a talk.
 pub fn end_each(store: &mut Store, who: Option<Who>, side: Turn)
     ensures ends { (test : Path → Bool) (w : World) → world store.old ≡ ended_where test w → world store.new
         ≡ ended_where (λ q. test q || is_in_list q (ends_led w side (option_map (place (path store.old)) who))) w }

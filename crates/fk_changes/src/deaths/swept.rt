@@ -196,7 +196,7 @@ fn may_all_be_swept(store: &Store, me: Who, gone: Who) -> bool
     leaders.are_all() || may_each_be_swept(store, me, gone)
 }
 
-/// The same, of all objects: where it isn't known who leads there.
+/// It allows all that the death of an object changes in others, by a look at all objects: where it isn't known who leads there.
 fn may_each_be_swept(store: &Store, me: Who, gone: Who) -> bool
     requires apart { HasOwnPath (path store.now) gone }
     ensures { IsTrue result ↔ ((q : Path) →

@@ -22,7 +22,7 @@ use Rattle.fk_checkpoint.specs.declared.gathering.gather.Step.{Step as GatherSte
 use Rattle.fk_checkpoint.specs.declared.gathering.gather.Step.TheVariants as gather_steps
 use Rattle.fk_checkpoint.specs.Gathering.Gathering as gathering
 use Rattle.fk_checkpoint.specs.Gathering.Gathered as gathered
-use Rattle.fk_finish.specs.declared.finish.Finish.{Finish}
+use Rattle.fk_checkpoint.specs.declared.checkpoint.end.CheckpointEnd.{CheckpointEnd}
 use Rattle.fk_checkpoint.specs.declared.checkpoint.checkpoint.Phase.{Phase}
 use Rattle.fk_checkpoint.specs.declared.checkpoint.checkpoint.Phase.TheVariants as phases
 use Rattle.fk_checkpoint.specs.Checkpoint.Phases.{phase_of}
@@ -37,7 +37,11 @@ at_seek slot mets place t ts (looks.Down gone) = (_, _, refl)
 at_seek slot mets place t ts (looks.Reads fields.Nothing) = (_, _, refl)
 at_seek slot mets place t ts (looks.Reads fields.Zero) = (_, _, refl)
 at_seek slot mets place t ts (looks.Reads fields.Two) = (_, _, refl)
+at_seek slot mets place t ts (looks.Reads fields.Three) = (_, _, refl)
 at_seek slot mets place t ts (looks.Reads fields.ZeroTwo) = (_, _, refl)
+at_seek slot mets place t ts (looks.Reads fields.TwoThree) = (_, _, refl)
+at_seek slot mets place t ts (looks.Reads fields.OneToThree) = (_, _, refl)
+at_seek slot mets place t ts (looks.Reads fields.ZeroToThree) = (_, _, refl)
 at_seek slot mets place t ts (looks.Inside field left) = (_, _, refl)
 at_seek slot mets place t ts (looks.Beside field left) = (_, _, refl)
 
@@ -56,7 +60,7 @@ at_gather slot shown contents g (gather_steps.Looks field left) = (_, _, refl)
 at_gather slot shown contents g (gather_steps.Leads way field left) = (_, _, refl)
 at_gather slot shown contents g (gather_steps.Beside field left) = (_, _, refl)
 
-pub at_call : (slot : ℕ) (phase : Phase) → ((finish : Finish) → phase ≡ phases.Over finish → ⊥) → IsAtCall (checkpoint slot) (phase_of slot phase)
+pub at_call : (slot : ℕ) (phase : Phase) → ((end : CheckpointEnd) → phase ≡ phases.Over end → ⊥) → IsAtCall (checkpoint slot) (phase_of slot phase)
 at_call slot phases.Holds over = (_, _, refl)
 at_call slot (phases.Readies scratch) over = (_, _, refl)
 at_call slot (phases.Walks walk) over = at_walk slot walk.path.items walk.mets.items walk.step
@@ -66,6 +70,7 @@ at_call slot (phases.Seeks walk seek) over =
 at_call slot (phases.Closed walk) over = (_, _, refl)
 at_call slot (phases.Reads read) over = at_read slot read read.step
 at_call slot (phases.Gathers contents gather) over = at_gather slot (gathering.contents_of contents.items) contents.items gather gather.step
-at_call slot (phases.Drops scratch ending) over = (_, _, refl)
-at_call slot (phases.Releases ending) over = (_, _, refl)
-at_call slot (phases.Over finish) over = absurd (over finish refl)
+at_call slot (phases.Ends ending) over = (_, _, refl)
+at_call slot (phases.Drops scratch end) over = (_, _, refl)
+at_call slot (phases.Releases end) over = (_, _, refl)
+at_call slot (phases.Over end) over = absurd (over end refl)

@@ -13,8 +13,8 @@ use Rattle.fk_checkpoint.specs.Seeking.Seeking.{up}
 use Rattle.fk_checkpoint.proofs.InSeeking.Ways.{way_up, up_more}
 use Rattle.fk_checkpoint.specs.declared.gathering.content.Item.{Item as CodeItem}
 use Rattle.fk_checkpoint.specs.declared.gathering.content.Content.{Content as CodeContent}
-use Rattle.fk_checkpoint.specs.declared.gathering.kinds.Fields.{Fields}
-use Rattle.fk_checkpoint.specs.Gathering.Fields.{fields_in}
+use Rattle.fk_checkpoint.specs.declared.seeking.fields.Fields.{Fields}
+use Rattle.fk_checkpoint.specs.Seeking.Fields.{fields_in}
 use Rattle.fk_checkpoint.specs.Gathering.Gathering.{item_of, items_of, contents_of}
 use Rattle.fk_checkpoint.specs.Gathering.Todos.{path_at, objects_at, later_spaces, behind, found}
 

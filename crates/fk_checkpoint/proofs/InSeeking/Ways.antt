@@ -50,7 +50,8 @@ one_more n = omega arith
 pub begins_next : (slot : ℕ) (mets : List CodeMet) (at : ℕ) → at < length mets →
     seek_of slot mets (record { at = at + 1; look = looks.Down 0 }) ≡ seeks.begin slot (tasks_behind mets at)
 begins_next slot mets at less =
-    subst (λ k. seek_of slot mets (record { at = k; look = looks.Down 0 }) ≡ seeks.begin slot (tasks_behind mets at)) (one_more at) (begins_here slot mets at less)
+    subst (λ k. seek_of slot mets (record { at = k; look = looks.Down 0 }) ≡ seeks.begin slot (tasks_behind mets at)) (one_more at)
+    (begins_here slot mets at less)
 
 -- back to a space
 pub reach_down : (slot : ℕ) (place : List ℕ) (from : ℕ) (got : List Met) → 0 < length place →
@@ -61,5 +62,6 @@ reach_down slot place from got some = by (up place) (way_up place) (rw (length-r
     by [] e some = absurd (omega (arith, some))
     by (j ∷ q) e some = ap (λ way. walks.Down OWN_SPACE (slot ∷ way) (j ∷ q) from got) (sym e)
 
-pub leaves_up : (slot : ℕ) (place : List ℕ) (last : ℕ) (got : List Met) → walks.leaves slot (up (place ++ last ∷ [])) got ≡ walks.reach slot (up place) (last + 1) got
+pub leaves_up : (slot : ℕ) (place : List ℕ) (last : ℕ) (got : List Met) → walks.leaves slot (up (place ++ last ∷ [])) got ≡ walks.reach slot (up place)
+    (last + 1) got
 leaves_up slot place last got = ap (λ q. walks.leaves slot q got) (up_more place last)

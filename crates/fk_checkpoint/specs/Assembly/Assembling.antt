@@ -10,6 +10,7 @@ use Rattle.fk_checkpoint.specs.declared.gathering.content.Content.{Content}
 use Rattle.fk_checkpoint.specs.declared.gathering.content.Lead.{Lead}
 use Rattle.fk_checkpoint.specs.Gathering.Gathering.{contents_of, lead_of}
 
+-- the spaces whose contents were gathered
 abbrev pub spaces_of : List Content → List Path
 spaces_of contents = paths_read (contents_of contents)
 

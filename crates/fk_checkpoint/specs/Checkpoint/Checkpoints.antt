@@ -1,6 +1,6 @@
--- What a checkpoint in code is about to end with.
+-- How a checkpoint in code ends, and what it is about to end with.
 use Rattle.std.specs.Prelude.{ℕ, reverse, Option, Some, None}
-use Rattle.fk_finish.specs.declared.finish.Place.{Place as CodePlace}
+use Rattle.fk_finish.specs.declared.place.Place.{Place as CodePlace}
 use Rattle.fk_model.specs.Closed.{Place}
 use Rattle.fk_image.specs.declared.image.image.Image.{Image}
 use Rattle.laws_checkpoint.specs.Checkpoint.{End, State}
@@ -11,8 +11,8 @@ use Rattle.laws_checkpoint.specs.Assembly.{assembled}
 use Rattle.laws_checkpoint.specs.Narrow.{narrowed}
 use Rattle.fk_checkpoint.specs.Seeking.Seeking.{task_at}
 use Rattle.fk_checkpoint.specs.Gathering.Gathering.{contents_of, leads_of}
-use Rattle.fk_finish.specs.declared.finish.Finish.{Finish}
-use Rattle.fk_finish.specs.declared.finish.Finish.TheVariants as finishes
+use Rattle.fk_checkpoint.specs.declared.checkpoint.end.CheckpointEnd.{CheckpointEnd}
+use Rattle.fk_checkpoint.specs.declared.checkpoint.end.CheckpointEnd.TheVariants as code_ends
 use Rattle.fk_checkpoint.specs.declared.checkpoint.ending.Ending.{Ending}
 use Rattle.fk_checkpoint.specs.declared.checkpoint.ending.Ending.TheVariants as endings
 
@@ -20,25 +20,16 @@ use Rattle.fk_checkpoint.specs.declared.checkpoint.ending.Ending.TheVariants as 
 abbrev pub shown_place : CodePlace → Place
 shown_place p = record { path = reverse p.path; field = p.field }
 
--- how it has ended, as the machine says it; a checkpoint ends in the first three ways alone
-abbrev pub end_of : Finish → End
-end_of (finishes.Image image) = Done image
-end_of (finishes.Foreign place) = Foreign (shown_place place)
-end_of finishes.Dead = Gone
-end_of finishes.Restored = Gone
-end_of finishes.Occupied = Gone
-end_of (finishes.NoPort port) = Gone
+-- how it ends, as the machine says it
+abbrev pub end_of : CheckpointEnd → End
+end_of (code_ends.Done image) = Done image
+end_of (code_ends.Foreign place) = Foreign (shown_place place)
+end_of code_ends.Gone = Gone
 
+-- what is about to be made of this
 abbrev pub ending_of : ℕ → Ending → End
 ending_of slot (endings.Foreign walk at field) = Foreign (place_of slot (task_at walk.mets.items at) field)
 ending_of slot (endings.Done contents leads) = Done (narrowed (assembled (contents_of contents.items) (leads_of leads.items)))
-ending_of slot (endings.Made finish) = end_of finish
-
--- what it ends with is made
-abbrev pub IsReady : Ending → Type 0
-IsReady (endings.Foreign walk at field) = ⊥
-IsReady (endings.Done contents leads) = ⊥
-IsReady (endings.Made finish) = Unit {0}
 
 -- the image with which a checkpoint ends
 abbrev pub image_of : End → Option Image

@@ -5,7 +5,7 @@ use Rattle.laws_checkpoint.specs.Walk as walks
 use Rattle.laws_checkpoint.specs.Contents as reads
 use Rattle.laws_checkpoint.specs.Gather as gathers
 use Rattle.laws_checkpoint.specs.Assembly.{spaces_met}
-use Rattle.laws_checkpoint.specs.Checkpoint.{State, walking, reading, gathering as gathers_on}
+use Rattle.laws_checkpoint.specs.Checkpoint.{State, walking, reading, ends_as, gathering as gathers_on}
 use Rattle.laws_checkpoint.specs.Checkpoint.State.{Holds, Readies, Walks, Seeks, Reads, Gathers, Drops, Releases, Over}
 use Rattle.fk_checkpoint.specs.Seeking.Seeking as seeking
 use Rattle.fk_checkpoint.specs.Gathering.Gathering as gathering
@@ -17,7 +17,7 @@ use Rattle.fk_checkpoint.specs.declared.checkpoint.checkpoint.Phase.TheVariants 
 use Rattle.fk_checkpoint.specs.declared.checkpoint.checkpoint.Checkpoint.{Checkpoint}
 use Rattle.fk_checkpoint.specs.declared.checkpoint.checkpoint.Heard.{Heard}
 use Rattle.fk_checkpoint.specs.declared.checkpoint.checkpoint.Heard.TheVariants as hears
-use Rattle.fk_checkpoint.specs.Checkpoint.Checkpoints.{end_of, ending_of, IsReady}
+use Rattle.fk_checkpoint.specs.Checkpoint.Checkpoints.{end_of, ending_of}
 
 abbrev pub slot_of : Scratch → ℕ
 slot_of scratches.Places = PLACES
@@ -43,9 +43,10 @@ phase_of slot (phases.Seeks walk seek) = Seeks (seeking.mets_of walk.mets.items)
 phase_of slot (phases.Closed walk) = Reads (reads.begin slot (spaces_met (seeking.mets_of walk.mets.items)) [])
 phase_of slot (phases.Reads read) = Reads (gathering.read_of slot read)
 phase_of slot (phases.Gathers contents gather) = Gathers (gathering.contents_of contents.items) (gathered.gather_of slot contents.items gather)
-phase_of slot (phases.Drops scratch ending) = Drops (slot_of scratch) (dropped_after scratch) (ending_of slot ending)
-phase_of slot (phases.Releases way) = Releases (end_of way)
-phase_of slot (phases.Over finish) = Over (end_of finish)
+phase_of slot (phases.Ends ending) = ends_as (ending_of slot ending)
+phase_of slot (phases.Drops scratch end) = Drops (slot_of scratch) (dropped_after scratch) (end_of end)
+phase_of slot (phases.Releases end) = Releases (end_of end)
+phase_of slot (phases.Over end) = Over (end_of end)
 
 -- what comes of a part that has come to its end
 abbrev pub over_of : ℕ → Phase → State
@@ -85,28 +86,32 @@ HasRoomIn (phases.Seeks walk seek) = Unit {0}
 HasRoomIn (phases.Closed walk) = ⊥
 HasRoomIn (phases.Reads read) = gathering.HasRoom read
 HasRoomIn (phases.Gathers contents gather) = gathered.HasRoom gather
-HasRoomIn (phases.Drops scratch ending) = IsReady ending
-HasRoomIn (phases.Releases way) = Unit {0}
-HasRoomIn (phases.Over finish) = Unit {0}
+HasRoomIn (phases.Ends ending) = ⊥
+HasRoomIn (phases.Drops scratch end) = Unit {0}
+HasRoomIn (phases.Releases end) = Unit {0}
+HasRoomIn (phases.Over end) = Unit {0}
 
+-- a checkpoint has room for an answer
 abbrev pub HasRoom : Checkpoint → Type 0
 HasRoom c = HasRoomIn c.phase
 
--- its spaces are listed, where it is closed
+-- its spaces are listed, where it is closed; and what it ends with is made, where it has seen that
 abbrev pub IsOpened : Phase → Type 0
 IsOpened (phases.Closed walk) = ⊥
+IsOpened (phases.Ends ending) = ⊥
 IsOpened phases.Holds = Unit {0}
 IsOpened (phases.Readies scratch) = Unit {0}
 IsOpened (phases.Walks walk) = Unit {0}
 IsOpened (phases.Seeks walk seek) = Unit {0}
 IsOpened (phases.Reads read) = Unit {0}
 IsOpened (phases.Gathers contents gather) = Unit {0}
-IsOpened (phases.Drops scratch ending) = Unit {0}
-IsOpened (phases.Releases way) = Unit {0}
-IsOpened (phases.Over finish) = Unit {0}
+IsOpened (phases.Drops scratch end) = Unit {0}
+IsOpened (phases.Releases end) = Unit {0}
+IsOpened (phases.Over end) = Unit {0}
 
+-- a part has come to its end
 abbrev pub IsOver : Phase → Type 0
-IsOver (phases.Over finish) = Unit {0}
+IsOver (phases.Over end) = Unit {0}
 IsOver (phases.Closed walk) = ⊥
 IsOver phases.Holds = ⊥
 IsOver (phases.Readies scratch) = ⊥
@@ -114,5 +119,6 @@ IsOver (phases.Walks walk) = ⊥
 IsOver (phases.Seeks walk seek) = ⊥
 IsOver (phases.Reads read) = ⊥
 IsOver (phases.Gathers contents gather) = ⊥
-IsOver (phases.Drops scratch ending) = ⊥
-IsOver (phases.Releases way) = ⊥
+IsOver (phases.Ends ending) = ⊥
+IsOver (phases.Drops scratch end) = ⊥
+IsOver (phases.Releases end) = ⊥

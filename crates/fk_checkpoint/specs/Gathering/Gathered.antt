@@ -7,7 +7,7 @@ use Rattle.fk_checkpoint.specs.declared.gathering.content.Content.{Content as Co
 use Rattle.fk_checkpoint.specs.declared.gathering.gather.Gather.{Gather}
 use Rattle.fk_checkpoint.specs.declared.gathering.gather.Step.{Step}
 use Rattle.fk_checkpoint.specs.declared.gathering.gather.Step.TheVariants as steps
-use Rattle.fk_checkpoint.specs.Gathering.Fields.{fields_in}
+use Rattle.fk_checkpoint.specs.Seeking.Fields.{fields_in}
 use Rattle.fk_checkpoint.specs.Gathering.Gathering.{leads_of}
 use Rattle.fk_checkpoint.specs.Gathering.Todos.{place_of, task_of, behind}
 
@@ -30,6 +30,7 @@ step_of slot contents g (steps.Leads way field fields) =
 step_of slot contents g (steps.Beside field fields) =
     gathers.Beside field (fields_in fields) (task_at contents g) (tasks_behind contents g) (leads_of g.leads.items)
 
+-- what has been read of pointers so far
 abbrev pub gather_of : ℕ → List CodeContent → Gather → gathers.State
 gather_of slot contents g = step_of slot contents g g.step
 
@@ -38,6 +39,7 @@ abbrev pub gathered : Bool → ℕ → List CodeContent → Gather → gathers.S
 gathered true slot contents g = gathers.Over (leads_of g.leads.items)
 gathered false slot contents g = gather_of slot contents g
 
+-- there is room for one slot on the way, and for one pointer
 pub record HasRoom (g : Gather) : Type 0 where
   pub at : vec_len g.at < vec_capacity g.at
   pub leads : vec_len g.leads < vec_capacity g.leads

@@ -15,6 +15,7 @@ use Rattle.fk_checkpoint.specs.declared.gathering.read.Reading.TheVariants as st
 
 -- ---- what was gathered
 
+-- an object with its record
 abbrev pub item_of : CodeItem → Item
 item_of i = record { number = i.number; words = take i.len i.words }
 
@@ -24,6 +25,7 @@ items_of items = map item_of items
 abbrev pub content_of : CodeContent → Content
 content_of c = record { path = up c.path; objects = items_of c.objects; pages = items_of c.pages }
 
+-- the contents of spaces
 abbrev pub contents_of : List CodeContent → List Content
 contents_of contents = map content_of contents
 
@@ -34,11 +36,13 @@ lead_of (leads.At path) = ptrs.At (up path)
 lead_of (leads.Out slot) = ptrs.Out slot
 lead_of leads.Far = ptrs.Far
 
+-- pointers that were read
 abbrev pub leads_of : List Lead → List Ptr
 leads_of leads = map lead_of leads
 
 -- ---- the reader
 
+-- the spaces that are left, by paths
 abbrev pub paths_left : List (List ℕ) → List Path
 paths_left left = map up (reverse left)
 
@@ -52,6 +56,7 @@ reading_of slot r (steps.Looks from) =
 reading_of slot r (steps.Copies page) =
     reads.Copies page (items_of r.objects.items) (items_of r.pages.items) (up r.path) (paths_left r.left.items) (contents_of r.contents.items)
 
+-- what has been gathered of contents so far
 abbrev pub read_of : ℕ → Read → reads.State
 read_of slot r = reading_of slot r r.step
 
@@ -70,5 +75,6 @@ HasRoomFor (steps.Record slot) r = vec_len r.objects < vec_capacity r.objects
 HasRoomFor (steps.Looks from) r = HasRoomForContent r
 HasRoomFor (steps.Copies page) r = vec_len r.pages < vec_capacity r.pages
 
+-- there is room for what one answer brings
 abbrev pub HasRoom : Read → Type 0
 HasRoom r = HasRoomFor r.step r

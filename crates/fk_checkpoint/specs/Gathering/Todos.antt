@@ -9,13 +9,14 @@ use Rattle.fk_checkpoint.specs.Seeking.Seeking.{up}
 use Rattle.fk_checkpoint.specs.declared.gathering.content.Item.{Item as CodeItem}
 use Rattle.fk_checkpoint.specs.declared.gathering.content.Content.{Content as CodeContent}
 use Rattle.fk_checkpoint.specs.declared.gathering.todo.Todo.{Todo}
-use Rattle.fk_checkpoint.specs.Gathering.Fields.{fields_in}
+use Rattle.fk_checkpoint.specs.Seeking.Fields.{fields_in}
 use Rattle.fk_checkpoint.specs.Gathering.Gathering.{items_of, contents_of}
 
 abbrev pub path_of : Option CodeContent → List ℕ
 path_of None = []
 path_of (Some c) = c.path
 
+-- the place of a space that was gathered
 abbrev pub path_at : List CodeContent → ℕ → List ℕ
 path_at contents space = path_of (slice_get contents space)
 
@@ -33,6 +34,7 @@ tasks_in q objects from ts = map (item_task q) (items_of (drop from objects)) ++
 abbrev pub later_spaces : List CodeContent → ℕ → List Task
 later_spaces contents space = gathered_tasks (contents_of (drop (suc space) contents))
 
+-- whose pointers are left, from an object of a space on
 abbrev pub behind : List CodeContent → ℕ → ℕ → List Task
 behind contents space next = tasks_in (up (path_at contents space)) (objects_at contents space) next (later_spaces contents space)
 

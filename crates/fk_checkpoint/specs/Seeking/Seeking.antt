@@ -1,7 +1,7 @@
 -- What the code's walk and its search stand for.
-use Rattle.std.specs.Prelude.{◌≡◌, ℕ, zero, suc, ◌<◌, List, [], ◌∷◌, map, take, drop, reverse, slice_index, slice_get, vec_len, vec_capacity, Bool, true, false, Option, Some, None}
+use Rattle.std.specs.Prelude.{◌≡◌, ℕ, zero, suc, ◌<◌, List, [], ◌∷◌, map, drop, reverse, slice_index, slice_get, vec_len, vec_capacity, Bool, true, false}
+use Rattle.std.specs.Prelude.{Option, Some, None}
 use Rattle.fk_model.specs.declared.limits.TheConstants.{OWN_SPACE}
-use Rattle.fk_model.specs.declared.moves.Answer.{Answer}
 use Rattle.fk_model.specs.Places.{Path}
 use Rattle.laws_checkpoint.specs.Foreign.{PLACES, Task, place_of}
 use Rattle.laws_checkpoint.specs.Foreign as seeks
@@ -9,8 +9,7 @@ use Rattle.laws_checkpoint.specs.Walk as walks
 use Rattle.laws_checkpoint.specs.Walk.{Met}
 use Rattle.laws_checkpoint.specs.Assembly.{met_task}
 use Rattle.fk_checkpoint.specs.declared.seeking.met.Met.{Met as CodeMet}
-use Rattle.fk_checkpoint.specs.declared.seeking.fields.Fields.{Fields}
-use Rattle.fk_checkpoint.specs.declared.seeking.fields.Fields.TheVariants.{Nothing, Zero, Two, ZeroTwo}
+use Rattle.fk_checkpoint.specs.Seeking.Fields.{fields_in}
 use Rattle.fk_checkpoint.specs.declared.seeking.seek.Look.{Look}
 use Rattle.fk_checkpoint.specs.declared.seeking.seek.Look.TheVariants as looks
 use Rattle.fk_checkpoint.specs.declared.seeking.seek.Seek.{Seek}
@@ -19,13 +18,11 @@ use Rattle.fk_checkpoint.specs.declared.seeking.seek.Sought.TheVariants as sough
 use Rattle.fk_checkpoint.specs.declared.seeking.walk.Step.{Step}
 use Rattle.fk_checkpoint.specs.declared.seeking.walk.Step.TheVariants as steps
 use Rattle.fk_checkpoint.specs.declared.seeking.walk.Walk.{Walk}
-
--- the words that an answer has
-abbrev pub answered : Answer → List ℕ
-answered a = take a.len a.words
+pub use Rattle.fk_model.specs.Outcomes.{answered}
 
 -- ---- places: the slots from the root down, and the path from the object outwards
 
+-- a place as a path
 abbrev pub up : List ℕ → Path
 up place = reverse place
 
@@ -44,6 +41,7 @@ from_at (suc n) = PLACES
 abbrev pub met_of : CodeMet → Met
 met_of m = record { path = m.slot ∷ up m.place; kind = m.kind }
 
+-- the objects that were met
 abbrev pub mets_of : List CodeMet → List Met
 mets_of mets = map met_of mets
 
@@ -51,6 +49,7 @@ abbrev pub step_of : ℕ → List ℕ → List CodeMet → Step → walks.State
 step_of slot path mets (steps.Down gone from) = walks.Down (from_at gone) (way_at slot path gone ∷ drop gone path) (up path) from (mets_of mets)
 step_of slot path mets (steps.Searches from) = walks.Searches (up path) from (mets_of mets)
 
+-- how far a walk has come
 abbrev pub walk_of : ℕ → Walk → walks.State
 walk_of slot w = step_of slot w.path.items w.mets.items w.step
 
@@ -69,22 +68,18 @@ abbrev pub HasRoomFor : Step → Walk → Type 0
 HasRoomFor (steps.Down gone from) w = Unit {0}
 HasRoomFor (steps.Searches from) w = HasRoomAt w
 
+-- there is room for what one answer brings
 abbrev pub HasRoom : Walk → Type 0
 HasRoom w = HasRoomFor w.step w
 
 -- ---- the search
-
-abbrev pub fields_in : Fields → List ℕ
-fields_in Nothing = []
-fields_in Zero = 0 ∷ []
-fields_in Two = 2 ∷ []
-fields_in ZeroTwo = 0 ∷ 2 ∷ []
 
 -- the root comes first, and then those that were met
 abbrev pub met_at : List CodeMet → ℕ → Option CodeMet
 met_at mets zero = None
 met_at mets (suc n) = slice_get mets n
 
+-- what is looked at of an object that was met; of the root nothing is
 abbrev pub task_for : Option CodeMet → Task
 task_for None = record { path = []; fields = []; strict = false }
 task_for (Some m) = met_task (met_of m)
@@ -105,9 +100,11 @@ look_of slot place t ts (looks.Reads fields) = seeks.Fields (fields_in fields) t
 look_of slot place t ts (looks.Inside field fields) = seeks.Inside field (fields_in fields) t ts
 look_of slot place t ts (looks.Beside field fields) = seeks.Beside field (fields_in fields) t ts
 
+-- how far a search has come
 abbrev pub seek_of : ℕ → List CodeMet → Seek → seeks.State
 seek_of slot mets s = look_of slot (place_for (met_at mets s.at)) (task_at mets s.at) (tasks_behind mets s.at) s.look
 
+-- what comes of a search by an answer
 abbrev pub sought_of : ℕ → List CodeMet → ℕ → Sought → seeks.State
 sought_of slot mets at (sought.Goes s) = seek_of slot mets s
 sought_of slot mets at sought.Closed = seeks.Over None

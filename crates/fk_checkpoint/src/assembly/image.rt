@@ -10,7 +10,8 @@ ghost use Rattle.fk_checkpoint.specs.Assembly.Assembling.{spaces_of, kept_of, fl
 use crate::assembly::links::{link_at, parent, slot};
 use crate::assembly::records::rec;
 use crate::assembly::words::page_words;
-use crate::gathering::{Content, Item, Lead, asked_of, kind_of};
+use crate::gathering::{Content, Item, Lead, kind_of};
+use crate::seeking::asked_of;
 use fk_image::{Image, Link, ObjectRec, Objects, PageRec, SpaceRec};
 use fk_model::{List, NoMemory};
 use std::alloc::Global;

@@ -72,7 +72,7 @@ fn rank(contents: &[Content], path: &[u64]) -> usize
     contents.len()
 }
 
-/// The same slots as words.
+/// The slots of a path as words.
 fn wide(alloc: Global, place: &[u8]) -> Result<Vec<u64>, NoMemory>
     ensures { IfOk result (λ wide. wide.items ≡ place.now) }
 {

@@ -1,25 +1,27 @@
 //! The checkpoint, phase by phase.
-ghost use Rattle.std.specs.Prelude.{◌≡◌, OnOk, IfNone, IfSome, option_map};
+ghost use Rattle.std.specs.Prelude.{◌≡◌, [], OnOk, IfOk, IfNone, IfSome, option_map};
 ghost use Rattle.fk_checkpoint.specs.declared.checkpoint.checkpoint.Phase.TheVariants as phases;
+ghost use Rattle.fk_model.specs.declared.stage.Stage.TheVariants as stages;
 ghost use Rattle.laws_checkpoint.specs.Checkpoint.State.{Holds, Over};
+ghost use Rattle.laws_checkpoint.specs.Assembly.{spaces_met};
+ghost use Rattle.laws_checkpoint.specs.Contents as reads;
 ghost use Rattle.laws_checkpoint.specs.Contents.State.{Over as WasRead};
 ghost use Rattle.laws_jobs.specs.Machines.{no_words, IsAtCall};
 ghost use Rattle.laws_jobs.specs.Machines.Head.{Asks, Stops};
 ghost use Rattle.laws_checkpoint.specs.Checkpoint as machine;
 ghost use Rattle.laws_checkpoint.specs.Checkpoint.{checkpoint};
-ghost use Rattle.fk_checkpoint.specs.Seeking.Seeking.{answered};
+ghost use Rattle.fk_checkpoint.specs.Seeking.Seeking.{answered, mets_of};
 ghost use Rattle.fk_checkpoint.specs.Gathering.Gathering as gathering;
-ghost use Rattle.fk_checkpoint.specs.Checkpoint.Checkpoints.{end_of, ending_of, gathered_in, IsReady};
-ghost use Rattle.fk_checkpoint.specs.Checkpoint.Ends.{IsEnd};
+ghost use Rattle.fk_checkpoint.specs.Checkpoint.Checkpoints.{end_of, gathered_in};
 ghost use Rattle.fk_checkpoint.specs.Checkpoint.Phases.{slot_of, made_after, dropped_after, phase_of, over_of, state_of, heard_by};
 ghost use Rattle.fk_checkpoint.specs.Checkpoint.Phases.{IsBrief, IsOpened, IsOver, HasHeard, HasRoomIn, HasRoom};
 
+use crate::checkpoint::end::CheckpointEnd;
 use crate::checkpoint::ending::{Ending, make};
 use crate::checkpoint::left::spaces_left;
-use crate::checkpoint::way::Way;
 use crate::gathering::{Content, Gather, Read};
 use crate::seeking::{Seek, Sought, Walk, words_of};
-use fk_finish::{Finish, ValidImage};
+use fk_finish::ValidImage;
 use fk_model::kind::REFERENCE;
 use fk_model::limits::{FIRST_SCRATCH_SLOT, OWN_SPACE};
 use fk_model::status::OK;
@@ -58,15 +60,17 @@ pub enum Phase {
         contents: Vec<Content>,
         gather: Gather,
     },
+    /// It has seen how it ends. That is made next, and then the scratch references go.
+    Ends(Ending),
     /// It destroys a scratch reference.
     Drops {
         scratch: Scratch,
-        ending: Ending,
+        end: CheckpointEnd,
     },
-    /// It releases the subtree: what it ends with is made.
-    Releases(Way),
+    /// It releases the subtree.
+    Releases(CheckpointEnd),
     /// It has ended.
-    Over(Way),
+    Over(CheckpointEnd),
 }
 
 /// A checkpoint of the subtree in a slot of its nester.
@@ -88,16 +92,6 @@ fn slot_of(scratch: Scratch) -> u64
     }
 }
 
-/// What was made last is dropped first.
-fn ends(ending: Ending) -> Phase
-    ensures { (slot : _) → phase_of slot result ≡ machine.ends_as (ending_of slot ending) }
-{
-    Phase::Drops {
-        scratch: Scratch::Steps,
-        ending,
-    }
-}
-
 /// A scratch reference is made: the next one, or the walk.
 fn readied(alloc: Global, scratch: Scratch) -> Phase
     ensures { (slot : _) → phase_of slot result ≡ machine.readied slot (made_after scratch) }
@@ -109,32 +103,20 @@ fn readied(alloc: Global, scratch: Scratch) -> Phase
     }
 }
 
-/// What a checkpoint ends with, which is made.
-fn made_way(ending: Ending) -> Way
-    requires { IsReady ending }
-    ensures { (slot : _) → end_of result ≡ ending_of slot ending }
-{
-    match ending {
-        Ending::Made(way) => way,
-        _ => unreachable!(),
-    }
-}
-
 /// A scratch reference is destroyed: the next one, or the release.
-fn dropped(scratch: Scratch, ending: Ending) -> Phase
-    requires { IsReady ending }
-    ensures { (slot : _) → phase_of slot result ≡ machine.dropped (dropped_after scratch) (ending_of slot ending) }
+fn dropped(scratch: Scratch, end: CheckpointEnd) -> Phase
+    ensures { (slot : _) → phase_of slot result ≡ machine.dropped (dropped_after scratch) (end_of end) }
 {
     match scratch {
         Scratch::Steps => Phase::Drops {
             scratch: Scratch::Targets,
-            ending,
+            end,
         },
         Scratch::Targets => Phase::Drops {
             scratch: Scratch::Places,
-            ending,
+            end,
         },
-        Scratch::Places => Phase::Releases(made_way(ending)),
+        Scratch::Places => Phase::Releases(end),
     }
 }
 
@@ -200,7 +182,7 @@ fn sought(slot: u8, walk: Walk, seek: Seek, answer: &Answer) -> Phase
     match seek.absorb(slot, walk.mets(), answer.status, words_of(answer)) {
         Sought::Goes(seek) => Phase::Seeks { walk, seek },
         Sought::Closed => Phase::Closed(walk),
-        Sought::Open { field } => ends(Ending::Foreign {
+        Sought::Open { field } => Phase::Ends(Ending::Foreign {
             walk,
             at: seek.at,
             field,
@@ -215,7 +197,7 @@ fn gathers(alloc: Global, contents: Vec<Content>) -> Phase
 {
     match Gather::new(alloc, contents.as_slice()) {
         Some(gather) => Phase::Gathers { contents, gather },
-        None => ends(Ending::Done {
+        None => Phase::Ends(Ending::Done {
             contents,
             leads: Vec::new(alloc),
         }),
@@ -232,7 +214,7 @@ fn behind(alloc: Global, phase: Phase) -> Phase
             seek: Seek::new(),
         },
         Phase::Reads(read) => gathers(alloc, read.into_contents()),
-        Phase::Gathers { contents, gather } => ends(Ending::Done {
+        Phase::Gathers { contents, gather } => Phase::Ends(Ending::Done {
             contents,
             leads: gather.into_leads(),
         }),
@@ -248,14 +230,27 @@ fn after(alloc: Global, slot: u8, phase: Phase, answer: &Answer) -> Phase
 {
     match phase {
         Phase::Holds if answer.status == OK => Phase::Readies(Scratch::Places),
-        Phase::Holds => Phase::Over(Way::new(Finish::Dead)),
+        Phase::Holds => Phase::Over(CheckpointEnd::Gone),
         Phase::Readies(scratch) => readied(alloc, scratch),
         Phase::Seeks { walk, seek } => sought(slot, walk, seek, answer),
-        Phase::Walks(_) | Phase::Closed(_) | Phase::Reads(_) | Phase::Gathers { .. } =>
-            unreachable!(),
-        Phase::Drops { scratch, ending } => dropped(scratch, ending),
-        Phase::Releases(way) => Phase::Over(way),
-        Phase::Over(way) => Phase::Over(way),
+        Phase::Walks(_)
+        | Phase::Closed(_)
+        | Phase::Reads(_)
+        | Phase::Gathers { .. }
+        | Phase::Ends(_) => unreachable!(),
+        Phase::Drops { scratch, end } => dropped(scratch, end),
+        Phase::Releases(end) => Phase::Over(end),
+        Phase::Over(end) => Phase::Over(end),
+    }
+}
+
+/// The call that destroys a scratch reference.
+fn destroys(scratch: Scratch) -> Stage
+    ensures { result ≡ stages.Destroy 256 (slot_of scratch) }
+{
+    Stage::Destroy {
+        s: OWN_SPACE,
+        x: slot_of(scratch),
     }
 }
 
@@ -277,10 +272,8 @@ fn stage(slot: u8, phase: &Phase) -> Option<Stage>
         Phase::Closed(_) => Stage::Search { s: x, from: 0 },
         Phase::Reads(read) => read.next(slot),
         Phase::Gathers { contents, gather } => gather.next(slot, contents.as_slice()),
-        Phase::Drops { scratch, .. } => Stage::Destroy {
-            s: OWN_SPACE,
-            x: slot_of(*scratch),
-        },
+        Phase::Ends(_) => destroys(Scratch::Steps),
+        Phase::Drops { scratch, .. } => destroys(*scratch),
         Phase::Releases(_) => Stage::SpaceRelease { s: OWN_SPACE, x },
         Phase::Over(_) => return None,
     })
@@ -306,42 +299,47 @@ fn go_on(alloc: Global, slot: u8, phase: &mut Phase, answer: &Answer)
     *phase = after(alloc, slot, left, answer);
 }
 
-/// The spaces of a closed subtree are listed, and nothing else changes. It stands apart, since it takes room that is cleared at entry.
-#[inline(never)]
-fn open_closed(alloc: Global, phase: &mut Phase) -> Result<(), NoMemory>
-    ensures same { (slot : _) → phase_of slot phase.new ≡ phase_of slot phase.old }
-    ensures opened { OnOk result (IsOpened phase.new) }
+/// The reader of a closed subtree, whose spaces are listed.
+fn reader_of(alloc: Global, walk: &Walk) -> Result<Read, NoMemory>
+    ensures { IfOk result (λ read. (slot : _) → gathering.read_of slot read ≡ reads.begin slot (spaces_met (mets_of walk.now.mets.items)) []) }
 {
-    if let Phase::Closed(walk) = phase {
-        let most = walk.mets().len();
-        let left = spaces_left(alloc, walk.mets())?;
-        *phase = Phase::Reads(Read::new(alloc, left, most));
-    }
-    Ok(())
+    let most = walk.mets().len();
+    let left = spaces_left(alloc, walk.mets())?;
+    Ok(Read::new(alloc, left, most))
 }
 
-/// Where the subtree is closed its spaces are listed, and nothing else changes.
-fn open(alloc: Global, phase: &mut Phase) -> Result<(), NoMemory>
-    ensures same { (slot : _) → phase_of slot phase.new ≡ phase_of slot phase.old }
+/// What needs more memory than room for one answer is made, and nothing else changes. It stands apart, since it takes room that is cleared at entry.
+#[inline(never)]
+fn open(alloc: Global, slot: u8, phase: &mut Phase) -> Result<(), NoMemory>
+    ensures same { phase_of slot phase.new ≡ phase_of slot phase.old }
     ensures opened { OnOk result (IsOpened phase.new) }
 {
-    if let Phase::Closed(_) = phase {
-        return open_closed(alloc, phase);
+    match phase {
+        Phase::Closed(walk) => {
+            let read = reader_of(alloc, walk)?;
+            *phase = Phase::Reads(read);
+        }
+        Phase::Ends(ending) => {
+            let end = make(alloc, slot, ending)?;
+            // What was made last is dropped first.
+            let scratch = Scratch::Steps;
+            *phase = Phase::Drops { scratch, end };
+        }
+        _ => {}
     }
     Ok(())
 }
 
 /// Makes room in a phase for one answer, and changes nothing else.
-fn ready(alloc: Global, slot: u8, phase: &mut Phase) -> Result<(), NoMemory>
+fn ready(phase: &mut Phase) -> Result<(), NoMemory>
     requires { IsOpened phase.old }
-    ensures same { phase_of slot phase.new ≡ phase_of slot phase.old }
+    ensures same { (slot : _) → phase_of slot phase.new ≡ phase_of slot phase.old }
     ensures room { OnOk result (HasRoomIn phase.new) }
 {
     match phase {
         Phase::Walks(walk) => walk.reserve(),
         Phase::Reads(read) => read.reserve(),
         Phase::Gathers { gather, .. } => gather.reserve(),
-        Phase::Drops { ending, .. } => make(alloc, slot, ending),
         _ => Ok(()),
     }
 }
@@ -372,7 +370,7 @@ impl Checkpoint {
         ensures { option_map (λ image. image.now) result ≡ gathered_in (state_of self.now) }
     {
         match &self.phase {
-            Phase::Releases(way) => way.image(),
+            Phase::Releases(end) => end.image(),
             _ => None,
         }
     }
@@ -387,8 +385,8 @@ impl Checkpoint {
         ensures same { state_of self.new ≡ state_of self.old }
         ensures room { OnOk result (HasRoom self.new) }
     {
-        open(self.alloc, &mut self.phase)?;
-        ready(self.alloc, self.slot, &mut self.phase)
+        open(self.alloc, self.slot, &mut self.phase)?;
+        ready(&mut self.phase)
     }
 
     /// Takes the answer to its next call. That uses up its room.
@@ -404,27 +402,24 @@ impl Checkpoint {
         }
     }
 
-    /// How it has ended, as a checkpoint does: with an image, where the subtree isn't closed, or without a space in its slot. Nothing while it has a
-    /// call to make.
-    pub fn end(&self) -> Option<&Finish>
-        ensures some { IfSome result (λ finish. machine.head self.now.slot (state_of self.now) ≡ Stops (end_of finish.now)) }
-        ensures way { IfSome result (λ finish. IsEnd finish.now) }
+    /// How it has ended; nothing while it has a call to make.
+    pub fn end(&self) -> Option<&CheckpointEnd>
+        ensures some { IfSome result (λ end. machine.head self.now.slot (state_of self.now) ≡ Stops (end_of end.now)) }
         ensures none { IfNone result (IsAtCall (checkpoint self.now.slot) (state_of self.now)) }
     {
         match &self.phase {
-            Phase::Over(way) => Some(way.get()),
+            Phase::Over(end) => Some(end),
             _ => None,
         }
     }
 
-    /// The same, handed out.
-    pub fn finish(self) -> Option<Finish>
-        ensures some { IfSome result (λ finish. machine.head self.slot (state_of self) ≡ Stops (end_of finish)) }
-        ensures way { IfSome result IsEnd }
+    /// How it has ended, handed out; nothing while it has a call to make.
+    pub fn finish(self) -> Option<CheckpointEnd>
+        ensures some { IfSome result (λ end. machine.head self.slot (state_of self) ≡ Stops (end_of end)) }
         ensures none { IfNone result (IsAtCall (checkpoint self.slot) (state_of self)) }
     {
         match self.phase {
-            Phase::Over(way) => Some(way.into_finish()),
+            Phase::Over(end) => Some(end),
             _ => None,
         }
     }

@@ -7,16 +7,15 @@ ghost use Rattle.fk_model.specs.declared.statuses.status.TheConstants.{OK};
 ghost use Rattle.laws_checkpoint.specs.Gather as gathers;
 ghost use Rattle.laws_checkpoint.specs.Assembly.{gathered_tasks};
 ghost use Rattle.fk_checkpoint.specs.Seeking.Seeking.{answered, up};
-ghost use Rattle.fk_checkpoint.specs.Gathering.Fields.{fields_in};
+ghost use Rattle.fk_checkpoint.specs.Seeking.Fields.{fields_in};
 ghost use Rattle.fk_checkpoint.specs.Gathering.Gathering.{contents_of, leads_of, lead_of};
 ghost use Rattle.fk_checkpoint.specs.Gathering.Gathered.{gather_of, gathered, HasRoom, task_at, tasks_behind};
 ghost use Rattle.fk_checkpoint.specs.Gathering.Todos.{place_of};
 ghost use Rattle.laws_checkpoint.specs.Foreign.{told_pointer};
 
 use crate::gathering::content::{Content, Lead};
-use crate::gathering::kinds::Fields;
 use crate::gathering::todo::{Todo, first, following, place_of};
-use crate::seeking::{tells_port, way, words_of};
+use crate::seeking::{Fields, tells_port, way, words_of};
 use fk_model::limits::{FIRST_SCRATCH_SLOT, OWN_SPACE};
 use fk_model::status::OK;
 use fk_model::{Answer, List, NoMemory, Stage};

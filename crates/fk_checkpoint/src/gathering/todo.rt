@@ -2,13 +2,13 @@
 ghost use Rattle.std.specs.Prelude.{◌≡◌, suc, ◌<◌, drop, take, length, slice_get, slice_index, Some, IfSome, IfNone};
 ghost use Rattle.fk_model.specs.Records.{word};
 ghost use Rattle.laws_checkpoint.specs.Assembly.{gathered_tasks, pointers_by};
-ghost use Rattle.fk_checkpoint.specs.Gathering.Fields.{fields_in};
+ghost use Rattle.fk_checkpoint.specs.Seeking.Fields.{fields_in};
 ghost use Rattle.laws_checkpoint.specs.Gather as gathers;
 ghost use Rattle.fk_checkpoint.specs.Gathering.Gathering.{item_of, contents_of};
 ghost use Rattle.fk_checkpoint.specs.Gathering.Todos.{path_at, objects_at, behind, later_spaces, found};
 
 use crate::gathering::content::{Content, Item};
-use crate::gathering::kinds::{Fields, pointers_by};
+use crate::seeking::{Fields, pointers_by};
 
 /// An object whose pointers are asked for.
 #[derive(Clone, Copy)]

@@ -1,7 +1,7 @@
-//! The pointer fields of an object that are still to be looked at.
-ghost use Rattle.std.specs.Prelude.{◌≡◌, ◌∷◌, [], IfSome, IfNone};
-ghost use Rattle.fk_checkpoint.specs.Seeking.Seeking.{fields_in};
-ghost use Rattle.laws_checkpoint.specs.Assembly.{fields_by, is_strict_number};
+//! Pointer fields of an object, those that are still to be looked at.
+ghost use Rattle.std.specs.Prelude.{◌≡◌, ◌∷◌, ◌==◌, [], length, IfSome, IfNone};
+ghost use Rattle.fk_checkpoint.specs.Seeking.Fields.{fields_in};
+ghost use Rattle.laws_checkpoint.specs.Assembly.{fields_by, is_strict_number, pointers_by};
 
 use fk_model::kind::{MAPPING, REFERENCE, REGION, SPACE, THREAD};
 
@@ -11,10 +11,21 @@ pub enum Fields {
     Nothing,
     Zero,
     Two,
+    Three,
     ZeroTwo,
+    TwoThree,
+    OneToThree,
+    ZeroToThree,
 }
 
 impl Fields {
+    /// Whether none are left.
+    pub fn is_empty(self) -> bool
+        ensures { result ≡ (length (fields_in self) == 0) }
+    {
+        matches!(self, Fields::Nothing)
+    }
+
     /// The first, and the others.
     pub fn split(self) -> Option<(u8, Fields)>
         ensures some { IfSome result (λ parts. fields_in self ≡ parts.0 ∷ fields_in parts.1) }
@@ -24,7 +35,11 @@ impl Fields {
             Fields::Nothing => None,
             Fields::Zero => Some((0, Fields::Nothing)),
             Fields::Two => Some((2, Fields::Nothing)),
+            Fields::Three => Some((3, Fields::Nothing)),
             Fields::ZeroTwo => Some((0, Fields::Two)),
+            Fields::TwoThree => Some((2, Fields::Three)),
+            Fields::OneToThree => Some((1, Fields::TwoThree)),
+            Fields::ZeroToThree => Some((0, Fields::OneToThree)),
         }
     }
 }
@@ -37,6 +52,28 @@ pub fn fields_by(kind: u64) -> Fields
         THREAD => Fields::ZeroTwo,
         MAPPING | REGION | SPACE | REFERENCE => Fields::Zero,
         _ => Fields::Nothing,
+    }
+}
+
+/// The fields that an image keeps, by the number of a kind.
+pub fn pointers_by(kind: u64) -> Fields
+    ensures { fields_in result ≡ pointers_by kind }
+{
+    match kind {
+        THREAD => Fields::ZeroToThree,
+        MAPPING | REGION | REFERENCE => Fields::Zero,
+        _ => Fields::Nothing,
+    }
+}
+
+/// How many fields an image keeps, by the number of a kind.
+pub fn asked_of(kind: u64) -> usize
+    ensures { result ≡ length (pointers_by kind) }
+{
+    match kind {
+        THREAD => 4,
+        MAPPING | REGION | REFERENCE => 1,
+        _ => 0,
     }
 }
 

@@ -5,7 +5,8 @@ ghost use Rattle.laws_jobs.specs.Machines.Head.{Asks};
 ghost use Rattle.laws_checkpoint.specs.Foreign as seeks;
 ghost use Rattle.laws_checkpoint.specs.Assembly.{sought_tasks};
 ghost use Rattle.fk_checkpoint.specs.declared.seeking.seek.Sought.TheVariants as sought;
-ghost use Rattle.fk_checkpoint.specs.Seeking.Seeking.{seek_of, sought_of, look_of, met_at, mets_of, task_for, place_for, tasks_behind, fields_in};
+ghost use Rattle.fk_checkpoint.specs.Seeking.Fields.{fields_in};
+ghost use Rattle.fk_checkpoint.specs.Seeking.Seeking.{seek_of, sought_of, look_of, met_at, mets_of, task_for, place_for, tasks_behind};
 
 use crate::seeking::descent::way;
 use crate::seeking::fields::{Fields, fields_by, is_strict};
@@ -193,7 +194,7 @@ impl Seek {
         }
     }
 
-    /// The same object, looked at in another way.
+    /// A search at the object at which it stands, looked at in another way.
     fn on(&self, look: Look) -> Sought
         ensures { result ≡ sought.Goes (record { at = self.now.at; look = look }) }
     {

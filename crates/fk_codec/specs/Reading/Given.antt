@@ -18,5 +18,6 @@ abbrev pub Decodes : {X Y : Type 0} → (X → Y) → Result X Fail → Result Y
 Decodes view (Ok x) read = read ≡ Ok (view x)
 Decodes view (Err e) read = Fails e read
 
+-- bytes are refused from here on, for this reason
 abbrev pub Refuses : Fail → List ℕ → ℕ → Type 0
 Refuses fail bytes reason = fail ≡ fails.At (record { left = length bytes; reason = reason })

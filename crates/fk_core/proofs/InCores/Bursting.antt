@@ -36,7 +36,7 @@ use Rattle.fk_core.proofs.InCores.Starts.{gives}
 use Rattle.fk_natives.specs.Natives as natives
 use Rattle.fk_core.specs.Rounds.Served.{servers}
 use Rattle.fk_core.proofs.InRounds.Acts.{servers_ask_as_users}
-use Rattle.laws_house.proofs.House.{house_is_tidy}
+use Rattle.laws_house.proofs.House.{jobs_meet_contract}
 use Rattle.laws_runs.proofs.Composing.{stands}
 use Rattle.fk_core.proofs.InCores.Going.{counted, goes_on}
 
@@ -89,7 +89,7 @@ come_sound jobs budget c come below =
     let its = gives jobs budget come.first come.begins in
     let long : c.events ≡ length come.past = counted jobs come.first c come.past come.run its.start.events in
     let few = its.few in
-    let stand = stands (house jobs) come.first servers_ask_as_users (house_is_tidy jobs servers its.slots) its.start come.run
+    let stand = stands (house jobs) come.first servers_ask_as_users (jobs_meet_contract jobs servers its.slots) its.start come.run
     (omega (arith, few, long, below)) in
     subst IsSound stand.last (stand.sound (length come.past) (omega arith))
 

@@ -22,7 +22,7 @@ use Rattle.laws_house.specs.Houses.{Job, State, machine}
 use Rattle.laws_house.specs.Houses.End.{Checked, Restored}
 use Rattle.laws_house.specs.Houses.State.{Checking, Restoring}
 use Rattle.laws_house.specs.Laws.{NameUsersSlots}
-use Rattle.laws_house.proofs.House.{checkpoint_part, restore_part, house_is_tidy}
+use Rattle.laws_house.proofs.House.{checkpoint_part, restore_part, jobs_meet_contract}
 use Rattle.laws_house.proofs.Moving.{Starts, starts}
 use Rattle.laws_house.proofs.Moving.Starts.{AsCheckpoint, AsRestore}
 use Rattle.laws_house.proofs.Parts.{asks_part, works}
@@ -38,7 +38,7 @@ use Rattle.laws_restore.specs.Restore.Roomed.{IsRoomed}
 use Rattle.laws_restore.proofs.InRestore.Resting.{leaves_far}
 use Rattle.laws_restore.specs.Rooms.Rooms.{rooms_of}
 use Rattle.laws_restore.specs.Rooms.Restoring.{bound_by, restore_of}
-use Rattle.laws_runs.specs.Composed.{AreTidy, IsStart}
+use Rattle.laws_runs.specs.Composed.{JobsMeetContract, IsStart}
 use Rattle.laws_runs.specs.Cores.{IsRun, IsReadyBy, asker, world_at}
 use Rattle.laws_runs.specs.Cores.Asker.{Job as OfJob}
 use Rattle.laws_runs.specs.Cores.IsRun.{Goes}
@@ -81,8 +81,8 @@ module _ (jobs : List Job) (c : RunCore) (m : Move) (d : RunCore) (ready : IsRea
   fewer : first.world.next + length past ≤ depth
   fewer = let all = few in omega (arith, all)
 
-  tidy : AreTidy (house jobs)
-  tidy = house_is_tidy jobs servers slots
+  tidy : JobsMeetContract (house jobs)
+  tidy = jobs_meet_contract jobs servers slots
 
   -- ---- before the move and after it
 

@@ -18,8 +18,8 @@ use Rattle.laws_runs.proofs.Named.{unpicked}
 use Rattle.fk_store_graph.proofs.InLeads.NameLaws.{same_who_eq}
 use Rattle.fk_served.specs.Events.{is_who}
 use Rattle.fk_jobs.specs.Jobs.{Queue, current, first_of, state_from, state_of, call_at, asked_by}
-use Rattle.fk_jobs.specs.Plain.{picks_nobody}
-use Rattle.fk_jobs.proofs.Plainly.{pick_nobody}
+use Rattle.fk_jobs.specs.Fitting.{picks_nobody}
+use Rattle.fk_jobs.proofs.Fitting.{pick_nobody}
 use Rattle.fk_jobs.specs.Turns.{core_of}
 use Rattle.fk_served.specs.Acts.{IsReadyAsked, IsReadyFor}
 use Rattle.fk_served.specs.Served.{Services, asked}

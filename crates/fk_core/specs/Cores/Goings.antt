@@ -44,5 +44,5 @@ pub record HasCome (jobs : List Job) (budget : ℕ) (c : RunCore) : Type 0 where
   pub begins : IsFirstCore jobs budget first
 
 -- a core in code was
-abbrev pub IsGoing : {S W : Type 0} → cores.Core S W → Type 0
-IsGoing core = HasCome core.jobs.jobs core.budget (run_core core)
+abbrev pub IsReachable : {S W : Type 0} → cores.Core S W → Type 0
+IsReachable core = HasCome core.jobs.jobs core.budget (run_core core)

@@ -24,6 +24,7 @@ pub record LeavesBeside (state : State) (c : RunCore) (m : Move) (d : RunCore) :
   pub named : birth_at c.world nester ≡ Some m.who.space
   pub leaves : LeavesBy state nester c d
 
+-- a job's move leaves what isn't the job's
 abbrev pub LeavesTheRest : List Job → RunCore → Move → RunCore → Type 0
 LeavesTheRest jobs c m d = (begun : ℕ) (state : State) (stage : Stage) (words : List ℕ) →
     asker (house jobs) c m.who ≡ OfJob begun state stage words → LeavesBeside state c m d

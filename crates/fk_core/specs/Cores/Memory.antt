@@ -27,6 +27,7 @@ may_lack_by c m Nobody = false
 may_lack_by c m (Others ask) = does_lack c (event_of c.world ask m)
 may_lack_by c m (OfJob begun s stage words) = grows s || does_lack c (event_of c.world (asks.Call stage words) m)
 
+-- a move may lack memory
 abbrev pub may_lack : List Job → RunCore → Move → Bool
 may_lack jobs c m = may_lack_by c m (asker (house jobs) c m.who)
 

@@ -87,6 +87,7 @@ abbrev pub is_timely_by : Bool → ℕ → Option Job → Bool
 is_timely_by at_work events None = false
 is_timely_by at_work events (Some j) = at_work || nat_le j.at events
 
+-- the next job is at work, or its time has come
 abbrev pub is_timely : Queue → ℕ → Bool
 is_timely q events = is_timely_by (is_some q.work) events (current q)
 

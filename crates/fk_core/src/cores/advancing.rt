@@ -2,11 +2,11 @@
 ghost use Rattle.std.specs.Prelude.{◌≡◌, ◌<◌, true, None, IfOk, OnErr, IfSome, IfNone, map};
 ghost use Rattle.fk_core.specs.Rounds.Served.{AllFit};
 ghost use Rattle.fk_core.specs.Cores.Cores.{run_core, is_porter, has_come, IsReadyMove, IsOver, IsAdvanced, IsAdvancedBy, IsAdvancedOrOver, IsChoice, IsFirstDue, IsLacking, is_timely};
-ghost use Rattle.fk_core.specs.Cores.Goings.{IsGoing};
+ghost use Rattle.fk_core.specs.Cores.Goings.{IsReachable};
 ghost use Rattle.fk_jobs.specs.Jobs.{current};
 
 use crate::cores::turns::Core;
-use fk_jobs::Worker;
+use fk_jobs::JobMachine;
 use fk_model::{Move, NoMemory, Who, call};
 use fk_natives::Service;
 use fk_responders::Table;
@@ -33,7 +33,7 @@ fn rests(code: u64) -> bool {
     )
 }
 
-impl<S: Service + Drop, W: Worker + Drop> Core<S, W> {
+impl<S: Service + Drop, W: JobMachine + Drop> Core<S, W> {
     /// Makes the next move of the thread that moved last, where that is an instruction or a stage that tells nobody of anything, is
     /// ready, and no job is left. What others' moves tell takes much room; this needs none. A thread that is seen to wait isn't tried again.
     fn proceed(&mut self) -> Option<Move>
@@ -97,7 +97,7 @@ impl<S: Service + Drop, W: Worker + Drop> Core<S, W> {
     #[inline(never)]
     fn go_on(&mut self, table: &Table) -> Result<Option<Move>, NoMemory>
         requires fits { AllFit (map (λ r. r.rule) table.now.list.items) self.old.services.list }
-        requires come { IsGoing self.old }
+        requires come { IsReachable self.old }
         ensures made { IsAdvancedBy self.old.jobs.jobs self.old.budget (run_core self.old) (run_core self.new) result }
         ensures fits { AllFit (map (λ r. r.rule) table.now.list.items) self.new.services.list }
         ensures budget { self.new.budget ≡ self.old.budget }
@@ -118,7 +118,7 @@ impl<S: Service + Drop, W: Worker + Drop> Core<S, W> {
     #[inline(never)]
     fn go_on_told(&mut self, table: &Table) -> Result<Option<Move>, NoMemory>
         requires fits { AllFit (map (λ r. r.rule) table.now.list.items) self.old.services.list }
-        requires come { IsGoing self.old }
+        requires come { IsReachable self.old }
         ensures made { IsAdvancedBy self.old.jobs.jobs self.old.budget (run_core self.old) (run_core self.new) result }
         ensures fits { AllFit (map (λ r. r.rule) table.now.list.items) self.new.services.list }
         ensures budget { self.new.budget ≡ self.old.budget }
@@ -139,7 +139,7 @@ impl<S: Service + Drop, W: Worker + Drop> Core<S, W> {
     #[inline(never)]
     pub(crate) fn go_next(&mut self, table: &Table) -> Result<Option<Move>, NoMemory>
         requires fits { AllFit (map (λ r. r.rule) table.now.list.items) self.old.services.list }
-        requires come { IsGoing self.old }
+        requires come { IsReachable self.old }
         ensures made { IsAdvancedOrOver self.old.jobs.jobs self.old.budget (run_core self.old) (run_core self.new) result }
         ensures fits { AllFit (map (λ r. r.rule) table.now.list.items) self.new.services.list }
         ensures budget { self.new.budget ≡ self.old.budget }
@@ -155,7 +155,7 @@ impl<S: Service + Drop, W: Worker + Drop> Core<S, W> {
     /// Makes any move that is ready: of the thread that moved last where it is ready, or else of the server that heard of it, or of whoever comes next.
     fn go_further(&mut self, table: &Table) -> Result<Option<Move>, NoMemory>
         requires fits { AllFit (map (λ r. r.rule) table.now.list.items) self.old.services.list }
-        requires come { IsGoing self.old }
+        requires come { IsReachable self.old }
         ensures made { IsAdvancedOrOver self.old.jobs.jobs self.old.budget (run_core self.old) (run_core self.new) result }
         ensures fits { AllFit (map (λ r. r.rule) table.now.list.items) self.new.services.list }
         ensures budget { self.new.budget ≡ self.old.budget }
@@ -173,7 +173,7 @@ impl<S: Service + Drop, W: Worker + Drop> Core<S, W> {
         requires few { self.old.events < self.old.budget }
         requires timely { is_timely self.old.jobs self.old.events ≡ true }
         requires fits { AllFit (map (λ r. r.rule) table.now.list.items) self.old.services.list }
-        requires come { IsGoing self.old }
+        requires come { IsReachable self.old }
         ensures made { IsAdvancedBy self.old.jobs.jobs self.old.budget (run_core self.old) (run_core self.new) result }
         ensures porter { IfOk result (λ made. IfSome made (λ m. is_porter self.old.jobs m.who ≡ true)) }
         ensures none { IfOk result (λ made. IfNone made ((m : _) → is_porter self.old.jobs m.who ≡ true
@@ -197,7 +197,7 @@ impl<S: Service + Drop, W: Worker + Drop> Core<S, W> {
     #[inline(always)]
     fn go_first(&mut self, table: &Table) -> Result<Option<Move>, NoMemory>
         requires fits { AllFit (map (λ r. r.rule) table.now.list.items) self.old.services.list }
-        requires come { IsGoing self.old }
+        requires come { IsReachable self.old }
         ensures made { IsAdvancedBy self.old.jobs.jobs self.old.budget (run_core self.old) (run_core self.new) result }
         ensures porter { IfOk result (λ made. IfSome made (λ m. is_porter self.old.jobs m.who ≡ true)) }
         ensures none { IfOk result (λ made. IfNone made (has_come self.old.jobs self.old.budget self.old.events ≡ true
@@ -216,7 +216,7 @@ impl<S: Service + Drop, W: Worker + Drop> Core<S, W> {
     #[inline(always)]
     fn go_timely(&mut self, table: &Table) -> Result<Option<Move>, NoMemory>
         requires fits { AllFit (map (λ r. r.rule) table.now.list.items) self.old.services.list }
-        requires come { IsGoing self.old }
+        requires come { IsReachable self.old }
         ensures made { IsAdvancedBy self.old.jobs.jobs self.old.budget (run_core self.old) (run_core self.new) result }
         ensures fits { AllFit (map (λ r. r.rule) table.now.list.items) self.new.services.list }
         ensures budget { self.new.budget ≡ self.old.budget }
@@ -232,7 +232,7 @@ impl<S: Service + Drop, W: Worker + Drop> Core<S, W> {
     #[inline(always)]
     fn go_late(&mut self, table: &Table) -> Result<Option<Move>, NoMemory>
         requires fits { AllFit (map (λ r. r.rule) table.now.list.items) self.old.services.list }
-        requires come { IsGoing self.old }
+        requires come { IsReachable self.old }
         ensures made { IsAdvancedOrOver self.old.jobs.jobs self.old.budget (run_core self.old) (run_core self.new) result }
         ensures fits { AllFit (map (λ r. r.rule) table.now.list.items) self.new.services.list }
         ensures budget { self.new.budget ≡ self.old.budget }
@@ -248,7 +248,7 @@ impl<S: Service + Drop, W: Worker + Drop> Core<S, W> {
     #[inline(never)]
     fn go_few_others(&mut self, table: &Table) -> Result<Option<Move>, NoMemory>
         requires fits { AllFit (map (λ r. r.rule) table.now.list.items) self.old.services.list }
-        requires come { IsGoing self.old }
+        requires come { IsReachable self.old }
         ensures made { IsAdvancedOrOver self.old.jobs.jobs self.old.budget (run_core self.old) (run_core self.new) result }
         ensures fits { AllFit (map (λ r. r.rule) table.now.list.items) self.new.services.list }
         ensures budget { self.new.budget ≡ self.old.budget }
@@ -265,7 +265,7 @@ impl<S: Service + Drop, W: Worker + Drop> Core<S, W> {
     #[inline(always)]
     fn go_few(&mut self, table: &Table) -> Result<Option<Move>, NoMemory>
         requires fits { AllFit (map (λ r. r.rule) table.now.list.items) self.old.services.list }
-        requires come { IsGoing self.old }
+        requires come { IsReachable self.old }
         ensures made { IsAdvancedOrOver self.old.jobs.jobs self.old.budget (run_core self.old) (run_core self.new) result }
         ensures fits { AllFit (map (λ r. r.rule) table.now.list.items) self.new.services.list }
         ensures budget { self.new.budget ≡ self.old.budget }
@@ -281,7 +281,7 @@ impl<S: Service + Drop, W: Worker + Drop> Core<S, W> {
     #[inline(always)]
     fn go_between(&mut self, table: &Table) -> Result<Option<Move>, NoMemory>
         requires fits { AllFit (map (λ r. r.rule) table.now.list.items) self.old.services.list }
-        requires come { IsGoing self.old }
+        requires come { IsReachable self.old }
         ensures made { IsAdvancedOrOver self.old.jobs.jobs self.old.budget (run_core self.old) (run_core self.new) result }
         ensures fits { AllFit (map (λ r. r.rule) table.now.list.items) self.new.services.list }
         ensures budget { self.new.budget ≡ self.old.budget }
@@ -300,7 +300,7 @@ impl<S: Service + Drop, W: Worker + Drop> Core<S, W> {
     #[inline(never)]
     fn go_among(&mut self, table: &Table) -> Result<Option<Move>, NoMemory>
         requires fits { AllFit (map (λ r. r.rule) table.now.list.items) self.old.services.list }
-        requires come { IsGoing self.old }
+        requires come { IsReachable self.old }
         ensures made { IsAdvancedOrOver self.old.jobs.jobs self.old.budget (run_core self.old) (run_core self.new) result }
         ensures first { IfOk result (λ made. IsFirstDue self.old.jobs self.old.budget (run_core self.old) made) }
         ensures fits { AllFit (map (λ r. r.rule) table.now.list.items) self.new.services.list }
@@ -317,7 +317,7 @@ impl<S: Service + Drop, W: Worker + Drop> Core<S, W> {
     fn go_alone(&mut self, table: &Table) -> Result<Option<Move>, NoMemory>
         requires none { current self.old.jobs ≡ None }
         requires fits { AllFit (map (λ r. r.rule) table.now.list.items) self.old.services.list }
-        requires come { IsGoing self.old }
+        requires come { IsReachable self.old }
         ensures made { IsAdvancedOrOver self.old.jobs.jobs self.old.budget (run_core self.old) (run_core self.new) result }
         ensures first { IfOk result (λ made. IsFirstDue self.old.jobs self.old.budget (run_core self.old) made) }
         ensures fits { AllFit (map (λ r. r.rule) table.now.list.items) self.new.services.list }
@@ -339,7 +339,7 @@ impl<S: Service + Drop, W: Worker + Drop> Core<S, W> {
     /// There is no memory for what a ready move may want: an object, a page, a server that grows, a job that grows by its answer. All is as before then.
     pub fn advance(&mut self, table: &Table) -> Result<Option<Move>, NoMemory>
         requires fits { AllFit (map (λ r. r.rule) table.now.list.items) self.old.services.list }
-        requires come { IsGoing self.old }
+        requires come { IsReachable self.old }
         ensures advanced { IfOk result (λ made. IsAdvanced self.old.jobs.jobs self.old.budget (run_core self.old) made (run_core self.new)) }
         ensures choice { IfOk result (λ made. IsChoice self.old.jobs self.old.budget (run_core self.old) made) }
         ensures none { IfOk result (λ made. IfNone made (IsOver self.old.jobs.jobs self.old.budget (run_core self.old))) }
@@ -349,7 +349,7 @@ impl<S: Service + Drop, W: Worker + Drop> Core<S, W> {
         ensures fits { AllFit (map (λ r. r.rule) table.now.list.items) self.new.services.list }
         ensures budget { self.new.budget ≡ self.old.budget }
         ensures jobs { self.new.jobs.jobs ≡ self.old.jobs.jobs }
-        ensures come { IsGoing self.new }
+        ensures come { IsReachable self.new }
     {
         if self.jobs.current().is_none() {
             self.go_alone(table)

@@ -6,10 +6,10 @@ ghost use Rattle.laws_runs.specs.Cores.{IsRun, Settles};
 ghost use Rattle.fk_core.specs.Rounds.Kernels.{Kept};
 ghost use Rattle.fk_core.specs.Cores.Bursts.{MakesMoves};
 ghost use Rattle.fk_core.specs.Cores.Cores.{core_at, house, run_core};
-ghost use Rattle.fk_core.specs.Cores.Goings.{HasCome, IsGoing};
+ghost use Rattle.fk_core.specs.Cores.Goings.{HasCome, IsReachable};
 
 use crate::cores::turns::Core;
-use fk_jobs::Worker;
+use fk_jobs::JobMachine;
 use fk_model::Who;
 use fk_natives::Service;
 use fk_served::Kernel;
@@ -29,7 +29,7 @@ fn let_make<F: FnOnce(&mut Kernel) -> bool>(
     f(kernel)
 }
 
-impl<S: Service + Drop, W: Worker + Drop> Core<S, W> {
+impl<S: Service + Drop, W: JobMachine + Drop> Core<S, W> {
     /// So many moves of a thread, which no server hears, were made in the kernel: they count, and the jobs end that are due and can't begin.
     fn went(&mut self, thread: Who, count: u64)
         requires few { self.old.events + count ≤ self.old.budget }
@@ -75,7 +75,7 @@ impl<S: Service + Drop, W: Worker + Drop> Core<S, W> {
     /// answers. Where it made them the core has come as many turns further. The budget has so many left.
     pub fn burst<F: FnOnce(&mut Kernel) -> bool>(&mut self, thread: Who, count: u64, f: F) -> bool
         requires few { self.old.events + count ≤ self.old.budget }
-        requires come { IsGoing self.old }
+        requires come { IsReachable self.old }
         requires may { (k : Kept) → FnOnceTakesAtMut F.FnOnce f k }
         requires makes { (k n : Kept) (made : Bool) → FnOnceReturnsAtMut F.FnOnce f k made n → MakesMoves thread count k made n }
         ensures answer { (n : Kept) × FnOnceReturnsAtMut F.FnOnce f self.old.kernel result n }
@@ -84,7 +84,7 @@ impl<S: Service + Drop, W: Worker + Drop> Core<S, W> {
         ensures same { OnFalse result (run_core self.new ≡ run_core self.old) }
         ensures budget { self.new.budget ≡ self.old.budget }
         ensures jobs { self.new.jobs.jobs ≡ self.old.jobs.jobs }
-        ensures come { IsGoing self.new }
+        ensures come { IsReachable self.new }
         ensures events { OnTrue result (self.new.events ≡ self.old.events + count) }
     {
         if let_make(&mut self.kernel, thread, count, f) {

@@ -3,7 +3,7 @@ ghost use Rattle.std.specs.Prelude.{◌≡◌};
 ghost use Rattle.laws_jobs.specs.Machines.{no_words};
 ghost use Rattle.fk_jobs.specs.Jobs.{asked_by, call_with, state_of};
 
-use fk_jobs::{Jobs, Worker};
+use fk_jobs::{JobMachine, Jobs};
 use fk_model::Stage;
 use std::marker::Model;
 
@@ -52,7 +52,7 @@ impl Given {
     }
 
     /// The next call of these jobs, and its words.
-    pub(crate) fn next<W: Worker + Drop>(&mut self, jobs: &Jobs<W>) -> Option<Stage>
+    pub(crate) fn next<W: JobMachine + Drop>(&mut self, jobs: &Jobs<W>) -> Option<Stage>
         ensures { call_with result self.new ≡ asked_by (state_of jobs.now) }
     {
         self.clear();

@@ -9,7 +9,7 @@ ghost use Rattle.fk_core.specs.Cores.Cores.{run_core};
 ghost use Rattle.fk_core.specs.Cores.Memory.{may_lack_call, IsStill};
 
 use crate::cores::turns::Core;
-use fk_jobs::Worker;
+use fk_jobs::JobMachine;
 use fk_model::{Ask, Move, NoMemory, Stage};
 use fk_natives::Service;
 use fk_served::foretell;
@@ -23,7 +23,7 @@ pub(crate) fn unmade(ready: bool) -> Result<bool, NoMemory>
     if ready { Err(NoMemory) } else { Ok(false) }
 }
 
-impl<S: Service + Drop, W: Worker + Drop> Core<S, W> {
+impl<S: Service + Drop, W: JobMachine + Drop> Core<S, W> {
     /// Whether a server would grow by what a move tells it.
     #[inline(never)]
     fn would_grow(&self, m: &Move, ask: &Ask) -> bool

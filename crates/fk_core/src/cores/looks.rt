@@ -3,7 +3,8 @@ ghost use Rattle.std.specs.Prelude.{◌≡◌, ◌↔◌, ◌<◌, true, IsTrue,
 ghost use Rattle.laws_runs.specs.Cores as runs;
 ghost use Rattle.laws_runs.specs.Cores.{EndsNow};
 ghost use Rattle.laws_moves.specs.Whole.Runnable.{has_all_words};
-ghost use Rattle.fk_jobs.specs.Jobs.{current, unmoved_of};
+ghost use Rattle.fk_jobs.specs.Ended.{unmoved_of};
+ghost use Rattle.fk_jobs.specs.Jobs.{current};
 ghost use Rattle.fk_core.specs.Rounds.Moments.{seen, AreUsersIdle};
 ghost use Rattle.fk_core.specs.Rounds.Served.{asked};
 ghost use Rattle.fk_core.specs.Cores.Cores.{house, run_core, porter_of, is_porter, has_come, IsReadyMove, IsAnyMove, IsChoice, IsDue, IsOver};
@@ -12,12 +13,12 @@ ghost use Rattle.fk_core.specs.Rounds.Kernels.{world_of as world};
 
 use crate::cores::turns::Core;
 use crate::moment::Moment;
-use fk_jobs::{Unmoved, Worker};
+use fk_jobs::{JobMachine, Unmoved};
 use fk_model::{Ask, Move, Who};
 use fk_natives::Service;
 use fk_report::End;
 
-impl<S: Service + Drop, W: Worker + Drop> Core<S, W> {
+impl<S: Service + Drop, W: JobMachine + Drop> Core<S, W> {
     /// What there is to look at.
     pub(crate) fn moment(&self) -> Moment<'_, S, W>
         ensures seen { seen result ≡ run_core self.now }

@@ -6,16 +6,16 @@ ghost use Rattle.fk_core.specs.Rounds.Acted.{act_of};
 ghost use Rattle.fk_core.specs.Rounds.Kernels.{world_of as world};
 ghost use Rattle.fk_core.specs.Rounds.Served.{asked, AllFit};
 ghost use Rattle.fk_core.specs.Cores.Cores.{run_core, is_porter, may_lack_asked, IsAdvanced, IsAdvancedOrOver, IsAskedMove, IsTried};
-ghost use Rattle.fk_core.specs.Cores.Goings.{IsGoing};
+ghost use Rattle.fk_core.specs.Cores.Goings.{IsReachable};
 
 use crate::cores::turns::Core;
-use fk_jobs::Worker;
+use fk_jobs::JobMachine;
 use fk_model::{Move, NoMemory, Who};
 use fk_natives::Service;
 use fk_responders::Table;
 use fk_served::asking::left_by;
 
-impl<S: Service + Drop, W: Worker + Drop> Core<S, W> {
+impl<S: Service + Drop, W: JobMachine + Drop> Core<S, W> {
     /// Hands over the turn of a port's server, where its client receives, and answers whether it did; else all is as before.
     fn pass_at(&mut self, table: &Table, port: Who) -> bool
         requires few { self.old.events < self.old.budget }
@@ -114,7 +114,7 @@ impl<S: Service + Drop, W: Worker + Drop> Core<S, W> {
     /// Makes the act of the server that heard of the last move, or else any move that is ready, of whoever comes next.
     pub(crate) fn go_answered(&mut self, table: &Table) -> Result<Option<Move>, NoMemory>
         requires fits { AllFit (map (λ r. r.rule) table.now.list.items) self.old.services.list }
-        requires come { IsGoing self.old }
+        requires come { IsReachable self.old }
         ensures made { IsAdvancedOrOver self.old.jobs.jobs self.old.budget (run_core self.old) (run_core self.new) result }
         ensures fits { AllFit (map (λ r. r.rule) table.now.list.items) self.new.services.list }
         ensures budget { self.new.budget ≡ self.old.budget }

@@ -4,10 +4,10 @@ ghost use Rattle.laws_runs.specs.Cores.{Settles};
 ghost use Rattle.fk_core.specs.Cores.Cores.{house, run_core};
 
 use crate::cores::turns::Core;
-use fk_jobs::Worker;
+use fk_jobs::JobMachine;
 use fk_natives::Service;
 
-impl<S: Service + Drop, W: Worker + Drop> Core<S, W> {
+impl<S: Service + Drop, W: JobMachine + Drop> Core<S, W> {
     /// Each job ends that is due and can't begin.
     #[inline(always)]
     pub(crate) fn settle(&mut self)

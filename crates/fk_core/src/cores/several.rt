@@ -3,18 +3,18 @@ ghost use Rattle.std.specs.Prelude.{◌≡◌, ◌+◌, ◌-◌, ◌%◌, ◌<�
 ghost use Rattle.fk_core.specs.Rounds.Served.{AllFit};
 ghost use Rattle.fk_core.specs.Cores.Bursts.{mover_of, AreMade, IsAdvancedSo};
 ghost use Rattle.fk_core.specs.Cores.Cores.{house, run_core, IsFirstDue, IsLacking, IsOver};
-ghost use Rattle.fk_core.specs.Cores.Goings.{IsGoing};
+ghost use Rattle.fk_core.specs.Cores.Goings.{IsReachable};
 ghost use Rattle.fk_jobs.specs.Jobs.{current};
 ghost use Rattle.laws_runs.specs.Cores.{IsRun};
 
 use crate::cores::turns::Core;
 use crate::rounds::ROUND;
-use fk_jobs::Worker;
+use fk_jobs::JobMachine;
 use fk_model::{Move, NoMemory, Who};
 use fk_natives::Service;
 use fk_responders::Table;
 
-impl<S: Service + Drop, W: Worker + Drop> Core<S, W> {
+impl<S: Service + Drop, W: JobMachine + Drop> Core<S, W> {
     /// So many moves are left until the look goes round or the budget is used.
     fn left(&self) -> u64
         ensures round { self.now.events % 64 + result ≤ 64 }
@@ -28,7 +28,7 @@ impl<S: Service + Drop, W: Worker + Drop> Core<S, W> {
     /// as before.
     fn run_on(&mut self, who: Who, most: u64) -> u64
         requires few { self.old.events + most ≤ self.old.budget }
-        requires come { IsGoing self.old }
+        requires come { IsReachable self.old }
         ensures turns { 0 < result → IsRun (house self.old.jobs.jobs) (run_core self.old)
             (replicate result (record { who = who; pick = None })) (run_core self.new) }
         ensures kernel { result ≡ 0 → self.new.kernel ≡ self.old.kernel }
@@ -50,7 +50,7 @@ impl<S: Service + Drop, W: Worker + Drop> Core<S, W> {
     /// Makes instructions of the thread that moved last, at most so many and none past the end of the round, where no job is left, and gives whose
     /// they are and how many. Where it makes none all is as before.
     fn proceed_by(&mut self, most: u64) -> Option<(Move, u64)>
-        requires come { IsGoing self.old }
+        requires come { IsReachable self.old }
         ensures made { IfSome result (λ made. AreMade self.old.jobs.jobs self.old.budget most (run_core self.old) made.0 made.1 (run_core self.new)) }
         ensures none { IsSome result → current self.old.jobs ≡ None }
         ensures kernel { IfNone result (self.new.kernel ≡ self.old.kernel) }
@@ -75,7 +75,7 @@ impl<S: Service + Drop, W: Worker + Drop> Core<S, W> {
     fn advance_one(&mut self, table: &Table, most: u64) -> Result<Option<(Move, u64)>, NoMemory>
         requires some { 0 < most }
         requires fits { AllFit (map (λ r. r.rule) table.now.list.items) self.old.services.list }
-        requires come { IsGoing self.old }
+        requires come { IsReachable self.old }
         ensures advanced { IfOk result (λ made. IsAdvancedSo self.old.jobs.jobs self.old.budget most (run_core self.old) made (run_core self.new)) }
         ensures none { IfOk result (λ made. IfNone made (IsOver self.old.jobs.jobs self.old.budget (run_core self.old))) }
         ensures first { IfOk result (λ made. IsFirstDue self.old.jobs self.old.budget (run_core self.old) (mover_of made)) }
@@ -84,7 +84,7 @@ impl<S: Service + Drop, W: Worker + Drop> Core<S, W> {
         ensures fits { AllFit (map (λ r. r.rule) table.now.list.items) self.new.services.list }
         ensures budget { self.new.budget ≡ self.old.budget }
         ensures jobs { self.new.jobs.jobs ≡ self.old.jobs.jobs }
-        ensures come { IsGoing self.new }
+        ensures come { IsReachable self.new }
     {
         match self.advance(table)? {
             Some(m) => Ok(Some((m, 1))),
@@ -102,7 +102,7 @@ impl<S: Service + Drop, W: Worker + Drop> Core<S, W> {
     pub fn advance_by(&mut self, table: &Table, most: u64) -> Result<Option<(Move, u64)>, NoMemory>
         requires some { 0 < most }
         requires fits { AllFit (map (λ r. r.rule) table.now.list.items) self.old.services.list }
-        requires come { IsGoing self.old }
+        requires come { IsReachable self.old }
         ensures advanced { IfOk result (λ made. IsAdvancedSo self.old.jobs.jobs self.old.budget most (run_core self.old) made (run_core self.new)) }
         ensures none { IfOk result (λ made. IfNone made (IsOver self.old.jobs.jobs self.old.budget (run_core self.old))) }
         ensures first { IfOk result (λ made. IsFirstDue self.old.jobs self.old.budget (run_core self.old) (mover_of made)) }
@@ -111,7 +111,7 @@ impl<S: Service + Drop, W: Worker + Drop> Core<S, W> {
         ensures fits { AllFit (map (λ r. r.rule) table.now.list.items) self.new.services.list }
         ensures budget { self.new.budget ≡ self.old.budget }
         ensures jobs { self.new.jobs.jobs ≡ self.old.jobs.jobs }
-        ensures come { IsGoing self.new }
+        ensures come { IsReachable self.new }
     {
         if let Some(made) = self.proceed_by(most) {
             return Ok(Some(made));

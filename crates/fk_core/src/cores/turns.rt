@@ -10,7 +10,7 @@ ghost use Rattle.laws_moves.specs.Whole.Runnable.{has_all_words};
 ghost use Rattle.fk_core.specs.Cores.Cores.{run_core, is_porter, reply_to, IsReadyMove, IsAskedMove, IsCalledMove, IsTurned, IsTried, IsAdvanced, is_timely};
 ghost use Rattle.fk_core.specs.Cores.Memory.{may_lack, may_lack_asked, may_lack_called};
 ghost use Rattle.fk_core.specs.Cores.Cuts.{KeepsCuts, LeavesStrangers};
-ghost use Rattle.fk_core.specs.Cores.Goings.{start_at, IsGoing};
+ghost use Rattle.fk_core.specs.Cores.Goings.{start_at, IsReachable};
 ghost use Rattle.fk_core.specs.Cores.Leaves.{LeavesTheRest};
 ghost use Rattle.fk_core.specs.Rounds.Kernels.{world_of as world};
 ghost use Rattle.fk_jobs.specs.Jobs.{hears};
@@ -19,7 +19,7 @@ use crate::cores::given::Given;
 use crate::cores::lacking::unmade;
 use crate::cores::room::Room;
 use crate::rounds::Rounds;
-use fk_jobs::{Jobs, Worker};
+use fk_jobs::{JobMachine, Jobs};
 use fk_model::{Answer, Ask, Move, NoMemory, Reply, Said, Who};
 use fk_natives::Service;
 use fk_responders::Table;
@@ -28,7 +28,7 @@ use fk_served::{Gone, Kernel, Services};
 
 /// A kernel with its native servers and its jobs, and how many moves it has made of how many.
 #[derive(Drop)]
-pub struct Core<S: Service + Drop, W: Worker + Drop> {
+pub struct Core<S: Service + Drop, W: JobMachine + Drop> {
     /// What each move writes stands together, and first: where workers take turns it passes from one processor to another.
     pub(crate) events: u64,
     /// The thread that has moved last, after which the next is sought.
@@ -66,7 +66,7 @@ fn hearer(said: &Said) -> Option<Who> {
 
 /// The jobs hear that a move of theirs told nothing. It stands apart, since it is rare and takes much room.
 #[inline(never)]
-fn tell_nothing<W: Worker + Drop>(jobs: &mut Jobs<W>, events: u64)
+fn tell_nothing<W: JobMachine + Drop>(jobs: &mut Jobs<W>, events: u64)
     requires { jobs.old.ready ≡ true }
     ensures { jobs.new ≡ hears jobs.old events 0 [] }
 {
@@ -81,7 +81,7 @@ fn tell_nothing<W: Worker + Drop>(jobs: &mut Jobs<W>, events: u64)
 }
 
 /// The jobs hear what a move of theirs tells.
-fn tell_jobs<W: Worker + Drop>(jobs: &mut Jobs<W>, events: u64, said: &Said)
+fn tell_jobs<W: JobMachine + Drop>(jobs: &mut Jobs<W>, events: u64, said: &Said)
     requires { jobs.old.ready ≡ true }
     ensures { jobs.new ≡ hears jobs.old events (reply_to said.now).status (reply_to said.now).words }
 {
@@ -91,7 +91,7 @@ fn tell_jobs<W: Worker + Drop>(jobs: &mut Jobs<W>, events: u64, said: &Said)
     }
 }
 
-impl<S: Service + Drop, W: Worker + Drop> Core<S, W> {
+impl<S: Service + Drop, W: JobMachine + Drop> Core<S, W> {
     /// A kernel with its servers, each by its port, and its jobs, before the first of so many moves. It goes on where these are a sound start.
     pub fn new(kernel: Kernel, services: Vec<(Who, S)>, jobs: Jobs<W>, budget: u64) -> Core<S, W>
         ensures kernel { result.kernel ≡ kernel }
@@ -100,7 +100,7 @@ impl<S: Service + Drop, W: Worker + Drop> Core<S, W> {
         ensures budget { result.budget ≡ budget }
         ensures events { result.events ≡ 0 }
         ensures begins { (nesters : List Path) → IsSoundStart (start_at jobs.jobs budget nesters (run_core result)) → jobs.ends ≡ [] → jobs.work ≡ None →
-            IsGoing result }
+            IsReachable result }
     {
         Core {
             kernel,
@@ -173,7 +173,7 @@ impl<S: Service + Drop, W: Worker + Drop> Core<S, W> {
     pub fn turn(&mut self, table: &Table, m: &Move) -> Result<(), NoMemory>
         requires ready { IsReadyMove self.old.jobs.jobs (run_core self.old) m.now }
         requires few { self.old.events < self.old.budget }
-        requires come { IsGoing self.old }
+        requires come { IsReachable self.old }
         requires fits { AllFit (map (λ r. r.rule) table.now.list.items) self.old.services.list }
         ensures turned { OnOk result (IsTurned self.old.jobs.jobs (run_core self.old) m.now (run_core self.new)) }
         ensures lacking { OnErr result (run_core self.new ≡ run_core self.old) }
@@ -182,7 +182,7 @@ impl<S: Service + Drop, W: Worker + Drop> Core<S, W> {
         ensures fits { AllFit (map (λ r. r.rule) table.now.list.items) self.new.services.list }
         ensures budget { self.new.budget ≡ self.old.budget }
         ensures jobs { self.new.jobs.jobs ≡ self.old.jobs.jobs }
-        ensures come { IsGoing self.new }
+        ensures come { IsReachable self.new }
         ensures events { OnOk result (self.new.events ≡ self.old.events + 1) }
         ensures cut { OnOk result (KeepsCuts self.old.jobs.jobs (run_core self.old) m.now (world self.new.kernel)) }
         ensures strangers { OnOk result (LeavesStrangers self.old.jobs.jobs (run_core self.old) m.now (world self.new.kernel)) }
@@ -200,7 +200,7 @@ impl<S: Service + Drop, W: Worker + Drop> Core<S, W> {
     /// There is no memory for what the move may want: an object, a page, a server that grows, a job that grows by its answer. All is as before then.
     pub fn go(&mut self, table: &Table, m: &Move) -> Result<bool, NoMemory>
         requires few { self.old.events < self.old.budget }
-        requires come { IsGoing self.old }
+        requires come { IsReachable self.old }
         requires fits { AllFit (map (λ r. r.rule) table.now.list.items) self.old.services.list }
         ensures tried { IsTried (IsReadyMove self.old.jobs.jobs (run_core self.old) m.now)
             (may_lack self.old.jobs.jobs (run_core self.old) m.now ≡ true) self.old.jobs.jobs (run_core self.old) m.now (run_core self.new) result }
@@ -208,7 +208,7 @@ impl<S: Service + Drop, W: Worker + Drop> Core<S, W> {
         ensures fits { AllFit (map (λ r. r.rule) table.now.list.items) self.new.services.list }
         ensures budget { self.new.budget ≡ self.old.budget }
         ensures jobs { self.new.jobs.jobs ≡ self.old.jobs.jobs }
-        ensures come { IsGoing self.new }
+        ensures come { IsReachable self.new }
     {
         if self.go_plain(m) {
             return Ok(true);
@@ -244,7 +244,7 @@ impl<S: Service + Drop, W: Worker + Drop> Core<S, W> {
     /// The same of any move.
     pub(crate) fn go_told(&mut self, table: &Table, m: &Move) -> Result<bool, NoMemory>
         requires few { self.old.events < self.old.budget }
-        requires come { IsGoing self.old }
+        requires come { IsReachable self.old }
         requires fits { AllFit (map (λ r. r.rule) table.now.list.items) self.old.services.list }
         ensures tried { IsTried (IsReadyMove self.old.jobs.jobs (run_core self.old) m.now)
             (may_lack self.old.jobs.jobs (run_core self.old) m.now ≡ true) self.old.jobs.jobs (run_core self.old) m.now (run_core self.new) result }
@@ -413,7 +413,7 @@ impl<S: Service + Drop, W: Worker + Drop> Core<S, W> {
     pub(crate) fn go_job(&mut self, table: &Table, m: &Move) -> Result<bool, NoMemory>
         requires job { is_porter self.old.jobs m.now.who ≡ true }
         requires few { self.old.events < self.old.budget }
-        requires come { IsGoing self.old }
+        requires come { IsReachable self.old }
         requires fits { AllFit (map (λ r. r.rule) table.now.list.items) self.old.services.list }
         ensures tried { IsTried (IsReadyMove self.old.jobs.jobs (run_core self.old) m.now)
             (may_lack self.old.jobs.jobs (run_core self.old) m.now ≡ true) self.old.jobs.jobs (run_core self.old) m.now (run_core self.new) result }
@@ -435,7 +435,7 @@ impl<S: Service + Drop, W: Worker + Drop> Core<S, W> {
         requires job { is_porter self.old.jobs m.now.who ≡ true }
         requires few { self.old.events < self.old.budget }
         requires timely { is_timely self.old.jobs self.old.events ≡ true }
-        requires come { IsGoing self.old }
+        requires come { IsReachable self.old }
         requires fits { AllFit (map (λ r. r.rule) table.now.list.items) self.old.services.list }
         ensures tried { IsTried (IsReadyMove self.old.jobs.jobs (run_core self.old) m.now)
             (may_lack self.old.jobs.jobs (run_core self.old) m.now ≡ true) self.old.jobs.jobs (run_core self.old) m.now (run_core self.new) result }
@@ -452,7 +452,7 @@ impl<S: Service + Drop, W: Worker + Drop> Core<S, W> {
     fn go_call(&mut self, table: &Table, m: &Move) -> Result<bool, NoMemory>
         requires job { is_porter self.old.jobs m.now.who ≡ true }
         requires few { self.old.events < self.old.budget }
-        requires come { IsGoing self.old }
+        requires come { IsReachable self.old }
         requires fits { AllFit (map (λ r. r.rule) table.now.list.items) self.old.services.list }
         ensures tried { IsTried (IsCalledMove self.old.jobs (run_core self.old) m.now)
             (may_lack_called self.old.jobs (run_core self.old) m.now ≡ true) self.old.jobs.jobs (run_core self.old) m.now (run_core self.new) result }

@@ -6,13 +6,13 @@ ghost use Rattle.fk_served.specs.Acts.{HasNoAct, HaveNoActs};
 ghost use Rattle.fk_served.specs.Kernels.{world_of as world};
 
 use crate::moment::moment::Moment;
-use fk_jobs::Worker;
+use fk_jobs::JobMachine;
 use fk_links::connecting_to;
 use fk_model::{Move, Who};
 use fk_natives::Service;
 use fk_served::asking::{act_unless, find_act};
 
-impl<'a, S: Service + Drop, W: Worker + Drop> Moment<'a, S, W> {
+impl<'a, S: Service + Drop, W: JobMachine + Drop> Moment<'a, S, W> {
     /// A ready act of the server of a port that isn't the name of the porter whose job's turn it is.
     pub fn act_besides(&self, port: Who) -> Option<Move>
         ensures ready { IfSome result (λ m. IsReadyNow self.now m) }

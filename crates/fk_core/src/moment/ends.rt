@@ -5,11 +5,11 @@ ghost use Rattle.fk_core.specs.Moment.Ends.{IsAtRest, IsEnded};
 ghost use Rattle.fk_served.specs.Kernels.{world_of as world};
 
 use crate::moment::moment::Moment;
-use fk_jobs::Worker;
+use fk_jobs::JobMachine;
 use fk_natives::Service;
 use fk_report::{End, all_halted};
 
-impl<'a, S: Service + Drop, W: Worker + Drop> Moment<'a, S, W> {
+impl<'a, S: Service + Drop, W: JobMachine + Drop> Moment<'a, S, W> {
     /// How the run has ended: with the budget used while a move is ready, or with none ready, and then whether every user
     /// thread has halted. It hasn't while a move is ready and the budget has one more.
     pub fn ended(&self) -> Option<End>

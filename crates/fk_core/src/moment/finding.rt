@@ -5,11 +5,11 @@ ghost use Rattle.fk_served.specs.Kernels.{world_of as world};
 ghost use Rattle.laws_runs.specs.Cores.{IsOtherReady};
 
 use crate::moment::moment::Moment;
-use fk_jobs::Worker;
+use fk_jobs::JobMachine;
 use fk_model::Move;
 use fk_natives::Service;
 
-impl<'a, S: Service + Drop, W: Worker + Drop> Moment<'a, S, W> {
+impl<'a, S: Service + Drop, W: JobMachine + Drop> Moment<'a, S, W> {
     /// A thread's move that is ready.
     fn user(&self) -> Option<Move>
         ensures ready { IfSome result (λ m. IsReadyNow self.now m) }

@@ -2,15 +2,16 @@
 ghost use Rattle.std.specs.Prelude.{◌≡◌, ◌↔◌, Some, None, IsTrue, IfSome, IfNone};
 ghost use Rattle.laws_runs.specs.Cores as runs;
 ghost use Rattle.laws_runs.specs.Cores.{IsGone, IsOtherReady, EndsFor, EndsNow};
-ghost use Rattle.fk_jobs.specs.Jobs.{current, job_of, unmoved_of};
+ghost use Rattle.fk_jobs.specs.Ended.{unmoved_of};
+ghost use Rattle.fk_jobs.specs.Jobs.{current, job_of};
 ghost use Rattle.fk_served.specs.Kernels.{world_of as world};
 ghost use Rattle.fk_core.specs.Moment.Moments.{house, seen, IsDue};
 
 use crate::moment::moment::Moment;
-use fk_jobs::{Plan, Unmoved, Worker};
+use fk_jobs::{JobMachine, PlannedJob, Unmoved};
 use fk_natives::Service;
 
-impl<'a, S: Service + Drop, W: Worker + Drop> Moment<'a, S, W> {
+impl<'a, S: Service + Drop, W: JobMachine + Drop> Moment<'a, S, W> {
     /// Whether a user or a server has a ready move.
     fn is_other_ready(&self) -> bool
         ensures { IsTrue result ↔ IsOtherReady (house self.now.jobs.now.jobs) (seen self.now) }
@@ -40,7 +41,7 @@ impl<'a, S: Service + Drop, W: Worker + Drop> Moment<'a, S, W> {
     }
 
     /// The same of the job that is planned so. Whether it is due is looked at last.
-    fn end_of(&self, plan: &Plan) -> Option<Unmoved>
+    fn end_of(&self, plan: &PlannedJob) -> Option<Unmoved>
         requires its { Some (job_of plan.now) ≡ current self.now.jobs.now }
         ensures some { IfSome result (λ why. EndsNow (house self.now.jobs.now.jobs) (seen self.now) (unmoved_of why)) }
         ensures none { IfNone result ((why : runs.Unmoved) → EndsNow (house self.now.jobs.now.jobs) (seen self.now) why → ⊥) }
@@ -50,7 +51,7 @@ impl<'a, S: Service + Drop, W: Worker + Drop> Moment<'a, S, W> {
     }
 
     /// Why it can't begin, where it hasn't begun.
-    fn hindrance(&self, plan: &Plan) -> Option<Unmoved>
+    fn hindrance(&self, plan: &PlannedJob) -> Option<Unmoved>
         requires its { Some (job_of plan.now) ≡ current self.now.jobs.now }
         ensures some { IfSome result (λ why. (self.now.jobs.now.work ≡ None)
             × EndsFor (house self.now.jobs.now.jobs) (seen self.now) (job_of plan.now) (unmoved_of why)) }
@@ -69,7 +70,7 @@ impl<'a, S: Service + Drop, W: Worker + Drop> Moment<'a, S, W> {
     }
 
     /// Whether its nester is gone.
-    fn is_gone(&self, plan: &Plan) -> bool
+    fn is_gone(&self, plan: &PlannedJob) -> bool
         ensures { IsTrue result ↔ IsGone (world self.now.kernel.now) plan.now.nester }
     {
         self.kernel.names();

@@ -3,7 +3,7 @@ ghost use Rattle.std.specs.Prelude.{◌≡◌, ◌↔◌, ◌<◌, IsTrue, lengt
 ghost use Rattle.fk_jobs.specs.Jobs.{current};
 ghost use Rattle.fk_core.specs.Moment.Moments.{core_at, seen, porter_of, is_porter, is_timely, has_come};
 
-use fk_jobs::{Jobs, Worker};
+use fk_jobs::{JobMachine, Jobs};
 use fk_model::Who;
 use fk_model::limits::LAST_PORTER_SLOT;
 use fk_natives::Service;
@@ -11,7 +11,7 @@ use fk_served::{Kernel, Services};
 
 /// A kernel with its native servers and its jobs, and how many moves it has made of how many.
 #[derive(Drop)]
-pub struct Moment<'a, S: Service + Drop, W: Worker + Drop> {
+pub struct Moment<'a, S: Service + Drop, W: JobMachine + Drop> {
     pub(crate) kernel: &'a Kernel,
     pub(crate) services: &'a Services<S>,
     pub(crate) jobs: &'a Jobs<W>,
@@ -21,7 +21,7 @@ pub struct Moment<'a, S: Service + Drop, W: Worker + Drop> {
     pub(crate) last: Option<Who>,
 }
 
-impl<'a, S: Service + Drop, W: Worker + Drop> Moment<'a, S, W> {
+impl<'a, S: Service + Drop, W: JobMachine + Drop> Moment<'a, S, W> {
     /// The moment at which so many moves are made of so many, and this thread has moved last.
     pub fn of(
         kernel: &'a Kernel,

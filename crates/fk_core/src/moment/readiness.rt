@@ -6,12 +6,12 @@ ghost use Rattle.fk_core.specs.Moment.Moments.{seen, is_porter, IsReadyNow, IsAs
 ghost use Rattle.fk_served.specs.Kernels.{world_of as world};
 
 use crate::moment::moment::Moment;
-use fk_jobs::Worker;
+use fk_jobs::JobMachine;
 use fk_model::{Ask, Move, Who};
 use fk_natives::Service;
 use fk_served::asking::{asked_by, is_ready};
 
-impl<'a, S: Service + Drop, W: Worker + Drop> Moment<'a, S, W> {
+impl<'a, S: Service + Drop, W: JobMachine + Drop> Moment<'a, S, W> {
     /// What a mover asks for that is no job's porter: what it gives is words. Whoever isn't a served port runs.
     pub fn ask(&self, who: Who) -> Option<Ask>
         ensures asked { result ≡ asked self.now.services.now.list (world self.now.kernel.now) who }

@@ -3,7 +3,7 @@ ghost use Rattle.std.specs.Prelude.{◌≡◌, ◌<◌, None, IfSome, IsSome};
 ghost use Rattle.fk_core.specs.Moment.Moments.{seen, IsReadyNow, MayBeMade};
 
 use crate::moment::Moment;
-use fk_jobs::Worker;
+use fk_jobs::JobMachine;
 use fk_model::{Move, Who};
 use fk_natives::Service;
 
@@ -45,7 +45,7 @@ impl Rounds {
     }
 
     /// Whether the look goes round: at one move of 64. While a job's moves take the even numbers, it does at the odd one behind.
-    fn is_round<S: Service + Drop, W: Worker + Drop>(&self, moment: &Moment<'_, S, W>) -> bool {
+    fn is_round<S: Service + Drop, W: JobMachine + Drop>(&self, moment: &Moment<'_, S, W>) -> bool {
         match moment.events() % ROUND {
             0 => true,
             1 => moment.is_timely(),
@@ -54,7 +54,7 @@ impl Rounds {
     }
 
     /// The thread that moved last, but where it waits, where the look goes round and where the budget is used.
-    pub fn same_thread<S: Service + Drop, W: Worker + Drop>(
+    pub fn same_thread<S: Service + Drop, W: JobMachine + Drop>(
         &self,
         moment: &Moment<'_, S, W>,
     ) -> Option<Who>
@@ -68,7 +68,7 @@ impl Rounds {
 
     /// The port whose server the last move told something, but where the look goes round and where the budget is used.
     #[inline(always)]
-    pub fn heard<S: Service + Drop, W: Worker + Drop>(
+    pub fn heard<S: Service + Drop, W: JobMachine + Drop>(
         &self,
         moment: &Moment<'_, S, W>,
     ) -> Option<Who>
@@ -85,7 +85,7 @@ impl Rounds {
     }
 
     /// Its move, where that is ready and picks nobody.
-    pub fn again<S: Service + Drop, W: Worker + Drop>(
+    pub fn again<S: Service + Drop, W: JobMachine + Drop>(
         &self,
         moment: &Moment<'_, S, W>,
     ) -> Option<Move>
@@ -99,7 +99,7 @@ impl Rounds {
     }
 
     /// A server may come before the threads: one that heard of the last move, or in every second round one, each in its turn. It is a hint.
-    pub fn may_serve<S: Service + Drop, W: Worker + Drop>(
+    pub fn may_serve<S: Service + Drop, W: JobMachine + Drop>(
         &self,
         moment: &Moment<'_, S, W>,
     ) -> bool {
@@ -141,7 +141,7 @@ impl Rounds {
 
     /// A ready act that comes before the threads: of the server that heard of the last move, but where the look goes round; and in every second round of
     /// 64 moves of one server, each in its turn. It is meant so that nobody who is ready waits for ever behind others; nothing is proved of that.
-    pub fn choose_act<S: Service + Drop, W: Worker + Drop>(
+    pub fn choose_act<S: Service + Drop, W: JobMachine + Drop>(
         &mut self,
         moment: &Moment<'_, S, W>,
     ) -> Option<Move>
@@ -157,7 +157,7 @@ impl Rounds {
     }
 
     /// A ready act of one of some few servers, which comes before the move of a job whose time has come.
-    pub fn choose_few<S: Service + Drop, W: Worker + Drop>(
+    pub fn choose_few<S: Service + Drop, W: JobMachine + Drop>(
         &self,
         moment: &Moment<'_, S, W>,
     ) -> Option<Move>
@@ -170,7 +170,10 @@ impl Rounds {
     }
 
     /// A ready act of the server that heard of the last move, but where the look goes round.
-    fn answer<S: Service + Drop, W: Worker + Drop>(&self, moment: &Moment<'_, S, W>) -> Option<Move>
+    fn answer<S: Service + Drop, W: JobMachine + Drop>(
+        &self,
+        moment: &Moment<'_, S, W>,
+    ) -> Option<Move>
         ensures { IfSome result (λ m. IsReadyNow moment.now m) }
     {
         if self.is_round(moment) {
@@ -180,7 +183,7 @@ impl Rounds {
     }
 
     /// In every second round a ready act of one server, each in its turn.
-    fn look<S: Service + Drop, W: Worker + Drop>(
+    fn look<S: Service + Drop, W: JobMachine + Drop>(
         &mut self,
         moment: &Moment<'_, S, W>,
     ) -> Option<Move>

@@ -1,8 +1,8 @@
 -- Shown: objects and pages of a subtree that is seen alone, as lists. A path is told from the subtree's root, which is the machine's path
 -- the other way round.
-use Rattle.std.specs.Prelude.{◌≡◌, ℕ, Bool, List, [], ◌∷◌, map, replicate, reverse, unwrap_or, Option, Some, None, option_map}
+use Rattle.std.specs.Prelude.{◌≡◌, ℕ, Bool, List, [], ◌∷◌, map, reverse, unwrap_or, Option, Some, None, option_map}
 use Rattle.std.specs.List.{flat_map}
-use Rattle.fk_model.specs.declared.limits.TheConstants.{RECORD_WORDS, PAGES}
+use Rattle.fk_model.specs.declared.limits.TheConstants.{PAGES}
 use Rattle.fk_model.specs.declared.thread.Fault.{Fault as StoredFault}
 use Rattle.fk_model.specs.declared.thread.Peer.{Peer as StoredPeer}
 use Rattle.fk_model.specs.declared.thread.Talk.{Talk as StoredTalk}
@@ -13,7 +13,6 @@ use Rattle.fk_model.specs.Objects.Peer.{Server, Service, Parked}
 use Rattle.fk_model.specs.Objects.Body.{Mutex, Cond, Mapping, Region, Port, Portset, Space, Thread_of, Reference}
 use Rattle.fk_model.specs.Places.{Path, Ptr, strip}
 use Rattle.fk_model.specs.Places.Ptr.{Null, Dead, At, Out, Outside, Far}
-use Rattle.fk_model.specs.Records.{record_of}
 use Rattle.fk_model.specs.Searches as searches
 use Rattle.fk_model.specs.Searches.{slots}
 use Rattle.fk_model.specs.World.{World}
@@ -28,6 +27,7 @@ use Rattle.fk_cut.specs.declared.cuts.cutting.CutWorld.{CutWorld}
 use Rattle.fk_cut.specs.declared.cuts.shown.CutPtr.{CutPtr}
 use Rattle.fk_cut.specs.declared.cuts.shown.CutPtr.TheVariants as shows
 use Rattle.fk_cut.specs.Closing.Walks.{seen}
+pub use Rattle.fk_changes.specs.Records.Settings.{record_there}
 
 -- ---- pointers
 
@@ -70,6 +70,7 @@ fields_of Cond = alone shows.Null
 fields_of (Port set served) = alone shows.Null
 fields_of Portset = alone shows.Null
 
+-- the pointers of what stands somewhere, of nothing where nothing does
 abbrev pub fields_there : Option Body → List CutPtr
 fields_there None = alone shows.Null
 fields_there (Some b) = fields_of b
@@ -105,10 +106,6 @@ abbrev pub below : Contents → Who → Who → Path
 below m root who = unwrap_or (strip (place_of m root) (place_of m who)) []
 
 -- ---- objects and pages of a world
-
-abbrev pub record_there : Option Body → List ℕ
-record_there None = replicate RECORD_WORDS 0
-record_there (Some b) = record_of b
 
 abbrev pub object_there : World → Path → CutObject
 object_there c q = record { path = reverse q; words = record_there (c.body q); ptrs = fields_there (c.body q) }

@@ -19,6 +19,7 @@ between_stages n = Thread_of (record { mode = Calling [] (n ∷ replicate 15 0);
 unfoldable pub alone : ℕ → World
 alone n = record { body = λ q. if same_path q (1 ∷ []) then Some (between_stages n) else None; page = λ s page. None; next = 1 }
 
+-- the lists of a cut with a thread in it
 unfoldable pub lists : CutWorld
 lists = record { objects = object_there (cut (alone 0) [] 1) [] ∷ []; pages = [] }
 

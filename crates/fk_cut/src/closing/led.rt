@@ -67,7 +67,7 @@ pub fn is_led_to(store: &Store, root: Who, target: Who) -> bool
     !leaders.are_all() && is_led_to_by_any(store, root, target)
 }
 
-/// The same, of all objects: where it isn't known who leads there.
+/// An object outside a subtree has a pointer to a target, by a look at all objects: where it isn't known who leads there.
 fn is_led_to_by_any(store: &Store, root: Who, target: Who) -> bool
     requires root { HasOwnPath (path store.now) root }
     requires target { HasOwnPath (path store.now) target }

@@ -1,5 +1,6 @@
 -- What is spelled is read again, whatever follows.
-use Rattle.std.proofs.Common.{◌≡◌, ℕ, suc, ◌^◌, ◌<◌, ◌&&◌, Bool, true, false, not, eqb, ltb, List, [], ◌∷◌, ◌++◌, length, Option, Some, None, is_some, Result, Ok, refl, sym, ap, subst, ◌∙◌, append_assoc, arith}
+use Rattle.std.proofs.Common.{◌≡◌, ℕ, suc, ◌^◌, ◌<◌, ◌&&◌, Bool, true, false, not, eqb, ltb, List, [], ◌∷◌, ◌++◌, length, Option, Some, None, is_some, Result}
+use Rattle.std.proofs.Common.{Ok, refl, sym, ap, subst, ◌∙◌, append_assoc, arith}
 use Rattle.std.specs.List.{flat_map, list_all, list_any}
 use Rattle.std.specs.Int.{w16, w32, w64, to_le_bytes}
 use Rattle.std.proofs.lemmas.Bool.{lt-ltb, le-ltb, ne_eqb, eqb-true, ltb-true}
@@ -17,14 +18,21 @@ use Rattle.fk_image.specs.declared.image.image.PageRec.{PageRec}
 use Rattle.fk_image.specs.declared.image.image.SpaceRec.{SpaceRec}
 use Rattle.fk_image.specs.declared.image.image.Image.{Image}
 use Rattle.fk_image.specs.declared.image.open.Open.{Open}
-use Rattle.fk_image.specs.Image.Ranges.{is_slot, is_bit, is_byte, is_half, is_word, fits_link, is_set_word, is_extent, is_mode_byte, is_code, are_words, is_turn, fits_talk, fits_taker, fits_fault, fits_thread, fits_body}
+use Rattle.fk_image.specs.Image.Ranges.{is_slot, is_bit, is_byte, is_half, is_word, fits_link, is_set_word, is_extent, is_mode_byte, is_code, are_words}
+use Rattle.fk_image.specs.Image.Ranges.{is_turn, fits_talk, fits_taker, fits_fault, fits_thread, fits_body}
 use Rattle.fk_image.specs.Image.Preorder.{room_under, has_room, root_path, after_space}
 use Rattle.fk_image.specs.Image.Links.{kind_in_space}
-use Rattle.fk_image.specs.Image.Valid.{is_null, all_from, fits_object, fits_page, fits_objects, fits_pages, is_first, is_next, fits_space, fits_spaces, after_object, after_page}
+use Rattle.fk_image.specs.Image.Valid.{is_null, all_from, fits_object, fits_page, fits_objects, fits_pages, is_first, is_next, fits_space, fits_spaces}
+use Rattle.fk_image.specs.Image.Valid.{after_object, after_page}
 use Rattle.fk_image.specs.declared.format.stop.Stop.{Stop}
-use Rattle.fk_image.specs.Format.Spelling.{link_bytes as link, words_bytes as words, talk_bytes as talk, taker_bytes as taker, fault_bytes as fault, fault_state, thread_bytes as thread, body_bytes as body, object_bytes as object, page_bytes as page, contents_bytes as contents, space_bytes as space, magic, spelling}
+use Rattle.fk_image.specs.Format.Spelling.{link_bytes as link, words_bytes as words, talk_bytes as talk, taker_bytes as taker, fault_bytes as fault}
+use Rattle.fk_image.specs.Format.Spelling.{fault_state, thread_bytes as thread, body_bytes as body, object_bytes as object, page_bytes as page}
+use Rattle.fk_image.specs.Format.Spelling.{contents_bytes as contents, space_bytes as space, magic, spelling}
 use Rattle.fk_image.specs.Format.Fields.{read_below, read_many}
-use Rattle.fk_image.specs.Format.Reading.{read_link, read_word, same_state, read_words, read_mode, read_code, read_open_talk, read_talk, read_taker, read_met_fault, read_fault, read_thread, read_extent, read_mapping, read_region, read_port, read_mutex, read_reference, read_body, read_object, read_page, read_objects, read_pages, read_first, or_refuse_field, read_room, read_next, read_placed, read_space, read_version, read_head, read_image}
+use Rattle.fk_image.specs.Format.Reading.{read_link, read_word, same_state, read_words, read_mode, read_code, read_open_talk, read_talk, read_taker}
+use Rattle.fk_image.specs.Format.Reading.{read_met_fault, read_fault, read_thread, read_extent, read_mapping, read_region, read_port, read_mutex}
+use Rattle.fk_image.specs.Format.Reading.{read_reference, read_body, read_object, read_page, read_objects, read_pages, read_first, or_refuse_field, read_room}
+use Rattle.fk_image.specs.Format.Reading.{read_next, read_placed, read_space, read_version, read_head, read_image}
 use Rattle.fk_image.specs.Format.Versions.{shows_new, body_shows, object_shows, space_shows, image_shows, allows, version_number}
 use Rattle.fk_image.proofs.InFormat.Allowed.{all_both, allows_each, allows_itself}
 use Rattle.fk_image.proofs.InFormat.Basics.{both, and2, and3, and4, and5, and6, not_true, wide16, wide32, wide64, number_again, below_again}

@@ -1,5 +1,6 @@
 -- The walk over the pointers finds no wrong one exactly where all lead to what their fields may hold.
-use Rattle.std.proofs.Common.{◌≡◌, ℕ, ◌+◌, ◌*◌, Bool, true, false, cond, not, ◌&&◌, List, [], ◌∷◌, ◌++◌, length, Option, Some, None, Result, Ok, Err, refl, sym, ap, subst, ◌∙◌}
+use Rattle.std.proofs.Common.{◌≡◌, ℕ, ◌+◌, ◌*◌, Bool, true, false, cond, not, ◌&&◌, List, [], ◌∷◌, ◌++◌, length, Option, Some, None, Result, Ok, Err, refl, sym}
+use Rattle.std.proofs.Common.{ap, subst, ◌∙◌}
 use Rattle.std.specs.List.{list_any, list_all, flat_map}
 use Rattle.std.proofs.lemmas.List.Concat.{flat_map-cons}
 use Rattle.fk_image.specs.declared.image.image.Link.{Link}
@@ -11,10 +12,12 @@ use Rattle.fk_image.specs.declared.image.image.Rec.{Rec}
 use Rattle.fk_image.specs.declared.image.image.Rec.TheVariants.{Mutex, Cond, Portset, Mapping, Region, Port, Thread, Reference}
 use Rattle.fk_image.specs.declared.image.image.ObjectRec.{ObjectRec}
 use Rattle.fk_image.specs.declared.image.image.SpaceRec.{SpaceRec}
-use Rattle.fk_image.specs.Image.Links.{may_hold, leads_to_port, serves_port, talk_leads, taker_leads, fault_leads, body_leads, space_leads, spaces_lead, peer, talk_peers, taker_peers, fault_peers, body_peers, object_peers, space_peers, is_same_place, are_fresh, all_lead}
+use Rattle.fk_image.specs.Image.Links.{may_hold, leads_to_port, serves_port, talk_leads, taker_leads, fault_leads, body_leads, space_leads, spaces_lead, peer}
+use Rattle.fk_image.specs.Image.Links.{talk_peers, taker_peers, fault_peers, body_peers, object_peers, space_peers, is_same_place, are_fresh, all_lead}
 use Rattle.fk_image.specs.Format.Fields.{◌>>=◌}
 use Rattle.fk_image.specs.Format.Spelling.{link_bytes as link}
-use Rattle.fk_image.specs.Format.Offsets.{Named, nobody, Walk, expect_at, peer_walk, port_walk, talk_walk, taker_walk, fault_walk, past, link_walk, thread_walk, set_walk, body_walk, objects_walk, space_walk, spaces_walk, offset_of, wrong_in}
+use Rattle.fk_image.specs.Format.Offsets.{Named, nobody, Walk, expect_at, peer_walk, port_walk, talk_walk, taker_walk, fault_walk, past, link_walk, thread_walk}
+use Rattle.fk_image.specs.Format.Offsets.{set_walk, body_walk, objects_walk, space_walk, spaces_walk, offset_of, wrong_in}
 
 -- ---- who is named behind threads that were seen
 

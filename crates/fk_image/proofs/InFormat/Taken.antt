@@ -1,5 +1,6 @@
 -- What is read is spelled so, and fits.
-use Rattle.std.proofs.Common.{◌≡◌, ℕ, zero, suc, ◌+◌, ◌^◌, ◌<◌, ◌&&◌, Bool, true, false, cond, eqb, ltb, not, List, [], ◌∷◌, ◌++◌, length, take, drop, Option, Some, None, is_some, Result, Ok, refl, sym, ap, subst, ◌∙◌, append_assoc, arith}
+use Rattle.std.proofs.Common.{◌≡◌, ℕ, zero, suc, ◌+◌, ◌^◌, ◌<◌, ◌&&◌, Bool, true, false, cond, eqb, ltb, not, List, [], ◌∷◌, ◌++◌, length, take, drop, Option}
+use Rattle.std.proofs.Common.{Some, None, is_some, Result, Ok, refl, sym, ap, subst, ◌∙◌, append_assoc, arith}
 use Rattle.std.specs.Cmp.Lexicographic.{same_text}
 use Rattle.std.specs.List.{flat_map, list_all, list_any}
 use Rattle.std.specs.Int.{w16, w32, w64, to_le_bytes}
@@ -18,17 +19,25 @@ use Rattle.fk_image.specs.declared.image.image.PageRec.{PageRec}
 use Rattle.fk_image.specs.declared.image.image.SpaceRec.{SpaceRec}
 use Rattle.fk_image.specs.declared.image.image.Image.{Image}
 use Rattle.fk_image.specs.declared.image.open.Open.{Open}
-use Rattle.fk_image.specs.Image.Ranges.{is_slot, is_bit, is_byte, is_half, is_word, fits_link, is_set_word, is_extent, is_mode_byte, is_code, are_words, is_turn, fits_talk, fits_taker, fits_fault, fits_thread, fits_body}
+use Rattle.fk_image.specs.Image.Ranges.{is_slot, is_bit, is_byte, is_half, is_word, fits_link, is_set_word, is_extent, is_mode_byte, is_code, are_words}
+use Rattle.fk_image.specs.Image.Ranges.{is_turn, fits_talk, fits_taker, fits_fault, fits_thread, fits_body}
 use Rattle.fk_image.specs.Image.Preorder.{room_under, has_room, root_path, after_space}
 use Rattle.fk_image.specs.Image.Links.{kind_in_space}
-use Rattle.fk_image.specs.Image.Valid.{all_from, fits_object, fits_page, fits_objects, fits_pages, is_first, is_next, stands_in_order, fits_space, fits_spaces, after_object, after_page}
+use Rattle.fk_image.specs.Image.Valid.{all_from, fits_object, fits_page, fits_objects, fits_pages, is_first, is_next, stands_in_order, fits_space, fits_spaces}
+use Rattle.fk_image.specs.Image.Valid.{after_object, after_page}
 use Rattle.fk_image.specs.declared.format.stop.Stop.{Stop}
-use Rattle.fk_image.specs.Format.Spelling.{link_bytes as link, words_bytes as words, talk_bytes as talk, taker_bytes as taker, fault_bytes as fault, fault_state, thread_bytes as thread, body_bytes as body, object_bytes as object, page_bytes as page, space_bytes as space, magic, spelling_in}
+use Rattle.fk_image.specs.Format.Spelling.{link_bytes as link, words_bytes as words, talk_bytes as talk, taker_bytes as taker, fault_bytes as fault}
+use Rattle.fk_image.specs.Format.Spelling.{fault_state, thread_bytes as thread, body_bytes as body, object_bytes as object, page_bytes as page}
+use Rattle.fk_image.specs.Format.Spelling.{space_bytes as space, magic, spelling_in}
 use Rattle.fk_image.specs.Format.Fields.{◌>>=◌, refuse_field, read_byte, read_number, read_below, read_many}
-use Rattle.fk_image.specs.Format.Reading.{read_link, read_word, same_state, read_words, read_mode, read_code, read_open_talk, read_talk, read_taker, read_met_fault, read_fault, read_thread, read_extent, read_mapping, read_region, read_port, read_mutex, read_reference, read_body, read_object, read_page, read_objects, read_pages, read_first, or_refuse_field, read_room, read_next, read_placed, read_space, read_version, read_head, read_image}
+use Rattle.fk_image.specs.Format.Reading.{read_link, read_word, same_state, read_words, read_mode, read_code, read_open_talk, read_talk, read_taker}
+use Rattle.fk_image.specs.Format.Reading.{read_met_fault, read_fault, read_thread, read_extent, read_mapping, read_region, read_port, read_mutex}
+use Rattle.fk_image.specs.Format.Reading.{read_reference, read_body, read_object, read_page, read_objects, read_pages, read_first, or_refuse_field, read_room}
+use Rattle.fk_image.specs.Format.Reading.{read_next, read_placed, read_space, read_version, read_head, read_image}
 use Rattle.fk_image.specs.Format.Versions.{shows_new, body_shows, object_shows, space_shows, image_shows, allows, version_number}
 use Rattle.fk_image.proofs.InFormat.Allowed.{all_left, all_right, allows_all}
-use Rattle.fk_image.proofs.InFormat.Basics.{both, and2, all3, all4, all5, all6, not_true, not_false, IsBytes, IsBytes-drop, bind_ok, expect_ok, chosen, never, ok_is, Takes, Takes-then, Took, made, one, byte_takes, below_takes, wide16, wide32, wide64, number_takes}
+use Rattle.fk_image.proofs.InFormat.Basics.{both, and2, all3, all4, all5, all6, not_true, not_false, IsBytes, IsBytes-drop, bind_ok, expect_ok, chosen, never}
+use Rattle.fk_image.proofs.InFormat.Basics.{ok_is, Takes, Takes-then, Took, made, one, byte_takes, below_takes, wide16, wide32, wide64, number_takes}
 
 link_takes : (bytes : List ℕ) (x : Link × List ℕ) → IsBytes bytes → read_link bytes ≡ Ok x → Took link fits_link bytes x
 unfolding read_link
@@ -237,8 +246,11 @@ thread_takes new bytes x fits e before t =
     let r1 = to_le_bytes w64 b.0.0 ++ (c.0.0 ∷ d.0.0 ∷ r4) in
     let u0 = Takes-then bytes (words a.0.0) a.0.1 r1 h.0.1 t0.0 u1 in
     made body
-    (fits_in new) before (Thread (record { regs = a.0.0; pc = b.0.0; mode = c.0.0; code = d.0.0; stops = f.0.0; talk = g.0.0; fault = h.0.0 }), h.0.1) x h.2
-    (Takes-then before (8 ∷ []) bytes (words a.0.0 ++ r1) h.0.1 t u0, both _ _ (both _ _ (both _ _ (all6 t0.1 t1.1 mode.0 code.0 code.1 t4.1) t5.1) t6.1) mode.1)
+    (fits_in new) before (Thread (record { regs = a.0.0; pc = b.0.0; mode = c.0.0; code = d.0.0; stops = f.0.0; talk = g.0.0; fault = h.0.0 }), h.0.1) x h.2 (
+      Takes-then before (8 ∷ []) bytes (words a.0.0 ++ r1) h.0.1 t u0,
+      both _ _
+          (both _ _ (both _ _ (all6 t0.1 t1.1 mode.0 code.0 code.1 t4.1) t5.1) t6.1) mode.1,
+    )
 
 -- ---- objects and pages
 
@@ -297,7 +309,8 @@ port_takes new bytes x fits e before t =
     let a = bind_ok (read_number w16 bytes) _ x e in
     let g = chosen (is_set_word a.0.0) (Port a.0.0, a.0.1) bytes 5 x a.2 in
     let t0 = number_takes w16 (2 ^ 16) wide16 bytes a.0 fits a.1 in
-    made body (fits_in new) before (Port a.0.0, a.0.1) x (ap Ok g.1) (Takes-then before (5 ∷ []) bytes (to_le_bytes w16 a.0.0) a.0.1 t t0.0, both _ _ (g.0) (may_none new))
+    made body (fits_in new) before (Port a.0.0, a.0.1) x (ap Ok g.1)
+    (Takes-then before (5 ∷ []) bytes (to_le_bytes w16 a.0.0) a.0.1 t t0.0, both _ _ (g.0) (may_none new))
 
 mutex_takes : (new : Bool) (bytes : List ℕ) (x : Rec × List ℕ) →
     IsBytes bytes → read_mutex bytes ≡ Ok x → (before : List ℕ) → Takes before (1 ∷ []) bytes → Took body (fits_in new) before x
@@ -456,7 +469,8 @@ first_takes new path bytes x fits e =
     let null : Takes b.0.1 (0 ∷ []) c.0.1 = subst (λ (n : ℕ). Takes b.0.1 (n ∷ []) c.0.1) (eqb-true _ _ g2.0) t2.0 in
     let s : SpaceRec = record { parent = a.0.0; slot = b.0.0; holder = Null; objects = os.0.0; pages = ps.0.0 } in
     made space
-    (space_fits_in new ([], path)) bytes (s, ps.0.1) x ps.2 (joined new [] path bytes a.0.1 b.0.1 c.0.1 os.0.1 s ps.0.1 t0.0 t1.0 null t3 t4 (all3 g0.0 g1.0 refl))
+    (space_fits_in new ([], path)) bytes (s, ps.0.1) x ps.2
+    (joined new [] path bytes a.0.1 b.0.1 c.0.1 os.0.1 s ps.0.1 t0.0 t1.0 null t3 t4 (all3 g0.0 g1.0 refl))
 
 room_is : (room : Option ℕ) (bytes : List ℕ) (x : ℕ) → or_refuse_field room bytes 4 ≡ Ok x → room ≡ Some x
 room_is None bytes x e = absurd (never bytes 4 x e)

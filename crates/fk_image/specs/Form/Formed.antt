@@ -50,6 +50,7 @@ pub record AreSpaces (spaces : List SpaceRec) : Type 0 where
   pub each : Each IsSpace spaces
   pub order : AreInOrder spaces
 
+-- the records have the form of an image: the spaces by themselves, and each pointer among them
 pub record IsFormed (i : Image) : Type 0 where
   pub spaces : AreSpaces i.spaces
   pub pointers : AllRight i.spaces

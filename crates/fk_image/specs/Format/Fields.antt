@@ -16,10 +16,12 @@ refuse_field bytes reason = Err (record { left = length bytes; reason = reason }
 abbrev pub expect : Bool → List ℕ → ℕ → Result (Unit {0}) Stop
 expect good bytes reason = if good then Ok tt else refuse_field bytes reason
 
+-- a byte, and what is left
 abbrev pub read_byte : List ℕ → Result (ℕ × List ℕ) Stop
 read_byte [] = refuse_field [] reasons.CUT
 read_byte (b ∷ rest) = Ok (b, rest)
 
+-- a number of so many bytes, the lowest first, and what is left
 abbrev pub read_number : Width → List ℕ → Result (ℕ × List ℕ) Stop
 read_number w bytes = if nat_lt (length bytes) (byte_len w) then refuse_field bytes reasons.CUT else Ok
     (from_le_bytes w (take (byte_len w) bytes), drop (byte_len w) bytes)

@@ -24,6 +24,7 @@ Named = ℕ → ℕ → Bool
 abbrev pub nobody : Named
 nobody space slot = false
 
+-- one more thread is named
 abbrev pub with_thread : ℕ → ℕ → Named → Named
 with_thread space slot named = λ other k. (space == other && slot == k) || named other k
 

@@ -1,5 +1,6 @@
 -- Which image the bytes spell, or their first fault.
-use Rattle.std.specs.Prelude.{ℕ, ◌-◌, Bool, true, false, not, ◌&&◌, ◌==◌, nat_lt, nat_eq, List, [], ◌∷◌, length, take, drop, Option, Some, None, is_some, Result, Ok, Err, if◌then◌else◌}
+use Rattle.std.specs.Prelude.{ℕ, ◌-◌, Bool, true, false, not, ◌&&◌, ◌==◌, nat_lt, nat_eq, List, [], ◌∷◌, length, take, drop, Option, Some, None, is_some}
+use Rattle.std.specs.Prelude.{Result, Ok, Err, if◌then◌else◌}
 use Rattle.std.specs.Cmp.Lexicographic.{pointwise}
 use Rattle.std.specs.Int.{w16, w32, w64}
 use Rattle.fk_image.specs.declared.image.image.Link.{Link}
@@ -25,6 +26,7 @@ use Rattle.fk_image.specs.Format.Versions.{shows_new, image_shows, allows}
 use Rattle.fk_image.specs.Format.Fields.{◌>>=◌, refuse_field, expect, read_byte, read_number, read_below, read_many}
 use Rattle.fk_image.specs.Format.Offsets.{wrong_link}
 
+-- a pointer by its tag
 unfoldable pub read_link : List ℕ → Result (Link × List ℕ) Stop
 read_link bytes = do
   tag ← read_byte bytes
@@ -49,6 +51,7 @@ read_word s bytes = read_number w64 bytes
 abbrev pub same_state : ℕ → ℕ → ℕ
 same_state s x = s
 
+-- so many words
 abbrev pub read_words : ℕ → List ℕ → Result (List ℕ × List ℕ) Stop
 read_words count bytes = read_many read_word same_state count 0 [] bytes
 
@@ -94,6 +97,7 @@ read_fault bytes = do
   state ← read_below 3 bytes
   if state.0 == 0 then Ok (None, state.1) else read_met_fault state.0 state.1
 
+-- the record of a thread
 unfoldable pub read_thread : Bool → List ℕ → Result (Rec × List ℕ) Stop
 read_thread new bytes = do
   regs ← read_words 16 bytes
@@ -171,11 +175,13 @@ read_page floor bytes = do
   words ← read_words 64 page.1
   Ok (record { page = page.0; words = words.0 }, words.1)
 
+-- the objects of a space, by rising slot
 unfoldable pub read_objects : Bool → List ℕ → Result (List ObjectRec × List ℕ) Stop
 read_objects new bytes = do
   count ← read_number w16 bytes
   read_many (read_object new) after_object count.0 0 [] count.1
 
+-- the pages of a space, by rising number
 unfoldable pub read_pages : List ℕ → Result (List PageRec × List ℕ) Stop
 read_pages bytes = do
   count ← read_number w16 bytes

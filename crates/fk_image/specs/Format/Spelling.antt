@@ -80,5 +80,6 @@ magic = 70 ∷ 76 ∷ 85 ∷ 75 ∷ 69 ∷ 73 ∷ 77 ∷ 71 ∷ []
 abbrev pub spelling_in : Bool → Image → List ℕ
 spelling_in new i = magic ++ (to_le_bytes w16 (version_number new) ++ (to_le_bytes w32 (length i.spaces) ++ flat_map space_bytes i.spaces))
 
+-- the bytes of an image, in the version that it needs
 abbrev pub spelling : Image → List ℕ
 spelling i = spelling_in (image_shows i) i

@@ -26,6 +26,7 @@ object_shows o = body_shows o.body
 abbrev pub space_shows : SpaceRec → Bool
 space_shows s = list_any object_shows s.objects
 
+-- an image needs the newer version
 abbrev pub image_shows : Image → Bool
 image_shows i = list_any space_shows i.spaces
 

@@ -8,7 +8,7 @@ use Rattle.fk_image.specs.declared.image.image.Link.TheVariants.{Null, Dead, In,
 use Rattle.fk_image.specs.declared.image.image.TalkRec.{TalkRec}
 use Rattle.fk_image.specs.declared.image.image.FaultRec.{FaultRec}
 use Rattle.fk_image.specs.declared.image.image.Rec.{Rec}
-use Rattle.fk_image.specs.declared.image.image.Rec.TheVariants.{Mutex, Cond, Portset, Mapping, Region, Port, Thread, Reference}
+use Rattle.fk_image.specs.declared.image.image.Rec.TheVariants.{Mapping, Region, Port, Thread, Reference}
 use Rattle.fk_image.specs.declared.image.image.ObjectRec.{ObjectRec}
 use Rattle.fk_image.specs.declared.image.image.SpaceRec.{SpaceRec}
 use Rattle.fk_image.specs.Image.Objects.{kind_in}
@@ -27,6 +27,7 @@ kind_in_space spaces space slot = elim (slice_get spaces space) [
 abbrev pub lies_in : ℕ → ℕ → SpaceRec → Bool
 lies_in space slot s = s.parent == space && s.slot == slot
 
+-- a space that isn't the first lies in this slot of this space
 unfoldable pub has_space_at : List SpaceRec → ℕ → ℕ → Bool
 has_space_at spaces space slot = list_any (lies_in space slot) (drop 1 spaces)
 
@@ -72,12 +73,14 @@ may_hold spaces space Null = true
 may_hold spaces space (In slot other) = is_thread_kind (kind_in_space spaces other slot) && not (is_space_within spaces space other)
 may_hold spaces space other = false
 
+-- what a mapping's pointer may be
 abbrev pub leads_to_region : List SpaceRec → Link → Bool
 leads_to_region spaces Null = true
 leads_to_region spaces Dead = true
 leads_to_region spaces (In slot space) = is_region_kind (kind_in_space spaces space slot)
 leads_to_region spaces other = false
 
+-- what a region's pointer may be
 abbrev pub leads_to_keeper : List SpaceRec → Link → Bool
 leads_to_keeper spaces Null = true
 leads_to_keeper spaces Dead = true
@@ -135,9 +138,7 @@ body_leads spaces objects (Region first count write keeper) = leads_to_keeper sp
 body_leads spaces objects (Port set) = is_set_of objects set
 body_leads spaces objects (Thread t) = talk_leads spaces t.talk && fault_leads spaces t.fault
 body_leads spaces objects (Reference to) = may_refer spaces to
-body_leads spaces objects (Mutex locked) = true
-body_leads spaces objects Cond = true
-body_leads spaces objects Portset = true
+body_leads spaces objects other = true
 
 abbrev pub space_leads : List SpaceRec → ℕ → SpaceRec → Bool
 space_leads spaces number s = may_hold spaces number s.holder && list_all (λ (o : ObjectRec). body_leads spaces s.objects o.body) s.objects

@@ -17,6 +17,7 @@ next_slot [] = 0
 next_slot (o ∷ []) = o.slot + 1
 next_slot (o ∷ p ∷ os) = next_slot (p ∷ os)
 
+-- the kind of an object's record
 abbrev pub kind_of_rec : Rec → Kind
 kind_of_rec (Mutex locked) = kinds.Mutex
 kind_of_rec Cond = kinds.Cond

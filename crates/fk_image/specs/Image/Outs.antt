@@ -38,11 +38,13 @@ object_links o = body_links o.body
 abbrev pub space_links : SpaceRec → List Link
 space_links s = s.holder ∷ flat_map object_links s.objects
 
+-- all pointers of an image
 abbrev pub links : Image → List Link
 links i = flat_map space_links i.spaces
 
 -- ---- where they lead
 
+-- a pointer leads to the port in this slot of the nester
 abbrev pub leads_out_at : ℕ → Link → Bool
 leads_out_at slot (Out other) = other == slot
 leads_out_at slot to = false

@@ -70,6 +70,7 @@ mode_while_calling regs (Some todo) = modes.Calling todo (rest_of todo regs)
 abbrev pub mode : List ℕ → ℕ → ℕ → Mode
 mode regs number code = if number == 0 then modes.Running regs else if number == 1 then mode_while_calling regs (todo_of regs) else modes.Halted regs code
 
+-- the talk for which a record stands
 abbrev pub pictured_talk : List SpaceRec → TalkRec → Talk
 pictured_talk spaces t = record {
   port = ptr spaces t.port;
@@ -78,6 +79,7 @@ pictured_talk spaces t = record {
   moved = t.moved;
 }
 
+-- the fault for which a record stands
 abbrev pub pictured_fault : List SpaceRec → FaultRec → Fault
 pictured_fault spaces f = record {
   page = f.page;
@@ -95,6 +97,7 @@ pictured_thread spaces t = record {
   fault = option_map (pictured_fault spaces) t.fault;
 }
 
+-- the object for which a record stands
 abbrev pub pictured_body : List SpaceRec → Rec → Body
 pictured_body spaces (Mutex locked) = bodies.Mutex (locked == 1)
 pictured_body spaces Cond = bodies.Cond

@@ -4,7 +4,7 @@ use Rattle.std.specs.List.{list_all, list_any}
 use Rattle.fk_model.specs.Calls.{Call, calls}
 pub use Rattle.fk_model.specs.Whole.{is_word}
 use Rattle.fk_image.specs.declared.image.image.Link.{Link}
-use Rattle.fk_image.specs.declared.image.image.Link.TheVariants.{Null, Dead, In, Out, Root, Outside}
+use Rattle.fk_image.specs.declared.image.image.Link.TheVariants.{In, Out}
 use Rattle.fk_image.specs.declared.image.image.TalkRec.{TalkRec}
 use Rattle.fk_image.specs.declared.image.image.FaultRec.{FaultRec}
 use Rattle.fk_image.specs.declared.image.image.ThreadRec.{ThreadRec}
@@ -24,13 +24,11 @@ is_byte n = nat_lt n 256
 abbrev pub is_half : ℕ → Bool
 is_half n = nat_lt n (2 ^ 16)
 
+-- the numbers of a pointer are in range
 abbrev pub fits_link : Link → Bool
 fits_link (In slot space) = nat_lt space (2 ^ 32) && is_slot slot
 fits_link (Out slot) = is_slot slot
-fits_link Null = true
-fits_link Dead = true
-fits_link Root = true
-fits_link Outside = true
+fits_link other = true
 
 -- 0, or 1 and a slot
 abbrev pub is_set_word : ℕ → Bool

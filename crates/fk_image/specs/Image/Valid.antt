@@ -29,9 +29,11 @@ fits_page floor p = is_byte p.page && not (nat_lt p.page floor) && are_words 64 
 abbrev pub after_page : ℕ → PageRec → ℕ
 after_page floor p = p.page + 1
 
+-- objects are in range and stand by rising slot
 abbrev pub fits_objects : List ObjectRec → Bool
 fits_objects objects = is_half (length objects) && all_from after_object fits_object 0 objects
 
+-- pages are full and stand by rising number
 abbrev pub fits_pages : List PageRec → Bool
 fits_pages pages = is_half (length pages) && all_from after_page fits_page 0 pages
 
@@ -59,5 +61,6 @@ fits_space before s = stands_in_order before.0 before.1 s && fits_objects s.obje
 abbrev pub fits_spaces : List SpaceRec → Bool
 fits_spaces spaces = nat_lt 0 (length spaces) && nat_lt (length spaces) (2 ^ 32) && all_from after_space fits_space ([], root_path) spaces
 
+-- an image is valid: its numbers fit their fields, its spaces stand in order, and each pointer leads to what its field may hold
 unfoldable pub is_valid : Image → Bool
 is_valid i = fits_spaces i.spaces && all_lead i.spaces

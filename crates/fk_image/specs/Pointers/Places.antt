@@ -15,6 +15,7 @@ is_place space slot p = space == p.space && slot == p.slot
 abbrev pub has_place : Places → Named
 has_place places = λ space slot. list_any (is_place space slot) places.set.keys
 
+-- no place is listed
 abbrev pub IsEmptySet : Places → Type 0
 IsEmptySet places = has_place places ≡ nobody
 
@@ -23,6 +24,7 @@ pub record KnowsFrom (number : ℕ) (spaces : List SpaceRec) (ends : List ℕ) :
   pub count : length ends ≡ length spaces
   pub each : (n : ℕ) → number ≤ n → n < length spaces → get_or ends n 0 ≡ end_of spaces n
 
+-- an index knows where spaces lie, and where each one's part ends
 pub record IsIndex (spaces : List SpaceRec) (index : Index) : Type 0 where
   pub places : IfSome index.places (λ places. has_place places ≡ has_space_at spaces)
   pub ends : KnowsFrom 0 spaces index.ends.items

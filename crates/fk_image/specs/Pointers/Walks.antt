@@ -37,6 +37,7 @@ abbrev pub Breaks : PointerFail → Option ℕ → Type 0
 Breaks fails.NoMemory wrong = Unit {0}
 Breaks (fails.Wrong at) wrong = wrong ≡ Some at
 
+-- what a walk over pointers finds: none is wrong, or the first that is
 abbrev pub Checks : Result (Unit {0}) PointerFail → Option ℕ → Type 0
 Checks (Ok _) wrong = wrong ≡ None
 Checks (Err e) wrong = Breaks e wrong

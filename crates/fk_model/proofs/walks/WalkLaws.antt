@@ -1,7 +1,8 @@
 -- Walks: in a valid world they come to every object.
 --
 -- No path is longer than there are birth numbers, since the spaces on it have numbers of their own below the next one.
-use Rattle.std.proofs.Common.{◌≡◌, ℕ, zero, suc, ◌+◌, ◌<◌, ◌≤◌, Bool, true, false, ◌&&◌, find, eqb, IsSome, is_some, List, [], ◌∷◌, ◌++◌, length, Option, Some, None, option_map, unwrap_or, ◌⊎◌, inl, inr, refl, sym, ap, arith, le_trans, ne_eqb, eqb-true, ◌∙◌}
+use Rattle.std.proofs.Common.{◌≡◌, ℕ, zero, suc, ◌+◌, ◌<◌, ◌≤◌, Bool, true, false, ◌&&◌, find, eqb, IsSome, is_some, List, [], ◌∷◌, ◌++◌, length, Option, Some}
+use Rattle.std.proofs.Common.{None, option_map, unwrap_or, ◌⊎◌, inl, inr, refl, sym, ap, arith, le_trans, ne_eqb, eqb-true, ◌∙◌}
 use Rattle.std.specs.List.{IsDistinct, AllByRecursion, list_any}
 use Rattle.std.proofs.lemmas.Bool.{or_parts, or_cases, cases_lt}
 use Rattle.std.proofs.lemmas.Map.Steps.{length-le_from_distinct_below}
@@ -13,7 +14,8 @@ use Rattle.fk_model.specs.Places.Ptr.{At}
 use Rattle.fk_model.specs.Objects.{Talk, Fault, Thread, Body, kind_of, thread_of, and_then, holds}
 use Rattle.fk_model.specs.Objects.Body.{Mutex, Cond, Mapping, Region, Port, Portset, Space, Thread_of, Reference}
 use Rattle.fk_model.specs.World.{World, serves}
-use Rattle.fk_model.specs.Searches.{slots, residents, depth, beneath_by, beneath, objects, talk_at, fault_at, client_of, faulter_of, is_serving, is_service, client_at}
+use Rattle.fk_model.specs.Searches.{slots, residents, depth, beneath_by, beneath, objects, talk_at, fault_at, client_of, faulter_of, is_serving, is_service}
+use Rattle.fk_model.specs.Searches.{client_at}
 use Rattle.fk_model.specs.Valid.{IsConsistent, kind_there, birth_of, birth_at, HasService, services, IsRooted}
 use Rattle.fk_model.proofs.walks.Members.{IsIn, in_left, in_right, in_filter, of_filter, find_none, any_in, in_flat_map, of_flat_map}
 use Rattle.fk_model.proofs.walks.PlaceLaws.{same_path_refl}

@@ -7,6 +7,7 @@ use Rattle.fk_model.specs.Valid.{birth_at}
 use Rattle.fk_model.specs.World.{World}
 use Rattle.fk_plans.specs.declared.plans.blocks.Block.{Block}
 
+-- the page into which a block was copied
 abbrev pub block_page : (ℕ → Path) → World → Block → List ℕ
 block_page p w b = overwritten (words_at w (p b.to.0) b.to.1) b.into (take b.count (drop b.at (words_at w (p b.from.0) b.from.1)))
 

@@ -40,6 +40,7 @@ abbrev pub is_running_mode : Mode → Bool
 is_running_mode (Running g) = true
 is_running_mode other = false
 
+-- a thread is there and runs
 abbrev pub is_running : Option Thread → Bool
 is_running None = false
 is_running (Some t) = is_running_mode t.mode

@@ -23,25 +23,21 @@ told_port (says.Ended port) = None
 
 -- what a move tells, it tells the server of the port at a path
 abbrev pub says_to : outcomes.Said → Path → Bool
-says_to Nothing x = false
-says_to (Answered status words) x = false
 says_to (Taken port client resumed turn moved) x = leads_to x port
 says_to (Words port words) x = leads_to x port
 says_to (Given port count) x = leads_to x port
 says_to (Full port) x = leads_to x port
 says_to (Passed port) x = leads_to x port
-says_to (Ended port) x = false
+says_to other x = false
 
 -- the same by names
 abbrev pub says_to_who : says_of.Said → Who → Bool
-says_to_who says.Nothing who = false
-says_to_who (says.Answer answer) who = false
 says_to_who (says.Taken port client resumed turn moved) who = same_who who port
 says_to_who (says.Words port words len) who = same_who who port
 says_to_who (says.Given port len) who = same_who who port
 says_to_who (says.Full port) who = same_who who port
 says_to_who (says.Over port) who = same_who who port
-says_to_who (says.Ended port) who = false
+says_to_who other who = false
 
 -- what a native server may hear of it: a porter's answer is for none, nor is that a talk has ended, which is told otherwise
 abbrev pub to_servers : outcomes.Said → outcomes.Said
@@ -54,6 +50,7 @@ abbrev pub IsHeard : (ℕ → Path) → outcomes.Said → says_of.Said → Type 
 IsHeard p said told = (who : Who) → says_to said (place p who) ≡ says_to_who told who
 
 -- ---- what is told has no words past its length: they are 0
+-- behind the words that are told there are zeros
 abbrev pub IsPadded : says_of.Said → Type 0
 IsPadded (says.Answer answer) = drop answer.len answer.words ≡ replicate (PAGE_WORDS - answer.len) 0
 IsPadded (says.Words port words len) = drop len words ≡ replicate (PAGE_WORDS - len) 0

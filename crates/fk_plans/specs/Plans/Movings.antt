@@ -7,6 +7,7 @@ use Rattle.fk_plans.specs.declared.plans.plan.Plan.TheVariants as plans
 use Rattle.fk_plans.specs.declared.plans.plan.Verdict.{Verdict}
 use Rattle.fk_plans.specs.declared.plans.plan.Verdict.TheVariants as verdicts
 
+-- what words that move change
 abbrev pub plan_of : Moving → Plan
 plan_of m = plans.Moves m.block m.client m.receiver m.sender
 
@@ -15,5 +16,6 @@ abbrev pub done_if : Bool → Plan → Verdict
 done_if true plan = verdicts.Done plan Nothing
 done_if false plan = verdicts.Goes plan
 
+-- what a stage comes to that moves words: with the last of them it is done
 abbrev pub verdict_of : Moving → Verdict
 verdict_of m = done_if m.last (plan_of m)

@@ -69,6 +69,7 @@ and_next p d next w = change_by p d w ∷ next (after p d w)
 abbrev pub no_more : World → List Change
 no_more w = []
 
+-- a change that may be made, as a list
 abbrev pub made : Option Change → List Change
 made None = []
 made (Some change) = change ∷ []

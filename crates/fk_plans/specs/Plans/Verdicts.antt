@@ -102,6 +102,7 @@ abbrev pub HasWords : (ℕ → Path) → World → News → Type 0
 HasWords p w (news.Words words) = AreWords p w words
 HasWords p w other = ⊤
 
+-- what is told to a server is told to one that lives, of words that are there
 abbrev pub IsNews : Contents → News → Type 0
 IsNews m n = IsLive m (port_of n) × HasWords (path m) (world m) n
 

@@ -74,6 +74,7 @@ judged other = Few None None None
 abbrev pub is_at : (ℕ → Path) → Option Who → Path → Bool
 is_at p who x = holds (λ (w : Who). same_path x (place p w)) who
 
+-- a change may reach an object; of many changes it isn't told which
 abbrev pub is_touched : (ℕ → Path) → Touched → Path → Bool
 is_touched p (Few first second third) x = is_at p first x || (is_at p second x || is_at p third x)
 is_touched p (Makes object) x = same_path x (place p object)
@@ -104,6 +105,7 @@ leaves p touched (Kill x) = dies p touched x
 leaves p touched (Move x slot) = moves p touched x slot
 leaves p touched other = true
 
+-- changes reach no other objects than these
 abbrev pub leave : (ℕ → Path) → Touched → List Change → Bool
 leave p touched [] = true
 leave p touched (c ∷ cs) = leaves p touched c && leave p touched cs

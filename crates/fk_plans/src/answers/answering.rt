@@ -42,7 +42,7 @@ fn answer_plan(
     Ok(())
 }
 
-/// The same of a stage with four answers.
+/// Answers a porter's stage that is done with four numbers.
 fn answer_four(
     store: &mut Store,
     caller: Caller,
@@ -67,7 +67,7 @@ fn answer_four(
     Ok(())
 }
 
-/// The same of a page that is shown as it was before.
+/// Answers a porter's stage that shows a page as it was before.
 fn answer_page(
     store: &mut Store,
     caller: Caller,
@@ -91,7 +91,7 @@ fn answer_page(
     carry_all(store, caller, given, plan)
 }
 
-/// The same of a record that is shown.
+/// Answers a porter's stage that shows a record.
 fn answer_record(store: &Store, caller: Caller, object: Who, said: &mut Said)
     requires room { IsRoom said.old }
     requires fits { IsVerdict store.now caller (Verdict.ShowsRecord object) }
@@ -103,7 +103,7 @@ fn answer_record(store: &Store, caller: Caller, object: Who, said: &mut Said)
     lay_record(store, said, object);
 }
 
-/// The same of a record that an object takes.
+/// Answers a porter's stage by which an object takes a record.
 fn answer_set(
     store: &mut Store,
     caller: Caller,

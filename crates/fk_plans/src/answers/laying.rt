@@ -48,7 +48,7 @@ pub fn lay(said: &mut Said, status: u8, answers: Answers)
     }
 }
 
-/// The same of a stage that is done, with four answers.
+/// Lays the status of a stage that is done, and four answers, into the room.
 pub fn lay_four(said: &mut Said, answers: Four)
     requires { IsRoom said.old }
     ensures said { (p : ℕ → Path) → said_by p said.new ≡ Answered DONE (all_four answers) }
@@ -65,7 +65,7 @@ pub fn lay_four(said: &mut Said, answers: Four)
     answer.len = 4;
 }
 
-/// The same, with 64 words.
+/// Lays the status of a stage that is done, and 64 words, into the room.
 fn lay_words(said: &mut Said, words: &[u64; 64])
     requires { IsRoom said.old }
     ensures said { (p : ℕ → Path) → said_by p said.new ≡ Answered DONE words.now }
@@ -79,7 +79,7 @@ fn lay_words(said: &mut Said, words: &[u64; 64])
     answer.len = 64;
 }
 
-/// The same, with the words of a page.
+/// Lays the status of a stage that is done, and the words of a page, into the room.
 pub fn lay_page(store: &Store, said: &mut Said, space: u32, page: u8)
     requires room { IsRoom said.old }
     requires page { IsSome ((world store.now).page (path store.now space) page) }
@@ -92,7 +92,7 @@ pub fn lay_page(store: &Store, said: &mut Said, space: u32, page: u8)
     }
 }
 
-/// The same, with the words of a record.
+/// Lays the status of a stage that is done, and the words of a record, into the room.
 fn lay_shown(said: &mut Said, shown: &[u64; 32])
     requires { IsRoom said.old }
     ensures said { (p : ℕ → Path) → said_by p said.new ≡ Answered DONE shown.now }
@@ -106,7 +106,7 @@ fn lay_shown(said: &mut Said, shown: &[u64; 32])
     answer.len = 32;
 }
 
-/// The same, with the record of an object.
+/// Lays the status of a stage that is done, and the record of an object, into the room.
 pub fn lay_record(store: &Store, said: &mut Said, object: Who)
     requires { IsRoom said.old }
     ensures said { (p : ℕ → Path) → said_by p said.new ≡ Answered DONE (record_there ((world store.now).body (place (path store.now) object))) }

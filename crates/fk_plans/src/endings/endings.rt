@@ -68,7 +68,7 @@ fn left(store: &Store, client: Who, next: Option<Who>) -> Option<Who>
     Some(port)
 }
 
-/// The same, of a thread whose talk gets another peer.
+/// The port of whose native server a thread is a client and will be none, as its talk gets another peer, if of any.
 fn left_to(store: &Store, client: Who, peer: Peer) -> Option<Who>
     ensures port { option_map (place (path store.now)) result
         ≡ endings.lost_to (native_at (world store.now) (place (path store.now) client)) peer }

@@ -257,7 +257,7 @@ pub fn is_ready(
     may_pick(chooses, pick, verdict) && is_verdict_allowed(store, caller, verdict)
 }
 
-/// The same of an instruction with this effect: it picks nobody, and the freezing rule allows it.
+/// Whether an instruction with this effect is ready: it picks nobody, and the freezing rule allows it.
 #[tactic(auto, using(crate::proofs::InPlans::Ready::never_picks))]
 #[inline(always)]
 pub fn is_effect_ready(store: &Store, caller: Caller, pick: Option<Who>, effect: &Effect) -> bool
@@ -272,7 +272,7 @@ pub fn is_effect_ready(store: &Store, caller: Caller, pick: Option<Who>, effect:
     }
 }
 
-/// The same of words that move: their sender picks nobody, and the freezing rule allows it.
+/// Whether words that move are ready to: their sender picks nobody, and the freezing rule allows it.
 #[tactic(auto, using(crate::proofs::InPlans::Ready::never_picks))]
 pub fn is_moving_ready(store: &Store, caller: Caller, pick: Option<Who>, moving: &Moving) -> bool
     requires free { caller.is_porter ≡ false → is_free_at (world store.now) (place (path store.now) caller.who) ≡ true }

@@ -71,7 +71,7 @@ fn may_all_follow(store: &Store, me: Who, renamed: Who) -> bool
     leaders.are_all() || may_each_follow(store, me, renamed)
 }
 
-/// The same, of all objects: where it isn't known who leads there.
+/// It lets all follow that do, by a look at all objects: where it isn't known who leads there.
 fn may_each_follow(store: &Store, me: Who, renamed: Who) -> bool
     requires apart { HasOwnPath (path store.now) renamed }
     ensures { IsTrue result

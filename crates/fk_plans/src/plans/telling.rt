@@ -103,7 +103,7 @@ pub fn said_of(store: &Store, news: &News) -> Said
     }
 }
 
-/// The same, of the words of the page. Past them all is 0, so that nobody hears more of the page.
+/// What is told to a native server of the words of a page. Past them all is 0, so that nobody hears more of the page.
 fn from_page(page: [u64; 64], words: &Words) -> Said
     requires { words.now.at + words.now.count ≤ 64 }
     ensures said { (p : ℕ → Path) → said_by p result ≡ Told (At (place p words.now.port)) (take words.now.count (drop words.now.at page)) }

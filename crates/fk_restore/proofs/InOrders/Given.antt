@@ -1,5 +1,6 @@
 -- Orders whose call goes with no words, and the words of a thread's record.
-use Rattle.std.proofs.Common.{◌≡◌, ℕ, zero, suc, Bool, true, false, cond, List, [], ◌∷◌, ◌++◌, length, map, replicate, Option, Some, None, option_map, slice_set, refl, sym, ap, subst, ◌∙◌}
+use Rattle.std.proofs.Common.{◌≡◌, ℕ, zero, suc, Bool, true, false, cond, List, [], ◌∷◌, ◌++◌, length, map, replicate, Option, Some, None, option_map}
+use Rattle.std.proofs.Common.{slice_set, refl, sym, ap, subst, ◌∙◌}
 use Rattle.std.specs.Prelude.{◌==◌, nat_lt, slice_get}
 use Rattle.std.proofs.lemmas.Option.{slice_get-map}
 use Rattle.fk_model.specs.declared.stage.Stage.{Stage}
@@ -24,7 +25,8 @@ use Rattle.fk_restore.specs.declared.positions.position.Walk.{Walk}
 use Rattle.fk_restore.specs.declared.positions.position.Walk.TheVariants.{Done, Top, Down}
 use Rattle.fk_restore.specs.declared.positions.position.Pass.{Pass}
 use Rattle.fk_restore.specs.declared.positions.position.Pass.TheVariants.{Spaces, Fills, Inward, Outward, Ties, Holds}
-use Rattle.fk_restore.specs.Positions.Passes.{Part, leads_within, link_of, is_out, path_of, object_part, makes_object, makes_part, walks_to, points_to, points_out_part, inward_part, holds_part, object_parts, part_at, before, behind, leads_out_any}
+use Rattle.fk_restore.specs.Positions.Passes.{Part, leads_within, link_of, is_out, path_of, object_part, makes_object, makes_part, walks_to, points_to}
+use Rattle.fk_restore.specs.Positions.Passes.{points_out_part, inward_part, holds_part, object_parts, part_at, before, behind, leads_out_any}
 use Rattle.fk_restore.specs.Positions.Passes.Part.{Nothing, Walks, Asks}
 use Rattle.fk_restore.specs.Positions.Doing.{pins}
 use Rattle.fk_restore.specs.Positions.Walks.{walk_order, last_order, slot_at, child_towards, leads}

@@ -1,5 +1,6 @@
 -- From an empty place fewer are left behind.
-use Rattle.std.proofs.Common.{◌≡◌, ℕ, zero, suc, ◌+◌, ◌*◌, ◌-◌, ◌<◌, ◌≤◌, ◌⊎◌, inl, inr, Bool, true, false, cond, ltb, ◌==◌, ◌&&◌, ◌^◌, not, List, [], ◌∷◌, ◌++◌, drop, length, Option, Some, None, is_none, refl, sym, ap, subst, ◌∙◌, arith}
+use Rattle.std.proofs.Common.{◌≡◌, ℕ, zero, suc, ◌+◌, ◌*◌, ◌-◌, ◌<◌, ◌≤◌, ◌⊎◌, inl, inr, Bool, true, false, cond, ltb, ◌==◌, ◌&&◌, ◌^◌, not, List, [], ◌∷◌}
+use Rattle.std.proofs.Common.{◌++◌, drop, length, Option, Some, None, is_none, refl, sym, ap, subst, ◌∙◌, arith}
 use Rattle.std.specs.Prelude.{slice_get, nat_lt}
 use Rattle.std.proofs.lemmas.Bool.{and_parts, cases_lt, lt-ltb, le-ltb}
 use Rattle.fk_image.specs.declared.image.image.SpaceRec.{SpaceRec}
@@ -20,7 +21,8 @@ use Rattle.fk_restore.specs.declared.positions.position.Spot.TheVariants.{Before
 use Rattle.fk_restore.specs.declared.positions.position.Position.{Position}
 use Rattle.fk_restore.specs.Positions.Walks.{walk_rest, walk_order, walk_next, last_order, slot_at, child_towards, goes}
 use Rattle.fk_restore.specs.Positions.Passes.{visits, site, items_of, part_at, before, behind}
-use Rattle.fk_restore.specs.Positions.Positions.{rest, spot_rest, order_at, next_of, IsPosition, listed, at, walked, next_pass, next_room, next_part, spot_next, spot_order, is_walking}
+use Rattle.fk_restore.specs.Positions.Positions.{rest, spot_rest, order_at, next_of, IsPosition, listed, at, walked, next_pass, next_room, next_part, spot_next}
+use Rattle.fk_restore.specs.Positions.Positions.{spot_order, is_walking}
 use Rattle.fk_restore.specs.Orders.Left.{is_closing, is_empty, closes, rooms_left, item_left, spot_left, pass_left, outs_left, later, walk_left, places_left}
 use Rattle.fk_restore.proofs.InPositions.Parted.{drop_at, drop_out}
 use Rattle.fk_restore.proofs.InPositions.Scripted.{positions_are_the_places}

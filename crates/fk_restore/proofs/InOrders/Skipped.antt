@@ -97,9 +97,11 @@ module _ (i : Image) (slot : ℕ) (bind : ℕ → ℕ) where
 
       same : (out < 239) ⊎ (239 ≤ out) → next_pass ss slot bind (passes.Outward out) a ≡ before_pass (slot_pass (suc out)) a
       same (inl lt) =
-          ap either (lt-ltb out 239 lt) ∙ ap (λ t. before_pass (cond t (passes.Outward (suc out)) passes.Ties) a) (sym (lt-ltb (suc out) 240 (omega (arith, lt))))
+          ap either (lt-ltb out 239 lt) ∙ ap (λ t. before_pass (cond t (passes.Outward (suc out)) passes.Ties) a)
+          (sym (lt-ltb (suc out) 240 (omega (arith, lt))))
       same (inr le) =
-          ap either (le-ltb out 239 le) ∙ ap (λ t. before_pass (cond t (passes.Outward (suc out)) passes.Ties) a) (sym (le-ltb (suc out) 240 (omega (arith, le))))
+          ap either (le-ltb out 239 le) ∙ ap (λ t. before_pass (cond t (passes.Outward (suc out)) passes.Ties) a)
+          (sym (le-ltb (suc out) 240 (omega (arith, le))))
 
   -- and those of more that follow it
   slots_gone : (m out a : ℕ) → is_valid i ≡ true → out < 240 → IsPosition ss slot bind (before_pass (passes.Outward out) a)

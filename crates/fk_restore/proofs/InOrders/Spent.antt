@@ -31,7 +31,8 @@ use Rattle.fk_restore.specs.Positions.Passes.{part_at, inward_part, outward_part
 use Rattle.fk_restore.specs.Positions.Passes.{leads_within, items_from}
 use Rattle.fk_restore.specs.Positions.Passes.Part.{Nothing}
 use Rattle.fk_restore.specs.Positions.Doing.{next_item}
-use Rattle.fk_restore.specs.Positions.Positions.{rest, spot_rest, room_rest, part_rest, part_orders, parts_by, order_at, asked_in, next_of, next_part, IsPosition, IsRoom}
+use Rattle.fk_restore.specs.Positions.Positions.{rest, spot_rest, room_rest, part_rest, part_orders, parts_by, order_at, asked_in, next_of, next_part}
+use Rattle.fk_restore.specs.Positions.Positions.{IsPosition, IsRoom}
 use Rattle.fk_restore.specs.Orders.Left.{parts_of, idle_in, idle_at, is_spent, item_left, places_left, closes, IsBehind, GoesBy}
 use Rattle.fk_restore.proofs.InOrders.Lefts.{stays, falls}
 

@@ -23,7 +23,8 @@ use Rattle.fk_restore.specs.Positions.Passes.{Part, leads_within, items_of, obje
 use Rattle.fk_restore.specs.Positions.Passes.{outward_part, ties_part, path_of, once, held_orders, items_from}
 use Rattle.fk_restore.specs.Positions.Passes.Part.{Nothing, Walks, Asks}
 use Rattle.fk_restore.specs.Positions.Positions.{part_orders}
-use Rattle.fk_restore.proofs.InPositions.Parted.{drop_at, drop_out, at_of, IsLinkedRec, inward_six, outward_six, ties_six, six_at, item_orders, no_more, object_six}
+use Rattle.fk_restore.proofs.InPositions.Parted.{drop_at, drop_out, at_of, IsLinkedRec, inward_six, outward_six, ties_six, six_at, item_orders, no_more}
+use Rattle.fk_restore.proofs.InPositions.Parted.{object_six}
 
 module _ (ss : List SpaceRec) (tree : IsTree ss) (nested : IsNested ss) (slot : ℕ) (bind : ℕ → ℕ) (n : ℕ) (s : SpaceRec) (is : is_some (slice_get ss n) ≡ true)
     (linked : (j : ℕ) (o : ObjectRec) → slice_get s.objects j ≡ Some o → IsLinkedRec ss o.body) where

@@ -1,5 +1,6 @@
 -- What stands in rooms, one room after the other.
-use Rattle.std.proofs.Common.{◌≡◌, ℕ, zero, suc, cond, ne_eqb, ◌+◌, ◌<◌, ◌≤◌, ◌==◌, List, [], ◌∷◌, drop, length, map, Option, Some, None, refl, sym, ap, ◌∙◌, arith}
+use Rattle.std.proofs.Common.{◌≡◌, ℕ, zero, suc, cond, ne_eqb, ◌+◌, ◌<◌, ◌≤◌, ◌==◌, List, [], ◌∷◌, drop, length, map, Option, Some, None, refl, sym, ap, ◌∙◌}
+use Rattle.std.proofs.Common.{arith}
 use Rattle.std.specs.Prelude.{slice_get}
 use Rattle.fk_model.specs.Places.{Path}
 use Rattle.fk_image.specs.declared.image.image.ObjectRec.{ObjectRec}

@@ -3,7 +3,8 @@ use Rattle.std.proofs.Common.{◌≡◌, ◌+◌, ℕ, zero, suc, ◌<◌, ◌�
 use Rattle.fk_model.specs.declared.statuses.status.TheConstants.{OK}
 use Rattle.fk_image.specs.declared.image.image.SpaceRec.{SpaceRec}
 use Rattle.laws_restore.specs.Sites.Orders.{Order, is_port_in, passes}
-use Rattle.laws_restore.specs.Sites.Orders.Order.{Readies, Leads, LeadsTop, Makes, Sets, Points, Gives, MakesPin, Pins, Takes, Checks, ParksTalk, ParksFault, LinksTalk, RaisesFault, LinksFault, Holds, Drops, DropsPin, Deadens}
+use Rattle.laws_restore.specs.Sites.Orders.Order.{Readies, Leads, LeadsTop, Makes, Sets, Points, Gives, MakesPin, Pins, Takes, Checks, ParksTalk, ParksFault}
+use Rattle.laws_restore.specs.Sites.Orders.Order.{LinksTalk, RaisesFault, LinksFault, Holds, Drops, DropsPin, Deadens}
 use Rattle.laws_restore.specs.Restore.Restore.{State, State as states, drops, next, refused, looked_at}
 use Rattle.laws_restore.specs.Rooms.Restoring.{bound_by}
 use Rattle.laws_restore.specs.Rooms.Rooms.{rooms_from}

@@ -1,5 +1,6 @@
 -- What the code does at a place of the script is what the machine does with what is left from there on.
-use Rattle.std.proofs.Common.{◌≡◌, ℕ, Bool, true, false, not, cond, ◌&&◌, ◌==◌, List, [], ◌∷◌, Option, Some, None, option_map, is_none, drop, refl, sym, ap, subst, ◌∙◌}
+use Rattle.std.proofs.Common.{◌≡◌, ℕ, Bool, true, false, not, cond, ◌&&◌, ◌==◌, List, [], ◌∷◌, Option, Some, None, option_map, is_none, drop, refl, sym, ap}
+use Rattle.std.proofs.Common.{subst, ◌∙◌}
 use Rattle.fk_model.specs.declared.stage.Stage.{Stage}
 use Rattle.fk_model.specs.declared.stage.Stage.TheVariants.{SpaceRelease}
 use Rattle.fk_model.specs.declared.limits.TheConstants.{OWN_SPACE}
@@ -20,7 +21,7 @@ use Rattle.fk_restore.specs.Orders.Given.{words_in}
 use Rattle.fk_restore.specs.Orders.Looks.{look_in, look_of}
 use Rattle.fk_restore.specs.Orders.Left.{is_closing, is_empty}
 use Rattle.fk_restore.proofs.InOrders.Lefts as lefts
-use Rattle.fk_finish.specs.declared.finish.Finish.{Finish}
+use Rattle.fk_restore.specs.declared.restore.end.RestoreEnd.{RestoreEnd}
 use Rattle.fk_restore.specs.declared.restore.restore.Phase.{Phase}
 use Rattle.fk_restore.specs.declared.restore.restore.Phase.TheVariants as phases
 use Rattle.fk_restore.specs.Restore.Restores.{missing, goes_on, phase_of, IsSoundPhase, is_built}
@@ -135,7 +136,7 @@ pub not_built : (i : Image) (slot : ℕ) (pairs : List (ℕ × ℕ)) (phase : Ph
 not_built i slot pairs (phases.Works p) none = absurd (none p refl)
 not_built i slot pairs phases.Makes none = refl
 not_built i slot pairs (phases.Clears dropped more port) none = refl
-not_built i slot pairs (phases.Over finish) none = refl
+not_built i slot pairs (phases.Over end) none = refl
 
 -- where the space was made
 pub made_well : (s t : State) (status : ℕ) → status ≡ OK → s ≡ cond (status == OK) s t
@@ -151,9 +152,9 @@ at_clears : (slot : ℕ) (i : Image) (pairs : List (ℕ × ℕ)) (os : List Orde
 at_clears slot i pairs [] more port = (_, _, refl)
 at_clears slot i pairs (o ∷ os) more port = (_, _, refl)
 
-pub at_call : (slot : ℕ) (i : Image) (pairs : List (ℕ × ℕ)) (phase : Phase) → ((finish : Finish) → phase ≡ phases.Over finish → ⊥) →
+pub at_call : (slot : ℕ) (i : Image) (pairs : List (ℕ × ℕ)) (phase : Phase) → ((end : RestoreEnd) → phase ≡ phases.Over end → ⊥) →
     IsAtCall (restore_of slot i pairs) (phase_of i.spaces slot pairs phase)
 at_call slot i pairs phases.Makes over = (_, _, refl)
 at_call slot i pairs (phases.Works p) over = at_works slot i pairs (rest i.spaces slot (bound_by pairs) p)
 at_call slot i pairs (phases.Clears dropped more port) over = at_clears slot i pairs (drop dropped drops) more port
-at_call slot i pairs (phases.Over finish) over = absurd (over finish refl)
+at_call slot i pairs (phases.Over end) over = absurd (over end refl)

@@ -9,6 +9,7 @@ look_of (Pins i) = looks.Pins i
 look_of (Checks r i) = looks.Checks i
 look_of other = looks.Plain
 
+-- what is heard of the answer to an order
 abbrev pub look_in : Option Order → Look
 look_in None = looks.Plain
 look_in (Some o) = look_of o

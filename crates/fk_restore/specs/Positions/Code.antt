@@ -7,6 +7,7 @@ use Rattle.fk_image.specs.declared.image.image.FaultRec.{FaultRec}
 use Rattle.fk_image.specs.declared.image.image.Rec.{Rec}
 use Rattle.fk_restore.specs.Positions.Passes.{leads_within, link_of, talk_of, fault_of}
 
+-- a pointer leads to the port in this slot of the nester
 abbrev pub is_out : ℕ → Link → Bool
 is_out i (Out j) = j == i
 is_out i other = false
@@ -36,9 +37,11 @@ stays_within other = false
 abbrev pub leads_in : Rec → Bool
 leads_in r = stays_within (link_of r)
 
+-- some pointer of an object does
 abbrev pub leads_out : ℕ → Rec → Bool
 leads_out i r = is_out i (link_of r) || talk_is_out i (talk_of r) || fault_is_out i (fault_of r)
 
+-- an object has a talk or a fault at a port inside
 abbrev pub ties_inside : Rec → Bool
 ties_inside r = talk_is_within (talk_of r) || fault_is_within (fault_of r)
 

@@ -16,6 +16,7 @@ use Rattle.fk_restore.specs.declared.positions.position.Pass.TheVariants.{Inward
 use Rattle.fk_restore.specs.Positions.Passes.{Part, Part as parts, inward_part, outward_part, ties_part, items_of}
 use Rattle.fk_restore.specs.Positions.Passes.Part.{Nothing, Walks, Asks}
 
+-- what is to be done for a part
 abbrev pub doing_of : ℕ → Part → Doing
 doing_of slot Nothing = doings.Nothing
 doing_of slot (Walks walk) = doings.Walks walk
@@ -59,5 +60,6 @@ place pass stands spot = record { walk = walks.Done; pass = pass; spot = spot; s
 abbrev pub first_spot : Pass → ℕ → SpaceRec → Spot
 first_spot pass n s = if nat_lt 0 (items_of pass s) then spots.Part n 0 0 else spots.Room (suc n)
 
+-- the place behind an object or a page in a pass
 abbrev pub next_item : Pass → ℕ → SpaceRec → ℕ → Spot
 next_item pass n s j = if nat_lt (suc j) (items_of pass s) then spots.Part n (suc j) 0 else spots.Room (suc n)

@@ -36,11 +36,13 @@ pub data Part : Type 0 where
 
 -- ---- which spaces a pass visits, and from which it works
 
+-- a pointer leads inside
 abbrev pub leads_within : Link → Bool
 leads_within (In slot space) = true
 leads_within Root = true
 leads_within other = false
 
+-- which spaces a pass goes through
 abbrev pub visits : List SpaceRec → Pass → ℕ → SpaceRec → Bool
 visits ss Spaces n s = not (n == 0)
 visits ss Fills n s = true
@@ -73,16 +75,19 @@ LAST_PART = 6
 
 -- ---- parts of an item
 
+-- the one pointer of an object that is no thread
 abbrev pub link_of : Rec → Link
 link_of (Mapping first count offset write to) = to
 link_of (Region first count write to) = to
 link_of (Reference to) = to
 link_of other = Null
 
+-- the talk of an object
 abbrev pub talk_of : Rec → Option TalkRec
 talk_of (Thread t) = t.talk
 talk_of other = None
 
+-- the fault of an object
 abbrev pub fault_of : Rec → Option FaultRec
 fault_of (Thread t) = t.fault
 fault_of other = None
@@ -123,6 +128,7 @@ module _ (ss : List SpaceRec) (slot : ℕ) (bind : ℕ → ℕ) (n : ℕ) (s : S
       else if nat_lt j (length s.objects + length s.objects) then object_part sets_object (j - length s.objects) s.objects
       else page_part (j - (length s.objects + length s.objects)) s.pages
 
+  -- what is done to fill an item
   abbrev pub fills_part : ℕ → ℕ → Part
   fills_part j k = if k == 0 then fills_item j else Nothing
 
@@ -215,6 +221,7 @@ module _ (ss : List SpaceRec) (slot : ℕ) (bind : ℕ → ℕ) (n : ℕ) (s : S
     | Some o ↦ parts o.slot o.body k
   ]
 
+  -- what a pass does for an item
   abbrev pub part_at : Pass → ℕ → ℕ → Part
   part_at Spaces j k = makes_part k
   part_at Fills j k = fills_part j k
@@ -247,6 +254,7 @@ module _ (ss : List SpaceRec) (slot : ℕ) (bind : ℕ → ℕ) (n : ℕ) (s : S
 
 -- ---- orders before and behind a pass
 
+-- some object leads to the port in this slot of the nester
 abbrev pub leads_out_any : List SpaceRec → ℕ → Bool
 leads_out_any ss i = list_any (has (leads_out i)) (rooms_from ss 0 ss)
 

@@ -78,6 +78,7 @@ module _ (ss : List SpaceRec) (slot : ℕ) (bind : ℕ → ℕ) where
   spot_rest pass a (Part n j k) = part_rest pass a n j k (slice_get ss n)
   spot_rest pass a (After k) = drop k (behind ss pass) ++ onwards pass a
 
+  -- the orders that are left
   abbrev pub rest : Position → List Order
   rest p = walk_rest ss p.walk ++ spot_rest p.pass p.stands p.spot
 
@@ -102,6 +103,7 @@ module _ (ss : List SpaceRec) (slot : ℕ) (bind : ℕ → ℕ) where
   is_walking Done = false
   is_walking other = true
 
+  -- the order at a position, if one is there
   abbrev pub order_at : Position → Option Order
   order_at p = if is_walking p.walk then walk_order ss p.walk else spot_order p.pass p.spot
 
@@ -146,6 +148,7 @@ module _ (ss : List SpaceRec) (slot : ℕ) (bind : ℕ → ℕ) where
   spot_next pass a (Part n j k) = next_part pass a n j k (slice_get ss n)
   spot_next pass a (After k) = if nat_lt k (length (behind ss pass)) then at pass a (spots.After (suc k)) else next_pass pass a
 
+  -- the position behind it
   abbrev pub next_of : Position → Position
   next_of p = if is_walking p.walk then record p { walk = walk_next ss p.walk } else spot_next p.pass p.stands p.spot
 

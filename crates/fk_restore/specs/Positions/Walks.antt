@@ -60,12 +60,14 @@ abbrev pub last_order : ℕ → ℕ → Path → Option ℕ → Option Order
 last_order r name q None = None
 last_order r name q (Some k) = Some (Leads r name q k)
 
+-- the next order of a walk
 abbrev pub walk_order : List SpaceRec → Walk → Option Order
 walk_order ss Done = None
 walk_order ss (Top r) = Some (LeadsTop r)
 walk_order ss (Down r name from to last) =
     if from == to then last_order r name (space_path ss to) last else Some (Leads r name (space_path ss from) (slot_at ss (child_towards ss from to)))
 
+-- the walk behind it
 abbrev pub walk_next : List SpaceRec → Walk → Walk
 walk_next ss Done = walks.Done
 walk_next ss (Top r) = walks.Done

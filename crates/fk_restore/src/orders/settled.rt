@@ -89,7 +89,7 @@ fn is_idle(pass: Pass, body: &Rec) -> bool
     }
 }
 
-/// The same of the object with a number in a space.
+/// Whether nothing is done in a pass at the object with a number in a space.
 fn idle_in(pass: Pass, objects: &[ObjectRec], item: usize) -> bool
     ensures { result ≡ left.idle_in pass (slice_get objects.now item) }
 {
@@ -99,7 +99,7 @@ fn idle_in(pass: Pass, objects: &[ObjectRec], item: usize) -> bool
     }
 }
 
-/// The same, the space having a number.
+/// Whether nothing is done in a pass at the object with a number in the space with a number.
 fn idle_at(spaces: &[SpaceRec], pass: Pass, space: u32, item: usize) -> bool
     ensures { result ≡ left.idle_at pass item (slice_get spaces.now space) }
 {
@@ -157,7 +157,7 @@ fn behind_item(spaces: &[SpaceRec], pass: Pass, number: u32, item: usize, part: 
     }
 }
 
-/// The same of the item at a spot.
+/// The spot behind the item at a spot in which nothing is done from its part on, and behind those that follow it and in which nothing is done.
 fn behind(spaces: &[SpaceRec], pass: Pass, spot: Spot) -> Option<Spot>
     requires { length spaces.now < 2 ^ 32 }
     ensures { IfSome result (left.IsBehind spaces.now pass spot) }

@@ -21,7 +21,7 @@ fn lower(to: Link, from: u8, most: u8) -> u8
     }
 }
 
-/// The same of a talk's port.
+/// The lower one of a slot and that to which a talk's port leads, of the slots from one on.
 fn lower_talk(talk: Option<TalkRec>, from: u8, most: u8) -> u8
     requires { from ≤ most }
     ensures from { from ≤ result }
@@ -34,7 +34,7 @@ fn lower_talk(talk: Option<TalkRec>, from: u8, most: u8) -> u8
     }
 }
 
-/// The same of a fault's.
+/// The lower one of a slot and that to which a fault's port leads, of the slots from one on.
 fn lower_fault(fault: Option<FaultRec>, from: u8, most: u8) -> u8
     requires { from ≤ most }
     ensures from { from ≤ result }
@@ -47,7 +47,7 @@ fn lower_fault(fault: Option<FaultRec>, from: u8, most: u8) -> u8
     }
 }
 
-/// The same of all to which an object leads.
+/// The lowest one of a slot and those to which an object leads, of the slots from one on.
 fn lower_body(body: &Rec, from: u8, most: u8) -> u8
     requires { from ≤ most }
     ensures from { from ≤ result }
@@ -59,7 +59,7 @@ fn lower_body(body: &Rec, from: u8, most: u8) -> u8
     lower_fault(fault_of(body), from, talk)
 }
 
-/// The same of all objects of a space.
+/// The lowest one of a slot and those to which the objects of a space lead, of the slots from one on.
 fn lower_space(objects: &[ObjectRec], from: u8, most: u8) -> u8
     requires { from ≤ most }
     ensures from { from ≤ result }

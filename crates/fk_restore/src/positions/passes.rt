@@ -155,7 +155,7 @@ pub fn any_space_leads_out(spaces: &[SpaceRec], slot: u8) -> bool
         .any(|space| any_leads_out(slot, space.objects.as_slice()))
 }
 
-/// The same as the script asks it.
+/// Whether something in the spaces of an image leads to the port in this slot of the nester, as the script asks it.
 pub fn leads_out_any(spaces: &[SpaceRec], slot: u8) -> bool
     ensures { result ≡ words.leads_out_any spaces.now slot }
 {

@@ -13,17 +13,19 @@ ghost use Rattle.fk_model.specs.declared.stage.Stage.TheVariants as stages;
 ghost use Rattle.fk_restore.specs.Orders.Left.{image_of};
 ghost use Rattle.fk_restore.specs.Positions.Positions.{rest, IsPosition};
 ghost use Rattle.fk_restore.specs.declared.restore.restore.Phase.TheVariants as phases;
-ghost use Rattle.fk_restore.specs.Restore.Restores.{answered, clears, missing, goes_on, end_of, phase_of, state_of, IsEnd, IsOver, IsSoundPhase, IsSound, is_built};
+ghost use Rattle.fk_restore.specs.Restore.Restores.{answered, clears, missing, goes_on, end_of, phase_of, HasEnded, IsSoundPhase, is_built};
 
 use crate::orders::{Look, first, is_over, look_at, settled_from, words_at};
 use crate::positions::{Position, next_of, stage_at};
 use crate::restore::counting::{count_objects, lowest_bound};
-use fk_finish::{Finish, ValidImage};
+use crate::restore::end::RestoreEnd;
+use fk_finish::ValidImage;
 use fk_image::{Image, SpaceRec};
 use fk_model::kind::PORT;
 use fk_model::limits::{FIRST_SCRATCH_SLOT, OWN_SPACE};
 use fk_model::status::OK;
 use fk_model::{Answer, List, NoMemory, Stage};
+use std::marker::Model;
 use std::mem;
 
 /// How many scratch references a restore makes.
@@ -39,16 +41,32 @@ pub enum Phase {
     /// A port is missing: so many of its scratch references are gone, and so many stages of destroying are left.
     Clears { dropped: u8, more: u128, port: u8 },
     /// It has ended.
-    Over(Finish),
+    Over(RestoreEnd),
 }
 
-/// The restore of an image in a slot of its nester, whose slots pairs bind.
+/// The restore of a valid image in a slot of its nester, whose slots pairs bind. It is in a state that its machine may be in.
 #[derive(Drop)]
 pub struct Restore {
     slot: u8,
     image: ValidImage,
     pairs: List<(u8, u8)>,
     phase: Phase,
+}
+
+impl Model for Restore {
+    ghost use Rattle.laws_restore.specs.Rooms.Restoring.{IsRestoreJob};
+    ghost use Rattle.fk_restore.specs.Restore.Restores as restores;
+
+    ghost Value = { restores.Restoring };
+
+    ghost view = { λ s. record {
+      slot = s.slot;
+      image = s.image;
+      pairs = s.pairs;
+      state = restores.phase_of s.image.spaces s.slot s.pairs s.phase;
+    } };
+
+    ghost invariant = { λ s. IsRestoreJob s.slot s.image s.pairs × restores.IsSoundPhase s.image.spaces s.slot s.pairs s.phase };
 }
 
 /// The words that an answer has.
@@ -124,7 +142,7 @@ fn worked(
         ≡ (restore_of slot (image_of spaces.now) pairs.now).next (phase_of spaces.now slot pairs.now (phases.Works at)) status words.now }
 {
     if is_over(spaces, slot, pairs, at) {
-        return Phase::Over(Finish::Restored);
+        return Phase::Over(RestoreEnd::Done);
     }
     let port = missing(look_at(spaces, pairs, at), status, words);
     goes_on(spaces, slot, pairs, next_of(spaces, slot, pairs, at), port)
@@ -149,7 +167,7 @@ fn cleared(dropped: u8, more: u128, port: u8) -> Phase
             port,
         }
     } else {
-        Phase::Over(Finish::NoPort(port))
+        Phase::Over(RestoreEnd::NoPort(port))
     }
 }
 
@@ -163,7 +181,7 @@ fn made(spaces: &[SpaceRec], slot: u8, pairs: &[(u8, u8)], status: u8) -> Phase
     if status == OK {
         Phase::Works(settled_from(spaces, slot, pairs, first()))
     } else {
-        Phase::Over(Finish::Occupied)
+        Phase::Over(RestoreEnd::Occupied)
     }
 }
 
@@ -190,7 +208,7 @@ fn after(
             more,
             port,
         } => cleared(dropped, more, port),
-        Phase::Over(finish) => Phase::Over(finish),
+        Phase::Over(end) => Phase::Over(end),
     }
 }
 
@@ -255,7 +273,7 @@ fn call(
     requires sound { IsSoundPhase spaces.now slot pairs.now phase.now }
     requires zeros { words.old ≡ no_words }
     ensures asks { IfSome result (λ stage. machine.head slot (phase_of spaces.now slot pairs.now phase.now) ≡ Asks stage words.new) }
-    ensures none { IfNone result (IsOver phase.now) }
+    ensures none { IfNone result (HasEnded (phase_of spaces.now slot pairs.now phase.now)) }
 {
     match phase {
         Phase::Makes => Some(Stage::SpaceMakeHeld { x: u64::from(slot) }),
@@ -277,7 +295,7 @@ fn called(
     requires sound { IsSoundPhase image.now.spaces slot pairs.now phase.now }
     requires zeros { words.old ≡ no_words }
     ensures asks { IfSome result (λ stage. machine.head slot (phase_of image.now.spaces slot pairs.now phase.now) ≡ Asks stage words.new) }
-    ensures none { IfNone result (IsOver phase.now) }
+    ensures none { IfNone result (HasEnded (phase_of image.now.spaces slot pairs.now phase.now)) }
 {
     let spaces = image.spaces.as_slice();
     let bound = pairs.as_slice();
@@ -308,11 +326,10 @@ impl Restore {
     /// A restore that is about to begin.
     pub fn new(slot: u8, image: ValidImage, pairs: List<(u8, u8)>) -> Restore
         requires { IsRestoreJob slot image pairs }
-        ensures sound { IsSound result }
         ensures slot { result.slot ≡ slot }
         ensures image { result.image ≡ image }
         ensures pairs { result.pairs ≡ pairs }
-        ensures state { state_of result ≡ Makes }
+        ensures state { result.state ≡ Makes }
     {
         Restore {
             slot,
@@ -322,20 +339,20 @@ impl Restore {
         }
     }
 
-    /// Its next call, whose words it writes over zeros. It has none where it has ended.
+    /// Its next call, whose words it writes over zeros. It has none where it has ended. It stands apart, so that its room isn't cleared at a
+    /// checkpoint's calls.
+    #[inline(never)]
     pub fn next(&self, words: &mut [u64; 64]) -> Option<Stage>
-        requires sound { IsSound self.now }
         requires zeros { words.old ≡ no_words }
-        ensures asks { IfSome result (λ stage. machine.head self.now.slot (state_of self.now) ≡ Asks stage words.new) }
-        ensures none { IfNone result (IsOver self.now.phase) }
+        ensures asks { IfSome result (λ stage. machine.head self.now.slot self.now.state ≡ Asks stage words.new) }
+        ensures none { IfNone result (HasEnded self.now.state) }
     {
         called(self.image.get(), self.slot, &self.pairs, &self.phase, words)
     }
 
     /// Whether all of the image is built, and only the release is left of a restore that will be done.
     pub fn built(&self) -> bool
-        requires { IsSound self.now }
-        ensures { result ≡ is_built (state_of self.now) }
+        ensures { result ≡ is_built self.now.state }
     {
         match &self.phase {
             Phase::Works(at) => {
@@ -359,48 +376,37 @@ impl Restore {
         Ok(())
     }
 
-    /// Takes the answer to its next call.
+    /// Takes the answer to its next call. It stands apart too.
+    #[inline(never)]
     pub fn absorb(&mut self, answer: &Answer)
-        requires { IsSound self.old }
-        ensures sound { IsSound self.new }
         ensures slot { self.new.slot ≡ self.old.slot }
         ensures image { self.new.image ≡ self.old.image }
         ensures pairs { self.new.pairs ≡ self.old.pairs }
-        ensures state { state_of self.new
-            ≡ (restore_of self.old.slot self.old.image self.old.pairs).next (state_of self.old) answer.now.status (answered answer.now) }
+        ensures state { self.new.state
+            ≡ (restore_of self.old.slot self.old.image self.old.pairs).next self.old.state answer.now.status (answered answer.now) }
     {
         let phase = mem::replace(&mut self.phase, Phase::Makes);
         self.phase = answered_in(self.image.get(), self.slot, &self.pairs, phase, answer);
     }
 
-    /// How it has ended, as a restore does: done, in a slot that is taken, or without a port. Nothing while it has a call to make.
-    pub fn end(&self) -> Option<&Finish>
-        requires { IsSound self.now }
-        ensures some { IfSome result (λ finish. machine.head self.now.slot (state_of self.now) ≡ Stops (end_of finish.now)) }
-        ensures way { IfSome result (λ finish. IsEnd finish.now) }
-        ensures none { IfNone result (IsAtCall (restore_of self.now.slot self.now.image self.now.pairs) (state_of self.now)) }
+    /// How it has ended; nothing while it has a call to make.
+    pub fn end(&self) -> Option<&RestoreEnd>
+        ensures some { IfSome result (λ end. machine.head self.now.slot self.now.state ≡ Stops (end_of end.now)) }
+        ensures none { IfNone result (IsAtCall (restore_of self.now.slot self.now.image self.now.pairs) self.now.state) }
     {
         match &self.phase {
-            Phase::Over(finish) => Some(finish),
+            Phase::Over(end) => Some(end),
             _ => None,
         }
     }
 
-    /// The same, handed out.
-    pub fn finish(self) -> Option<Finish>
-        requires { IsSound self }
-        ensures some { IfSome result (λ finish. machine.head self.slot (state_of self) ≡ Stops (end_of finish)) }
-        ensures way { IfSome result IsEnd }
-        ensures none { IfNone result (IsAtCall (restore_of self.slot self.image self.pairs) (state_of self)) }
+    /// How it has ended, handed out; nothing while it has a call to make.
+    pub fn finish(self) -> Option<RestoreEnd>
+        ensures some { IfSome result (λ end. machine.head self.slot self.state ≡ Stops (end_of end)) }
+        ensures none { IfNone result (IsAtCall (restore_of self.slot self.image self.pairs) self.state) }
     {
-        let Restore {
-            slot: _slot,
-            image: _image,
-            pairs: _pairs,
-            phase,
-        } = self;
-        match phase {
-            Phase::Over(finish) => Some(finish),
+        match self.phase {
+            Phase::Over(end) => Some(end),
             _ => None,
         }
     }

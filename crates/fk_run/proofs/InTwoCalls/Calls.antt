@@ -9,7 +9,7 @@ use Rattle.fk_commands.specs.declared.outcome.Outcome.{Outcome}
 use Rattle.fk_commands.specs.declared.outcome.Report.{Report}
 use Rattle.fk_model.specs.declared.moves.Rule.{Rule}
 use Rattle.fk_words.specs.Commands.{Command, Run, RunFiles}
-use Rattle.fk_run.specs.Jobs.{HoldsOf}
+use Rattle.fk_run.specs.Jobs.{MadeReportIsTransparent}
 use Rattle.fk_puts.specs.Puts.{HasPut, PutsRun}
 use Rattle.fk_commands.specs.Status.{has_put_all}
 use Rattle.fk_run.specs.Theorem.{Outside}
@@ -17,7 +17,7 @@ use Rattle.fk_run.specs.Top.{IsDue}
 use Rattle.fk_plays.specs.Entries.{given_at, IsFrom}
 use Rattle.fk_plays.specs.Entries.IsFrom.{Made, Given}
 use Rattle.laws_restore.specs.Rooms.Restoring.{bound_by}
-use Rattle.laws_runs.specs.Headline.{Restored}
+use Rattle.laws_runs.specs.Transparency.{Restored}
 use Rattle.laws_two_runs.proofs.Between.{copies_go_on}
 use Rattle.fk_run.specs.TwoCalls.{ReportedRun, RunsJobs, TakesImage, WholeCall, SavedGoesOnInAnotherCall, CallsGoOn}
 use Rattle.fk_run.proofs.InTwoCalls.Left.{put_by_run}
@@ -45,8 +45,8 @@ saved_goes_on before left found report other run later trace puts birth slot hol
     (ap (λ names. slice_get names leaves.index) run.is.images
     ∙ mapped_at _ run.scenario.jobs leaves.index _ leaves.entry)
     leaves.done leaves.last in
-    let kept = run.headline.saved leaves.index leaves.moment birth leaves.path slot name leaves.image hold leaves.release leaves.entry leaves.done in
-    let built = later.headline.made takes.index takes.moment there place taken bind make done takes.entry takes.ended in
+    let kept = run.transparency.saved leaves.index leaves.moment birth leaves.path slot name leaves.image hold leaves.release leaves.entry leaves.done in
+    let built = later.transparency.made takes.index takes.moment there place taken bind make done takes.entry takes.ended in
     let given = was_given found other later there place make done taken bind built.0 takes built.1 in
     let one : built.0 ≡ leaves.image = given_is found later.scenario.jobs later.given takes.index takes.moment there place taken bind put.0 leaves.image built.0
     later.found takes.entry takes.unmade given (same ∙ put.2) put.1 in
@@ -70,7 +70,7 @@ run_of rules command before after outcome report files runs call =
     let done = on_false _ _ call.whole call.promises.correct in
     reports_are_of_runs rules command before.left files outcome report done.text runs call.has
     (subst (λ (told : Option FileMap). IsDue rules (Some command) before.left told outcome done.text) call.told done.due)
-    (subst (HoldsOf rules) call.has call.promises.headline)
+    (subst (MadeReportIsTransparent rules) call.has call.promises.transparency)
 
 puts_of : {R W H : Type 0} (rules : List (List ℕ × Rule)) (trace : Option (List ℕ)) (before after : Outside R W H) (outcome : Outcome) (report : Report)
     (files left : FileMap) → WholeCall rules (Run trace) before after outcome report files → has_put_all outcome.status ≡ true → after.files ≡ Some left

@@ -10,7 +10,7 @@ use Rattle.fk_model.specs.declared.moves.Rule.{Rule}
 use Rattle.fk_words.specs.Commands.{Exec, Check, Run, Play, Show, Soak, Record, Replay}
 use Rattle.fk_plays.proofs.Grounds.{first-begun}
 use Rattle.fk_plays.specs.Images.{FindsImages}
-use Rattle.fk_run.specs.Jobs.{HoldsOf}
+use Rattle.fk_run.specs.Jobs.{MadeReportIsTransparent}
 use Rattle.fk_plays.specs.Made.{Images, IsText}
 use Rattle.fk_commands.specs.Outcomes.{IsRefused}
 use Rattle.fk_plays.specs.Play.{IsWith, IsTraced, IsPlayedBy, IsPlay, IsWholeRun}
@@ -25,7 +25,7 @@ refused : (status : Status) (outcome : Outcome) (text : List ℕ) (report : Repo
 refused status outcome text report has is = let both = sym (ap (λ (o : Outcome). o.report) is.0) ∙ has in absurd (cc)
 
 module _ (rules : List (List ℕ × Rule)) (bytes : List ℕ) (files : FileMap) (outcome : Outcome) (text : List ℕ) (report : Report)
-    (has : outcome.report ≡ Some report) (headline : HoldsOf rules (Some report)) where
+    (has : outcome.report ≡ Some report) (transparency : MadeReportIsTransparent rules (Some report)) where
   not_refused : (status : Status) → IsRefused status outcome text → ReportedRun files report
   not_refused status is = absurd (refused status outcome text report has is)
 
@@ -42,7 +42,7 @@ module _ (rules : List (List ℕ × Rule)) (bytes : List ℕ) (files : FileMap) 
         found = found;
         first = is.first;
         is = ran.0.0;
-        headline = headline bytes s given is.first read (first-begun s is.first is.is_first) ran.0.0;
+        transparency = transparency bytes s given is.first read (first-begun s is.first is.is_first) ran.0.0;
       }
 
   of_play : (s : Scenario) (given : Images) (trace : List ℕ) → scenario_reading rules bytes ≡ Ok s → FindsImages (Some files) [] s.jobs (Ok given)
@@ -56,7 +56,7 @@ module _ (rules : List (List ℕ × Rule)) (bytes : List ℕ) (files : FileMap) 
         found = found;
         first = is.first;
         is = played.1.0;
-        headline = headline bytes s given is.first read (first-begun s is.first is.is_first) played.1.0;
+        transparency = transparency bytes s given is.first read (first-begun s is.first is.is_first) played.1.0;
       }
 
   of_trace : (name : List ℕ) (s : Scenario) (given : Images) → scenario_reading rules bytes ≡ Ok s → FindsImages (Some files) [] s.jobs (Ok given)
@@ -98,13 +98,13 @@ module _ (rules : List (List ℕ × Rule)) (bytes : List ℕ) (files : FileMap) 
   play_long name false status is = play_read name (scenario_reading rules bytes) refl is
 
 pub reports_are_of_runs : ReportsAreOfRuns
-reports_are_of_runs rules (Run trace) left files outcome report text runs has due headline =
-    run_long rules due.bytes files outcome text report has headline (nat_lt LIMIT (length due.bytes)) _ due.called_for
-reports_are_of_runs rules (Play name) left files outcome report text runs has due headline =
-    play_long rules due.bytes files outcome text report has headline name (nat_lt LIMIT (length due.bytes)) _ due.called_for
-reports_are_of_runs rules Exec left files outcome report text runs has due headline = absurd runs
-reports_are_of_runs rules Check left files outcome report text runs has due headline = absurd runs
-reports_are_of_runs rules (Show name) left files outcome report text runs has due headline = absurd runs
-reports_are_of_runs rules (Soak count) left files outcome report text runs has due headline = absurd runs
-reports_are_of_runs rules (Record name watch) left files outcome report text runs has due headline = absurd runs
-reports_are_of_runs rules (Replay name) left files outcome report text runs has due headline = absurd runs
+reports_are_of_runs rules (Run trace) left files outcome report text runs has due transparency =
+    run_long rules due.bytes files outcome text report has transparency (nat_lt LIMIT (length due.bytes)) _ due.called_for
+reports_are_of_runs rules (Play name) left files outcome report text runs has due transparency =
+    play_long rules due.bytes files outcome text report has transparency name (nat_lt LIMIT (length due.bytes)) _ due.called_for
+reports_are_of_runs rules Exec left files outcome report text runs has due transparency = absurd runs
+reports_are_of_runs rules Check left files outcome report text runs has due transparency = absurd runs
+reports_are_of_runs rules (Show name) left files outcome report text runs has due transparency = absurd runs
+reports_are_of_runs rules (Soak count) left files outcome report text runs has due transparency = absurd runs
+reports_are_of_runs rules (Record name watch) left files outcome report text runs has due transparency = absurd runs
+reports_are_of_runs rules (Replay name) left files outcome report text runs has due transparency = absurd runs

@@ -19,6 +19,7 @@ abbrev pub lines_from : List (List ℕ) → ℕ → Services → List ℕ
 lines_from ports place [] = []
 lines_from ports place (e ∷ es) = lines_of ports place e.1 ++ lines_from ports (place_behind place e.1) es
 
+-- the record of what these taps hold
 abbrev pub written_of : List (List ℕ) → Services → List ℕ
 written_of ports services = first_line ++ lines_from ports 0 services
 
@@ -27,6 +28,7 @@ abbrev pub IsSmallTap : State → Type 0
 IsSmallTap (OfTap watch noted inner) = All IsNote noted
 IsSmallTap other = Unit {0}
 
+-- what these taps hold is as small as its types
 abbrev pub AreSmallTaps : Services → Type 0
 AreSmallTaps [] = Unit {0}
 AreSmallTaps (e ∷ es) = IsSmallTap e.1 × AreSmallTaps es

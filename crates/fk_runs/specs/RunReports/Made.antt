@@ -34,10 +34,8 @@ status_of_refused (Some job) = JobRefused job
 
 -- a run that used its budget tells so, and else which job was refused, if one was
 abbrev pub status_of_end : ℕ → List (Option JobEnd) → End → Status
-status_of_end budget jobs ends.Halted = status_of_refused (refused_from 0 jobs)
-status_of_end budget jobs ends.Quiet = status_of_refused (refused_from 0 jobs)
 status_of_end budget jobs ends.Budget = Budget budget
-status_of_end budget jobs ends.Listed = status_of_refused (refused_from 0 jobs)
+status_of_end budget jobs other = status_of_refused (refused_from 0 jobs)
 
 -- the images that are given for jobs, one for each, or none
 abbrev pub Images : Type 0

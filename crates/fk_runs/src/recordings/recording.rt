@@ -2,7 +2,7 @@
 ghost use Rattle.std.specs.Prelude.{◌≡◌, ◌≤◌, map, IfOk, IfErr, OnOk};
 ghost use Rattle.fk_commands.specs.Prepared.{ComesTo, IsRefusal};
 ghost use Rattle.fk_first.specs.Cores.{run_core};
-ghost use Rattle.fk_first.specs.Goings.{IsGoing};
+ghost use Rattle.fk_first.specs.Goings.{IsReachable};
 ghost use Rattle.fk_first.specs.Served.{AllFit};
 ghost use Rattle.fk_runs.specs.Recordings.Recording.{watch_place, IsRecordedFrom};
 ghost use Rattle.fk_runs.specs.Recordings.Ports as definitions;
@@ -19,8 +19,8 @@ use fk_commands::{Prepared, Report, Status};
 use fk_core::Core;
 use fk_finish::ValidImage;
 use fk_first::tapped_core;
+use fk_jobs::Porter;
 use fk_model::{NoMemory, Text};
-use fk_porters::Porter;
 use fk_responders::{Table, Watch};
 use fk_scenario::Scenario;
 use fk_trace::Post;
@@ -47,7 +47,7 @@ fn finished(
 ) -> Result<Book<Core<Post, Porter>>, NoMemory>
     requires fits { AllFit (map (λ r. r.rule) table.now.list.items) core.services.list }
     requires first { core.events ≡ 0 }
-    requires come { IsGoing core }
+    requires come { IsReachable core }
     ensures boot { IfOk result (λ book. book.boot ≡ core) }
     ensures kept { IfOk result (λ book. HasRun (shown book.boot) book.history (shown book.core)) }
     ensures ended { IfOk result (λ book. HasEnded (shown book.core)) }

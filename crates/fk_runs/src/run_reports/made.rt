@@ -13,8 +13,8 @@ use fk_commands::{Prepared, Report, Status};
 use fk_core::Core;
 use fk_finish::ValidImage;
 use fk_history::Moves;
-use fk_job_ends::{Tells, images_of, told_in};
-use fk_jobs::Worker;
+use fk_job_ends::{images_of, told_in};
+use fk_jobs::JobMachine;
 use fk_model::{JobSpec, List as Items, NoMemory};
 use fk_natives::Service;
 use fk_report::{End, JobEnd, ThreadState, first_refused, outs_text, run_text, threads_of};
@@ -22,7 +22,7 @@ use fk_soak::soak_line;
 use std::alloc::Global;
 
 /// How a run ends that has come to a core: as the core has ended, or with the list that was played.
-fn end_of<S: Service + Drop, W: Worker + Drop>(core: &Core<S, W>) -> End
+fn end_of<S: Service + Drop, W: JobMachine + Drop>(core: &Core<S, W>) -> End
     requires within { core.now.events ≤ core.now.budget }
     ensures { IsEnd core.now.jobs.jobs core.now.budget (run_core core.now) result }
 {
@@ -86,7 +86,7 @@ fn concluded(
 }
 
 /// The user threads of a core, and the lines of its consoles and of these.
-fn outs_of<S: Service + Drop, W: Worker + Drop>(
+fn outs_of<S: Service + Drop, W: JobMachine + Drop>(
     alloc: Global,
     core: &Core<S, W>,
 ) -> Result<(Items<ThreadState>, String), NoMemory>
@@ -103,7 +103,7 @@ fn outs_of<S: Service + Drop, W: Worker + Drop>(
 /// # Errors
 ///
 /// There is no memory for the report or the text.
-pub fn prepared<S: Service + Drop, W: Tells + Drop>(
+pub fn prepared<S: Service + Drop, W: JobMachine + Drop>(
     alloc: Global,
     core: Core<S, W>,
     specs: &[JobSpec],
@@ -132,7 +132,7 @@ pub fn prepared<S: Service + Drop, W: Tells + Drop>(
 /// # Errors
 ///
 /// There is no memory for the report or the line.
-pub fn soaked<S: Service + Drop, W: Tells + Drop>(
+pub fn soaked<S: Service + Drop, W: JobMachine + Drop>(
     alloc: Global,
     count: u32,
     core: Core<S, W>,

@@ -2,7 +2,7 @@
 ghost use Rattle.std.specs.Prelude.{◌≡◌, ◌≤◌, [], map, IfOk, IfErr};
 ghost use Rattle.fk_commands.specs.Prepared.{ComesTo, IsRefusal};
 ghost use Rattle.fk_first.specs.Cores.{run_core};
-ghost use Rattle.fk_first.specs.Goings.{IsGoing};
+ghost use Rattle.fk_first.specs.Goings.{IsReachable};
 ghost use Rattle.fk_runs.specs.RunReports.Made.{IsMade, IsText, IsLine};
 ghost use Rattle.fk_runs.specs.Runs.Runs.{IsPlayed, IsAlone};
 ghost use Rattle.fk_workers.specs.Workers.Served.{AllFit};
@@ -13,9 +13,9 @@ use fk_causes::Gate;
 use fk_commands::{Prepared, Status};
 use fk_core::Core;
 use fk_finish::ValidImage;
+use fk_jobs::Porter;
 use fk_model::{JobSpec, NoMemory};
 use fk_natives::Service;
-use fk_porters::Porter;
 use fk_responders::Table;
 use fk_workers::{Book, PlayFail, play_all, run_all};
 use std::alloc::Global;
@@ -65,7 +65,7 @@ pub fn play_core<S: Service + Drop>(
 ) -> Result<Prepared, Status>
     requires fits { AllFit (map (λ r. r.rule) table.now.list.items) core.services.list }
     requires first { core.events ≡ 0 }
-    requires come { IsGoing core }
+    requires come { IsReachable core }
     requires jobs { core.jobs.jobs ≡ jobs_of specs.now images.now }
     ensures comes { ComesTo (λ outcome. IsPlayed specs.now images.now (run_core core) core.budget trace.now
         outcome.status outcome.report) result }
@@ -97,7 +97,7 @@ pub fn run_core<R: Threads + Wait + Sync, G: Gate + Sync, S: Service + Drop + Se
     requires workers { (1 ≤ workers) × (workers ≤ 8) }
     requires fits { AllFit (map (λ r. r.rule) table.now.list.items) core.services.list }
     requires first { core.events ≡ 0 }
-    requires come { IsGoing core }
+    requires come { IsReachable core }
     requires jobs { core.jobs.jobs ≡ jobs_of specs.now images.now }
     ensures comes { ComesTo (λ outcome. IsAlone (IsText specs.now) specs.now images.now (run_core core) core.budget
         outcome.status outcome.report) result }
@@ -125,7 +125,7 @@ pub fn soak_core<R: Threads + Wait + Sync, G: Gate + Sync, S: Service + Drop + S
     requires workers { (1 ≤ workers) × (workers ≤ 8) }
     requires fits { AllFit (map (λ r. r.rule) table.now.list.items) core.services.list }
     requires first { core.events ≡ 0 }
-    requires come { IsGoing core }
+    requires come { IsReachable core }
     requires jobs { core.jobs.jobs ≡ jobs_of specs.now [] }
     ensures comes { ComesTo (λ outcome. IsAlone (IsLine count) specs.now [] (run_core core) core.budget
         outcome.status outcome.report) result }

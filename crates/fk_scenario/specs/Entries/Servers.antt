@@ -1,7 +1,6 @@
 -- Servers, each by itself.
-use Rattle.std.specs.Prelude.{ℕ, ◌+◌, List, [], ◌∷◌, map, Option, Some, None, String, Result, Ok, if◌then◌else◌, codes, string_bytes}
+use Rattle.std.specs.Prelude.{ℕ, ◌+◌, List, [], ◌∷◌, Option, Some, None, Result, Ok, if◌then◌else◌, codes}
 use Rattle.std.specs.Str.{bytes_eq}
-use Rattle.std.specs.declared.alloc.Global.{Global}
 use Rattle.toml.specs.Data.{Data, Members, as_table}
 use Rattle.fk_model.specs.Names.{is_name}
 use Rattle.fk_model.specs.declared.moves.Rule.{Rule}
@@ -11,10 +10,7 @@ use Rattle.fk_scenario.specs.Fields.Paths.{parse_path}
 use Rattle.fk_scenario.specs.declared.entries.types.ServerEntry.{ServerEntry}
 use Rattle.fk_scenario.specs.declared.entries.types.ServiceSpec.{ServiceSpec}
 use Rattle.fk_scenario.specs.declared.entries.types.ServiceSpec.TheVariants.{Console, Listed}
-
--- the names of a table and their rules
-abbrev pub rules_view : List (String Global × Rule) → List (List ℕ × Rule)
-rules_view rules = map (λ r. (string_bytes r.0, r.1)) rules
+pub use Rattle.fk_model.specs.Rules.{rules_view}
 
 -- the first rule with a name, and its index, where the first of these has index `n`
 abbrev pub rule_from : ℕ → List (List ℕ × Rule) → List ℕ → Option (ℕ × Rule)

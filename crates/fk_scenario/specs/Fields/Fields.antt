@@ -23,15 +23,19 @@ typed read (Some value) = or_rule 2 (read value) >>= λ x. Ok (Some x)
 unfoldable pub text_in : List ℕ → Members → Result (Option (List ℕ)) ℕ
 text_in key ms = typed as_str (get_member key ms)
 
+-- a key that is a truth value, if it is there
 unfoldable pub flag_in : List ℕ → Members → Result (Option Bool) ℕ
 flag_in key ms = typed as_bool (get_member key ms)
 
+-- a key that is a number, if it is there
 unfoldable pub integer_in : List ℕ → Members → Result (Option ℤ) ℕ
 integer_in key ms = typed as_integer (get_member key ms)
 
+-- a key that is an array, if it is there
 unfoldable pub array_in : List ℕ → Members → Result (Option Items) ℕ
 array_in key ms = typed as_array (get_member key ms)
 
+-- a key that is a table, if it is there
 unfoldable pub table_in : List ℕ → Members → Result (Option Members) ℕ
 table_in key ms = typed as_table (get_member key ms)
 

@@ -8,7 +8,7 @@ use Rattle.fk_scenario.specs.Fields.Paths.{enclosing}
 use Rattle.fk_scenario.specs.declared.entries.types.SpaceEntry.{SpaceEntry}
 use Rattle.fk_scenario.specs.declared.entries.types.ObjectEntry.{ObjectEntry}
 use Rattle.fk_scenario.specs.declared.entries.types.Spec.{Spec}
-use Rattle.fk_scenario.specs.declared.entries.types.Spec.TheVariants.{Thread, Mutex, Cond, Portset, Mapping, Region, Port, Reference}
+use Rattle.fk_scenario.specs.declared.entries.types.Spec.TheVariants.{Thread, Portset, Mapping, Region, Port, Reference}
 use Rattle.fk_scenario.specs.Sections.Spaces.{has_space}
 
 -- the object with a path
@@ -65,10 +65,7 @@ aims_well spaces objects space (Mapping region first count offset write) = aims_
 aims_well spaces objects space (Region first count write keeper) = aims_at objects is_port_spec keeper
 aims_well spaces objects space (Port set) = has_set objects space set
 aims_well spaces objects space (Reference to) = refers_to spaces objects to
-aims_well spaces objects space (Thread entry regs stops) = true
-aims_well spaces objects space (Mutex locked) = true
-aims_well spaces objects space Cond = true
-aims_well spaces objects space Portset = true
+aims_well spaces objects space other = true
 
 -- the objects from an index on; one that aims badly is rule 7
 unfoldable pub aims_from : List SpaceEntry → List ObjectEntry → ℕ → List ObjectEntry → Result (Unit {0}) ScenarioError

@@ -1,5 +1,5 @@
 -- The jobs of a document, among its spaces and servers.
-use Rattle.std.specs.Prelude.{ℕ, ◌+◌, Bool, true, false, not, ◌&&◌, ◌==◌, nat_eq, List, [], ◌∷◌, ◌++◌, length, Option, Some, None, Result, Ok, if◌then◌else◌}
+use Rattle.std.specs.Prelude.{ℕ, ◌+◌, Bool, true, not, ◌&&◌, ◌==◌, nat_eq, List, [], ◌∷◌, ◌++◌, length, Option, Some, None, Result, Ok, if◌then◌else◌}
 use Rattle.std.specs.List.{list_any, starts_with}
 use Rattle.std.specs.Str.{bytes_eq}
 use Rattle.fk_model.specs.declared.job.JobSpec.{JobSpec}
@@ -12,6 +12,7 @@ use Rattle.fk_scenario.specs.declared.entries.types.ServerEntry.{ServerEntry}
 use Rattle.fk_scenario.specs.declared.entries.jobs.JobEntry.{JobEntry}
 use Rattle.fk_scenario.specs.declared.entries.jobs.JobKind.{JobKind}
 use Rattle.fk_scenario.specs.declared.entries.jobs.JobKind.TheVariants as kinds
+pub use Rattle.fk_model.specs.Jobs.{makes_image}
 
 -- spaces are numbered in the order of the file, the root as 0, and the first besides it as 1
 abbrev pub first_number : List SpaceEntry → ℕ
@@ -34,11 +35,6 @@ has_nester spaces subtree = list_any (λ s. s.nester && is_beneath subtree s.pat
 -- the port of a server does
 abbrev pub has_server : List ServerEntry → List ℕ → Bool
 has_server servers subtree = list_any (λ s. is_beneath subtree (enclosing s.port)) servers
-
--- a job makes this image
-abbrev pub makes_image : List ℕ → JobSpec → Bool
-makes_image image (Checkpoint moment nester path slot made) = bytes_eq made image
-makes_image image (Restore moment nester slot used bind) = false
 
 -- one of the jobs so far makes it
 abbrev pub is_made : List JobSpec → List ℕ → Bool

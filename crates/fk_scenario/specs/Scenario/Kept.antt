@@ -50,5 +50,6 @@ abbrev pub HasRule : List Rule → ServiceSpec → Type 0
 HasRule rules (Console alias) = Unit {0}
 HasRule rules (Listed index rule config) = slice_get rules index ≡ Some rule
 
+-- each server of a scenario has a rule of these, at the place that it names
 abbrev pub HasRules : List Rule → Scenario → Type 0
 HasRules rules s = All (λ e. HasRule rules e.service) s.servers

@@ -148,7 +148,7 @@ fn is_bound(pairs: &[(u8, u8)], slot: u8) -> bool
     pairs.iter().any(|pair| pair.0 == slot)
 }
 
-/// The same pairs, where their first slots are distinct. These are at most 240, so looking back takes little.
+/// These pairs as a list, where their first slots are distinct. These are at most 240, so looking back takes little.
 #[tactic(auto, unfolding(crate::specs::Entries::Jobs::distinct_from))]
 fn distinct(alloc: Global, pairs: &[(u8, u8)]) -> Result<List<(u8, u8)>, Fail>
     ensures { Gives (λ x. x) result (definitions.distinct_from [] pairs.now) }

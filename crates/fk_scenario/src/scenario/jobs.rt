@@ -56,7 +56,8 @@ fn has_server(servers: &[ServerEntry], subtree: &[u8]) -> bool
     servers.iter().any(|server| is_beneath(subtree, enclosing(server.port.as_slice())))
 }
 
-fn makes_image(image: &str, job: &JobSpec) -> bool
+/// Whether a job makes the image with this name.
+pub fn makes_image(image: &str, job: &JobSpec) -> bool
     ensures { result ≡ definitions.makes_image image.now job.now }
 {
     match job {

@@ -31,6 +31,7 @@ AreFrozenBut bodies marks top =
 abbrev pub AreTold : FinMap who_cmp Body → List ℕ × Bool → Type 0
 AreTold bodies held = (who : Who) (n : ℕ) → birth_in bodies who ≡ Some n → is_held_at bodies who ≡ true → IsTold held n
 
+-- each held space but one is among those that are told
 abbrev pub AreToldBut : FinMap who_cmp Body → List ℕ × Bool → Who → Type 0
 AreToldBut bodies held top = (who : Who) (n : ℕ) → same_who who top ≡ false → birth_in bodies who ≡ Some n → is_held_at bodies who ≡ true → IsTold held n
 
@@ -56,6 +57,7 @@ abbrev pub behind : Option Who → Option (ℕ × ℕ)
 behind None = None
 behind (Some who) = Some (who.space, who.slot + 1)
 
+-- the space in which a space lies, up to one
 abbrev pub upward : FinMap who_cmp Body → ℕ → ℕ → Option (ℕ × ℕ)
 upward bodies top space = if space == top then None else behind (home_in bodies space)
 

@@ -24,6 +24,7 @@ use Rattle.fk_store.specs.Store.Paths.{place}
 abbrev pub calling_mode : List ℕ → Mode
 calling_mode g = let todo = unwrap_or (todo_of g) [] in Calling todo (rest_of todo g)
 
+-- what a thread is at: the code has its registers apart
 abbrev pub mode_by : StoredMode → List ℕ → Mode
 mode_by modes.Running g = Running g
 mode_by modes.Calling g = calling_mode g
@@ -36,17 +37,21 @@ pointer_by path pointers.Null = Null
 pointer_by path pointers.Dead = Dead
 pointer_by path (pointers.At who) = At (place path who)
 
+-- the other end of a talk
 abbrev pub peer_by : (ℕ → Path) → StoredPeer → Peer
 peer_by path (peers.Thread who) = Server (At (place path who))
 peer_by path peers.Service = Service
 peer_by path peers.Parked = Parked
 
+-- a talk
 abbrev pub talk_by : (ℕ → Path) → StoredTalk → Talk
 talk_by path talk = record { port = At (place path talk.port); peer = peer_by path talk.peer; turn = talk.turn; moved = talk.moved }
 
+-- a fault
 abbrev pub fault_by : (ℕ → Path) → StoredFault → Fault
 fault_by path fault = record { page = fault.page; write = fault.write; port = At (place path fault.port); taker = option_map (peer_by path) fault.taker }
 
+-- a thread
 abbrev pub thread_by : (ℕ → Path) → StoredThread → Thread
 thread_by path t = record {
   mode = mode_by t.mode t.regs;
@@ -56,6 +61,7 @@ thread_by path t = record {
   fault = option_map (fault_by path) t.fault;
 }
 
+-- an object
 abbrev pub body_by : (ℕ → Path) → StoredBody → Body
 body_by path (bodies.Mutex locked) = Mutex locked
 body_by path bodies.Cond = Cond

@@ -21,17 +21,21 @@ OnPointer P Null = Unit {0}
 OnPointer P Dead = Unit {0}
 OnPointer P (At who) = P who
 
+-- of whom the other end of a talk names
 abbrev pub OnPeer : (Who → Type 0) → Peer → Type 0
 OnPeer P (peers.Thread who) = P who
 OnPeer P peers.Service = Unit {0}
 OnPeer P peers.Parked = Unit {0}
 
+-- of whom a talk names
 abbrev pub OnTalk : (Who → Type 0) → Talk → Type 0
 OnTalk P talk = P talk.port × OnPeer P talk.peer
 
+-- of whom a fault names
 abbrev pub OnFault : (Who → Type 0) → Fault → Type 0
 OnFault P fault = P fault.port × Each (OnPeer P) fault.taker
 
+-- of whom an object names
 abbrev pub OnNamed : (Who → Type 0) → Body → Type 0
 OnNamed P (Mutex locked) = Unit {0}
 OnNamed P Cond = Unit {0}

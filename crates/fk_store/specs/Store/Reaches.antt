@@ -30,6 +30,7 @@ place_by path p = (path p.0, p.1)
 abbrev pub keeper_by : (ℕ → Path) → Option Who → Option Ptr
 keeper_by path keeper = option_map (λ who. At (place path who)) keeper
 
+-- what an access meets, by paths
 abbrev pub reach_by : (ℕ → Path) → Reach → definition.Reach
 reach_by path (reaches.Home space page) = Home (path space) page
 reach_by path (reaches.Missing space page keeper) = Missing (path space) page (keeper_by path keeper)

@@ -3,17 +3,15 @@ use Rattle.std.specs.Prelude.{Bool, List, [], Option, Some, None}
 use Rattle.fk_model.specs.declared.stage.Stage.{Stage}
 use Rattle.fk_model.specs.Places.{Path, parent}
 use Rattle.fk_model.specs.Objects.{Mode, Thread, holds}
-use Rattle.fk_model.specs.Objects.Mode.{Running, Calling, Halted, Native}
+use Rattle.fk_model.specs.Objects.Mode.{Calling}
 use Rattle.fk_model.specs.World.{World}
 use Rattle.fk_model.specs.Holds.{is_free}
 use Rattle.fk_model.specs.Searches.{thread_at}
 
 -- the stages that a thread has before it
 abbrev pub todo_of_mode : Mode → List Stage
-todo_of_mode (Running g) = []
 todo_of_mode (Calling todo rest) = todo
-todo_of_mode (Halted g code) = []
-todo_of_mode (Native g) = []
+todo_of_mode other = []
 
 abbrev pub todo_of_thread : Option Thread → List Stage
 todo_of_thread None = []

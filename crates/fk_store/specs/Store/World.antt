@@ -25,6 +25,7 @@ body_at m (k ∷ s) = and_then (λ n. option_map (body_by (path m)) (get m.bodie
 abbrev pub page_at : Contents → Path → ℕ → Option (List ℕ)
 page_at m s page = and_then (λ n. get m.pages (n, page)) (space_at m s)
 
+-- the world for which a store stands
 unfoldable pub world : Contents → World
 world m = record { body = body_at m; page = page_at m; next = m.next }
 
@@ -32,6 +33,7 @@ world m = record { body = body_at m; page = page_at m; next = m.next }
 abbrev pub place_of : Contents → Who → Path
 place_of m who = place (path m) who
 
+-- an object by paths
 abbrev pub body_of : Contents → StoredBody → Body
 body_of m b = body_by (path m) b
 
@@ -48,5 +50,6 @@ abbrev pub only_root : Path → Option Body
 only_root [] = Some root
 only_root (k ∷ s) = None
 
+-- a root with nothing in it
 abbrev pub first_world : World
 first_world = record { body = only_root; page = λ s page. None; next = 1 }

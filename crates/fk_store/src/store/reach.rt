@@ -276,7 +276,7 @@ impl Store {
         }
     }
 
-    /// The same where the mapping leads to this object.
+    /// The page of another space to which a mapping leads, where it leads to this object.
     fn led_to(&self, mapping: &Window, page: u8, write: bool, to: Who) -> Option<(u32, u8)>
         ensures { let region = place (path self.now) to in
             option_map (place_by (path self.now)) result

@@ -10,6 +10,7 @@ use Rattle.fk_store_cells.specs.declared.keys.tables.Table.{Table}
 abbrev pub nothing : ℕ
 nothing = 4294967295
 
+-- a key as it is stored
 abbrev pub number_of : ℕ → Option ℕ
 number_of n = if n == nothing then None else Some n
 
@@ -21,6 +22,7 @@ abbrev pub keys_in : Option (Box Table Global) → List (Option ℕ)
 keys_in None = []
 keys_in (Some table) = keyed table.value.keys
 
+-- the marks of a table that may not be made
 abbrev pub marks_in : Option (Box Table Global) → List Bool
 marks_in None = []
 marks_in (Some table) = table.value.marks

@@ -8,18 +8,23 @@ use Rattle.fk_store_cells.specs.declared.objects.entry.Entry.{Entry}
 use Rattle.fk_store_cells.specs.declared.objects.entry.Hints.{Hints}
 use Rattle.fk_store_cells.specs.Objects.Filed.{Filed, entry_under, key_of}
 
+-- names of the same object
 abbrev pub same_who : Who → Who → Bool
 same_who a b = a.space == b.space && a.slot == b.slot
 
+-- an object with another body
 abbrev pub with_body : Body → Entry → Entry
 with_body body e = record e { body = body }
 
+-- an object whose body is changed
 abbrev pub on_body : (Body → Body) → Entry → Entry
 on_body f e = record e { body = f e.body }
 
+-- an object with other hints
 abbrev pub with_hints : Hints → Entry → Entry
 with_hints hints e = record e { hints = hints }
 
+-- an object with another name
 abbrev pub named : Who → Entry → Entry
 named who e = record e { who = who }
 

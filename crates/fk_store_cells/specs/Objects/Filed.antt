@@ -21,9 +21,11 @@ untold = record { served = Nobody; taken = Nobody }
 abbrev pub fresh : Who → Body → Entry
 fresh who body = record { who = who; body = body; hints = untold }
 
+-- the object under a key
 unfoldable pub entry_under : Filed → ℕ → Option Entry
 entry_under o key = slice_index_or o.entries key None
 
+-- the key of a name
 unfoldable pub key_of : Filed → Who → Option ℕ
 key_of o who = cell o.keys who.space who.slot
 
@@ -37,5 +39,6 @@ pub record AreFiled (keyed : Who → Option ℕ) (named : ℕ → Option Who) : 
   -- five nodes of each fit
   pub small : (key : ℕ) (who : Who) → named key ≡ Some who → key < 858993458
 
+-- each object stands under the key of its name
 abbrev pub IsFiled : Filed → Type 0
 IsFiled o = AreFiled (key_of o) (name_under o)

@@ -33,6 +33,7 @@ on_mutex locked (Space birth holder) = Space birth holder
 on_mutex locked (Thread thread) = Thread thread
 on_mutex locked (Reference to) = Reference to
 
+-- a thread that is at something else, with these registers and this counter
 abbrev pub going : List ℕ → ℕ → Mode → State → State
 going registers counter mode t = record t { regs = registers; pc = counter; mode = mode }
 
@@ -44,14 +45,18 @@ counted words talk = record talk { moved = min MOST_MOVED (talk.moved + words) }
 abbrev pub passed : Turn → Talk → Talk
 passed turn talk = record talk { turn = turn; moved = 0 }
 
+-- a thread whose talk has moved so many words more
 abbrev pub counting : ℕ → State → State
 counting words t = record t { talk = option_map (counted words) t.talk }
 
+-- a thread in whose talk it is this side's turn
 abbrev pub passing : Turn → State → State
 passing turn t = record t { talk = option_map (passed turn) t.talk }
 
+-- a thread that is stopped so often
 abbrev pub stopping : ℕ → State → State
 stopping stops t = record t { stops = stops }
 
+-- a thread with this fault, or with none
 abbrev pub faulting : Option Fault → State → State
 faulting fault t = record t { fault = fault }

@@ -5,6 +5,7 @@ use Rattle.std.specs.Prelude.{◌≡◌, ◌⊎◌, ℕ, Bool, not, ◌||◌, �
 abbrev pub IsRow : {V : Type 0} → List (Option V) → Type 0
 IsRow row = (length row ≡ 0) ⊎ (length row ≡ 256)
 
+-- what is in a slot of a row
 abbrev pub cell_in : {V : Type 0} → List (Option V) → ℕ → Option V
 cell_in row slot = slice_index_or row slot None
 

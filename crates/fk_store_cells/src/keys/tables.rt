@@ -29,7 +29,7 @@ pub fn key_in(table: Option<&Box<Table>>, slot: u8) -> Option<u32>
     }
 }
 
-/// The same as it is written.
+/// The key of a slot of a space as it is written; `NOTHING` where it has no table.
 #[inline]
 pub fn word_in(table: Option<&Box<Table>>, slot: u8) -> u32
     ensures { number_of result ≡ cell_in (keys_in (option_copied table.entry)) slot }

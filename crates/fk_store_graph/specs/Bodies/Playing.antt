@@ -15,5 +15,6 @@ pub record IsPlayer (o : Filed) (part : Part) (who : Who) : Type 0 where
   pub there : body_under o key ≡ Some body
   pub playing : plays part body ≡ true
 
+-- no object has this part in a talk or a fault
 abbrev pub NobodyPlays : Filed → Part → Type 0
 NobodyPlays o part = (key : ℕ) (b : Body) → body_under o key ≡ Some b → plays part b ≡ false

@@ -18,9 +18,11 @@ is_held (Space birth holder) = is_some holder
 is_held (Thread thread) = false
 is_held (Reference to) = false
 
+-- 1 where it is so, else 0
 abbrev pub one_if : Bool → ℕ
 one_if b = if b then 1 else 0
 
+-- how many spaces are held
 unfoldable pub held_in : FinMap who_cmp Body → ℕ
 held_in bodies = sum_by (λ e. one_if (is_held e.1)) (entries bodies)
 

@@ -35,6 +35,7 @@ fault_target field fault = and_then pointed (and_then (of_fault field) fault)
 abbrev pub IsThread : Option Body → Type 0
 IsThread o = (t : threads_of.Thread) × (o ≡ Some (Thread t))
 
+-- the body of a thread with this fault, or with none
 abbrev pub with_fault : threads_of.Thread → Option Fault → Body
 with_fault t fault = Thread (record t { fault = fault })
 
@@ -54,6 +55,7 @@ is_single (Space birth holder) = true
 is_single (Thread thread) = false
 is_single (Reference to) = true
 
+-- an object is a reference
 abbrev pub is_reference : Body → Bool
 is_reference (Mutex locked) = false
 is_reference Cond = false

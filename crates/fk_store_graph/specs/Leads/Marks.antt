@@ -31,5 +31,6 @@ is_member (Reference to) = false
 abbrev pub page_mark : ℕ → ℕ
 page_mark slot = slot / 16
 
+-- the mark of a group of slots, in which ports that are members of a set may stand
 abbrev pub member_mark : ℕ → ℕ
 member_mark slot = 16 + slot / 16

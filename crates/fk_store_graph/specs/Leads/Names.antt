@@ -1,16 +1,14 @@
 -- Names: an object is named by the birth number of its space and its slot there, a page likewise. Their orders.
-use Rattle.std.specs.Prelude.{ℕ, Bool, ◌&&◌, ◌==◌, refl}
+use Rattle.std.specs.Prelude.{ℕ, refl}
 use Rattle.std.specs.declared.cmp.Ordering.{Ordering}
 use Rattle.std.specs.Ordering.{nat_cmp, ordering_then}
 use Rattle.std.specs.Coded.{Coded, code_by, coded×, coded_ℕ}
 use Rattle.fk_model.specs.declared.names.Who.{Who}
+pub use Rattle.fk_store_cells.specs.Objects.Edits.{same_who}
 
 -- the object in a slot of a space
 abbrev pub at : ℕ → ℕ → Who
 at space slot = record { space = space; slot = slot }
-
-abbrev pub same_who : Who → Who → Bool
-same_who a b = a.space == b.space && a.slot == b.slot
 
 -- by space, and then by slot
 abbrev pub who_cmp : Who → Who → Ordering

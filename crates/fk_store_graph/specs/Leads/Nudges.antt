@@ -1,21 +1,11 @@
 -- Nudges: small changes of a thread, or of a mutex, by which it leads where it led.
-use Rattle.std.specs.Prelude.{ℕ, Bool, ◌+◌, min, option_map}
-use Rattle.fk_model.specs.declared.limits.TheConstants.{MOST_MOVED}
+use Rattle.std.specs.Prelude.{Bool, option_map}
 use Rattle.fk_model.specs.declared.body.Body.{Body}
 use Rattle.fk_model.specs.declared.body.Body.TheVariants.{Mutex, Cond, Mapping, Region, Port, Portset, Space, Thread, Reference}
-use Rattle.fk_model.specs.declared.thread.Talk.{Talk}
 use Rattle.fk_model.specs.declared.thread.Thread.{Thread as State}
-use Rattle.fk_model.specs.declared.thread.Turn.{Turn}
 use Rattle.fk_store_graph.specs.declared.leads.nudges.Nudge.{Nudge}
 use Rattle.fk_store_graph.specs.declared.leads.nudges.Nudge.TheVariants.{Counts, Locks, Passes, Stops}
-
--- a talk that has moved so many words more
-abbrev pub counted : ℕ → Talk → Talk
-counted count talk = record talk { moved = min MOST_MOVED (talk.moved + count) }
-
--- a talk in which it is the turn of a side, and no words have been moved
-abbrev pub passed : Turn → Talk → Talk
-passed turn talk = record talk { turn = turn; moved = 0 }
+pub use Rattle.fk_store_cells.specs.Objects.Threads.{counted, passed}
 
 abbrev pub nudged_thread : Nudge → State → State
 nudged_thread (Counts count) t = record t { talk = option_map (counted count) t.talk }

@@ -31,6 +31,7 @@ thread_plays (Client server) t = holds (λ (talk : talks_of.Talk). is_thread ser
 thread_plays (Faulter taker) t = holds (λ (fault : faults_of.Fault). holds (is_thread taker) fault.taker) t.fault
 thread_plays (Guest port) t = holds (λ (talk : talks_of.Talk). same_who talk.port port && is_service talk.peer) t.talk
 
+-- an object has this part in a talk or a fault
 abbrev pub plays : Part → Body → Bool
 plays part (Mutex locked) = false
 plays part Cond = false
@@ -48,6 +49,7 @@ whose (Client server) = server
 whose (Faulter taker) = taker
 whose (Guest port) = port
 
+-- under which of an object's hints such a part is found
 abbrev pub sort_of : Part → Sort
 sort_of (Client server) = Served
 sort_of (Faulter taker) = Taken

@@ -15,6 +15,7 @@ use Rattle.fk_store_graph.specs.Leads.Names.{same_who}
 abbrev pub hit : Who → Who → ℕ
 hit who other = if same_who other who then 1 else 0
 
+-- how many, where something is there
 abbrev pub hits_in : {A : Type 0} → (A → ℕ) → Option A → ℕ
 hits_in f None = 0
 hits_in f (Some a) = f a
@@ -35,6 +36,7 @@ talk_hits who talk = hit who talk.port + peer_hits who talk.peer
 abbrev pub fault_hits : Who → Fault → ℕ
 fault_hits who fault = hit who fault.port + hits_in (peer_hits who) fault.taker
 
+-- how many pointers of an object lead to this one
 abbrev pub body_hits : Who → Body → ℕ
 body_hits who (Mutex locked) = 0
 body_hits who Cond = 0

@@ -21,6 +21,7 @@ abbrev pub or_dead : Option Who → Ptr
 or_dead None = Dead
 or_dead (Some who) = At who
 
+-- what becomes of a pointer
 abbrev pub pointer_after : Sweep → Ptr → Ptr
 pointer_after sweep Null = Null
 pointer_after sweep Dead = Dead
@@ -68,7 +69,3 @@ led_after sweep (Space birth holder) = Space birth (and_then (after sweep) holde
 led_after sweep (Thread thread) =
     Thread (record thread { talk = and_then (talk_after sweep) thread.talk; fault = and_then (fault_after sweep) thread.fault })
 led_after sweep (Reference to) = Reference (pointer_after sweep to)
-
--- an object with its body
-abbrev pub swept : Sweep → Who × Body → Who × Body
-swept sweep e = (e.0, body_after sweep e.0.space e.1)

@@ -32,9 +32,11 @@ use Rattle.fk_store_graph.specs.Leads.Names.{at, who_cmp}
 use Rattle.fk_store_graph.specs.Leads.Sweeps.{body_after}
 use Rattle.fk_store_graph.specs.declared.leads.sweeps.Sweep.{Sweep}
 
+-- the object under a key
 unfoldable pub body_under : Filed → ℕ → Option Body
 body_under o key = option_map (λ (e : Entry). e.body) (entry_under o key)
 
+-- all objects, by names
 unfoldable pub bodies : Filed → FinMap who_cmp Body
 bodies o = map_of_rows who_cmp at (map (map (and_then (body_under o))) o.keys)
 
@@ -73,6 +75,7 @@ Tells Nobody key = ⊥
 Tells (One other) key = other ≡ key
 Tells Many key = ⊤
 
+-- what a hint says of who leads to an object
 abbrev pub told_by : Sort → Hints → Told
 told_by Pointer hints = Many
 told_by Served hints = hints.served
@@ -87,6 +90,7 @@ told_with Taken told hints = record hints { taken = told }
 abbrev pub HaveNodes : Filed → ℕ → Type 0
 HaveNodes o long = (key : ℕ) (b : Body) → body_under o key ≡ Some b → key * 5 + 5 ≤ long
 
+-- each object has its nodes
 abbrev pub HaveHeads : Filed → ℕ → Type 0
 HaveHeads o long = (w : Who) (key : ℕ) → key_of o w ≡ Some key → key * 5 + 5 ≤ long
 
@@ -98,6 +102,7 @@ AreThere o = (key : ℕ) (b : Body) (i : ℕ) (l : Lead) → body_under o key �
 abbrev pub IsTold : Filed → Lead → ℕ → Type 0
 IsTold o l key = (j : ℕ) (e : Entry) → key_of o l.to ≡ Some j → entry_under o j ≡ Some e → Tells (told_by l.sort e.hints) key
 
+-- each pointer is told of where it leads
 abbrev pub AreTold : Filed → Type 0
 AreTold o = (key : ℕ) (b : Body) (i : ℕ) (l : Lead) → body_under o key ≡ Some b → led b i ≡ Some l → IsTold o l key
 

@@ -5,6 +5,7 @@ use Rattle.std.specs.Prelude.{ℕ, ◌==◌, List, Option, Some, None, slice_ind
 abbrev pub nowhere : ℕ
 nowhere = 4294967295
 
+-- the key of the space in which an object lies, as it is stored
 abbrev pub home_word : ℕ → Option ℕ
 home_word key = if key == nowhere then None else Some key
 

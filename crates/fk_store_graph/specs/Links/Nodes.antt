@@ -7,9 +7,11 @@ key_of n = n / 5
 abbrev pub field_of : ℕ → ℕ
 field_of n = n % 5
 
+-- the node of a field of the object under a key
 abbrev pub node_of : ℕ → ℕ → ℕ
 node_of key field = key * 5 + field
 
+-- a node is the head of a ring, and no field's
 abbrev pub is_head : ℕ → Bool
 is_head n = n % 5 == 2
 

@@ -26,7 +26,7 @@ pub fn mark_all(objects: &mut Objects, who: Who, body: &Body)
     }
 }
 
-/// The same for the object under a key, by the name that it has now.
+/// Marks the group of the slot of the object under a key, by the name that it has now.
 pub fn mark_again(objects: &mut Objects, key: u32)
     ensures keys { objects.new.keys ≡ objects.old.keys }
     ensures entries { objects.new.entries ≡ objects.old.entries }

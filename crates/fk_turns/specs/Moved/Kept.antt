@@ -31,6 +31,7 @@ pub record IsFiled (m : Contents) (marks : Lists) (who : Who) : Type 0 where
   pub stuck : IsWhy (world m) (path m) (place_of m who) why
   pub filed : IsFiledAs marks who why
 
+-- exactly the users' threads stand in the lists, in order, and who is queued stands at what it waits for
 pub record AreKept (m : Contents) (waits marks : Lists) : Type 0 where
   pub each : (who : Who) → stands who waits ≡ is_user_at m who
   pub sound : IsSound waits marks

@@ -28,6 +28,7 @@ pub record Standing : Type 0 where
   pub ready : List Who
   pub queued : List (Who × Who)
 
+-- who is ready, and who is queued at what
 abbrev pub standing : Lists → Standing
 standing waits = record { ready = waits.ready; queued = waits.queued }
 

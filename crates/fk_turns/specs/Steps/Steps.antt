@@ -185,6 +185,7 @@ is_object Makes_nothing = false
 abbrev pub makes_object : Bool → Stage → Bool
 makes_object is_porter stage = is_object (facts_of stage).makes && (not (is_for_porters stage) || is_porter)
 
+-- the first of these stages makes an object
 abbrev pub first_makes : List Stage → Bool
 first_makes [] = false
 first_makes (stage ∷ later) = makes_object false stage

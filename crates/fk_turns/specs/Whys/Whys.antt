@@ -33,11 +33,13 @@ IsReadAt x key other = ⊥
 
 -- ---- why a thread can't move
 
+-- a thread is blocked for a reason that no move of another ends
 pub record IsStill (w : World) (x : Path) : Type 0 where
   pub reason : Reason
   pub stuck : IsStuck w x reason
   pub own : IsOwn reason
 
+-- a thread is blocked for a reason that is read at this object
 pub record IsAt (w : World) (x key : Path) : Type 0 where
   pub reason : Reason
   pub stuck : IsStuck w x reason
@@ -49,11 +51,13 @@ is_loud_reason (Locking mutex) = false
 is_loud_reason Barred = false
 is_loud_reason other = true
 
+-- a thread is blocked, and it isn't only that its mutex is locked
 pub record IsLoudly (w : World) (x : Path) : Type 0 where
   pub reason : Reason
   pub stuck : IsStuck w x reason
   pub loud : is_loud_reason reason ≡ true
 
+-- why a thread is blocked, as the code has it
 abbrev pub IsWhy : World → (ℕ → Path) → Path → Why → Type 0
 IsWhy w p x whys.Still = IsStill w x
 IsWhy w p x (whys.At key) = IsAt w x (place p key)

@@ -9,15 +9,14 @@ ghost use Rattle.fk_store.specs.Store.Bodies.{thread_by};
 ghost use Rattle.fk_store.specs.Store.Paths.{path, place};
 ghost use Rattle.fk_store.specs.Store.Threads.{todo_at};
 ghost use Rattle.fk_store.specs.Store.World.{world};
-ghost use Rattle.fk_turns.specs.Next.Doings.{first_of};
 ghost use Rattle.fk_turns.specs.Next.Judgements.{may_lack};
 ghost use Rattle.fk_turns.specs.Next.Rows.{takes_memory};
 ghost use Rattle.fk_waits.specs.Turns.Turns.{IsSound};
 ghost use Rattle.fk_turns.specs.Steps.Steps as steps_of;
 ghost use Rattle.fk_turns.specs.Steps.Steps.{first_makes, may_make, HasSeat, IsWider};
 
-use fk_model::{Ask, Mode, Move, NoMemory, Stage, Thread, Todo, Who};
-use fk_stages::todo;
+use fk_calls::first_stage;
+use fk_model::{Ask, Mode, Move, NoMemory, Stage, Thread, Who};
 use fk_store::Store;
 use fk_waits::turns::Turns;
 
@@ -117,18 +116,6 @@ fn call_wants(registers: &[u64; 16]) -> bool
     match first_stage(registers) {
         Some(stage) => makes_object(false, &stage),
         None => false,
-    }
-}
-
-/// The first stage of the call that the registers name, if they name one.
-fn first_stage(registers: &[u64; 16]) -> Option<Stage>
-    ensures { first_of (todo_of registers.now) ≡ result }
-{
-    match todo(registers)? {
-        Todo::One(stage)
-        | Todo::Two(stage, _)
-        | Todo::Three(stage, _, _)
-        | Todo::Four(stage, _, _, _) => Some(stage),
     }
 }
 

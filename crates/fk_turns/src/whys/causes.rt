@@ -13,7 +13,8 @@ ghost use Rattle.fk_store.specs.Store.World.{world, place_of, IsLive, IsSpace};
 ghost use Rattle.laws_waits.specs.Stuck as stuck;
 ghost use Rattle.fk_turns.specs.Whys.Causes as causes;
 
-use crate::whys::stages::{first_stage, is_user};
+use crate::whys::stages::first_stage;
+use fk_calls::is_user;
 use fk_changes::readers::{Caller, above};
 use fk_links::connecting_to;
 use fk_model::limits::LAST_USER_SLOT;

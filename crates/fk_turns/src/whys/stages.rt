@@ -1,24 +1,13 @@
 //! At which stage a thread is.
-ghost use Rattle.std.specs.Prelude.{◌≡◌, ℕ, List, Some};
+ghost use Rattle.std.specs.Prelude.{◌≡◌, ℕ, Some};
 ghost use Rattle.fk_model.specs.Calls.{stages_of};
-ghost use Rattle.fk_model.specs.Holds as holds;
 ghost use Rattle.fk_model.specs.Objects.Mode.{Calling};
 ghost use Rattle.fk_model.specs.Places.{Path};
 ghost use Rattle.fk_model.specs.Talks as talks;
-ghost use Rattle.fk_store.specs.Store.Bodies.{calling_mode, mode_by, thread_by};
+ghost use Rattle.fk_store.specs.Store.Bodies.{calling_mode, thread_by};
 
 use fk_model::{Mode, Stage, Thread, Todo};
 use fk_stages::todo;
-
-/// It runs, or is in a call.
-pub fn is_user(mode: Mode) -> bool
-    ensures { (registers : List ℕ) → result ≡ holds.is_user (mode_by mode registers) }
-{
-    match mode {
-        Mode::Running | Mode::Calling => true,
-        Mode::Halted(_) | Mode::Native => false,
-    }
-}
 
 /// The stage that a thread in a call makes next.
 pub fn first_stage(thread: &Thread) -> Option<Stage>

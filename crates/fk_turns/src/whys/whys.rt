@@ -18,7 +18,8 @@ ghost use Rattle.fk_turns.specs.Whys.Causes.{cause_at};
 ghost use Rattle.fk_turns.specs.Whys.Whys.{is_lock_stage, IsAt, IsKnown, IsLocked, IsStill, IsThere, IsWhy};
 
 use crate::whys::causes::{named, outermost_held};
-use crate::whys::stages::{first_stage, is_user};
+use crate::whys::stages::first_stage;
+use fk_calls::is_user;
 use fk_changes::readers::{Caller, handle};
 use fk_model::limits::LAST_USER_SLOT;
 use fk_model::{Body, Kind, Stage, Thread, Who};

@@ -52,6 +52,7 @@ pub record AreStanding (c : Causes) (queue : ℕ) (l : List Standing) : Type 0 w
   pub placed : ArePlaced c queue places
   pub roomy : IsRoomy c
 
+-- who stands in a queue, in order
 pub record Stand (c : Causes) (queue : ℕ) : Type 0 where
   pub list : List Standing
   pub standing : AreStanding c queue list
@@ -100,5 +101,6 @@ abbrev pub new_cause : Who → Who → Option Who → Option Who
 new_cause from to None = None
 new_cause from to (Some name) = if is_same name from then Some to else Some name
 
+-- who stands somewhere after an object was renamed
 abbrev pub recaused : Who → Who → Standing → Standing
 recaused from to s = record { key = s.key; who = s.who; cause = new_cause from to s.cause }

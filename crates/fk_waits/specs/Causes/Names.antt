@@ -5,6 +5,7 @@ use Rattle.fk_model.specs.declared.names.Who.{Who}
 use Rattle.fk_waits.specs.declared.causes.names.Name.{Name}
 use Rattle.fk_waits.specs.declared.causes.names.Near.{Near}
 
+-- names of the same object
 abbrev pub is_same : Who → Who → Bool
 is_same a b = (a.space == b.space) && (a.slot == b.slot)
 

@@ -10,6 +10,7 @@ abbrev pub IsWay : (ℕ → ℕ) → (ℕ → ℕ) → ℕ → List ℕ → ℕ 
 IsWay next prev a [] b = (next a ≡ b) × (prev b ≡ a)
 IsWay next prev a (x ∷ l) b = (next a ≡ x) × (prev x ≡ a) × IsWay next prev x l b
 
+-- a node isn't among these
 abbrev pub IsNoneOf : ℕ → List ℕ → Type 0
 IsNoneOf n [] = Unit {0}
 IsNoneOf n (x ∷ l) = (n ≢ x) × IsNoneOf n l

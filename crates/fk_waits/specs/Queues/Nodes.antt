@@ -18,9 +18,11 @@ abbrev pub prev_in : ℕ → Option Node → ℕ
 prev_in m None = m
 prev_in m (Some n) = n.prev
 
+-- the node behind a node in its ring
 abbrev pub next_of : Slab Node → ℕ → ℕ
 next_of s m = next_in m (get s m)
 
+-- the node before it
 abbrev pub prev_of : Slab Node → ℕ → ℕ
 prev_of s m = prev_in m (get s m)
 

@@ -11,10 +11,12 @@ pub record Lists : Type 0 where
   pub queued : List (Who × Who)
   pub spare : ℕ
 
+-- a thread is in a list
 abbrev pub is_in : Who → List Who → Bool
 is_in thread [] = false
 is_in thread (x ∷ l) = is_same x thread || is_in thread l
 
+-- a thread is queued somewhere
 abbrev pub is_queued : Who → List (Who × Who) → Bool
 is_queued thread [] = false
 is_queued thread (q ∷ l) = is_same q.1 thread || is_queued thread l
@@ -74,6 +76,7 @@ left thread lists = record {
 abbrev pub new_name : Who → Who → Who → Who
 new_name from to x = if is_same x from then to else x
 
+-- the lists after an object was renamed
 abbrev pub renamed : Who → Who → Lists → Lists
 renamed from to lists = record {
   ready = map (new_name from to) lists.ready;
@@ -86,9 +89,11 @@ abbrev pub turned : List Who → List Who
 turned [] = []
 turned (x ∷ l) = l ++ x ∷ []
 
+-- the first of the ready goes to their end
 abbrev pub passed : Lists → Lists
 passed lists = record { ready = turned lists.ready; queued = lists.queued; spare = lists.spare }
 
+-- who is ready and comes first
 abbrev pub first_ready : List Who → Option Who
 first_ready [] = None
 first_ready (x ∷ l) = Some x
@@ -103,6 +108,7 @@ abbrev pub AreOnce : List Who → Type 0
 AreOnce [] = Unit {0}
 AreOnce (x ∷ l) = (is_in x l ≡ false) × AreOnce l
 
+-- each thread stands once: among the ready, or in one queue
 pub record StandOnce (lists : Lists) : Type 0 where
   pub ready : AreOnce lists.ready
   pub queued : AreOnce (map (λ (q : Who × Who). q.1) lists.queued)

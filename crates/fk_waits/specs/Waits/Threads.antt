@@ -15,10 +15,12 @@ abbrev pub key_of : Who → List Standing → Option ℕ
 key_of thread [] = None
 key_of thread (s ∷ l) = if is_same s.who thread then Some s.key else key_of thread l
 
+-- a thread stands somewhere
 abbrev pub is_there : Who → List (Who × Option Who) → Bool
 is_there thread [] = false
 is_there thread (x ∷ l) = is_same x.0 thread || is_there thread l
 
+-- all but one thread
 abbrev pub besides : Who → List (Who × Option Who) → List (Who × Option Who)
 besides thread [] = []
 besides thread (x ∷ l) = if is_same x.0 thread then besides thread l else x ∷ besides thread l
@@ -27,6 +29,7 @@ abbrev pub StandApart : List (Who × Option Who) → Type 0
 StandApart [] = Unit {0}
 StandApart (x ∷ l) = (is_there x.0 l ≡ false) × StandApart l
 
+-- threads, each with what it waits for or among the ready
 abbrev pub Pairs : Type 0
 Pairs = List (Who × Option Who)
 
@@ -64,6 +67,7 @@ pub record AreThere (t : Threads) (l : List (Who × Option Who)) : Type 0 where
   pub room : t.causes.seats ≤ t.names.1
   pub bound : t.causes.seats < 2 ^ 62
 
+-- the threads that stand, in order
 pub record Stand (t : Threads) : Type 0 where
   pub list : Pairs
   pub there : AreThere t list
@@ -110,6 +114,7 @@ lists_of t = record { ready = are_ready (pairs_of t); queued = are_queued (pairs
 abbrev pub with_name : Who → Who → Who × Option Who → Who × Option Who
 with_name from to x = (new_name from to x.0, x.1)
 
+-- a thread after what it waits for was renamed
 abbrev pub with_cause : Who → Who → Who × Option Who → Who × Option Who
 with_cause from to x = (x.0, new_cause from to x.1)
 

@@ -225,7 +225,7 @@ impl Causes {
         self.open(name)
     }
 
-    /// The same where there may be one queue more.
+    /// Opens a queue, in which nobody stands yet, for a cause that has none, where there is room for one queue more.
     fn open(&mut self, name: Who) -> usize
         requires stand { Stand self.old self.old.ready }
         requires new { key_at self.old.names.0 name ≡ None }
@@ -277,7 +277,7 @@ impl Causes {
         }
     }
 
-    /// The same of the names from one place to another, where there is one.
+    /// The place of the name of a queue in which nobody stands, of the names from one place to another; none where there is none.
     fn empty_within(&self, from: usize, to: usize) -> Option<usize>
         requires stand { Stand self.now self.now.ready }
         requires to { to ≤ length self.now.names.0 }

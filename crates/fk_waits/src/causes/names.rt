@@ -101,7 +101,7 @@ fn comes_last(items: &[Name], who: Who) -> bool
     false
 }
 
-/// The same by halving.
+/// The place of a name among names that are in order, or where it would go, by halving.
 fn place_within(items: &[Name], who: Who) -> usize
     requires { IsRising items.now }
     ensures slot { who.slot < 256 }
@@ -292,7 +292,7 @@ impl Names {
         self.seek(who)
     }
 
-    /// The same by halving.
+    /// The number of a name, by halving.
     #[inline(never)]
     fn seek(&self, who: Who) -> Option<usize>
         ensures { result ≡ key_at self.now.0 who }
@@ -300,7 +300,7 @@ impl Names {
         key_in(&self.items, place_of(&self.items, who), who)
     }
 
-    /// The same, and where it is found by halving it is found by one look from then on.
+    /// The number of a name; where it is found by halving it is found by one look from then on.
     #[inline]
     pub fn find_near(&mut self, who: Who) -> Option<usize>
         ensures found { result ≡ key_at self.old.0 who }
@@ -317,7 +317,7 @@ impl Names {
         self.find_far(who)
     }
 
-    /// The same by halving.
+    /// The number of a name that one look hasn't found, by halving.
     #[inline(never)]
     fn find_far(&mut self, who: Who) -> Option<usize>
         ensures found { result ≡ key_at self.old.0 who }

@@ -183,7 +183,7 @@ impl Turns {
         }
     }
 
-    /// The same of an object that has a name. Whom its cause may free is found there.
+    /// An object, which has a name, may free a thread that is queued at a cause. Who waits for that cause is found at the object.
     fn mark_besides(&mut self, who: Who, cause: Who, key: Who)
         requires { stands who self.old.marks ≡ true }
         ensures waits { self.new.waits ≡ self.old.waits }

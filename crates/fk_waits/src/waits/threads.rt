@@ -72,7 +72,7 @@ impl Threads {
         self.settle_found(thread, cause, key)
     }
 
-    /// The same of a thread with this node, or with none where it doesn't stand.
+    /// A thread with this node, or with none where it doesn't stand, goes last of all, and waits for something, or is ready.
     fn settle_found(&mut self, thread: Who, cause: Option<Who>, key: Option<usize>) -> bool
         requires fits { Fits self.old thread }
         requires key { key ≡ key_at self.old.names.0 thread }

@@ -224,7 +224,7 @@ impl Waits {
         self.put_last(thread, cause);
     }
 
-    /// The same of one that may stand anywhere.
+    /// A thread that may stand anywhere goes last of the queued, or of the ready where it has no cause.
     fn put_last(&mut self, thread: Who, cause: Option<Who>)
         requires { stands thread self.old ≡ false → 1 ≤ self.old.spare }
         ensures { self.new ≡ settled thread cause self.old }

@@ -49,6 +49,7 @@ module _ {C : Type 0} (shown : C → Shown) where
   abbrev pub HasMadeSo : Told C → ℕ → Told C → Type 0
   HasMadeSo b times d = (m : Move) × HasMore b (replicate times m) d
 
+  -- a book has one move more than another
   abbrev pub HasOneMore : Told C → Told C → Type 0
   HasOneMore b d = (m : Move) × IsOneMore b m d
 

@@ -213,7 +213,8 @@ impl<C: Playable + Drop> Book<C> {
         self.burst_held(&lease)
     }
 
-    /// The same of a lease that stays where it is.
+    /// Makes the moves of a worker's lease that stays where it is at once, where it may be committed with what is left of the budget, and answers
+    /// whether it did.
     #[tactic(auto, using(crate::proofs::InBooks::Runs::come, crate::proofs::InBooks::Runs::same_run, crate::proofs::InBooks::Runs::goes_not, crate::proofs::InBooks::Bursting::within_now, crate::proofs::InBooks::Bursting::goes_so))]
     fn burst_held(&mut self, lease: &Leased) -> bool
         ensures kept { IsKept C.shown self.old × IsKept C.shown self.new }

@@ -5,7 +5,7 @@ ghost use Rattle.fk_core.specs.Cores.Cores.{run_core};
 use crate::books::playable::{Lent, Playable, WORKERS};
 use fk_burst::{Leased, commit_held, count};
 use fk_core::{Core, Kernel};
-use fk_jobs::Worker;
+use fk_jobs::JobMachine;
 use fk_model::{Move, NoMemory, Who};
 use fk_natives::Service;
 use fk_responders::Table;
@@ -13,7 +13,7 @@ use fk_responders::Table;
 /// Where more spaces than these were made, no other thread is sought for a lease, since such a look may pass over all names.
 const MOST_SPACES: u32 = 512;
 
-impl<S: Service + Drop, W: Worker + Drop> Playable for Core<S, W> {
+impl<S: Service + Drop, W: JobMachine + Drop> Playable for Core<S, W> {
     ghost shown = { λ c. record { jobs = c.jobs.jobs; budget = c.budget; core = run_core c } };
 
     fn most_moves(&self) -> u64 {
@@ -71,7 +71,7 @@ impl<S: Service + Drop, W: Worker + Drop> Playable for Core<S, W> {
 }
 
 /// A lease is renewed with the first of the ready that isn't out.
-fn lease_other<S: Service + Drop, W: Worker + Drop>(
+fn lease_other<S: Service + Drop, W: JobMachine + Drop>(
     core: &Core<S, W>,
     out: &[Option<Who>; WORKERS],
     lease: &mut Leased,
@@ -103,7 +103,7 @@ fn renewed(is: bool) -> Lent {
 }
 
 /// A lease is renewed with this thread, unless it is out.
-fn renews<S: Service + Drop, W: Worker + Drop>(
+fn renews<S: Service + Drop, W: JobMachine + Drop>(
     core: &Core<S, W>,
     thread: Option<Who>,
     out: &[Option<Who>; WORKERS],

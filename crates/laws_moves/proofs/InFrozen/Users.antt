@@ -1,5 +1,6 @@
 -- What users and native servers list names what they can name: by the lists of `rows`.
-use Rattle.std.proofs.Common.{◌≡◌, ℕ, Bool, true, false, not, cond, nat_le, if◌then◌else◌, ◌==◌, List, [], ◌∷◌, ◌++◌, map, Option, Some, None, Result, Ok, Err, refl}
+use Rattle.std.proofs.Common.{◌≡◌, ℕ, Bool, true, false, not, cond, nat_le, if◌then◌else◌, ◌==◌, List, [], ◌∷◌, ◌++◌, map, Option, Some, None, Result, Ok, Err}
+use Rattle.std.proofs.Common.{refl}
 use Rattle.std.proofs.lemmas.Bool.{and_parts, not-false, not-true}
 use Rattle.fk_model.specs.declared.limits.TheConstants.{LAST_USER_SLOT}
 use Rattle.fk_model.specs.declared.moves.Ask.{Ask}
@@ -118,7 +119,8 @@ module _ (c : Caller) (user : c.is_porter ≡ false) where
     work off (Sleeps at m) = (tt, (tt, tt))
     work off (Sends_service stage side l address count here at) = (tt, (tt, tt))
     work off (Passes stage side l thread e to carried here at led free awaits) = (tt, (tt, tt))
-    work off (Hands_over stage side l thread e k reference p here at led free awaits there read may) = ((reference-in w (parent e.0) k there).low, (tt, (tt, tt)))
+    work off (Hands_over stage side l thread e k reference p here at led free awaits there read may) =
+        ((reference-in w (parent e.0) k there).low, (tt, (tt, tt)))
     work off other = (tt, tt)
 
     step : {stage : Stage} {o : Outcome} → is_for_porters stage ≡ false → Step w c pick stage o → AreUsers w (listed o)

@@ -29,7 +29,8 @@ use Rattle.fk_model.specs.Outcomes.Said.{Taken, Given, Full}
 use Rattle.fk_model.specs.Readers.{accessed, missed, their_page_at, their_page}
 use Rattle.fk_model.specs.Talks.{receiving, same_side}
 use Rattle.fk_model.specs.LinkRows.{user_at, new_talk}
-use Rattle.fk_model.specs.NativeRows.{takes_up, parked_here, connects_here, accepts_thread, accepts_found, takes_client, accept_row, is_serving_port, if_receiving}
+use Rattle.fk_model.specs.NativeRows.{takes_up, parked_here, connects_here, accepts_thread, accepts_found, takes_client, accept_row, is_serving_port}
+use Rattle.fk_model.specs.NativeRows.{if_receiving}
 use Rattle.fk_model.specs.NativeRows.{gives_words, gives_to, give_row, over_row, with_client, passes_client, has_turn}
 use Rattle.fk_model.specs.UserRows.{word_at, halts_with, loads, stores, enters, performs, executes, run_row, run_row_by}
 use Rattle.fk_model.specs.Moves.{stage_row, is_denied, chooses, with_pick, closed, call_row, goes_on, user_move, porter_at}
@@ -144,7 +145,8 @@ module _ (w : World) (port : Path) (pick : Option Path) where
   unfolding Going
   if_receiving-is x go t at there going = elim (cases_Bool (is_free w (parent x) t && holds (λ (talk : Talk). same_side talk.turn turns.Server) t.talk)) [
     | inr off ↦ rw off waits
-    | inl on ↦ rw on (elim (is (receiving w (parent x) turns.Client t.mode)) [ Absent e ↦ rw e waits | Present receive e ↦ rw e (going x t receive at there e) ])
+    | inl on ↦ rw on (elim
+        (is (receiving w (parent x) turns.Client t.mode)) [ Absent e ↦ rw e waits | Present receive e ↦ rw e (going x t receive at there e) ])
   ]
 
   with_client-is : {ask : Ask} (go : Path → ℕ × ℕ → Outcome) → Going ask go → Serves w port pick ask (with_client w port go)

@@ -7,8 +7,10 @@ use Rattle.fk_model.specs.declared.stage.Stage.{Stage}
 use Rattle.fk_model.specs.declared.stage.Stage.TheVariants.{Create, Destroy, Rename, Search, Point, Clear, Locate, CountIn, GetState, SetState, GetPtr, SetPtr}
 use Rattle.fk_model.specs.declared.stage.Stage.TheVariants.{SpaceHold, SpaceRelease, ThreadStop, ThreadGo, PageGive, PageTake, PageRead, PageNext, MutexLock}
 use Rattle.fk_model.specs.declared.stage.Stage.TheVariants.{MutexTrylock, MutexUnlock, CondWait, CondAsleep, CondSignal, CondBroadcast, Connect, ClientReceive}
-use Rattle.fk_model.specs.declared.stage.Stage.TheVariants.{ClientSend, ClientOver, Disconnect, ClientOverRef, ClientReceiveRef, Wait, ServerReceive, ServerSend, ServerOver, ServerEnd}
-use Rattle.fk_model.specs.declared.stage.Stage.TheVariants.{FaultDone, ServerOverRef, ServerReceiveRef, LinkSet, LinkPark, FaultSet, FaultPark, HoldSet, SpaceMakeHeld}
+use Rattle.fk_model.specs.declared.stage.Stage.TheVariants.{ClientSend, ClientOver, Disconnect, ClientOverRef, ClientReceiveRef, Wait, ServerReceive}
+use Rattle.fk_model.specs.declared.stage.Stage.TheVariants.{ServerSend, ServerOver, ServerEnd}
+use Rattle.fk_model.specs.declared.stage.Stage.TheVariants.{FaultDone, ServerOverRef, ServerReceiveRef, LinkSet, LinkPark, FaultSet, FaultPark, HoldSet}
+use Rattle.fk_model.specs.declared.stage.Stage.TheVariants.{SpaceMakeHeld}
 use Rattle.fk_model.specs.declared.statuses.status.TheConstants.{OK, FULL}
 use Rattle.fk_model.specs.declared.thread.Turn.{Turn}
 use Rattle.fk_model.specs.declared.thread.Turn.TheVariants as turns
@@ -36,7 +38,8 @@ use Rattle.fk_model.specs.TransferRows.{sends_to, sends, send, receive, receive_
 use Rattle.fk_model.specs.FaultRows.{fault_done, fault_set, fault_park}
 use Rattle.fk_model.specs.SpaceRows.{space_hold, space_release, thread_stop, thread_go, is_page, is_bad_source, gives_page, gives_from, page_give, copies_home}
 use Rattle.fk_model.specs.SpaceRows.{answers_home, copies_to, page_take, page_read, page_next, hold_set, space_make_held}
-use Rattle.fk_model.specs.StateRows.{is_native, is_bad_record_address, shows, shows_to, get_state, sets_record, record_at, sets_from, set_state, get_ptr, set_ptr}
+use Rattle.fk_model.specs.StateRows.{is_native, is_bad_record_address, shows, shows_to, get_state, sets_record, record_at, sets_from, set_state, get_ptr}
+use Rattle.fk_model.specs.StateRows.{set_ptr}
 use Rattle.fk_model.specs.ObjectRows.{create, kills, told_with, destroys, destroy, rename, search as search_row, point, clear, locate, count_in}
 use Rattle.fk_model.specs.Moves.{stage_row}
 use Rattle.laws_moves.specs.Rows.Stages.{Source, RecordSource, Work, Step}
@@ -56,7 +59,8 @@ use Rattle.laws_moves.proofs.InRows.Walk.{step-own_page, step-their_page, step_r
 -- what goes with a turn that is handed over
 data Goes_along (w : World) (c : Caller) : Option Ptr → Type 0 where
   No_pointer : Goes_along w c None
-  Of_reference : (reference : ℕ) (p : Ptr) → object_in w c reference_of c.space reference ≡ Ok p → may_carry w (path_of c) (Some p) ≡ true → Goes_along w c (Some p)
+  Of_reference : (reference : ℕ) (p : Ptr) → object_in w c reference_of c.space reference ≡ Ok p → may_carry w (path_of c) (Some p) ≡ true → Goes_along w c
+      (Some p)
 
 module _ (w : World) (c : Caller) (pick : Option Path) where
   -- ---- objects
@@ -198,7 +202,8 @@ module _ (w : World) (c : Caller) (pick : Option Path) where
   unfolding page_take
   page_take-step s page address = search (step_row, takes) depth 9
     where
-      answers : (space : Path) → space_argument w c s ≡ Ok space → c.is_porter ≡ true → Step w c pick (PageTake s page address) (answers_home w c space page true)
+      answers : (space : Path) → space_argument w c s ≡ Ok space → c.is_porter ≡ true → Step w c pick (PageTake s page address)
+          (answers_home w c space page true)
       answers space place porter = search (step_row, step-done, Drops) depth 9
 
       takes : (space : Path) → space_argument w c s ≡ Ok space → Step w c pick (PageTake s page address) (copies_to w c space page true address)
@@ -210,7 +215,8 @@ module _ (w : World) (c : Caller) (pick : Option Path) where
   unfolding page_read
   page_read-step s page address = search (step_row, reads) depth 9
     where
-      answers : (space : Path) → space_argument w c s ≡ Ok space → c.is_porter ≡ true → Step w c pick (PageRead s page address) (answers_home w c space page false)
+      answers : (space : Path) → space_argument w c s ≡ Ok space → c.is_porter ≡ true → Step w c pick (PageRead s page address)
+          (answers_home w c space page false)
       answers space place porter = search (step_row, step-reads, Answers_page) depth 9
 
       reads : (space : Path) → space_argument w c s ≡ Ok space → Step w c pick (PageRead s page address) (copies_to w c space page false address)
@@ -325,7 +331,8 @@ module _ (w : World) (c : Caller) (pick : Option Path) where
           let handled = receives-handled w (parent e.0) (other_side side) e.1.mode (and_parts (is_free w (parent e.0) e.1) _ free).1 in
           step-done _ [] (Hands_over stage side l thread e k reference p here at led free awaits (rw awaits at handled) read may)
 
-      passes_to-step : (carried : Option Ptr) → Goes_along w c carried → (peer : Peer) → l.other ≡ peer → Step w c pick stage (passes_to w c side l carried peer)
+      passes_to-step : (carried : Option Ptr) → Goes_along w c carried → (peer : Peer) → l.other ≡ peer → Step w c pick stage
+          (passes_to w c side l carried peer)
       passes_to-step carried carries (Server thread) at = to (thread_led_to w thread) refl
         where
           to : (o : Option (Path × Thread)) → thread_led_to w thread ≡ o → Step w c pick stage (passes_to_thread w c side l.client carried o)

@@ -23,7 +23,8 @@ use Rattle.fk_model.proofs.calls.CallLaws.{words_keep_length_lem}
 use Rattle.fk_model.proofs.walks.PlaceLaws.{same_path_eq}
 use Rattle.laws_moves.proofs.InFrozen.Edited.{same_kind}
 use Rattle.laws_moves.proofs.InWhole.Lengths.{length-with_answers}
-use Rattle.laws_moves.proofs.InSavable.Words.{IsWord, AreWords, below-word, word-below, AreValues, AreArguments, words-set, words-answered, words-left, words-called}
+use Rattle.laws_moves.proofs.InSavable.Words.{IsWord, AreWords, below-word, word-below, AreValues, AreArguments, words-set, words-answered, words-left}
+use Rattle.laws_moves.proofs.InSavable.Words.{words-called}
 use Rattle.laws_moves.proofs.InSavable.Words.{IsNumbered, has_way}
 use Rattle.laws_moves.proofs.InSavable.Kept.{IsFewMoved, IsOnPage, IsTidyThread, IsTidy, AreTidy, is_single, leaves_room, FitsAnswers, IsKeptEdit, IsKept}
 use Rattle.laws_moves.proofs.InSavable.Todos.{is_last_receive, has_rest, rest-left, rest-shifted, rest-answered}

@@ -24,14 +24,16 @@ use Rattle.fk_model.specs.LinkRows.{Candidate, candidate, new_talk, is_parked, t
 use Rattle.fk_model.specs.LinkRows.{disconnect, given_talk, link_set, link_park}
 use Rattle.fk_model.specs.LinkRows.Candidate.{Faulting, Connecting, Resuming}
 use Rattle.fk_model.specs.FaultRows.{frees, fault_done, given_fault, named_taker, fault_set, fault_park}
-use Rattle.fk_model.specs.NativeRows.{takes_up, parked_here, connects_here, accepts_thread, accepts_found, takes_client, accept_row, is_serving_port, awaited_at}
+use Rattle.fk_model.specs.NativeRows.{takes_up, parked_here, connects_here, accepts_thread, accepts_found, takes_client, accept_row, is_serving_port}
+use Rattle.fk_model.specs.NativeRows.{awaited_at}
 use Rattle.fk_model.specs.NativeRows.{if_receiving, gives_words, gives_to, give_row, over_row, with_client, passes_client}
 use Rattle.fk_model.specs.StateRows.{is_native}
 use Rattle.fk_model.specs.Valid.{IsConsistent, IsRooted, all_in, is_served_port, is_turn_word, are_talk_words, are_fault_words}
 use Rattle.fk_model.specs.Whole.{is_placed}
 use Rattle.fk_model.proofs.walks.PlaceLaws.{leads_to_at}
 use Rattle.laws_moves.proofs.InSavable.Refusals.{kept_row}
-use Rattle.laws_moves.proofs.InSavable.Kept.{AreTidy, leaves_room, of_thread, KeptOutcome, waits, goes, kept-then, kept-end_all, kept-when, if-kept, kept-done, IsKept}
+use Rattle.laws_moves.proofs.InSavable.Kept.{AreTidy, leaves_room, of_thread, KeptOutcome, waits, goes, kept-then, kept-end_all, kept-when, if-kept, kept-done}
+use Rattle.laws_moves.proofs.InSavable.Kept.{IsKept}
 use Rattle.laws_moves.proofs.InSavable.Kept.{kept-answers, kept-ended, kept-telling}
 use Rattle.laws_moves.proofs.InSavable.Words.{IsWord, AreWords, words-take, has_way}
 use Rattle.laws_moves.proofs.InSavable.Reached.{Memory}

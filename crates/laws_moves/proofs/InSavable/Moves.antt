@@ -6,10 +6,14 @@ use Rattle.fk_model.specs.declared.limits.TheConstants.{LAST_PORTER_SLOT, PAGE_W
 use Rattle.fk_model.specs.declared.moves.Ask.{Ask}
 use Rattle.fk_model.specs.declared.moves.Ask.TheVariants as asks
 use Rattle.fk_model.specs.declared.stage.Stage.{Stage}
-use Rattle.fk_model.specs.declared.stage.Stage.TheVariants.{Create, Destroy, Rename, Search, Point, Clear, Locate, CountIn, GetState, SetState, GetPtr, SetPtr, ClientOverRef}
-use Rattle.fk_model.specs.declared.stage.Stage.TheVariants.{SpaceHold, SpaceRelease, ThreadStop, ThreadGo, PageGive, PageTake, PageRead, PageNext, MutexLock, ClientReceiveRef}
-use Rattle.fk_model.specs.declared.stage.Stage.TheVariants.{MutexTrylock, MutexUnlock, CondWait, CondAsleep, CondSignal, CondBroadcast, Connect, ClientReceive, ServerOverRef}
-use Rattle.fk_model.specs.declared.stage.Stage.TheVariants.{ClientSend, ClientOver, Disconnect, Wait, ServerReceive, ServerSend, ServerOver, ServerEnd, ServerReceiveRef}
+use Rattle.fk_model.specs.declared.stage.Stage.TheVariants.{Create, Destroy, Rename, Search, Point, Clear, Locate, CountIn, GetState, SetState, GetPtr, SetPtr}
+use Rattle.fk_model.specs.declared.stage.Stage.TheVariants.{ClientOverRef}
+use Rattle.fk_model.specs.declared.stage.Stage.TheVariants.{SpaceHold, SpaceRelease, ThreadStop, ThreadGo, PageGive, PageTake, PageRead, PageNext, MutexLock}
+use Rattle.fk_model.specs.declared.stage.Stage.TheVariants.{ClientReceiveRef}
+use Rattle.fk_model.specs.declared.stage.Stage.TheVariants.{MutexTrylock, MutexUnlock, CondWait, CondAsleep, CondSignal, CondBroadcast, Connect, ClientReceive}
+use Rattle.fk_model.specs.declared.stage.Stage.TheVariants.{ServerOverRef}
+use Rattle.fk_model.specs.declared.stage.Stage.TheVariants.{ClientSend, ClientOver, Disconnect, Wait, ServerReceive, ServerSend, ServerOver, ServerEnd}
+use Rattle.fk_model.specs.declared.stage.Stage.TheVariants.{ServerReceiveRef}
 use Rattle.fk_model.specs.declared.stage.Stage.TheVariants.{FaultDone, LinkSet, LinkPark, FaultSet, FaultPark, HoldSet, SpaceMakeHeld}
 use Rattle.fk_model.specs.declared.statuses.status.TheConstants.{DENIED}
 use Rattle.fk_model.specs.declared.thread.Turn.TheVariants as turns
@@ -39,13 +43,17 @@ use Rattle.laws_moves.proofs.InSavable.Reached.{Memory}
 use Rattle.laws_moves.proofs.InSavable.Kept.{AreTidy, is_single, leaves_room, of_thread, KeptOutcome, refused, waits, goes, kept-when, if-kept}
 use Rattle.laws_moves.proofs.InSavable.Todos.{is_last_receive, opens, is_wait, opens_first, GoesOn, has_rest}
 use Rattle.laws_moves.proofs.InSavable.Standing.{native-last}
-use Rattle.laws_moves.proofs.InSavable.Rows.{run_row-kept, mutex_lock-kept, mutex_trylock-kept, mutex_unlock-kept, cond_wait-kept, cond_asleep-kept, cond_signal-kept}
-use Rattle.laws_moves.proofs.InSavable.Rows.{cond_broadcast-kept, send-kept, receive-kept, over-kept, receive_ref-kept, over_ref-kept, thread_stop-kept, thread_go-kept, page_give-kept, page_take-kept}
+use Rattle.laws_moves.proofs.InSavable.Rows.{run_row-kept, mutex_lock-kept, mutex_trylock-kept, mutex_unlock-kept, cond_wait-kept, cond_asleep-kept}
+use Rattle.laws_moves.proofs.InSavable.Rows.{cond_signal-kept}
+use Rattle.laws_moves.proofs.InSavable.Rows.{cond_broadcast-kept, send-kept, receive-kept, over-kept, receive_ref-kept, over_ref-kept, thread_stop-kept}
+use Rattle.laws_moves.proofs.InSavable.Rows.{thread_go-kept, page_give-kept, page_take-kept}
 use Rattle.laws_moves.proofs.InSavable.Rows.{page_read-kept, page_next-kept}
 use Rattle.laws_moves.proofs.InSavable.Objects.{IsUsersHold, create-kept, destroy-kept, rename-kept, point-kept, clear-kept, search_row-kept, locate-kept}
-use Rattle.laws_moves.proofs.InSavable.Objects.{count_in-kept, space_hold-kept, space_release-kept, hold_set-kept, space_make_held-kept, get_state-kept, set_state-kept}
+use Rattle.laws_moves.proofs.InSavable.Objects.{count_in-kept, space_hold-kept, space_release-kept, hold_set-kept, space_make_held-kept, get_state-kept}
+use Rattle.laws_moves.proofs.InSavable.Objects.{set_state-kept}
 use Rattle.laws_moves.proofs.InSavable.Objects.{get_ptr-kept, set_ptr-kept}
-use Rattle.laws_moves.proofs.InSavable.Links.{IsNester, wait-kept, connect-kept, disconnect-kept, fault_done-kept, link_set-kept, link_park-kept, fault_set-kept}
+use Rattle.laws_moves.proofs.InSavable.Links.{IsNester, wait-kept, connect-kept, disconnect-kept, fault_done-kept, link_set-kept, link_park-kept}
+use Rattle.laws_moves.proofs.InSavable.Links.{fault_set-kept}
 use Rattle.laws_moves.proofs.InSavable.Links.{fault_park-kept, accept_row-kept, give_row-kept, over_row-kept}
 
 -- what is known of the world in which a move is judged

@@ -38,7 +38,8 @@ use Rattle.laws_moves.proofs.InSavable.Words.{AreWords, words-at, words-take, wo
 use Rattle.laws_moves.proofs.InSavable.Reached.{Memory}
 use Rattle.laws_moves.proofs.InSavable.Answers.{field-word, taken-words, way-words, record-words}
 use Rattle.laws_moves.proofs.InSavable.Scratch.{ScratchKept, stands-porter}
-use Rattle.laws_moves.proofs.InSavable.Kept.{IsTidyThread, IsTidy, AreTidy, IsUsersMode, KeepsScratch, IsOutside, IsKept, AreKept, KeptOutcome, kept-end_all, if-kept}
+use Rattle.laws_moves.proofs.InSavable.Kept.{IsTidyThread, IsTidy, AreTidy, IsUsersMode, KeepsScratch, IsOutside, IsKept, AreKept, KeptOutcome, kept-end_all}
+use Rattle.laws_moves.proofs.InSavable.Kept.{if-kept}
 use Rattle.laws_moves.proofs.InSavable.Kept.{kept-done, kept-done_at, kept-answers, kept-stays, kept-telling}
 use Rattle.laws_moves.proofs.InSavable.Persisting.{fits-single, single-pointed}
 use Rattle.laws_moves.proofs.InSavable.Standing.{low-stands, scratch-stands, last-kill}

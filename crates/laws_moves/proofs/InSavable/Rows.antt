@@ -1,5 +1,6 @@
 -- The rows of instructions, mutexes, conditions, messages, stop counts and pages keep what can be saved.
-use Rattle.std.proofs.Common.{◌≡◌, ℕ, ◌+◌, ◌-◌, ◌^◌, ◌%◌, ◌<◌, ◌≤◌, Bool, true, false, if◌then◌else◌, ◌==◌, nat_le, List, [], ◌∷◌, ◌++◌, take, drop, replicate, is_some}
+use Rattle.std.proofs.Common.{◌≡◌, ℕ, ◌+◌, ◌-◌, ◌^◌, ◌%◌, ◌<◌, ◌≤◌, Bool, true, false, if◌then◌else◌, ◌==◌, nat_le, List, [], ◌∷◌, ◌++◌, take, drop, replicate}
+use Rattle.std.proofs.Common.{is_some}
 use Rattle.std.proofs.Common.{length, Option, Some, None, Result, Ok, Err, refl, ap, ◌∙◌, arith, ◌&&◌}
 use Rattle.std.proofs.Math.Nat.{mod-lt, min-le_left}
 use Rattle.std.specs.List.{flat_map}
@@ -10,7 +11,8 @@ use Rattle.fk_model.specs.declared.instruction.Act.TheVariants.{Put, Jump, Load,
 use Rattle.fk_model.specs.declared.names.Kind.TheVariants as kinds
 use Rattle.fk_model.specs.declared.limits.TheConstants.{SLOTS, PAGES, MOST_STOPS, ZEROS, PAGE_WORDS, SPACE_WORDS, BLOCK_WORDS}
 use Rattle.fk_model.specs.declared.stage.Stage.{Stage}
-use Rattle.fk_model.specs.declared.stage.Stage.TheVariants.{CondAsleep, MutexLock, ClientReceive, ClientSend, ServerReceive, ServerSend, ClientReceiveRef, ServerReceiveRef}
+use Rattle.fk_model.specs.declared.stage.Stage.TheVariants.{CondAsleep, MutexLock, ClientReceive, ClientSend, ServerReceive, ServerSend, ClientReceiveRef}
+use Rattle.fk_model.specs.declared.stage.Stage.TheVariants.{ServerReceiveRef}
 use Rattle.fk_model.specs.declared.statuses.status.TheConstants.{BADCALL, WRONGKIND}
 use Rattle.fk_model.specs.declared.thread.Turn.{Turn}
 use Rattle.fk_model.specs.declared.thread.Turn.TheVariants as turns
@@ -35,7 +37,8 @@ use Rattle.fk_model.specs.Talks.{Line, other_side, path_to, first_stage, receivi
 use Rattle.fk_model.specs.UserRows.{word_at, halts_with, loads, stores, enters, performs, executes, run_row, run_row_by}
 use Rattle.fk_model.specs.SyncRows.{mutex_lock, mutex_trylock, mutex_unlock, cond_wait, cond_asleep, woken, mutex_after, asleep_on, sleepers, signals}
 use Rattle.fk_model.specs.SyncRows.{unless_slept_on, picks_sleeper, cond_signal, cond_broadcast}
-use Rattle.fk_model.specs.TransferRows.{overwritten, block, moved_words, has_sent, sends_words, sends_into, sends_to_thread, sends_to, sends, send, awaits, over_ref}
+use Rattle.fk_model.specs.TransferRows.{overwritten, block, moved_words, has_sent, sends_words, sends_into, sends_to_thread, sends_to, sends, send, awaits}
+use Rattle.fk_model.specs.TransferRows.{over_ref}
 use Rattle.fk_model.specs.TransferRows.{receive, passes_to_thread, passes_to, over, receive_ref, takes_turn}
 use Rattle.fk_model.specs.SpaceRows.{thread_by_handle, thread_stop, thread_go, gives_page, gives_from, page_give, copies, copies_home, answers_home, copies_to}
 use Rattle.fk_model.specs.SpaceRows.{page_take, page_read, page_next}
@@ -44,15 +47,18 @@ use Rattle.fk_model.specs.Shapes.{IsShapedMode}
 use Rattle.fk_model.specs.Valid.{all_in}
 use Rattle.fk_model.proofs.calls.CallLaws.{todo_writes_back_lem}
 use Rattle.laws_moves.proofs.InSavable.Refusals.{kept_row}
-use Rattle.laws_moves.proofs.InSavable.Words.{IsWord, AreWords, below-word, words-at, words-set, words-append, words-take, words-drop, words-zeros, AreArguments}
+use Rattle.laws_moves.proofs.InSavable.Words.{IsWord, AreWords, below-word, words-at, words-set, words-append, words-take, words-drop, words-zeros}
+use Rattle.laws_moves.proofs.InSavable.Words.{AreArguments}
 use Rattle.laws_moves.proofs.InSavable.Words.{words-entered, IsNumbered, has_way}
 use Rattle.laws_moves.proofs.InSavable.Acts.{IsLow, low-in}
 use Rattle.laws_moves.proofs.InSavable.Reached.{Memory, IsReached, ComesTo, comes-to}
 use Rattle.laws_moves.proofs.InSavable.Answers.{page-words}
-use Rattle.laws_moves.proofs.InSavable.Kept.{is_single, of_thread, IsUsersMode, AreKept, KeptOutcome, refused, waits, goes, kept-then, kept-when, if-kept, kept-done}
+use Rattle.laws_moves.proofs.InSavable.Kept.{is_single, of_thread, IsUsersMode, AreKept, KeptOutcome, refused, waits, goes, kept-then, kept-when, if-kept}
+use Rattle.laws_moves.proofs.InSavable.Kept.{kept-done}
 use Rattle.laws_moves.proofs.InSavable.Kept.{kept-answers, kept-telling, AreTidy}
 use Rattle.laws_moves.proofs.InSavable.Todos.{has_rest}
-use Rattle.laws_moves.proofs.InSavable.Persisting.{of_thread-mono, fits-single, single-replaced, single-locked, way-less, way-counted, way-shifted, single-pointed}
+use Rattle.laws_moves.proofs.InSavable.Persisting.{of_thread-mono, fits-single, single-replaced, single-locked, way-less, way-counted, way-shifted}
+use Rattle.laws_moves.proofs.InSavable.Persisting.{single-pointed}
 use Rattle.laws_moves.proofs.InRows.Handles.{received-stage}
 
 -- ---- memory
@@ -330,7 +336,8 @@ module _ (w : World) (memory : Memory w) where
       (path_of c) (way-counted client k 128 w (path_of c) way))
 
   sends_into-kept : (c : Caller) (side : Turn) (client y : Path) (mode : Mode) (address count : ℕ) (page : List ℕ) (space : Option (ℕ × ℕ)) →
-      HasWay w c 128 → AreWords page → and_then (λ (t : Thread). Some t.mode) (and_then thread_of (w.body y)) ≡ Some mode → receiving w (parent y) side mode ≡ space →
+      HasWay w c 128 → AreWords page → and_then (λ (t : Thread). Some t.mode) (and_then thread_of (w.body y)) ≡ Some mode → receiving w (parent y) side mode
+      ≡ space →
       KeptOutcome w (sends_into w c client y address count page space)
   sends_into-kept c side client y mode address count page None way all there is = waits
   sends_into-kept c side client y mode address count page (Some space) way all there is = if-kept w (space.1 == 0) _ _ (goes ((refl, tt), tt))
@@ -390,7 +397,8 @@ module _ (w : World) (memory : Memory w) where
   unfolding receive
   receive-kept c side into room = search (kept_row, awaits-kept)
 
-pub receive_ref-kept : (w : World) (memory : Memory w) (c : Caller) (side : Turn) (into room reference : ℕ) → KeptOutcome w (receive_ref w c side into room reference)
+pub receive_ref-kept : (w : World) (memory : Memory w) (c : Caller) (side : Turn) (into room reference : ℕ) → KeptOutcome w
+    (receive_ref w c side into room reference)
 unfolding receive_ref
 receive_ref-kept w memory c side into room reference = search (kept_row, receive-kept)
 

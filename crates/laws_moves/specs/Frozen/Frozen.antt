@@ -26,10 +26,12 @@ pub record IsFrozenMove (w : World) (root x : Path) (pick : Option Path) (ask : 
   pub ready : IsReady w x pick ask
   pub frozen : is_frozen_for w x root ≡ true
 
+-- a ready move of one who doesn't decide over a held subtree leaves its bodies, its pages, and the kinds of what its pointers lead to
 abbrev pub FrozenSubtreeStays : Type 0
 FrozenSubtreeStays = (w : World) (root x : Path) (pick : Option Path) (ask : Ask) → IsFrozenMove w root x pick ask →
     IsSameInside root w (step w x pick ask).world
 
+-- a ready move of one who doesn't decide over a held subtree leaves the subtree's cut
 abbrev pub FrozenCutStays : Type 0
 FrozenCutStays = (w : World) (nester : Path) (slot : ℕ) (x : Path) (pick : Option Path) (ask : Ask) → IsFrozenMove w (slot ∷ nester) x pick ask →
     cut (step w x pick ask).world nester slot ≡ cut w nester slot

@@ -60,5 +60,6 @@ pub record StaysHeld (nester : Path) (slot : ℕ) (w v : World) : Type 0 where
   pub around : IsSameAround nester w v
   pub holding : IsHolding nester slot v
 
+-- no move of a user or a native server changes what a porter at work stands on: its hold, its mode, its scratch, and that nobody decides above it
 abbrev pub OthersKeepHold : Type 0
 OthersKeepHold = (nester : Path) (slot : ℕ) (w : World) (e : Event) → IsHolding nester slot w → IsUsersMove nester w e → StaysHeld nester slot w (after w e)

@@ -66,6 +66,7 @@ abbrev pub TouchOnce : World → List Change → Type 0
 TouchOnce w [] = Unit {0}
 TouchOnce w (c ∷ cs) = EitherOf (is_mild c) (TouchOnce w cs) (MakesAnew w c × AreMild cs)
 
+-- of the changes of a move of a user or a native server at most one makes, destroys or renames an object, or sets a pointer. What it makes is new
 abbrev pub UsersTouchOnce : Type 0
 UsersTouchOnce = (w : World) (x : Path) (pick : Option Path) (ask : Ask) → kind_there w [] ≡ Some kinds.Space → is_users ask ≡ true →
     TouchOnce w (listed (outcome w x pick ask))

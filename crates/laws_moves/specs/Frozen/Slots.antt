@@ -7,6 +7,8 @@ use Rattle.fk_model.specs.Valid.{IsValid, is_fit}
 use Rattle.fk_model.specs.Whole.{KeepsSlots}
 use Rattle.laws_moves.specs.Frozen.Users.{is_users}
 
+-- after a move of a user or a native server porters stand in last slots alone, references alone in those of scratch, and no porter elsewhere, if it was so
+-- before
 abbrev pub UsersKeepSlots : Type 0
 UsersKeepSlots = (w : World) (e : Event) → IsValid w → w.next ≤ depth → is_fit w e.mover e.ask ≡ true → is_users e.ask ≡ true → KeepsSlots w →
     KeepsSlots (after w e)

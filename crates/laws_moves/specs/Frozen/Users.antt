@@ -50,5 +50,6 @@ abbrev pub is_users : Ask → Bool
 is_users (asks.Call stage words) = false
 is_users other = true
 
+-- users and native servers name no slot above 239, make no porter, and hold no space above one that a porter holds
 abbrev pub UsersNameLow : Type 0
 UsersNameLow = (w : World) (x : Path) (pick : Option Path) (ask : Ask) → IsRooted w → is_users ask ≡ true → AreUsers w (listed (outcome w x pick ask))

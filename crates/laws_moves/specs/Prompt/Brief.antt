@@ -55,10 +55,12 @@ Destroys w v (Refused status) = (q : Path) → is_some (v.body q) ≡ is_some (w
 Destroys w v Waits = ⊥
 Destroys w v (Goes changes said) = RemovesOne w v
 
+-- a user's stage of `destroy` that goes removes exactly one object, one that is refused none, and neither brings one
 abbrev pub UsersDestroyOne : Type 0
 UsersDestroyOne = (w : World) (space : Path) (slot s x : ℕ) → IsUserAt w space slot (Destroy s x) →
     Destroys w (users_step w space slot).world (destroy w (user_at (slot ∷ space)) s x)
 
+-- a porter's stage of `destroy` that goes removes exactly one object, one that is refused none, and neither brings one
 abbrev pub PortersDestroyOne : Type 0
 PortersDestroyOne = (w : World) (space : Path) (slot s x : ℕ) (words : List ℕ) → IsPorterFor w space slot (Destroy s x) →
     Destroys w (porters_step w space slot (Destroy s x) words).world (destroy w (porter_at (slot ∷ space) words) s x)

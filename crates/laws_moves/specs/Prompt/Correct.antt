@@ -57,6 +57,7 @@ pub record AnswersRecord (w : World) (c : Caller) (s x : ℕ) (answer : List ℕ
   pub named : IsNamed w c s x body
   pub answered : answer ≡ record_of body
 
+-- a porter is answered the object's record
 abbrev pub GetStateAnswers : Type 0
 GetStateAnswers = (w : World) (space : Path) (slot s x address : ℕ) (words answer : List ℕ) →
     IsPorterFor w space slot (GetState s x address) →

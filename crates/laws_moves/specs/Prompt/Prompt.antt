@@ -62,6 +62,7 @@ abbrev pub SpaceHoldIsPrompt : Type 0
 SpaceHoldIsPrompt = (w : World) (space : Path) (slot s x : ℕ) → IsUserAt w space slot (SpaceHold s x) →
     may_hold w (user_at (slot ∷ space)) x (space_argument w (user_at (slot ∷ space)) s) ≡ true → IsReady w (slot ∷ space) None asks.Run
 
+-- a free caller holds a space whatever the threads beneath it do, where no hold bars it
 abbrev pub PortersSpaceHoldIsPrompt : Type 0
 PortersSpaceHoldIsPrompt = (w : World) (space : Path) (slot s x : ℕ) (words : List ℕ) →
     IsPorterFor w space slot (SpaceHold s x) →

@@ -49,7 +49,8 @@ pub data Instructs (w : World) (space : Path) (slot : ℕ) (g : List ℕ) (count
       Instructs w space slot g counter (Goes (Alter (slot ∷ space) (Proceed mode after) ∷ []) Nothing)
   Stores : (address value : ℕ) (s : Path) (page : ℕ) → reach_word w space address true ≡ Home s page →
       Instructs w space slot g counter (
-      Goes (PutPage s page (slice_set (words_at w s page) (address % PAGE_WORDS) value) ∷ Alter (slot ∷ space) (Proceed (Running g) (next counter)) ∷ []) Nothing)
+      Goes (PutPage s page (slice_set (words_at w s page) (address % PAGE_WORDS) value) ∷ Alter (slot ∷ space)
+      (Proceed (Running g) (next counter)) ∷ []) Nothing)
   Faults : (s : Path) (page address : ℕ) (write : Bool) (port : Ptr) → reach_word w space address write ≡ Missing s page (Some port) →
       Instructs w space slot g counter (Goes (fault_on (slot ∷ space) page write port ∷ []) Nothing)
 
@@ -71,7 +72,8 @@ pub data Serves (w : World) (port : Path) (pick : Option Path) : Ask → Outcome
   Gives_words : (words : List ℕ) (len : ℕ) (x : Path) (t : Thread) (receive : ℕ × ℕ) (s : Path) (page : ℕ) → thread_at w x ≡ Some t →
       receiving w (parent x) turns.Client t.mode ≡ Some receive → reach_word w (parent x) receive.0 true ≡ Home s page →
       Serves w port pick (asks.Give words len) (Goes (
-      PutPage s page (overwritten (words_at w s page) (receive.0 % PAGE_WORDS) (take (moved_words 0 (length (take len words)) receive.0 receive.1) (take len words)))
+      PutPage s page (overwritten (words_at w s page) (receive.0 % PAGE_WORDS)
+      (take (moved_words 0 (length (take len words)) receive.0 receive.1) (take len words)))
       ∷ Alter x (CountMoved (moved_words 0 (length (take len words)) receive.0 receive.1))
       ∷ Alter x (Shift (moved_words 0 (length (take len words)) receive.0 receive.1))
       ∷ []) (Said.Given (At port) (moved_words 0 (length (take len words)) receive.0 receive.1)))

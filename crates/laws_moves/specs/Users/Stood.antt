@@ -41,10 +41,13 @@ abbrev pub taken : List Change → Path → Bool
 taken [] q = false
 taken (c ∷ cs) q = takes c q || taken cs q
 
+-- whoever is a user's thread after a move was one before it, or was put there by it: no move makes a porter one
 abbrev pub UsersStood : Type 0
 UsersStood = (w : World) (x : Path) (pick : Option Path) (ask : Ask) (q : Path) → IsRooted w → put (listed (outcome w x pick ask)) q ≡ false →
     is_users_at (step w x pick ask).world q ≡ true → is_users_at w q ≡ true
 
+-- whoever was a user's thread before a move is one after it, unless it was taken from its place or something was put there: no move makes a user's thread a
+-- porter
 abbrev pub UsersStay : Type 0
 UsersStay = (w : World) (x : Path) (pick : Option Path) (ask : Ask) (q : Path) → IsRooted w → put (listed (outcome w x pick ask)) q ≡ false →
     taken (listed (outcome w x pick ask)) q ≡ false → is_users_at w q ≡ true → is_users_at (step w x pick ask).world q ≡ true

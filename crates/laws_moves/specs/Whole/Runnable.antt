@@ -19,6 +19,7 @@ use Rattle.fk_model.specs.Whole.{are_words, IsWhole, IsYounger, IsSavable}
 abbrev pub HasRegisters : World → Type 0
 HasRegisters w = (x : Path) (t : Thread) → and_then thread_of (w.body x) ≡ Some t → length (registers_of t.mode) ≡ 16
 
+-- a run may begin in this world: it is whole, and each thread has its registers
 pub record IsRunnable (w : World) : Type 0 where
   pub whole : IsWhole w
   pub registers : HasRegisters w

@@ -14,14 +14,17 @@ use Rattle.fk_model.specs.declared.names.Kind.TheVariants as kinds
 use Rattle.fk_model.specs.Records.{record_of}
 use Rattle.laws_jobs.specs.Machines.{LiesWithin}
 use Rattle.laws_restore.specs.Sites.Orders.{Order}
-use Rattle.laws_restore.specs.Sites.Orders.Order.{Leads, LeadsTop, Makes, Sets, Gives, Points, ParksTalk, ParksFault, LinksTalk, RaisesFault, LinksFault, Holds, Pins}
+use Rattle.laws_restore.specs.Sites.Orders.Order.{Leads, LeadsTop, Makes, Sets, Gives, Points, ParksTalk, ParksFault, LinksTalk, RaisesFault, LinksFault, Holds}
+use Rattle.laws_restore.specs.Sites.Orders.Order.{Pins}
 use Rattle.laws_restore.specs.Sites.Orders.Order.{Takes, Checks}
 use Rattle.laws_restore.specs.Restore.Rooms.{Item, Sheet, Room}
 use Rattle.laws_restore.specs.Restore.Fits.{there, is_referable, IsWay}
 use Rattle.laws_restore.specs.Restore.Script.{P, T, U, padded, next_name, down, root_down, from_root, goes_by, goes_to, leads_by, leads_to_at, through_rooms}
-use Rattle.laws_restore.specs.Restore.Script.{after_rooms, makes_space, makes_spaces, stands_at, fills, points_in, points_body, leads_in, is_out_to, is_talk_out}
+use Rattle.laws_restore.specs.Restore.Script.{after_rooms, makes_space, makes_spaces, stands_at, fills, points_in, points_body, leads_in, is_out_to}
+use Rattle.laws_restore.specs.Restore.Script.{is_talk_out}
 use Rattle.laws_restore.specs.Restore.Script.{is_fault_out, leads_out, parks_talk, parks_fault, leads_body_out, has, each, leads_out_by, leads_outs, ties_talk}
-use Rattle.laws_restore.specs.Restore.Script.{ties_fault, ties_its_talk, ties_its_fault, ties_body, ties_inside, talk_words, fault_words, taken_flag, holds_space}
+use Rattle.laws_restore.specs.Restore.Script.{ties_fault, ties_its_talk, ties_its_fault, ties_body, ties_inside, talk_words, fault_words, taken_flag}
+use Rattle.laws_restore.specs.Restore.Script.{holds_space}
 use Rattle.laws_restore.specs.Restore.Script.{holds_spaces, stands_held, closes, any_room, made_by, filled_by, pointed_by, led_out_by, tied_by, script}
 use Rattle.laws_restore.specs.Restore.Roomed.{IsAim, IsPair, IsTakenAim, IsTalkAim, IsFaultAim, AreAims, IsNewSpace, AreItems, AreSpaces, AreRooms, IsRoomed}
 use Rattle.laws_restore.specs.Restore.Roomed.{with_items, with_sheets, with_space, with_spaces}

@@ -31,7 +31,8 @@ use Rattle.laws_jobs.specs.Holds.{released_world}
 use Rattle.laws_jobs.proofs.Holds.{release_comes_to}
 use Rattle.laws_jobs.proofs.Goings.{goes_by}
 use Rattle.laws_jobs.proofs.Weaving.{first_sound}
-use Rattle.laws_restore.specs.Sites.Orders.{Pin, Site, PinShows, SpotShows, Shows, eye, pin_of, Order, stage_of, words_of, does, does_all, May, MayAll, passes, fails}
+use Rattle.laws_restore.specs.Sites.Orders.{Pin, Site, PinShows, SpotShows, Shows, eye, pin_of, Order, stage_of, words_of, does, does_all, May, MayAll, passes}
+use Rattle.laws_restore.specs.Sites.Orders.{fails}
 use Rattle.laws_restore.specs.Sites.Orders.{with_pin}
 use Rattle.laws_restore.specs.Sites.Orders.Pin.{NoPin, Loose}
 use Rattle.laws_restore.specs.Sites.Orders.Order.{Pins, Checks, Drops}

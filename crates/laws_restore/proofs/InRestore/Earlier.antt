@@ -23,7 +23,8 @@ use Rattle.laws_restore.proofs.InRestore.Filled.{spaces_made}
 use Rattle.laws_restore.proofs.InRestore.Outward.{opens_slot, closes_slot}
 use Rattle.laws_restore.proofs.InRestore.Standing.{pass_done}
 use Rattle.laws_restore.proofs.InRestore.Led.{after_none}
-use Rattle.laws_restore.proofs.InRestore.Whole.{begun, begins_runs, begins_good, spaces, at, half, pass, filled, led_inside, pass_led, tied, held, cleared, passes}
+use Rattle.laws_restore.proofs.InRestore.Whole.{begun, begins_runs, begins_good, spaces, at, half, pass, filled, led_inside, pass_led, tied, held, cleared}
+use Rattle.laws_restore.proofs.InRestore.Whole.{passes}
 use Rattle.laws_restore.proofs.InRestore.Whole.{slot_idle}
 use Rattle.laws_restore.proofs.InRestore.Used.{IsUsed, used_below}
 

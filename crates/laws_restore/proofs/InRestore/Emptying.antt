@@ -33,9 +33,9 @@ use Rattle.fk_model.proofs.walks.Lowest.{lowest-found}
 use Rattle.laws_moves.specs.Frozen.Holding.{IsHolding, IsUsersMove}
 use Rattle.laws_moves.proofs.InFrozen.Holding.{holder_none, none_above, decider_none, others_keep_hold}
 use Rattle.laws_jobs.specs.Machines.{no_words, porter, call_of, IsReadyAt}
-use Rattle.laws_jobs.specs.Calls.{IsCalm}
+use Rattle.laws_jobs.specs.Calls.{IsUnheldOutside}
 use Rattle.laws_jobs.proofs.Goings.{call_is_its_row}
-use Rattle.laws_jobs.proofs.Ready.{calm_call_ready}
+use Rattle.laws_jobs.proofs.Ready.{unheld_call_ready}
 use Rattle.laws_jobs.proofs.Rows.{own-place, object-there}
 use Rattle.laws_restore.specs.Restore.Stages.{is_among}
 
@@ -402,8 +402,8 @@ module _ (nester : Path) (slot : ℕ) where
         → after v (call_of nester (Destroy OWN_SPACE slot) no_words) ≡ apply_all (kills v gone) v
     world ready = (call_is_its_row nester v (Destroy OWN_SPACE slot) no_words (kills v gone) (Answered OK []) row ready).0
 
-    pub calm_ready : IsCalm root v → IsReadyAt v (call_of nester (Destroy OWN_SPACE slot) no_words)
-    calm_ready calm = calm_call_ready nester slot v (Destroy OWN_SPACE slot) no_words (kills v gone) (Answered OK []) its.holding calm row
+    pub calm_ready : IsUnheldOutside root v → IsReadyAt v (call_of nester (Destroy OWN_SPACE slot) no_words)
+    calm_ready calm = unheld_call_ready nester slot v (Destroy OWN_SPACE slot) no_words (kills v gone) (Answered OK []) its.holding calm row
 
     abbrev pub left_world : World
     left_world = apply_all (kills v gone) v

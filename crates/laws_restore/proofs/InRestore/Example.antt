@@ -13,7 +13,8 @@ use Rattle.fk_model.proofs.walks.PlaceLaws.{same_path_eq}
 use Rattle.laws_restore.specs.Restore.Stages.{is_among, is_given}
 use Rattle.laws_restore.specs.Restore.Roomed.{IsAble, IsRoom, with_spaces, all_made, all_given}
 use Rattle.laws_restore.specs.Restore.Script.{script, down, root_down, through_rooms, makes_spaces, leads_outs, holds_spaces}
-use Rattle.laws_restore.specs.Restore.Example.{small_region, small_client, small_server, small_at, small, outer_room, small_rooms, small_bind, SmallIsRoomed, OneScript}
+use Rattle.laws_restore.specs.Restore.Example.{small_region, small_client, small_server, small_at, small, outer_room, small_rooms, small_bind, SmallIsRoomed}
+use Rattle.laws_restore.specs.Restore.Example.{OneScript}
 
 port_able : IsAble small_bind small [] 1 (Port None false)
 unfolding same_path record_of set takes_state edited

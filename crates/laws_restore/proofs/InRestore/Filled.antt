@@ -18,7 +18,8 @@ use Rattle.laws_restore.specs.Restore.Fits.{there}
 use Rattle.laws_restore.specs.Restore.Rooms.{Item, Sheet, Room}
 use Rattle.laws_restore.specs.Restore.Script.{P, padded, goes_to, makes_space, makes_spaces, stands_at, after_spaces, through_rooms, after_rooms, fills}
 use Rattle.laws_restore.specs.Restore.Stages.{blank, is_among, building}
-use Rattle.laws_restore.specs.Restore.Roomed.{AreItems, AreSheets, with_items, with_sheets, AreMade, IsNewSpace, with_space, AreSpaces, with_spaces, IsRoom, AreRooms}
+use Rattle.laws_restore.specs.Restore.Roomed.{AreItems, AreSheets, with_items, with_sheets, AreMade, IsNewSpace, with_space, AreSpaces, with_spaces, IsRoom}
+use Rattle.laws_restore.specs.Restore.Roomed.{AreRooms}
 use Rattle.laws_restore.specs.Restore.Roomed.{all_made, all_given}
 use Rattle.laws_restore.proofs.InRestore.Leaving.{Leaves, leaves_on, leaves_none, leaves_goes, place_of, ordered}
 use Rattle.laws_restore.proofs.InRestore.Lists.{IsSub, sub_both, sub_out, sub_with, in_with, still_among, still_made, assoc}

@@ -22,7 +22,8 @@ use Rattle.laws_jobs.specs.Machines.Interleaved.{Here, Another, Own}
 use Rattle.laws_jobs.specs.Jobs.{MayBegin}
 use Rattle.laws_jobs.proofs.Weaving.{first_sound}
 use Rattle.laws_restore.specs.Sites.Orders.{Order, stage_of, words_of, passes, fails}
-use Rattle.laws_restore.specs.Sites.Orders.Order.{Readies, Leads, LeadsTop, Makes, Sets, Points, Gives, MakesPin, Pins, Takes, Checks, ParksTalk, ParksFault, LinksTalk}
+use Rattle.laws_restore.specs.Sites.Orders.Order.{Readies, Leads, LeadsTop, Makes, Sets, Points, Gives, MakesPin, Pins, Takes, Checks, ParksTalk, ParksFault}
+use Rattle.laws_restore.specs.Sites.Orders.Order.{LinksTalk}
 use Rattle.laws_restore.specs.Sites.Orders.Order.{RaisesFault, LinksFault, Holds, Drops, DropsPin, Deadens}
 use Rattle.laws_restore.specs.Sites.Orders.End.{Lost}
 use Rattle.laws_restore.specs.Sites.Looking.{Looks, PinTells}

@@ -22,7 +22,8 @@ use Rattle.laws_restore.specs.Sites.Orders.Spot.{Unsure}
 use Rattle.laws_restore.specs.Sites.Orders.Pin.{NoPin}
 use Rattle.laws_restore.specs.Sites.Orders.Order.{LeadsTop, Points, Pins, Takes, Checks, ParksTalk, ParksFault}
 use Rattle.laws_restore.specs.Restore.Fits.{there, IsWay}
-use Rattle.laws_restore.specs.Restore.Script.{P, T, U, D, pointer_of, is_out_to, is_talk_out, is_fault_out, leads_out, talk_words, fault_words, taken_flag, parks_talk}
+use Rattle.laws_restore.specs.Restore.Script.{P, T, U, D, pointer_of, is_out_to, is_talk_out, is_fault_out, leads_out, talk_words, fault_words, taken_flag}
+use Rattle.laws_restore.specs.Restore.Script.{parks_talk}
 use Rattle.laws_restore.specs.Restore.Script.{parks_fault, leads_body_out}
 use Rattle.laws_restore.specs.Restore.Stages.{Mask, bound, leading, led_below, is_out_below, is_led_below, shown_talk, shown_fault, is_among}
 use Rattle.laws_restore.specs.Restore.Roomed.{GivesTalk, GivesFault, IsAim, IsPair, IsTalkAim, IsFaultAim, IsTakenAim, IsAble}

@@ -23,7 +23,7 @@ use Rattle.laws_restore.specs.Restore.Roomed.{IsRoomed}
 use Rattle.laws_restore.specs.Restore.Laws.{finished}
 use Rattle.laws_restore.specs.Restore.Restore.{End, State, head, restore}
 use Rattle.laws_restore.specs.Restore.Restore.State.{Makes as Begins}
-use Rattle.laws_restore.specs.Restore.Ends.{RestoreIsOwed, RestoreIsTidy}
+use Rattle.laws_restore.specs.Restore.Ends.{RestoreIsOwed, RestoreMeetsContract}
 use Rattle.laws_restore.proofs.InRestore.Coming.{Came, came, empty_inside}
 use Rattle.laws_restore.proofs.InRestore.Coming.Came.{Working, Dropping, Clearing, Finished, Missing, Taken}
 
@@ -123,8 +123,8 @@ is_owed slot birth bind c rooms w nester low its may_begin = (
       (sound_now slot birth bind c rooms w nester low its may_begin v t work) (came slot birth bind c rooms w nester low its may_begin v t work) stage words e,
 )
 
-pub is_tidy : RestoreIsTidy
-is_tidy slot birth bind c rooms low its = record {
+pub meets_contract : RestoreMeetsContract
+meets_contract slot birth bind c rooms low its = record {
   first = λ w nester may. (is_owed slot birth bind c rooms w nester low its may).0;
   later = λ w nester v t may work. (is_owed slot birth bind c rooms w nester low its may).1 v t work;
   stays = λ w nester v t may work. stays_at slot birth bind c rooms w nester low its may v t (came slot birth bind c rooms w nester low its may v t work);

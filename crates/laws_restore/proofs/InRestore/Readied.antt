@@ -9,9 +9,9 @@ use Rattle.laws_moves.specs.Savable.Savable.{IsSound}
 use Rattle.laws_jobs.specs.Machines.{no_words, call_of, IsReadyAt}
 use Rattle.laws_jobs.specs.Machines.Head.{Asks}
 use Rattle.laws_jobs.specs.Jobs.{MayBegin}
-use Rattle.laws_jobs.specs.Calls.{IsCalm}
+use Rattle.laws_jobs.specs.Calls.{IsUnheldOutside}
 use Rattle.laws_jobs.proofs.Weaving.{now_sound}
-use Rattle.laws_jobs.proofs.Ready.{calm_call_ready}
+use Rattle.laws_jobs.proofs.Ready.{unheld_call_ready}
 use Rattle.laws_jobs.proofs.Holds.{release-row}
 use Rattle.laws_restore.specs.Sites.Orders.{stage_of, words_of}
 use Rattle.laws_restore.proofs.InSites.Others.{holding}
@@ -33,13 +33,13 @@ known v nester stage other given words one two ready = subst (λ (ws : List ℕ)
 
 module _ (slot birth : ℕ) (bind : ℕ → ℕ) (c : World) (rooms : List Room) (w : World) (nester : Path) (low : slot ≤ LAST_USER_SLOT) (its : IsRoomed bind c rooms)
     (may_begin : MayBegin w nester birth) where
-  ready_at : (v : World) (t : State) → IsSound v → IsCalm (slot ∷ nester) v → Came slot birth bind c rooms w nester low its may_begin v t
+  ready_at : (v : World) (t : State) → IsSound v → IsUnheldOutside (slot ∷ nester) v → Came slot birth bind c rooms w nester low its may_begin v t
       → (stage : Stage) (words : List ℕ) → head slot t ≡ Asks stage words →
       IsReadyAt v (call_of nester stage words)
   ready_at _ _ sound calm (Working [] g v empty shows alone may suits safe tidied is history) stage words e =
       known v nester (SpaceRelease OWN_SPACE slot) stage no_words words (let one : SpaceRelease OWN_SPACE slot ≡ stage = cc in one) (let two : no_words
       ≡ words = cc in two)
-      (calm_call_ready nester slot v (SpaceRelease OWN_SPACE slot) no_words _ _ (holding nester slot g v shows) calm
+      (unheld_call_ready nester slot v (SpaceRelease OWN_SPACE slot) no_words _ _ (holding nester slot g v shows) calm
       (release-row nester slot v (holding nester slot g v shows)))
   ready_at _ _ sound calm (Working (o ∷ os) g v empty shows alone may suits safe tidied is history) stage words e =
       known v nester (stage_of slot o) stage (words_of o) words (let one : stage_of slot o ≡ stage = cc in one) (let two : words_of o ≡ words = cc in two)

@@ -21,11 +21,14 @@ use Rattle.fk_model.proofs.walks.PlaceLaws.{same_path_refl, same_path_eq}
 use Rattle.fk_model.specs.Places.{same_path}
 use Rattle.laws_restore.specs.Sites.Fit.{IsIdleIn}
 use Rattle.laws_restore.specs.Sites.Owed.{IsFree}
-use Rattle.laws_restore.proofs.InRestore.Idle.{talks, faults, talks_less, faults_less, led_talks, led_faults, by_talk, by_fault, other_fault, other_talk, idle_by}
+use Rattle.laws_restore.proofs.InRestore.Idle.{talks, faults, talks_less, faults_less, led_talks, led_faults, by_talk, by_fault, other_fault, other_talk}
+use Rattle.laws_restore.proofs.InRestore.Idle.{idle_by}
 use Rattle.laws_restore.specs.Restore.Fits.{there, IsWay}
-use Rattle.laws_restore.specs.Restore.Script.{P, T, U, leads_to_at, talk_words, fault_words, is_talk_inside, is_fault_inside, ties_inside, ties_talk, ties_fault}
+use Rattle.laws_restore.specs.Restore.Script.{P, T, U, leads_to_at, talk_words, fault_words, is_talk_inside, is_fault_inside, ties_inside, ties_talk}
+use Rattle.laws_restore.specs.Restore.Script.{ties_fault}
 use Rattle.laws_restore.specs.Restore.Script.{ties_its_talk, ties_its_fault, ties_body}
-use Rattle.laws_restore.specs.Restore.Stages.{Mask, bound, leading, led_below, all_led, is_out_below, is_led_below, anywhere, shown_talk, shown_fault, shown_ptr}
+use Rattle.laws_restore.specs.Restore.Stages.{Mask, bound, leading, led_below, all_led, is_out_below, is_led_below, anywhere, shown_talk, shown_fault}
+use Rattle.laws_restore.specs.Restore.Stages.{shown_ptr}
 use Rattle.laws_restore.specs.Restore.Stages.{is_among}
 use Rattle.laws_restore.specs.Restore.Roomed.{AreBeside, GivesTalk, GivesFault, IsAim, IsPair, IsTalkAim, IsFaultAim, IsTakenAim, IsAble}
 use Rattle.laws_restore.proofs.InRestore.Leaving.{Leaves, leaves_on, leaves_none, leads_t, leads_u, place_of, ordered}

@@ -21,10 +21,13 @@ use Rattle.fk_model.proofs.walks.PlaceLaws.{same_path_eq}
 use Rattle.std.proofs.lemmas.Bool.{le-leb}
 use Rattle.laws_restore.specs.Restore.Rooms.{Room}
 use Rattle.laws_restore.specs.Restore.Fits.{there}
-use Rattle.laws_restore.specs.Restore.Script.{P, T, U, D, has, each, through_rooms, after_rooms, makes_spaces, fills, points_body, leads_in, leads_out, leads_body_out}
-use Rattle.laws_restore.specs.Restore.Script.{leads_out_by, leads_outs, after_outs, ties_body, ties_inside, holds_spaces, after_holds, any_room, made_by, filled_by}
+use Rattle.laws_restore.specs.Restore.Script.{P, T, U, D, has, each, through_rooms, after_rooms, makes_spaces, fills, points_body, leads_in, leads_out}
+use Rattle.laws_restore.specs.Restore.Script.{leads_body_out}
+use Rattle.laws_restore.specs.Restore.Script.{leads_out_by, leads_outs, after_outs, ties_body, ties_inside, holds_spaces, after_holds, any_room, made_by}
+use Rattle.laws_restore.specs.Restore.Script.{filled_by}
 use Rattle.laws_restore.specs.Restore.Script.{pointed_by, led_out_by, tied_by, opens, closes, script}
-use Rattle.laws_restore.specs.Restore.Stages.{Mask, nowhere, shown_talk, shown_fault, anywhere, nothing_led, led_below, all_led, recorded, blank, is_among, is_given}
+use Rattle.laws_restore.specs.Restore.Stages.{Mask, nowhere, shown_talk, shown_fault, anywhere, nothing_led, led_below, all_led, recorded, blank, is_among}
+use Rattle.laws_restore.specs.Restore.Stages.{is_given}
 use Rattle.laws_restore.specs.Restore.Stages.{built_at, building, bound, leading}
 use Rattle.laws_restore.specs.Restore.Roomed.{IsNewSpace, with_space, AreSpaces, all_made, all_given, with_spaces, IsRoomed}
 use Rattle.laws_restore.proofs.InRestore.Ways.{Runs, on}

@@ -21,9 +21,11 @@ use Rattle.fk_image.specs.declared.image.image.ObjectRec.{ObjectRec}
 use Rattle.fk_image.specs.declared.image.image.SpaceRec.{SpaceRec}
 use Rattle.fk_image.specs.declared.image.image.Image.{Image}
 use Rattle.fk_image.specs.Image.Objects.{kind_of_rec, kind_in}
-use Rattle.fk_image.specs.Image.Ranges.{is_slot, is_set_word, is_byte, is_half, is_extent, is_bit, is_turn, fits_link, fits_taker, fits_talk, fits_fault, fits_body}
+use Rattle.fk_image.specs.Image.Ranges.{is_slot, is_set_word, is_byte, is_half, is_extent, is_bit, is_turn, fits_link, fits_taker, fits_talk, fits_fault}
+use Rattle.fk_image.specs.Image.Ranges.{fits_body}
 use Rattle.fk_image.specs.Image.Links.{kind_in_space, has_space_at, is_region_kind, is_port_kind, is_thread_kind, is_portset_kind, is_thread_in, is_set_of}
-use Rattle.fk_image.specs.Image.Links.{leads_to_region, leads_to_keeper, leads_to_port, serves_port, may_refer, talk_leads, taker_leads, fault_leads, body_leads}
+use Rattle.fk_image.specs.Image.Links.{leads_to_region, leads_to_keeper, leads_to_port, serves_port, may_refer, talk_leads, taker_leads, fault_leads}
+use Rattle.fk_image.specs.Image.Links.{body_leads}
 use Rattle.fk_image.specs.Image.Links as links
 use Rattle.fk_image.specs.Image.Picture.{ptr, space_path, rec_in, pictured_talk, pictured_fault, pictured_body, picture}
 use Rattle.laws_restore.specs.Restore.Fits.{there, is_referable, IsWay}

@@ -31,7 +31,8 @@ use Rattle.fk_image.specs.declared.image.image.Rec.{Rec}
 use Rattle.fk_image.specs.declared.image.image.Rec.TheVariants.{Mutex, Cond, Portset, Mapping, Region, Port, Thread, Reference}
 use Rattle.fk_image.specs.declared.image.image.SpaceRec.{SpaceRec}
 use Rattle.fk_image.specs.Image.Ranges as ranges
-use Rattle.fk_image.specs.Image.Ranges.{is_extent, is_mode_byte, is_code, is_byte, is_half, is_bit, is_turn, fits_link, fits_taker, fits_talk, fits_fault, fits_body}
+use Rattle.fk_image.specs.Image.Ranges.{is_extent, is_mode_byte, is_code, is_byte, is_half, is_bit, is_turn, fits_link, fits_taker, fits_talk, fits_fault}
+use Rattle.fk_image.specs.Image.Ranges.{fits_body}
 use Rattle.fk_image.specs.Image.Picture.{mode, mode_while_calling, pictured_talk, pictured_fault, pictured_thread, pictured_body}
 use Rattle.laws_restore.specs.Sites.Owed.{IsGiven}
 use Rattle.laws_restore.specs.Restore.Script.{padded}

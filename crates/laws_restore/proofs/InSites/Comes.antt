@@ -17,7 +17,8 @@ use Rattle.laws_jobs.specs.Machines.{no_words, porter}
 use Rattle.laws_jobs.specs.Machines.{Reply}
 use Rattle.laws_restore.specs.Sites.Orders.{Spot, Site, Order, Shows, SpotShows, stage_of, words_of, May}
 use Rattle.laws_restore.specs.Sites.Orders.Spot.{Unsure}
-use Rattle.laws_restore.specs.Sites.Orders.Order.{Readies, Leads, LeadsTop, Makes, Sets, Points, Gives, MakesPin, Pins, Takes, Checks, ParksTalk, ParksFault, Drops}
+use Rattle.laws_restore.specs.Sites.Orders.Order.{Readies, Leads, LeadsTop, Makes, Sets, Points, Gives, MakesPin, Pins, Takes, Checks, ParksTalk, ParksFault}
+use Rattle.laws_restore.specs.Sites.Orders.Order.{Drops}
 use Rattle.laws_restore.specs.Sites.Orders.Order.{DropsPin, Deadens, LinksTalk, RaisesFault, LinksFault, Holds}
 use Rattle.laws_restore.proofs.InSites.Standing.{ref_slot, ref_named}
 use Rattle.laws_restore.proofs.InSites.Plain.{Plain, plain}

@@ -27,7 +27,8 @@ use Rattle.laws_moves.proofs.InFrozen.Holding.{holder_none, none_above, decider_
 use Rattle.fk_model.specs.Holds.{decider}
 use Rattle.laws_jobs.specs.Machines.{no_words, porter}
 use Rattle.laws_jobs.specs.Calls.{fresh}
-use Rattle.laws_restore.specs.Sites.Orders.{Spot, Pin, Site, pin_of, eye, bare, PinShows, SpotShows, Shows, alone, leads_nowhere, with_spot, with_built, MayDeaden}
+use Rattle.laws_restore.specs.Sites.Orders.{Spot, Pin, Site, pin_of, eye, bare, PinShows, SpotShows, Shows, alone, leads_nowhere, with_spot, with_built}
+use Rattle.laws_restore.specs.Sites.Orders.{MayDeaden}
 use Rattle.laws_restore.specs.Sites.Orders.Spot.{To, Unsure}
 use Rattle.laws_restore.specs.Sites.Orders.Pin.{NoPin}
 use Rattle.laws_restore.specs.Sites.Orders.Order.{Deadens}

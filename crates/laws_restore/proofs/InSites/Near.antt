@@ -27,7 +27,8 @@ use Rattle.laws_jobs.proofs.LeadLaws.{others_keep_unled}
 use Rattle.laws_moves.proofs.InFrozen.Frozen.{there_live}
 use Rattle.laws_restore.specs.Sites.Orders.Spot.{Unsure}
 use Rattle.laws_restore.specs.Sites.Orders.{Spot, Site, Shows, SpotShows, Order, May, stage_of, words_of, pin_of}
-use Rattle.laws_restore.specs.Sites.Orders.Order.{Readies, Leads, LeadsTop, Makes, Sets, Points, Gives, MakesPin, Pins, Takes, Checks, ParksTalk, ParksFault, LinksTalk}
+use Rattle.laws_restore.specs.Sites.Orders.Order.{Readies, Leads, LeadsTop, Makes, Sets, Points, Gives, MakesPin, Pins, Takes, Checks, ParksTalk, ParksFault}
+use Rattle.laws_restore.specs.Sites.Orders.Order.{LinksTalk}
 use Rattle.laws_restore.specs.Sites.Orders.Order.{RaisesFault, LinksFault, Holds, Drops, DropsPin, Deadens}
 use Rattle.laws_restore.specs.Sites.Fit.{IsUnled}
 use Rattle.laws_restore.specs.Sites.Near.{is_near, IsNearChange, AreNear, IsNearCall, OwnCallsAreNear, NewSpaceIsUnled, OthersKeepNewUnled, NearCallsKeepUnled}

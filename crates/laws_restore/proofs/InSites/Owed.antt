@@ -21,7 +21,8 @@ use Rattle.laws_moves.specs.Savable.Savable.{may_make, MayMake, NamesHolderOutsi
 use Rattle.laws_jobs.specs.Machines.{porter, no_words, IsOwedCall}
 use Rattle.laws_jobs.proofs.Rows.{object-there}
 use Rattle.laws_restore.specs.Sites.Orders.{Site, Shows, Order, May, MayLink, MayHold, MayRaise, is_ref_slot, stage_of, words_of}
-use Rattle.laws_restore.specs.Sites.Orders.Order.{Readies, Leads, LeadsTop, Makes, Sets, Points, Gives, MakesPin, Pins, Takes, Checks, ParksTalk, ParksFault, LinksTalk}
+use Rattle.laws_restore.specs.Sites.Orders.Order.{Readies, Leads, LeadsTop, Makes, Sets, Points, Gives, MakesPin, Pins, Takes, Checks, ParksTalk, ParksFault}
+use Rattle.laws_restore.specs.Sites.Orders.Order.{LinksTalk}
 use Rattle.laws_restore.specs.Sites.Orders.Order.{RaisesFault, LinksFault, Holds, Drops, DropsPin, Deadens}
 use Rattle.laws_restore.specs.Sites.Fit.{IsUnled, IsIdleIn}
 use Rattle.laws_restore.specs.Sites.Owed.{IsFree, Suits, OrdersAreOwed}

@@ -38,15 +38,18 @@ use Rattle.laws_subtrees.proofs.InCut.likeness.Records.{set_edits-seen, held_kin
 use Rattle.laws_jobs.specs.Machines.{no_words, porter}
 use Rattle.laws_jobs.specs.Calls.{fresh, has_pointer}
 use Rattle.laws_restore.specs.Sites.Orders.{Spot, Pin, Site, pin_of, lifted, eye, bare, PinShows, IsKeptBy, SpotShows, Shows, Order, stage_of, words_of, does}
-use Rattle.laws_restore.specs.Sites.Orders.{is_ref_slot, with_built, with_pin, after_set, after_pointer, IsLive, MayMake, MaySet, MayPoint, MayLead, MayGive, MayPark}
+use Rattle.laws_restore.specs.Sites.Orders.{is_ref_slot, with_built, with_pin, after_set, after_pointer, IsLive, MayMake, MaySet, MayPoint, MayLead, MayGive}
+use Rattle.laws_restore.specs.Sites.Orders.{MayPark}
 use Rattle.laws_restore.specs.Sites.Orders.{May}
 use Rattle.laws_restore.specs.Sites.Orders.Spot.{To, Unsure}
 use Rattle.laws_restore.specs.Sites.Orders.Pin.{NoPin, Loose, Fast}
-use Rattle.laws_restore.specs.Sites.Orders.Order.{Readies, Leads, LeadsTop, Makes, Sets, Points, Gives, MakesPin, Pins, Takes, Checks, ParksTalk, ParksFault, Drops}
+use Rattle.laws_restore.specs.Sites.Orders.Order.{Readies, Leads, LeadsTop, Makes, Sets, Points, Gives, MakesPin, Pins, Takes, Checks, ParksTalk, ParksFault}
+use Rattle.laws_restore.specs.Sites.Orders.Order.{Drops}
 use Rattle.laws_restore.specs.Sites.Orders.Order.{DropsPin, Deadens, LinksTalk, RaisesFault, LinksFault, Holds}
 use Rattle.laws_restore.specs.Sites.Near.{AreNear}
 use Rattle.laws_restore.proofs.InSites.Nearby.{inside_near, scratch_near, edits_near, fresh_near, page_near}
-use Rattle.laws_restore.proofs.InSites.Standing.{kind_seen, unfrozen, decides, nester_unfrozen, ref_slot, ref_named, user_named, ref_there, ref_led, ref_unfrozen, big}
+use Rattle.laws_restore.proofs.InSites.Standing.{kind_seen, unfrozen, decides, nester_unfrozen, ref_slot, ref_named, user_named, ref_there, ref_led}
+use Rattle.laws_restore.proofs.InSites.Standing.{ref_unfrozen, big}
 use Rattle.laws_restore.proofs.InSites.Standing.{empty_there, root_there, root_named, place-row}
 use Rattle.laws_restore.proofs.InSites.Changes.{bare-pin, alters, makes, makes_space, gives, leads, led_there, pin_kept, above_stays, readies}
 use Rattle.laws_jobs.proofs.Rows.{own-place, object-there, create-row, point-row, set_ptr-row, set_state-row, page_give-row, link_park-row, fault_park-row}

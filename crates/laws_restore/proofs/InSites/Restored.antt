@@ -12,8 +12,10 @@ use Rattle.laws_jobs.specs.Machines.{reply_of, heard, said_of, own_moves, IsRead
 use Rattle.laws_jobs.specs.Machines.{Reply, IsAnswered}
 use Rattle.laws_jobs.specs.Machines.Head.{Stops}
 use Rattle.laws_jobs.specs.Machines.Interleaved.{Here, Another, Own}
-use Rattle.laws_restore.specs.Sites.Orders.{Site, Shows, Order, stage_of, words_of, does, does_all, May, MayAll, End, State, head, passes, fails, is_port_in, restorer}
-use Rattle.laws_restore.specs.Sites.Orders.Order.{Readies, Leads, LeadsTop, Makes, Sets, Points, Gives, MakesPin, Pins, Takes, Checks, ParksTalk, ParksFault, Drops}
+use Rattle.laws_restore.specs.Sites.Orders.{Site, Shows, Order, stage_of, words_of, does, does_all, May, MayAll, End, State, head, passes, fails, is_port_in}
+use Rattle.laws_restore.specs.Sites.Orders.{restorer}
+use Rattle.laws_restore.specs.Sites.Orders.Order.{Readies, Leads, LeadsTop, Makes, Sets, Points, Gives, MakesPin, Pins, Takes, Checks, ParksTalk, ParksFault}
+use Rattle.laws_restore.specs.Sites.Orders.Order.{Drops}
 use Rattle.laws_restore.specs.Sites.Orders.Order.{DropsPin, Deadens, LinksTalk, RaisesFault, LinksFault, Holds}
 use Rattle.laws_restore.specs.Sites.Orders.State.{Working, Over}
 use Rattle.laws_restore.specs.Sites.Orders.End.{Done, Lost}

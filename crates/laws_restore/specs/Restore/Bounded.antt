@@ -15,6 +15,7 @@ abbrev pub count_of : List Room → ℕ
 count_of [] = zero
 count_of (r ∷ rs) = suc (length r.items + length r.sheets) + count_of rs
 
+-- the script of n bodies and pages, none deeper than d, has at most 30 (n + 1) (d + 1) orders
 abbrev pub ScriptIsBounded : Type 0
 ScriptIsBounded = (slot : ℕ) (bind : ℕ → ℕ) (c : World) (rooms : List Room) (d : ℕ) → IsRoomed bind c rooms → LiesWithin c d
     → length (script slot bind rooms) ≤ 30 * ((count_of rooms + 1) * (d + 1))

@@ -9,7 +9,7 @@ use Rattle.fk_model.specs.Rebind.{rebound}
 use Rattle.fk_model.specs.Cut.{cut}
 use Rattle.laws_jobs.specs.Machines.{AtWork, calls_made, IsOwedCall}
 use Rattle.laws_jobs.specs.Machines.Head.{Stops, Asks}
-use Rattle.laws_jobs.specs.Jobs.{MayBegin, IsTidyJob, Restores}
+use Rattle.laws_jobs.specs.Jobs.{MayBegin, MeetsContract, Restores}
 use Rattle.laws_restore.specs.Restore.Rooms.{Room}
 use Rattle.laws_restore.specs.Restore.Script.{script}
 use Rattle.laws_restore.specs.Restore.Roomed.{IsRoomed}
@@ -24,6 +24,8 @@ EndsSo w v nester slot bind c Done = (w.body (slot ∷ nester) ≡ None) × (cut
 EndsSo w v nester slot bind c Occupied = IsSome (w.body (slot ∷ nester)) × (v ≡ w)
 EndsSo w v nester slot bind c (NoPort port) = (w.body (slot ∷ nester) ≡ None) × ((q : Path) → v.body (q ++ slot ∷ nester) ≡ None)
 
+-- a restore ends so: its slot was empty and the subtree stands there unheld; or it was empty, a port was missing and nothing stands there again; or it was
+-- taken and nothing was done
 abbrev pub RestoreEndsSo : Type 0
 RestoreEndsSo = (slot birth : ℕ) (bind : ℕ → ℕ) (c : World) (rooms : List Room) (w v : World) (nester : Path) (t : State) (end : End) → slot ≤ LAST_USER_SLOT
     → IsRoomed bind c rooms → MayBegin w nester birth →
@@ -37,10 +39,10 @@ RestoreIsOwed = (slot birth : ℕ) (bind : ℕ → ℕ) (c : World) (rooms : Lis
     ((v : World) (t : State) → AtWork (restore slot bind rooms) nester w Makes v t → (stage : Stage) (words : List ℕ)
     → (restore slot bind rooms).head t ≡ Asks stage words → IsOwedCall v nester stage words)
 
--- so it is tidy: its calls are owed, its porter stays while it has one to make, and no scratch is left at its end
-abbrev pub RestoreIsTidy : Type 0
-RestoreIsTidy = (slot birth : ℕ) (bind : ℕ → ℕ) (c : World) (rooms : List Room) → slot ≤ LAST_USER_SLOT → IsRoomed bind c rooms
-    → IsTidyJob (restore slot bind rooms) birth Makes
+-- so it meets a job's contract: its calls are owed, its porter stays while it has one to make, and no scratch is left at its end
+abbrev pub RestoreMeetsContract : Type 0
+RestoreMeetsContract = (slot birth : ℕ) (bind : ℕ → ℕ) (c : World) (rooms : List Room) → slot ≤ LAST_USER_SLOT → IsRoomed bind c rooms
+    → MeetsContract (restore slot bind rooms) birth Makes
 
 -- what a run wants of a restore: done, it leaves a plain subtree, which is the picture with its ports bound
 abbrev pub RestoreRestores : Type 0

@@ -11,7 +11,7 @@ use Rattle.laws_jobs.specs.Machines.{call_of, IsReadyAt, Interleaved, AtWork}
 use Rattle.laws_jobs.specs.Machines.Head.{Stops, Asks}
 use Rattle.laws_jobs.specs.Machines.Interleaved.{Here, Another, Own}
 use Rattle.laws_jobs.specs.Jobs.{MayBegin}
-use Rattle.laws_jobs.specs.Calls.{IsCalm}
+use Rattle.laws_jobs.specs.Calls.{IsUnheldOutside}
 use Rattle.laws_restore.specs.Sites.Orders.{stage_of}
 use Rattle.laws_restore.specs.Sites.Orders.Order.{Pins}
 use Rattle.laws_restore.specs.Restore.Rooms.{Room}
@@ -25,7 +25,7 @@ use Rattle.laws_restore.specs.Restore.Restore.State.{Makes}
 abbrev pub RestoreIsReady : Type 0
 RestoreIsReady = (slot birth : ℕ) (bind : ℕ → ℕ) (c : World) (rooms : List Room) (w v : World) (nester : Path) (t : State) (stage : Stage) (words : List ℕ)
     → slot ≤ LAST_USER_SLOT → IsRoomed bind c rooms → MayBegin w nester birth →
-    AtWork (restore slot bind rooms) nester w Makes v t → (restore slot bind rooms).head t ≡ Asks stage words → IsCalm (slot ∷ nester) v
+    AtWork (restore slot bind rooms) nester w Makes v t → (restore slot bind rooms).head t ≡ Asks stage words → IsUnheldOutside (slot ∷ nester) v
     → IsReadyAt v (call_of nester stage words)
 
 -- ---- a missing port
@@ -62,6 +62,8 @@ pub record EndsByMiss (slot : ℕ) (bind : ℕ → ℕ) (rooms : List Room) {nes
   pub missed : (port : ℕ) → end ≡ NoPort port → IsLowest bind rooms port × MissesFirst slot bind rooms (bind port) run
   pub told : (j : ℕ) → Misses slot bind rooms j run → (port : ℕ) × (end ≡ NoPort port) × IsLowest bind rooms port × (bind port ≡ j)
 
+-- a restore ends for want of a port exactly where it leads to a slot of the nester in which none stands, and tells the lowest slot of the image that is bound
+-- there
 abbrev pub NoPortIsExact : Type 0
 NoPortIsExact = (slot birth : ℕ) (bind : ℕ → ℕ) (c : World) (rooms : List Room) (w v : World) (nester : Path) (t : State) (end : End) → slot ≤ LAST_USER_SLOT
     → IsRoomed bind c rooms → MayBegin w nester birth →

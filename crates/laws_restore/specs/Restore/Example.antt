@@ -76,6 +76,7 @@ small_rooms = outer_room ∷ inner_room ∷ []
 abbrev pub small_bind : ℕ → ℕ
 small_bind i = if i == 9 then 10 else i
 
+-- a small subtree with a talk, a fault, a hold, a page and pointers of each sort is such as the laws suppose
 abbrev pub SmallIsRoomed : Type 0
 SmallIsRoomed = IsRoomed small_bind small small_rooms
 
@@ -95,5 +96,6 @@ one_script =
     -- scratch goes
     ∷ LeadsTop 241 ∷ LeadsTop 242 ∷ DropsPin ∷ Drops 240 ∷ Drops 241 ∷ Drops 242 ∷ Drops 243 ∷ []
 
+-- the script of a space with one reference out, order by order
 abbrev pub OneScript : Type 0
 OneScript = script 2 small_bind one_room ≡ one_script

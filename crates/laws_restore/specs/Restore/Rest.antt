@@ -28,6 +28,7 @@ pub record LeavesFar (slot : ℕ) (bind : ℕ → ℕ) (rooms : List Room) (w : 
       → (restore slot bind rooms).head t ≡ Asks stage words →
       IsReadyAt v (call_of nester stage words) → IsSameFar nester slot v (after v (call_of nester stage words))
 
+-- each of its calls leaves all that is neither in its new space nor its nester's scratch, those that destroy the new space again too
 abbrev pub RestoreLeavesFar : Type 0
 RestoreLeavesFar = (slot birth : ℕ) (bind : ℕ → ℕ) (c : World) (rooms : List Room) (w : World) (nester : Path) → slot ≤ LAST_USER_SLOT → IsRoomed bind c rooms
     → MayBegin w nester birth → LeavesFar slot bind rooms w nester
@@ -39,6 +40,7 @@ IsLastCall slot Done s stage = stage ≡ SpaceRelease OWN_SPACE slot
 IsLastCall slot Occupied s stage = s ≡ Makes
 IsLastCall slot (NoPort port) s stage = stage ≡ Destroy OWN_SPACE slot
 
+-- a restore's last call is its release, a stage of destroying its space, or the first call itself
 abbrev pub LastCallIsKnown : Type 0
 LastCallIsKnown = (slot : ℕ) (bind : ℕ → ℕ) (rooms : List Room) (s : State) (stage : Stage) (words : List ℕ) (status : ℕ) (told : List ℕ) (end : End)
     → (restore slot bind rooms).head s ≡ Asks stage words →

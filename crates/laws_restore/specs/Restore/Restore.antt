@@ -46,6 +46,7 @@ abbrev pub beneath : Path → ℕ
 beneath [] = zero
 beneath (k ∷ q) = suc zero
 
+-- how many objects have to be destroyed again
 abbrev pub objects : List Room → ℕ
 objects [] = zero
 objects (r ∷ rs) = (beneath r.path + length r.items) + objects rs
@@ -60,6 +61,7 @@ refused bind rooms os (Some j) = Clears drops (suc (objects rooms)) (lowest_boun
 
 -- ---- the machine
 
+-- what it asks for, or with what it ends
 abbrev pub head : ℕ → State → Head End
 head slot Makes = Asks (SpaceMakeHeld slot) no_words
 head slot (Works []) = Asks (SpaceRelease OWN_SPACE slot) no_words

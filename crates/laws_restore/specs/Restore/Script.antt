@@ -16,7 +16,8 @@ use Rattle.fk_model.specs.Objects.Body.{Mapping, Region, Thread_of, Reference}
 use Rattle.fk_model.specs.Records.{record_of}
 use Rattle.fk_model.specs.Records as records
 use Rattle.laws_restore.specs.Sites.Orders.{Order}
-use Rattle.laws_restore.specs.Sites.Orders.Order.{Readies, Leads, LeadsTop, Makes, Sets, Points, Gives, MakesPin, Pins, Takes, Checks, ParksTalk, ParksFault, LinksTalk}
+use Rattle.laws_restore.specs.Sites.Orders.Order.{Readies, Leads, LeadsTop, Makes, Sets, Points, Gives, MakesPin, Pins, Takes, Checks, ParksTalk, ParksFault}
+use Rattle.laws_restore.specs.Sites.Orders.Order.{LinksTalk}
 use Rattle.laws_restore.specs.Sites.Orders.Order.{RaisesFault, LinksFault, Holds, Drops, DropsPin, Deadens}
 use Rattle.laws_restore.specs.Restore.Rooms.{Item, Sheet, Room}
 
@@ -148,6 +149,7 @@ leads_out i b = is_out_to i (pointer_of b)
 abbrev pub talk_words : Talk → List ℕ
 talk_words talk = padded (records.talk_words (Some talk))
 
+-- what a porter gives with a fault: its page, and 1 for a write
 abbrev pub fault_words : Fault → List ℕ
 fault_words fault = padded (fault.page ∷ flag_of fault.write ∷ [])
 

@@ -37,6 +37,7 @@ abbrev pub ImageIsRestored : Type 0
 ImageIsRestored = (slot birth : ℕ) (i : Image) (pairs : List (ℕ × ℕ)) (w : World) (nester : Path) → IsRestoreJob slot i pairs
     → Restores (restore_of slot i pairs) birth slot (bound_by pairs) (picture i) is_done w nester Makes
 
+-- a restore of a valid image ends so: the subtree stands unheld where nothing stood; its slot was taken and nothing was done; or a port was missing
 abbrev pub ImageRestoreEndsSo : Type 0
 ImageRestoreEndsSo = (slot birth : ℕ) (i : Image) (pairs : List (ℕ × ℕ)) (w v : World) (nester : Path) (t : State) (end : End) → IsRestoreJob slot i pairs
     → MayBegin w nester birth →

@@ -29,6 +29,7 @@ abbrev pub rooms_from : List SpaceRec → ℕ → List SpaceRec → List Room
 rooms_from spaces number [] = []
 rooms_from spaces number (s ∷ ss) = room_of spaces number s ∷ rooms_from spaces (number + 1) ss
 
+-- the spaces of an image with what stands in each, as a restore makes them
 abbrev pub rooms_of : Image → List Room
 rooms_of i = rooms_from i.spaces 0 i.spaces
 
@@ -36,5 +37,6 @@ rooms_of i = rooms_from i.spaces 0 i.spaces
 abbrev pub IsBinding : (ℕ → ℕ) → Type 0
 IsBinding bind = (slot : ℕ) → slot ≤ LAST_USER_SLOT → bind slot ≤ LAST_USER_SLOT
 
+-- the rooms of a valid image list its picture, such as a restorer asks for: each valid image can be built
 abbrev pub ValidIsRoomed : Type 0
 ValidIsRoomed = (bind : ℕ → ℕ) (i : Image) → IsBinding bind → is_valid i ≡ true → IsRoomed bind (picture i) (rooms_of i)

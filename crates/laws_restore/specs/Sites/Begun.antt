@@ -15,6 +15,7 @@ use Rattle.laws_restore.specs.Sites.Orders.Pin.{NoPin}
 abbrev pub first : Site
 first = record { built = alone; spot = λ k. None; pin = NoPin }
 
+-- a restore's first call makes an empty space in a free slot, or is told that the slot is taken and changes nothing
 abbrev pub Begins : Type 0
 Begins = (nester : Path) (slot : ℕ) (w : World) (reply : Reply) → slot ≤ LAST_USER_SLOT
     → ((k : ℕ) → is_scratch nester (k ∷ nester) ≡ true → w.body (k ∷ nester) ≡ None) →

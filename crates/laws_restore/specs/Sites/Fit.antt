@@ -16,6 +16,7 @@ abbrev pub IsIdleIn : World → Path → Type 0
 IsIdleIn c z = (y : Path) → (holds (λ (talk : Talk). serves z talk.peer) (talk_at c y) ≡ false)
     × (holds (λ (fault : Fault). holds (serves z) fault.taker) (fault_at c y) ≡ false)
 
+-- a thread inside serves nobody in the whole world, where nobody inside is seen to be served by it
 abbrev pub ServesNobody : Type 0
 ServesNobody = (nester : Path) (slot : ℕ) (g : Site) (w : World) (j : ℕ) (z : Path) → Shows nester slot g w → IsUnled nester slot w → IsConsistent w
     → IsIdleIn g.built (j ∷ z) → is_serving w (j ∷ (z ++ slot ∷ nester)) ≡ false

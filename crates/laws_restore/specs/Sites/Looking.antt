@@ -27,6 +27,7 @@ pub record PinTells (nester : Path) (slot : ℕ) (w : World) (i : ℕ) (reply : 
   pub looks : reply.status ≡ OK → Looks nester slot (after w (call_of nester (stage_of slot (Pins i)) no_words)) i (is_port (w.body (i ∷ nester)))
   pub led : is_port (w.body (i ∷ nester)) ≡ true → reply.status ≡ OK
 
+-- led to a slot of the nester, the pin leads to a port there exactly where one stands there
 abbrev pub PinsTell : Type 0
 PinsTell = (nester : Path) (slot : ℕ) (g : Site) (w : World) (i : ℕ) (reply : Reply) → Shows nester slot g w → May slot (Pins i) g
     → IsAnswered nester w (stage_of slot (Pins i)) no_words reply → PinTells nester slot w i reply
@@ -36,6 +37,7 @@ abbrev pub OthersKeepLooks : Type 0
 OthersKeepLooks = (nester : Path) (slot : ℕ) (g : Site) (w : World) (e : Event) (i : ℕ) (port : Bool) → Shows nester slot g w → IsUsersMove nester w e
     → Looks nester slot w i port → Looks nester slot (after w e) i port
 
+-- the call that leads scratch to a slot keeps what the pin there tells
 abbrev pub TakesKeepLooks : Type 0
 TakesKeepLooks = (nester : Path) (slot : ℕ) (g : Site) (w : World) (r i : ℕ) (port : Bool) (reply : Reply) → Shows nester slot g w → May slot (Takes r) g
     → IsAnswered nester w (stage_of slot (Takes r)) no_words reply → Looks nester slot w i port →

@@ -54,6 +54,7 @@ pub record IsNearCall (nester : Path) (slot : ℕ) (w : World) (e : Event) : Typ
   pub world : after w e ≡ apply_all changes w
   pub near : AreNear nester slot changes
 
+-- a restorer's calls change its new subtree and its scratch, and nothing else but what led to an object that they destroy
 abbrev pub OwnCallsAreNear : Type 0
 OwnCallsAreNear = (nester : Path) (slot : ℕ) (g : Site) (w : World) (o : Order) (reply : Reply) → Shows nester slot g w → May slot o g
     → IsAnswered nester w (stage_of slot o) (words_of o) reply →
@@ -65,9 +66,11 @@ NewSpaceIsUnled = (nester : Path) (slot : ℕ) (w : World) (reply : Reply) → s
     → IsAnswered nester w (SpaceMakeHeld slot) no_words reply →
     IsUnled nester slot (after w (call_of nester (SpaceMakeHeld slot) no_words))
 
+-- nobody outside comes to lead in while others move
 abbrev pub OthersKeepNewUnled : Type 0
 OthersKeepNewUnled = (nester : Path) (slot : ℕ) (g : Site) (w : World) (e : Event) → Shows nester slot g w → IsUsersMove nester w e → IsUnled nester slot w
     → IsUnled nester slot (after w e)
 
+-- nobody outside comes to lead in by the restorer's own calls
 abbrev pub NearCallsKeepUnled : Type 0
 NearCallsKeepUnled = (nester : Path) (slot : ℕ) (w : World) (e : Event) → IsNearCall nester slot w e → IsUnled nester slot w → IsUnled nester slot (after w e)

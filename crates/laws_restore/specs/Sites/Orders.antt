@@ -137,6 +137,7 @@ pub data Order : Type 0 where
   -- the region in the first slot of the new space, and it alone, goes again, so that scratch r leads to what was destroyed
   Deadens : (r : ℕ) → Order
 
+-- the call by which an order is carried out
 abbrev pub stage_of : ℕ → Order → Stage
 stage_of slot (Readies r) = Create OWN_SPACE r 9
 stage_of slot (Leads r s q x) = Point OWN_SPACE r s x

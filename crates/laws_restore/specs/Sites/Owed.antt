@@ -39,6 +39,7 @@ abbrev pub SuitsAll : List Order → Site → Type 0
 SuitsAll [] g = Unit {0}
 SuitsAll (o ∷ os) g = Suits g o × SuitsAll os (does o g)
 
+-- where nobody leads in, the call of each order that suits is owed: fit, with words such as a porter gives, and leaving the world such as can be saved
 abbrev pub OrdersAreOwed : Type 0
 OrdersAreOwed = (nester : Path) (slot : ℕ) (g : Site) (w : World) (o : Order) → Shows nester slot g w → May slot o g → Suits g o → IsUnled nester slot w
     → IsValid w →

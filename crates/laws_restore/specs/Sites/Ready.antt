@@ -13,14 +13,16 @@ use Rattle.fk_model.specs.Runs.{after}
 use Rattle.fk_model.specs.Valid.{IsValid}
 use Rattle.fk_model.specs.Cut.{cut, IsPlain}
 use Rattle.laws_jobs.specs.Machines.{no_words, call_of}
-use Rattle.laws_jobs.specs.Calls.{IsCalm}
+use Rattle.laws_jobs.specs.Calls.{IsUnheldOutside}
 use Rattle.laws_jobs.specs.Machines.{Reply, IsAnswered}
 use Rattle.laws_restore.specs.Sites.Orders.{Site, Shows, Order, stage_of, words_of, May}
 use Rattle.laws_restore.specs.Sites.Orders.Pin.{NoPin}
 use Rattle.laws_restore.specs.Sites.Fit.{IsUnled}
 
+-- a restorer's next call is ready wherever its porter is free and no space outside its subtree is held
 abbrev pub NextIsReady : Type 0
-NextIsReady = (nester : Path) (slot : ℕ) (g : Site) (w : World) (o : Order) → Shows nester slot g w → May slot o g → IsValid w → IsCalm (slot ∷ nester) w →
+NextIsReady = (nester : Path) (slot : ℕ) (g : Site) (w : World) (o : Order) → Shows nester slot g w → May slot o g → IsValid w → IsUnheldOutside
+    (slot ∷ nester) w →
     IsReady w (LAST_PORTER_SLOT ∷ nester) None (asks.Call (stage_of slot o) (words_of o))
 
 -- the root is unheld, and the cut as it was built

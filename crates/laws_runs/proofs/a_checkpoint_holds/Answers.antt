@@ -1,4 +1,4 @@
-use Rattle.laws_runs.proofs.Headline.{checkpoints_hold}
+use Rattle.laws_runs.proofs.Transparency.{checkpoints_hold}
 use Rattle.laws_runs.proofs.a_checkpoint_holds.Goals as goal
 
 pub returns : goal.returns

@@ -34,7 +34,8 @@ use Rattle.laws_moves.proofs.InRows.Walk.{new_all, drops-all, ends-all, ends-the
 use Rattle.laws_moves.proofs.InRows.Moves.{moves-listed}
 use Rattle.laws_moves.proofs.InFrozen.Users.{record_mode, goes_to}
 use Rattle.laws_subtrees.proofs.InUncut.Outcomes.{AreOurs, IsOursEdit, SetOurs, IsOursRow, ours-row, OursIn, OursOutcome, row-then}
-use Rattle.laws_subtrees.proofs.InUncut.Found.{both-ours, pair-ours, one-ours, reference-ours, referred-ours, taker-ours, pointer-ours, field-ours, IsOursReach, word-ours}
+use Rattle.laws_subtrees.proofs.InUncut.Found.{both-ours, pair-ours, one-ours, reference-ours, referred-ours, taker-ours, pointer-ours, field-ours, IsOursReach}
+use Rattle.laws_subtrees.proofs.InUncut.Found.{word-ours}
 
 edits-ours : (x : Path) (b : Body) (words : List ℕ) → SetOurs (map (Alter x) (set_edits b words))
 edits-ours x (Mutex locked) words = (tt, tt)
@@ -71,7 +72,8 @@ module _ (w : World) (uncut : IsUncut w) where
         pair-ours at thread (referred-ours w uncut c kinds.Port port at read2) (referred-ours w uncut c kinds.Thread server thread read3)
     sets (Parks_talk s x port space t was place read read2 free) = refl
     sets (Restores_fault s x port taker space t at who place read read2 named free) =
-        both-ours (at ∷ []) (option_list peer_pointer who) (one-ours at (referred-ours w uncut c kinds.Port port at read2)) (taker-ours w uncut c taker who named)
+        both-ours (at ∷ []) (option_list peer_pointer who) (one-ours at (referred-ours w uncut c kinds.Port port at read2))
+        (taker-ours w uncut c taker who named)
     sets (Parks_fault s x port taken space t was place read read2 free) =
         both-ours (At (port ∷ c.space) ∷ []) (option_list peer_pointer (if taken == 1 then Some Parked else None)) refl (parks (taken == 1))
     sets other = tt
@@ -96,7 +98,8 @@ module _ (w : World) (uncut : IsUncut w) where
     work (Sleeps cond m) = (tt, (tt, tt))
     work (Sends_service stage side l address count here at) = (tt, (tt, tt))
     work (Passes stage side l thread e to carried here at led free awaits) = (tt, (tt, tt))
-    work (Hands_over stage side l thread e k reference p here at led free awaits there read may) = (reference-ours w uncut c c.space reference p read, (tt, (tt, tt)))
+    work (Hands_over stage side l thread e k reference p here at led free awaits there read may) =
+        (reference-ours w uncut c c.space reference p read, (tt, (tt, tt)))
     work other = (tt, tt)
 
     step : {stage : Stage} {o : Outcome} → Step w c pick stage o → OursIn w o

@@ -3,10 +3,14 @@
 use Rattle.std.specs.Prelude.{◌≡◌, ℕ, Bool, true, false, not, ◌&&◌, List, [], ◌∷◌, Option, Some}
 use Rattle.fk_model.specs.declared.moves.Ask.TheVariants as asks
 use Rattle.fk_model.specs.declared.stage.Stage.{Stage}
-use Rattle.fk_model.specs.declared.stage.Stage.TheVariants.{Create, Destroy, Rename, Search, Point, Clear, Locate, CountIn, GetState, SetState, GetPtr, SetPtr, ClientOverRef}
-use Rattle.fk_model.specs.declared.stage.Stage.TheVariants.{SpaceHold, SpaceRelease, ThreadStop, ThreadGo, PageGive, PageTake, PageRead, PageNext, MutexLock, ClientReceiveRef}
-use Rattle.fk_model.specs.declared.stage.Stage.TheVariants.{MutexTrylock, MutexUnlock, CondWait, CondAsleep, CondSignal, CondBroadcast, Connect, ClientReceive, ServerOverRef}
-use Rattle.fk_model.specs.declared.stage.Stage.TheVariants.{ClientSend, ClientOver, Disconnect, Wait, ServerReceive, ServerSend, ServerOver, ServerEnd, ServerReceiveRef}
+use Rattle.fk_model.specs.declared.stage.Stage.TheVariants.{Create, Destroy, Rename, Search, Point, Clear, Locate, CountIn, GetState, SetState, GetPtr, SetPtr}
+use Rattle.fk_model.specs.declared.stage.Stage.TheVariants.{ClientOverRef}
+use Rattle.fk_model.specs.declared.stage.Stage.TheVariants.{SpaceHold, SpaceRelease, ThreadStop, ThreadGo, PageGive, PageTake, PageRead, PageNext, MutexLock}
+use Rattle.fk_model.specs.declared.stage.Stage.TheVariants.{ClientReceiveRef}
+use Rattle.fk_model.specs.declared.stage.Stage.TheVariants.{MutexTrylock, MutexUnlock, CondWait, CondAsleep, CondSignal, CondBroadcast, Connect, ClientReceive}
+use Rattle.fk_model.specs.declared.stage.Stage.TheVariants.{ServerOverRef}
+use Rattle.fk_model.specs.declared.stage.Stage.TheVariants.{ClientSend, ClientOver, Disconnect, Wait, ServerReceive, ServerSend, ServerOver, ServerEnd}
+use Rattle.fk_model.specs.declared.stage.Stage.TheVariants.{ServerReceiveRef}
 use Rattle.fk_model.specs.declared.stage.Stage.TheVariants.{FaultDone, LinkSet, LinkPark, FaultSet, FaultPark, HoldSet, SpaceMakeHeld}
 use Rattle.fk_model.specs.Places.{Path, is_within}
 use Rattle.fk_model.specs.Objects.{Thread, thread_of, and_then}
@@ -60,63 +64,65 @@ StageOutsideKeepsCut IsSuch = (w : World) (nester : Path) (slot : ℕ) (x : Path
 -- ---- which stages are meant
 
 -- of these stages nothing is seen from outside, and they pick nobody: each changes what lies in the caller's reach, or waits
-abbrev pub is_plain_stage : Stage → Bool
-is_plain_stage (Create s x kind) = true
-is_plain_stage (Destroy s x) = false
-is_plain_stage (Rename s x y) = false
-is_plain_stage (Search s from) = true
-is_plain_stage (Point s x s2 x2) = true
-is_plain_stage (Clear s x) = true
-is_plain_stage (Locate reference s) = true
-is_plain_stage (CountIn base s x) = false
-is_plain_stage (GetState s x address) = true
-is_plain_stage (SetState s x address) = true
-is_plain_stage (GetPtr s x field reference) = true
-is_plain_stage (SetPtr s x field reference) = true
-is_plain_stage (SpaceHold s x) = true
-is_plain_stage (SpaceRelease s x) = true
-is_plain_stage (ThreadStop h) = true
-is_plain_stage (ThreadGo h) = true
-is_plain_stage (PageGive s page address) = false
-is_plain_stage (PageTake s page address) = false
-is_plain_stage (PageRead s page address) = true
-is_plain_stage (PageNext s from) = true
-is_plain_stage (MutexLock m) = true
-is_plain_stage (MutexTrylock m) = true
-is_plain_stage (MutexUnlock m) = true
-is_plain_stage (CondWait c m) = true
-is_plain_stage (CondAsleep c m) = true
-is_plain_stage (CondSignal c) = false
-is_plain_stage (CondBroadcast c) = true
-is_plain_stage (Connect h) = true
-is_plain_stage (ClientReceive into room) = true
-is_plain_stage (ClientSend address count) = false
-is_plain_stage ClientOver = false
-is_plain_stage Disconnect = false
-is_plain_stage (ClientOverRef reference) = false
-is_plain_stage (ClientReceiveRef into room reference) = true
-is_plain_stage (Wait set) = false
-is_plain_stage (ServerReceive into room) = false
-is_plain_stage (ServerSend address count) = false
-is_plain_stage ServerOver = false
-is_plain_stage ServerEnd = false
-is_plain_stage FaultDone = false
-is_plain_stage (ServerOverRef reference) = false
-is_plain_stage (ServerReceiveRef into room reference) = false
-is_plain_stage (LinkSet s x port server) = false
-is_plain_stage (LinkPark s x port) = false
-is_plain_stage (FaultSet s x port taker) = false
-is_plain_stage (FaultPark s x port taken) = false
-is_plain_stage (HoldSet s x thread) = false
-is_plain_stage (SpaceMakeHeld x) = false
+abbrev pub is_hidden_stage : Stage → Bool
+is_hidden_stage (Create s x kind) = true
+is_hidden_stage (Destroy s x) = false
+is_hidden_stage (Rename s x y) = false
+is_hidden_stage (Search s from) = true
+is_hidden_stage (Point s x s2 x2) = true
+is_hidden_stage (Clear s x) = true
+is_hidden_stage (Locate reference s) = true
+is_hidden_stage (CountIn base s x) = false
+is_hidden_stage (GetState s x address) = true
+is_hidden_stage (SetState s x address) = true
+is_hidden_stage (GetPtr s x field reference) = true
+is_hidden_stage (SetPtr s x field reference) = true
+is_hidden_stage (SpaceHold s x) = true
+is_hidden_stage (SpaceRelease s x) = true
+is_hidden_stage (ThreadStop h) = true
+is_hidden_stage (ThreadGo h) = true
+is_hidden_stage (PageGive s page address) = false
+is_hidden_stage (PageTake s page address) = false
+is_hidden_stage (PageRead s page address) = true
+is_hidden_stage (PageNext s from) = true
+is_hidden_stage (MutexLock m) = true
+is_hidden_stage (MutexTrylock m) = true
+is_hidden_stage (MutexUnlock m) = true
+is_hidden_stage (CondWait c m) = true
+is_hidden_stage (CondAsleep c m) = true
+is_hidden_stage (CondSignal c) = false
+is_hidden_stage (CondBroadcast c) = true
+is_hidden_stage (Connect h) = true
+is_hidden_stage (ClientReceive into room) = true
+is_hidden_stage (ClientSend address count) = false
+is_hidden_stage ClientOver = false
+is_hidden_stage Disconnect = false
+is_hidden_stage (ClientOverRef reference) = false
+is_hidden_stage (ClientReceiveRef into room reference) = true
+is_hidden_stage (Wait set) = false
+is_hidden_stage (ServerReceive into room) = false
+is_hidden_stage (ServerSend address count) = false
+is_hidden_stage ServerOver = false
+is_hidden_stage ServerEnd = false
+is_hidden_stage FaultDone = false
+is_hidden_stage (ServerOverRef reference) = false
+is_hidden_stage (ServerReceiveRef into room reference) = false
+is_hidden_stage (LinkSet s x port server) = false
+is_hidden_stage (LinkPark s x port) = false
+is_hidden_stage (FaultSet s x port taker) = false
+is_hidden_stage (FaultPark s x port taken) = false
+is_hidden_stage (HoldSet s x thread) = false
+is_hidden_stage (SpaceMakeHeld x) = false
 
+-- a stage of which nothing is seen from outside
 abbrev pub IsPlainStage : Stage → Type 0
-IsPlainStage stage = is_plain_stage stage ≡ true
+IsPlainStage stage = is_hidden_stage stage ≡ true
 
 -- those that a user, or a porter, is denied
 abbrev pub IsForPorters : Stage → Type 0
 IsForPorters stage = is_for_porters stage ≡ true
 
+-- a stage that a porter is denied
 abbrev pub IsForUsers : Stage → Type 0
 IsForUsers stage = is_for_users stage ≡ true
 
@@ -126,33 +132,42 @@ names_server (LinkSet s x port server) = true
 names_server (FaultSet s x port taker) = true
 names_server other = false
 
+-- a porter's stage that makes a talk or a fault again with its server
 abbrev pub IsServerNamed : Stage → Type 0
 IsServerNamed stage = names_server stage ≡ true
 
+-- another of a porter's own stages, which names no server
 abbrev pub IsServerless : Stage → Type 0
 IsServerless stage = (is_for_porters stage && not (names_server stage)) ≡ true
 
+-- a server receives
 abbrev pub IsServerReceive : Stage → Type 0
 IsServerReceive stage = (into : ℕ) × (room : ℕ) × (stage ≡ ServerReceive into room)
 
 abbrev pub IsServerReceiveRef : Stage → Type 0
 IsServerReceiveRef stage = (into : ℕ) × (room : ℕ) × (reference : ℕ) × (stage ≡ ServerReceiveRef into room reference)
 
+-- a page is taken from a space
 abbrev pub IsPageTake : Stage → Type 0
 IsPageTake stage = (s : ℕ) × (page : ℕ) × (address : ℕ) × (stage ≡ PageTake s page address)
 
+-- a page is given to a space
 abbrev pub IsPageGive : Stage → Type 0
 IsPageGive stage = (s : ℕ) × (page : ℕ) × (address : ℕ) × (stage ≡ PageGive s page address)
 
+-- a condition is signalled
 abbrev pub IsSignal : Stage → Type 0
 IsSignal stage = (cond : ℕ) × (stage ≡ CondSignal cond)
 
+-- a fault that was taken is ended
 abbrev pub IsFaultDone : Stage → Type 0
 IsFaultDone stage = stage ≡ FaultDone
 
+-- an object gets another slot
 abbrev pub IsRename : Stage → Type 0
 IsRename stage = (s : ℕ) × (x : ℕ) × (y : ℕ) × (stage ≡ Rename s x y)
 
+-- an object is destroyed
 abbrev pub IsDestroy : Stage → Type 0
 IsDestroy stage = (s : ℕ) × (x : ℕ) × (stage ≡ Destroy s x)
 
@@ -175,15 +190,19 @@ AcceptKeepsCut = (w : World) (nester : Path) (slot : ℕ) (port : Path) (pick : 
 
 -- ---- messages
 
+-- a server sends words
 abbrev pub IsServerSend : Stage → Type 0
 IsServerSend stage = (address : ℕ) × (count : ℕ) × (stage ≡ ServerSend address count)
 
+-- a client sends words
 abbrev pub IsClientSend : Stage → Type 0
 IsClientSend stage = (address : ℕ) × (count : ℕ) × (stage ≡ ClientSend address count)
 
+-- a server hands its client the turn
 abbrev pub IsServerOver : Stage → Type 0
 IsServerOver stage = stage ≡ ServerOver
 
+-- a client hands its peer the turn
 abbrev pub IsClientOver : Stage → Type 0
 IsClientOver stage = stage ≡ ClientOver
 
@@ -205,14 +224,17 @@ OverKeepsCut = (w : World) (nester : Path) (slot : ℕ) (port : Path) (pick : Op
 
 -- ---- ends
 
+-- a client ends its talk
 abbrev pub IsDisconnect : Stage → Type 0
 IsDisconnect stage = stage ≡ Disconnect
 
+-- a server ends the talk of its client
 abbrev pub IsServerEnd : Stage → Type 0
 IsServerEnd stage = stage ≡ ServerEnd
 
 -- ---- waits
 
+-- a thread waits at a port set
 abbrev pub IsWait : Stage → Type 0
 IsWait stage = (set : ℕ) × (stage ≡ Wait set)
 

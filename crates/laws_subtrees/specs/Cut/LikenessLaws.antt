@@ -16,8 +16,10 @@ use Rattle.fk_model.specs.SyncRows.{mutex_lock}
 use Rattle.fk_model.specs.LinkRows.{candidate}
 use Rattle.fk_model.specs.Valid.{IsValid}
 use Rattle.fk_model.specs.Cut.{ports_of, cut_ptr, cut, is_served_by, IsPlain}
-use Rattle.laws_subtrees.specs.Cut.Likeness.{seen_thread, PtrLikeness, IsLikeness, IsCutWorld, IsServedAlike, under, AlikeResults, AlikeOptions, IsBeneath, IsSeenAs}
-use Rattle.laws_subtrees.specs.Cut.Likeness.{IsSeenHandle, IsSeenBody, IsSeenThread, IsSeenWindow, IsSeenExtent, IsSeenTalk, IsSeenFault, ReachLikeness, EndLikeness}
+use Rattle.laws_subtrees.specs.Cut.Likeness.{seen_thread, PtrLikeness, IsLikeness, IsCutWorld, IsServedAlike, under, AlikeResults, AlikeOptions, IsBeneath}
+use Rattle.laws_subtrees.specs.Cut.Likeness.{IsSeenAs}
+use Rattle.laws_subtrees.specs.Cut.Likeness.{IsSeenHandle, IsSeenBody, IsSeenThread, IsSeenWindow, IsSeenExtent, IsSeenTalk, IsSeenFault, ReachLikeness}
+use Rattle.laws_subtrees.specs.Cut.Likeness.{EndLikeness}
 use Rattle.laws_subtrees.specs.Cut.Likeness.{LineLikeness, CandidateLikeness}
 use Rattle.laws_subtrees.specs.Cut.LikeChanges.{LikeChanges, IsLikeOutcome}
 use Rattle.fk_model.specs.Rebind.{rebound_ptr, rebound}
@@ -70,6 +72,7 @@ pub record FindsAlike (root : Path) (see : Ptr → Ptr) (small big : World) : Ty
   pub beneath : (q : Path) → beneath big (q ++ root) ≡ map (λ x. x ++ root) (beneath small q)
   pub leaves : (q : Path) → leaf big (q ++ root) ≡ leaf small q ++ root
 
+-- objects, handles, places, pages, threads, talks and faults are read alike in a likeness, and what lies in and beneath its spaces is found alike
 abbrev pub LikenessReadsAlike : Type 0
 LikenessReadsAlike = (root : Path) (see : Ptr → Ptr) (small big : World) →
     IsLikeness root see small big → ReadsAlike root see small big × FindsAlike root see small big
@@ -83,6 +86,7 @@ pub record HoldsAlike (root : Path) (see : Ptr → Ptr) (small big : World) : Ty
   pub candidates : (space : Path) (set k : ℕ) (q : Path) →
       AlikeOptions (CandidateLikeness see big (k ∷ (q ++ root))) (candidate small space set (k ∷ q)) (candidate big (space ++ root) set (k ∷ (q ++ root)))
 
+-- where nothing at or above its root is held, who is held, free, or a candidate of a wait is so in a likeness
 abbrev pub LikenessHoldsAlike : Type 0
 LikenessHoldsAlike = (root : Path) (see : Ptr → Ptr) (small big : World) →
     IsLikeness root see small big → is_frozen big root ≡ false → HoldsAlike root see small big
@@ -94,12 +98,14 @@ pub record ServesAlike (root : Path) (see : Ptr → Ptr) (small big : World) : T
   pub client_lines : (k : ℕ) (q : Path) → AlikeOptions (LineLikeness root see big) (line small (k ∷ q) turns.Client) (line big (k ∷ (q ++ root)) turns.Client)
   pub server_lines : (server : Path) → AlikeOptions (LineLikeness root see big) (line small server turns.Server) (line big (server ++ root) turns.Server)
 
+-- the client of a server, and the thread whose fault it has taken, are found alike in a likeness, and so is the talk in which a thread acts on either side
 abbrev pub LikenessServesAlike : Type 0
 LikenessServesAlike = (root : Path) (see : Ptr → Ptr) (small big : World) →
     IsLikeness root see small big → IsServedAlike root see big → ServesAlike root see small big
 
 -- ---- what is done alike in every likeness
 
+-- a lock that is refused is refused alike in a likeness, and one that goes locks the same mutex
 abbrev pub LockActsAlike : Type 0
 LockActsAlike = (root : Path) (see : Ptr → Ptr) (small big : World) →
     IsLikeness root see small big → (c : Caller) (m : ℕ) → IsLikeOutcome root see big (mutex_lock small c m) (mutex_lock big (under root c) m)

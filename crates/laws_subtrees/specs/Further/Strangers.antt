@@ -24,6 +24,7 @@ is_of_thread asks.Run = true
 is_of_thread (asks.Call stage words) = true
 is_of_thread other = false
 
+-- a move of a stranger isn't seen, where no mapping outside leads to a region inside
 abbrev pub StrangersMoveUnseen : Type 0
 StrangersMoveUnseen = (w : World) (nester : Path) (slot : ℕ) (e : Event) → IsWhole w → IsPlain w nester slot → HasNoWindow w nester slot →
     IsStranger w nester slot e.mover → is_of_thread e.ask ≡ true → is_fit w e.mover e.ask ≡ true → IsSeen w nester slot e Unseen
@@ -41,6 +42,7 @@ pub record IsStrangersPort (w : World) (nester : Path) (slot : ℕ) (port : Path
   pub outside : is_within (slot ∷ nester) port ≡ false
   pub aside : is_within (parent port) (slot ∷ nester) ≡ false
 
+-- an act of a native server whose port is a stranger's isn't seen
 abbrev pub StrangersActUnseen : Type 0
 StrangersActUnseen = (w : World) (nester : Path) (slot : ℕ) (e : Event) → IsWhole w → IsPlain w nester slot → HasNoWindow w nester slot →
     IsStrangersPort w nester slot e.mover → is_of_server e.ask ≡ true → IsReady w e.mover e.pick e.ask → IsSeen w nester slot e Unseen

@@ -44,11 +44,13 @@ renames (c ∷ cs) = renames cs
 abbrev pub renames_by : World → Onward → Bool
 renames_by c m = renames (listed (onward_row c m))
 
+-- the outside is told of an end exactly for each talk at a port there that was and is no more, also where its thread died
 abbrev pub EndsAreTold : Type 0
 EndsAreTold = (c d : World) (x : Path) (pick : Option Path) (taken : ℕ) (told : List Told) → IsCutWorld c → IsOnward c (Own x pick taken) told d →
     renames_by c (Own x pick taken) ≡ false → (q : Path) (port : Ptr) →
     (IsTold (ToldEnd q port) told → IsTalkLost c d q port) × (IsTalkLost c d q port → IsTold (ToldEnd q port) told)
 
+-- the outside is told of a fault exactly where a thread that had none has raised one there
 abbrev pub FaultsAreTold : Type 0
 FaultsAreTold = (c d : World) (x : Path) (pick : Option Path) (taken : ℕ) (told : List Told) → IsCutWorld c → IsOnward c (Own x pick taken) told d →
     renames_by c (Own x pick taken) ≡ false → (q : Path) (port : Ptr) (page : ℕ) (write : Bool) →
@@ -70,11 +72,13 @@ WordsAreTold = (c d : World) (x : Path) (pick : Option Path) (taken : ℕ) (told
     (IsTold (ToldWords q port words) told → (q ≡ x) × (outcome_said (onward_row c (Own x pick taken)) ≡ Words port words))
     × ((q ≡ x) × (outcome_said (onward_row c (Own x pick taken)) ≡ Words port words) → IsTold (ToldWords q port words) told)
 
+-- the outside is told of words and of an Over exactly as the move says them
 abbrev pub OversAreTold : Type 0
 OversAreTold = (c d : World) (x : Path) (pick : Option Path) (taken : ℕ) (told : List Told) → IsOnward c (Own x pick taken) told d →
     (q : Path) (port : Ptr) (carried : Option Ptr) →
     (IsTold (ToldOver q port carried) told → (q ≡ x) × (outcome_said (onward_row c (Own x pick taken)) ≡ Passed port) × (carried ≡ carried_by c x))
     × ((q ≡ x) × (outcome_said (onward_row c (Own x pick taken)) ≡ Passed port) × (carried ≡ carried_by c x) → IsTold (ToldOver q port carried) told)
 
+-- of what the outside does itself it is told nothing
 abbrev pub TouchesTellNothing : Type 0
 TouchesTellNothing = (c d : World) (touch : Touch) (told : List Told) → IsOnward c (ByOthers touch) told d → told ≡ []

@@ -38,6 +38,10 @@ fn ports_of(alloc: Global, noted: &[Noted]) -> Result<List<Text>, NoMemory>
 }
 
 /// The number of the first line of a record, counted from 1, that is misspelled or names no port, or one before its time; none where no line is.
+///
+/// # Errors
+///
+/// There is no memory for the ports.
 pub fn bad_line(alloc: Global, noted: &[Noted], bytes: &[u8]) -> Result<Option<u64>, NoMemory> {
     let ports = ports_of(alloc, noted)?;
     match read_record(alloc, ports.as_slice(), bytes) {

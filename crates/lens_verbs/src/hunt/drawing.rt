@@ -1,9 +1,9 @@
 //! The move of one that was drawn.
 use crate::hunt::random::Random;
 use fk_core::Core;
+use fk_jobs::Porter;
 use fk_model::{Ask, Mode, Move, Stage, Who};
 use fk_natives::{Native, ask};
-use fk_porters::Porter;
 use lens_text::next_stage;
 
 /// At most so many threads that wait for the same are passed over for a pick.
@@ -39,7 +39,7 @@ fn before(who: Who) -> Option<Who> {
     })
 }
 
-/// The same move, or one that picks another of those who wait for the same behind its pick.
+/// This move, or one that picks another of those who wait for the same behind its pick.
 fn varied(core: &Run, random: &mut Random, found: Move) -> Move {
     let mut one = found;
     let mut at = found.pick;

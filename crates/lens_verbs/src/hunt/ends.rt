@@ -1,10 +1,9 @@
 //! How a run has ended, in a line.
 use crate::hunt::drawing::Run;
 use crate::jobs::{Ending, ending_word, fate_of};
-use fk_jobs::{Jobs, Task};
+use fk_jobs::{Jobs, Porter, Task};
 use fk_model::Mode;
 use fk_natives::{Native, Service};
-use fk_porters::Porter;
 use fk_report::{End, end_word};
 use fk_store::Store;
 use lens_text::{Sheet, next_in_tree, push_between};

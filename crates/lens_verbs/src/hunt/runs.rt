@@ -1,6 +1,6 @@
 //! The run of one schedule.
 ghost use Rattle.std.specs.Prelude.{map};
-ghost use Rattle.fk_core.specs.Cores.Goings.{IsGoing};
+ghost use Rattle.fk_core.specs.Cores.Goings.{IsReachable};
 ghost use Rattle.fk_core.specs.Cores.Served.{AllFit};
 
 use crate::hunt::drawing::Run;
@@ -15,9 +15,9 @@ const TRIES: u32 = 4;
 /// which the sheet notes.
 fn go(core: &mut Run, table: &Table, lottery: &mut Lottery<'_>) -> Option<Move>
     requires fits { AllFit (map (λ r. r.rule) table.now.list.items) core.old.services.list }
-    requires come { IsGoing core.old }
+    requires come { IsReachable core.old }
     ensures fits { AllFit (map (λ r. r.rule) table.now.list.items) core.new.services.list }
-    ensures come { IsGoing core.new }
+    ensures come { IsReachable core.new }
 {
     for _ in 0..TRIES {
         if let Some(one) = lottery.draw(core) {
@@ -43,7 +43,7 @@ fn go(core: &mut Run, table: &Table, lottery: &mut Lottery<'_>) -> Option<Move>
 /// Makes the moves of a schedule, each of which is added to the list. Where there is no memory for that, the sheet notes it.
 pub fn run_by(core: &mut Run, table: &Table, lottery: &mut Lottery<'_>, moves: &mut Vec<Move>)
     requires fits { AllFit (map (λ r. r.rule) table.now.list.items) core.old.services.list }
-    requires come { IsGoing core.old }
+    requires come { IsReachable core.old }
 {
     for _ in 0..u64::MAX {
         let Some(one) = go(core, table, lottery) else {

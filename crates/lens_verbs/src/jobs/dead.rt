@@ -1,12 +1,11 @@
 //! Why a job is dead, finds its slot taken, or has no image.
 use crate::jobs::names::{ending_word, fate_of, push_space, site_of, slot_of};
-use fk_jobs::{Jobs, Plan, Source, Task};
-use fk_porters::Porter;
+use fk_jobs::{Jobs, PlannedJob, Porter, Source, Task};
 use fk_store::Store;
 use lens_text::{Sheet, push_held_there};
 
 /// Adds what stands in a job's slot.
-pub fn push_slot(sheet: &Sheet, store: &Store, plan: &Plan) {
+pub fn push_slot(sheet: &Sheet, store: &Store, plan: &PlannedJob) {
     sheet.fill(b"slot @ of ", slot_of(plan) as u64, 0, 0);
     push_space(sheet, store, plan.nester);
     sheet.put(b" is ");
@@ -14,7 +13,7 @@ pub fn push_slot(sheet: &Sheet, store: &Store, plan: &Plan) {
 }
 
 /// Adds why a job is dead that has made moves of its own, or has made none.
-pub fn push_dead(sheet: &Sheet, store: &Store, plan: &Plan, has_moved: bool) {
+pub fn push_dead(sheet: &Sheet, store: &Store, plan: &PlannedJob, has_moved: bool) {
     if store.is_live(plan.nester) & has_moved {
         push_slot(sheet, store, plan);
         sheet.put(b", where its first call wanted a space");
@@ -27,7 +26,7 @@ pub fn push_dead(sheet: &Sheet, store: &Store, plan: &Plan, has_moved: bool) {
 }
 
 /// Adds why a restore has no image: how the job has ended that was to make it.
-pub fn push_noimage(sheet: &Sheet, jobs: &Jobs<Porter>, plan: &Plan) {
+pub fn push_noimage(sheet: &Sheet, jobs: &Jobs<Porter>, plan: &PlannedJob) {
     match &plan.task {
         Task::Restore {
             source: Source::MadeBy(maker),

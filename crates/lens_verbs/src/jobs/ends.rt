@@ -3,8 +3,7 @@ use crate::jobs::dead::{push_dead, push_noimage, push_slot};
 use crate::jobs::foreign::push_foreign;
 use crate::jobs::names::{Ending, ending_word, fate_of, push_job};
 use crate::jobs::noport::push_noport;
-use fk_jobs::Jobs;
-use fk_porters::Porter;
+use fk_jobs::{Jobs, Porter};
 use fk_store::Store;
 use lens_text::Sheet;
 

@@ -1,7 +1,7 @@
 //! Why a subtree isn't closed.
 use crate::jobs::names::{push_space, site_of};
 use fk_finish::Place;
-use fk_jobs::Plan;
+use fk_jobs::PlannedJob;
 use fk_model::limits::LED_TO;
 use fk_model::{Body, Ptr, Thread, Who};
 use fk_store::Store;
@@ -121,7 +121,7 @@ fn led_by(body: &Body, field: u8) -> Option<Who> {
 }
 
 /// Adds where an object of a subtree leads that may not lead there.
-fn push_led(sheet: &Sheet, store: &Store, plan: &Plan, who: Who, field: u8) {
+fn push_led(sheet: &Sheet, store: &Store, plan: &PlannedJob, who: Who, field: u8) {
     push_path(sheet, store, who);
     let Some(body) = store.at(who) else {
         return;
@@ -148,7 +148,7 @@ fn push_led(sheet: &Sheet, store: &Store, plan: &Plan, who: Who, field: u8) {
 }
 
 /// Adds why the subtree of a job isn't closed: at the place that the job tells.
-pub fn push_foreign(sheet: &Sheet, store: &Store, plan: &Plan, place: &Place) {
+pub fn push_foreign(sheet: &Sheet, store: &Store, plan: &PlannedJob, place: &Place) {
     if let Some(who) = object_at(store, plan.nester, place.path.as_slice()) {
         if place.field == LED_TO {
             push_leaders(sheet, store, site_of(plan), who);

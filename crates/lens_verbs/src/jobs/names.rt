@@ -1,8 +1,9 @@
 //! Jobs, nesters and how jobs have ended, by words.
-use fk_finish::{Finish, Place};
-use fk_jobs::{Ended, Jobs, Plan, Task};
+use fk_checkpoint::CheckpointEnd;
+use fk_finish::Place;
+use fk_jobs::{Ended, Finish, Jobs, PlannedJob, Porter, Task, Unmoved};
 use fk_model::Who;
-use fk_porters::Porter;
+use fk_restore::RestoreEnd;
 use fk_store::Store;
 use lens_text::{Sheet, push_path};
 
@@ -16,7 +17,7 @@ pub fn push_space(sheet: &Sheet, store: &Store, birth: u32) {
 }
 
 /// The slot of the nester in which a job saves or makes a subtree.
-pub fn slot_of(plan: &Plan) -> u8 {
+pub fn slot_of(plan: &PlannedJob) -> u8 {
     match plan.task {
         Task::Checkpoint { slot } => slot,
         Task::Restore { slot, .. } => slot,
@@ -24,7 +25,7 @@ pub fn slot_of(plan: &Plan) -> u8 {
 }
 
 /// Where that slot is.
-pub fn site_of(plan: &Plan) -> Who {
+pub fn site_of(plan: &PlannedJob) -> Who {
     Who {
         space: plan.nester,
         slot: slot_of(plan),
@@ -32,7 +33,7 @@ pub fn site_of(plan: &Plan) -> Who {
 }
 
 /// Adds which job has a number.
-pub fn push_job(sheet: &Sheet, store: &Store, number: usize, plan: &Plan) {
+pub fn push_job(sheet: &Sheet, store: &Store, number: usize, plan: &PlannedJob) {
     sheet.fill(b"job @, ", number as u64, 0, 0);
     match plan.task {
         Task::Checkpoint { .. } => sheet.put(b"checkpoint of slot "),
@@ -62,30 +63,36 @@ pub struct Fate<'a> {
     pub moves: Option<(u64, u64)>,
 }
 
+/// How a job has ended by its own moves.
+fn ending_of(finish: &Finish) -> Ending<'_> {
+    match finish {
+        Finish::Checkpoint(CheckpointEnd::Done(_)) | Finish::Restore(RestoreEnd::Done) =>
+            Ending::Done,
+        Finish::Checkpoint(CheckpointEnd::Foreign(place)) => Ending::Foreign(place),
+        Finish::Checkpoint(CheckpointEnd::Gone) => Ending::Dead,
+        Finish::Restore(RestoreEnd::Occupied) => Ending::Occupied,
+        Finish::Restore(RestoreEnd::NoPort(port)) => Ending::NoPort(*port),
+    }
+}
+
 /// What has become of the job with this number. Who only asks this needs to know nothing of how jobs work.
 pub fn fate_of<'a>(jobs: &'a Jobs<Porter>, number: usize) -> Fate<'a> {
     match jobs.ends().get(number) {
         Some(
             Ended::Worked {
-                worker,
+                finish,
                 begun,
                 last,
             },
         ) => Fate {
-            ending: match worker.end() {
-                Some(Finish::Image(_) | Finish::Restored) => Ending::Done,
-                Some(Finish::Foreign(place)) => Ending::Foreign(place),
-                Some(Finish::Occupied) => Ending::Occupied,
-                Some(Finish::NoPort(port)) => Ending::NoPort(*port),
-                Some(Finish::Dead) | None => Ending::Dead,
-            },
+            ending: ending_of(finish),
             moves: Some((*begun, *last)),
         },
-        Some(Ended::NoImage) => Fate {
+        Some(Ended::Idle(Unmoved::NoImage)) => Fate {
             ending: Ending::NoImage,
             moves: None,
         },
-        Some(Ended::Dead) => Fate {
+        Some(Ended::Idle(Unmoved::Dead)) => Fate {
             ending: Ending::Dead,
             moves: None,
         },

@@ -2,9 +2,8 @@
 use crate::jobs::names::push_space;
 use fk_finish::ValidImage;
 use fk_image::{Link, Rec, SpaceRec};
-use fk_jobs::{Ended, Jobs, Plan, Source, Task, Worker};
+use fk_jobs::{Jobs, PlannedJob, Porter, Source, Task};
 use fk_model::Who;
-use fk_porters::Porter;
 use fk_store::Store;
 use lens_text::{Sheet, path_in, push_held_there};
 
@@ -68,7 +67,13 @@ fn bound(pairs: &[(u8, u8)], slot: u8) -> u8 {
 }
 
 /// Adds the slots of the nester to which an image leads out, each with the first object that does, and with what it is bound to and what stands there.
-fn push_outs(sheet: &Sheet, store: &Store, plan: &Plan, pairs: &[(u8, u8)], spaces: &[SpaceRec]) {
+fn push_outs(
+    sheet: &Sheet,
+    store: &Store,
+    plan: &PlannedJob,
+    pairs: &[(u8, u8)],
+    spaces: &[SpaceRec],
+) {
     for slot in 0..240u8 {
         if let Some(path) = first_out(sheet, spaces, slot) {
             sheet.fill(b"; it leads out to slot @ by ", slot as u64, 0, 0);
@@ -106,15 +111,12 @@ fn image_of<'a>(jobs: &'a Jobs<Porter>, source: &'a Source) -> Option<&'a ValidI
     match source {
         Source::Given(Some(image)) => Some(image),
         Source::Given(None) => None,
-        Source::MadeBy(maker) => match jobs.ends().get(*maker) {
-            Some(Ended::Worked { worker, .. }) => worker.image(),
-            _ => None,
-        },
+        Source::MadeBy(maker) => jobs.ends().get(*maker)?.image(),
     }
 }
 
 /// Adds why a restore finds no port: where the image leads out, what stands for each slot there, and which pairs bind nothing.
-pub fn push_noport(sheet: &Sheet, store: &Store, jobs: &Jobs<Porter>, plan: &Plan, port: u8) {
+pub fn push_noport(sheet: &Sheet, store: &Store, jobs: &Jobs<Porter>, plan: &PlannedJob, port: u8) {
     sheet.fill(
         b"what stands for slot @ of the image is no port",
         port as u64,

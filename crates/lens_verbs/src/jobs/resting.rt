@@ -1,9 +1,8 @@
 //! The line of the job whose turn it is.
 use crate::jobs::names::push_job;
 use fk_first::Seen;
-use fk_jobs::Jobs;
+use fk_jobs::{Jobs, Porter};
 use fk_model::{Body, Who};
-use fk_porters::Porter;
 use fk_store::Store;
 use lens_text::{Sheet, push_asked, push_between};
 

@@ -2,8 +2,7 @@
 use crate::jobs::ends::push_failed;
 use crate::jobs::resting::push_resting;
 use fk_first::Seen;
-use fk_jobs::Jobs;
-use fk_porters::Porter;
+use fk_jobs::{Jobs, Porter};
 use lens_text::Sheet;
 
 /// Watches how jobs end.

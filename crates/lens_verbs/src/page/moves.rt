@@ -4,9 +4,8 @@ use crate::page::template::{HEAD, SCRIPT};
 use crate::shows::Shows;
 use crate::steps::Steps;
 use fk_first::{Ready, Seen, Stop};
-use fk_jobs::Jobs;
+use fk_jobs::{Jobs, Porter};
 use fk_model::{Move, Who};
-use fk_porters::Porter;
 use lens_text::{Scene, Sheet, push_home};
 use std::collections::BTreeMap;
 

@@ -2,9 +2,8 @@
 use crate::shows::Shows;
 use crate::steps::lines::Steps;
 use fk_first::{Ready, Seen, Stop};
-use fk_jobs::Jobs;
+use fk_jobs::{Jobs, Porter};
 use fk_model::Move;
-use fk_porters::Porter;
 use lens_text::{Scene, Sheet};
 
 /// Who keeps what the moves of a run do.

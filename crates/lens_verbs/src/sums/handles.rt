@@ -92,7 +92,7 @@ impl Caller<'_> {
         }
     }
 
-    /// The same of a stage that names slots of the caller's space alone.
+    /// Adds what stands where each argument of a stage leads that names slots of the caller's space alone.
     fn push_alone(self, stage: &Stage) {
         match *stage {
             Stage::Locate { reference, s } => {

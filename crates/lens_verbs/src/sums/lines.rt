@@ -8,10 +8,9 @@ use crate::sums::refusals::Refusals;
 use crate::why::{Known, Locking, known_of, push_thread};
 use fk_first::{Ready, Seen, Stop};
 use fk_isa::decode;
-use fk_jobs::Jobs;
+use fk_jobs::{Jobs, Porter};
 use fk_model::operation::CALL;
 use fk_model::{Mode, Move, Thread, Who};
-use fk_porters::Porter;
 use lens_text::{Scene, Sheet, next_in_tree, word_at};
 use std::collections::BTreeSet;
 

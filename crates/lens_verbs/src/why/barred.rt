@@ -69,7 +69,7 @@ fn reached_by(store: &Store, who: Who, stage: &Stage) -> (Option<Who>, Option<Wh
     }
 }
 
-/// The same of a stage of a talk or a fault.
+/// What no hold of another may keep as it is where a stage of a talk or a fault is to be ready.
 fn reached_beyond(store: &Store, who: Who, stage: &Stage) -> (Option<Who>, Option<Who>) {
     let other = other_side(store, who, stage);
     match stage {

@@ -5,9 +5,8 @@ use crate::why::known::{Known, Locking, known_of};
 use crate::why::moves::push_move;
 use crate::why::reasons::push_reason;
 use fk_first::{Ready, Seen, Stop};
-use fk_jobs::Jobs;
+use fk_jobs::{Jobs, Porter};
 use fk_model::{Mode, Move, Who};
-use fk_porters::Porter;
 use lens_text::{Scene, Sheet, next_in_tree, push_asked, push_at, push_between};
 
 /// Adds the line of a thread that isn't ready; of a porter, where its job is the one whose turn it is.

@@ -1,5 +1,5 @@
 use Rattle.std.proofs.Common.{map}
-use Rattle.fk_core.specs.Cores.Goings.{IsGoing}
+use Rattle.fk_core.specs.Cores.Goings.{IsReachable}
 use Rattle.fk_core.specs.Cores.Served.{AllFit}
 use Rattle.fk_first.proofs.watching.play.Given as goal
 
@@ -7,5 +7,5 @@ use Rattle.fk_first.proofs.watching.play.Given as goal
 abbrev pub invariant-loop-index : goal.invariant-loop-index
 invariant-loop-index g l = record {
   fits : AllFit (map (λ r. r.rule) l.table.list.items) l.core.services.list;
-  come : IsGoing l.core;
+  come : IsReachable l.core;
 }

@@ -2,7 +2,7 @@ use Rattle.std.proofs.Common.{◌≡◌, None, map, string_bytes, rules}
 use Rattle.fk_words.specs.Commands.{command_of}
 use Rattle.fk_run.proofs.Complete.{complete-Err, complete-Ok, no-words, not-since}
 use Rattle.fk_run.proofs.Due.{no-command, puts_nothing}
-use Rattle.fk_run.proofs.Headline.{holds}
+use Rattle.fk_run.proofs.Transparency.{holds}
 use Rattle.fk_run.proofs.top.fluke_alone.Goals as goal
 
 pub returns-in_default : goal.returns-in_default
@@ -43,7 +43,7 @@ returns-in_default g c =
           others = search rules;
           again = search rules;
         };
-        headline = search rules;
+        transparency = search rules;
         complete = λ no_read no_write no_get no_put. no-words _ _ none _ _ _ _ _ _;
       };
     }
@@ -84,7 +84,7 @@ returns-in-Ok g c = record {
       others = search rules;
       again = search rules;
     };
-    headline = holds _ c.finish.result.report;
+    transparency = holds _ c.finish.result.report;
     complete = λ no_read no_write no_get no_put.
         complete-Ok _ _ _ _ _ _ _ _ _ _ _ _ _ _ c.in-Ok.is c.prepare_alone.ensures.comes c.finish.ensures.done c.finish.ensures.written
         c.prepare_alone.ensures.same_files c.finish.ensures.put c.finish.ensures.status c.finish.ensures.write_fault c.finish.ensures.shelf_fault
@@ -128,7 +128,7 @@ returns-in-Err g c = record {
       others = search rules;
       again = search rules;
     };
-    headline = search rules;
+    transparency = search rules;
     complete = λ no_read no_write no_get no_put.
         complete-Err _ _ _ _ _ _ _ _ _ _ _ _ c.in-Err.is c.prepare_alone.ensures.comes c.prepare_alone.ensures.refusal no_read (λ fault. no_get fault.0)
         (search rules);

@@ -1,7 +1,7 @@
 use Rattle.std.proofs.Common.{rules}
 use Rattle.fk_run.proofs.Complete.{complete-Err, complete-Ok, not-since}
 use Rattle.fk_run.proofs.Due.{puts_nothing}
-use Rattle.fk_run.proofs.Headline.{holds}
+use Rattle.fk_run.proofs.Transparency.{holds}
 use Rattle.fk_run.proofs.top.fluke_top.Goals as goal
 
 pub returns-in-Ok : goal.returns-in-Ok
@@ -40,7 +40,7 @@ returns-in-Ok g c = record {
       others = search rules;
       again = search rules;
     };
-    headline = holds _ c.finish.result.report;
+    transparency = holds _ c.finish.result.report;
     complete = λ no_read no_write no_get no_put.
         complete-Ok _ _ _ _ _ _ _ _ _ _ _ _ _ _ c.in-Ok.is c.prepare_shared.ensures.comes c.finish.ensures.done c.finish.ensures.written
         c.prepare_shared.ensures.same_files c.finish.ensures.put c.finish.ensures.status c.finish.ensures.write_fault c.finish.ensures.shelf_fault
@@ -84,7 +84,7 @@ returns-in-Err g c = record {
       others = search rules;
       again = search rules;
     };
-    headline = search rules;
+    transparency = search rules;
     complete = λ no_read no_write no_get no_put.
         complete-Err _ _ _ _ _ _ _ _ _ _ _ _ c.in-Err.is c.prepare_shared.ensures.comes c.prepare_shared.ensures.refusal no_read (λ fault. no_get fault.0)
         (search rules);

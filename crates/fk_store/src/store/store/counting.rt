@@ -26,7 +26,7 @@ impl Store {
         }
     }
 
-    /// The same of a space. Nothing leads to the root.
+    /// How many pointers lead to a space from outside a base space. Nothing leads to the root.
     pub fn pointers_outside_to_space(&self, base: u32, nester: u32, space: u32) -> u64
         requires base { IsSpace self.now base }
         requires nester { IsSpace self.now nester }
@@ -39,7 +39,7 @@ impl Store {
         }
     }
 
-    /// The same, where those whose pointers lead there are all known: it looks at them alone.
+    /// How many pointers lead to an object from outside a base space, where those whose pointers lead there are all known: it looks at them alone.
     fn count_leaders(&self, base: u32, nester: u32, who: Who) -> Option<u64>
         requires base { IsSpace self.now base }
         requires nester { IsSpace self.now nester }
@@ -54,7 +54,7 @@ impl Store {
         if leaders.are_all() { Some(count) } else { None }
     }
 
-    /// The same by a look at all objects.
+    /// How many pointers lead to an object from outside a base space, by a look at all objects.
     fn count_all(&self, base: u32, nester: u32, who: Who) -> u64
         requires base { IsSpace self.now base }
         requires nester { IsSpace self.now nester }

@@ -33,7 +33,7 @@ impl Store {
         }
     }
 
-    /// The same, where some space may be held. Where none above the object is, there is no walk.
+    /// The thread that decides over an object, where some space may be held. Where none above the object is, there is no walk.
     #[inline(never)]
     fn decider_held(&self, object: Who) -> Option<Who>
         ensures decider { option_map (λ who. At (place_of self.now who)) result
@@ -48,7 +48,7 @@ impl Store {
         }
     }
 
-    /// The same, by a walk up to the root.
+    /// The thread that decides over an object, by a walk up to the root.
     #[inline(never)]
     fn decider_above(&self, object: Who) -> Option<Who>
         ensures decider { option_map (λ who. At (place_of self.now who)) result
@@ -106,7 +106,7 @@ impl Store {
         }
     }
 
-    /// The same, by a look at who decides there.
+    /// Whether a space is held, or one above it, by a look at who decides there.
     fn is_decided(&self, space: u32) -> bool
         ensures { result ≡ holds.is_frozen (world self.now) (path self.now space) }
     {
@@ -142,7 +142,7 @@ impl Store {
         }
     }
 
-    /// The same, where some space may be held.
+    /// Whether one space alone is held, and by this thread, where some space may be held.
     #[inline(never)]
     fn is_holder(&self, me: Who) -> bool
         ensures { result ≡ true → (x : Path) → holds.is_frozen_for (world self.now) (place_of self.now me) x ≡ false }

@@ -4,10 +4,14 @@ use Rattle.std.proofs.lemmas.Bool.{and_parts}
 use Rattle.fk_model.specs.declared.moves.Ask.{Ask}
 use Rattle.fk_model.specs.declared.moves.Ask.TheVariants as asks
 use Rattle.fk_model.specs.declared.stage.Stage.{Stage}
-use Rattle.fk_model.specs.declared.stage.Stage.TheVariants.{Create, Destroy, Rename, Search, Point, Clear, Locate, CountIn, GetState, SetState, GetPtr, SetPtr, ClientOverRef}
-use Rattle.fk_model.specs.declared.stage.Stage.TheVariants.{SpaceHold, SpaceRelease, ThreadStop, ThreadGo, PageGive, PageTake, PageRead, PageNext, MutexLock, ClientReceiveRef}
-use Rattle.fk_model.specs.declared.stage.Stage.TheVariants.{MutexTrylock, MutexUnlock, CondWait, CondAsleep, CondSignal, CondBroadcast, Connect, ClientReceive, ServerOverRef}
-use Rattle.fk_model.specs.declared.stage.Stage.TheVariants.{ClientSend, ClientOver, Disconnect, Wait, ServerReceive, ServerSend, ServerOver, ServerEnd, ServerReceiveRef}
+use Rattle.fk_model.specs.declared.stage.Stage.TheVariants.{Create, Destroy, Rename, Search, Point, Clear, Locate, CountIn, GetState, SetState, GetPtr, SetPtr}
+use Rattle.fk_model.specs.declared.stage.Stage.TheVariants.{ClientOverRef}
+use Rattle.fk_model.specs.declared.stage.Stage.TheVariants.{SpaceHold, SpaceRelease, ThreadStop, ThreadGo, PageGive, PageTake, PageRead, PageNext, MutexLock}
+use Rattle.fk_model.specs.declared.stage.Stage.TheVariants.{ClientReceiveRef}
+use Rattle.fk_model.specs.declared.stage.Stage.TheVariants.{MutexTrylock, MutexUnlock, CondWait, CondAsleep, CondSignal, CondBroadcast, Connect, ClientReceive}
+use Rattle.fk_model.specs.declared.stage.Stage.TheVariants.{ServerOverRef}
+use Rattle.fk_model.specs.declared.stage.Stage.TheVariants.{ClientSend, ClientOver, Disconnect, Wait, ServerReceive, ServerSend, ServerOver, ServerEnd}
+use Rattle.fk_model.specs.declared.stage.Stage.TheVariants.{ServerReceiveRef}
 use Rattle.fk_model.specs.declared.stage.Stage.TheVariants.{FaultDone, LinkSet, LinkPark, FaultSet, FaultPark, HoldSet, SpaceMakeHeld}
 use Rattle.fk_model.specs.declared.statuses.status.TheConstants.{DENIED}
 use Rattle.fk_model.specs.declared.thread.Turn.TheVariants as turns
@@ -27,9 +31,11 @@ use Rattle.laws_moves.specs.Frozen.Users.{is_users}
 use Rattle.laws_moves.specs.Frozen.Once.{IsFaultless, TouchOnce, UsersTouchOnce}
 use Rattle.laws_moves.proofs.InFrozen.once.Outcomes.{OnceOutcome, refused, waits, goes, once-when}
 use Rattle.laws_moves.proofs.InFrozen.once.Rows.{run_row-once, mutex_lock-once, mutex_trylock-once, mutex_unlock-once, cond_wait-once, cond_asleep-once}
-use Rattle.laws_moves.proofs.InFrozen.once.Rows.{cond_signal-once, cond_broadcast-once, send-once, receive-once, over-once, receive_ref-once, over_ref-once, thread_stop-once, thread_go-once}
+use Rattle.laws_moves.proofs.InFrozen.once.Rows.{cond_signal-once, cond_broadcast-once, send-once, receive-once, over-once, receive_ref-once, over_ref-once}
+use Rattle.laws_moves.proofs.InFrozen.once.Rows.{thread_stop-once, thread_go-once}
 use Rattle.laws_moves.proofs.InFrozen.once.Rows.{page_give-once, page_take-once, page_read-once, page_next-once}
-use Rattle.laws_moves.proofs.InFrozen.once.Objects.{create-once, destroy-once, rename-once, point-once, clear-once, search_row-once, locate-once, space_hold-once}
+use Rattle.laws_moves.proofs.InFrozen.once.Objects.{create-once, destroy-once, rename-once, point-once, clear-once, search_row-once, locate-once}
+use Rattle.laws_moves.proofs.InFrozen.once.Objects.{space_hold-once}
 use Rattle.laws_moves.proofs.InFrozen.once.Objects.{space_release-once, get_state-once, set_state-once, get_ptr-once, set_ptr-once, wait-once, connect-once}
 use Rattle.laws_moves.proofs.InFrozen.once.Objects.{disconnect-once, fault_done-once, accept_row-once, give_row-once, over_row-once}
 use Rattle.fk_model.specs.Objects.Peer.{Server}

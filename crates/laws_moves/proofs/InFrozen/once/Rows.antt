@@ -23,7 +23,8 @@ use Rattle.fk_model.specs.Talks.{Line, thread_led_to, awaited, other_side}
 use Rattle.fk_model.specs.UserRows.{word_at, halts_with, loads, stores, enters, performs, executes, run_row, run_row_by}
 use Rattle.fk_model.specs.SyncRows.{mutex_lock, mutex_trylock, mutex_unlock, cond_wait, cond_asleep, woken, asleep_on, sleepers, signals, unless_slept_on}
 use Rattle.fk_model.specs.SyncRows.{picks_sleeper, cond_signal, cond_broadcast}
-use Rattle.fk_model.specs.TransferRows.{overwritten, block, moved_words, has_sent, sends_words, sends_into, sends_to_thread, sends_to, sends, send, awaits, over_ref}
+use Rattle.fk_model.specs.TransferRows.{overwritten, block, moved_words, has_sent, sends_words, sends_into, sends_to_thread, sends_to, sends, send, awaits}
+use Rattle.fk_model.specs.TransferRows.{over_ref}
 use Rattle.fk_model.specs.TransferRows.{receive, passes_to_thread, passes_to, over, receive_ref, takes_turn}
 use Rattle.fk_model.specs.SpaceRows.{thread_stop, thread_go, gives_page, gives_from, page_give, copies, copies_home, answers_home, copies_to, page_take}
 use Rattle.fk_model.specs.SpaceRows.{page_read, page_next}

@@ -31,7 +31,8 @@ use Rattle.fk_model.proofs.walks.PlaceLaws.{leads_to_at}
 use Rattle.laws_moves.specs.Rows.Stages.{Sets, Work, Step}
 use Rattle.laws_moves.specs.Rows.Stages.Sets.{Points, Clears, Gets_pointer, Sets_pointer, Holds, Releases, Restores_hold, Takes_fault, Resumes, Frees}
 use Rattle.laws_moves.specs.Rows.Stages.Sets.{Restores_talk, Parks_talk, Restores_fault, Parks_fault}
-use Rattle.laws_moves.specs.Rows.Stages.Work.{Looks, Edits, Makes, Makes_held, Kills, Renames, Writes_record, Sets_record, Gives, Copies, Drops, Sleeps, Wakes_all}
+use Rattle.laws_moves.specs.Rows.Stages.Work.{Looks, Edits, Makes, Makes_held, Kills, Renames, Writes_record, Sets_record, Gives, Copies, Drops, Sleeps}
+use Rattle.laws_moves.specs.Rows.Stages.Work.{Wakes_all}
 use Rattle.laws_moves.specs.Rows.Stages.Work.{Takes_client, Hangs_up, Sends, Sends_service, Passes, Hands_over, Hands_over}
 use Rattle.laws_moves.specs.Rows.Stages.Step.{Is_refused, Is_waiting, Raises, Answers, Stays, Finishes, Ends}
 use Rattle.laws_moves.specs.Rows.Moves.{Instructs, Serves, Lists}
@@ -45,7 +46,8 @@ use Rattle.laws_moves.proofs.InMachine.safety.Safe.{IsSafeEdit, IsSafePeer, AreS
 use Rattle.laws_moves.proofs.InMachine.safety.Outcomes.{SafeIn, SafeOutcome, safe-then}
 use Rattle.laws_moves.proofs.InMachine.safety.Reads.{Facts, IsCaller, kind-there, body-thread_of, object_in-found, place-space, referred-leads, object-there}
 use Rattle.laws_moves.proofs.InMachine.safety.Memory.{good-at, reach_word-good}
-use Rattle.laws_moves.proofs.InMachine.safety.Objects.{nothing-there, vacant, takes-at, reference-leads, reference-there, pointer_to-leads, takes-null, caller-leads}
+use Rattle.laws_moves.proofs.InMachine.safety.Objects.{nothing-there, vacant, takes-at, reference-leads, reference-there, pointer_to-leads, takes-null}
+use Rattle.laws_moves.proofs.InMachine.safety.Objects.{caller-leads}
 use Rattle.laws_moves.proofs.InMachine.safety.State.{edits-safe, AllFit, fields-fit, among-leads, takes-held}
 use Rattle.laws_moves.proofs.InMachine.safety.Talks.{GoodCandidate, candidate-good, caller-serves, port-lies}
 use Rattle.laws_moves.proofs.InMachine.safety.Given.{named-serves, port-there, taker-serves, open-taker, served-port, service-safe}
@@ -81,7 +83,8 @@ module _ (w : World) (facts : Facts w) where
     picks : (set : ℕ) (x : Path) → GoodCandidate w c.space x (candidate w c.space set x)
     picks set x = candidate-good w facts.rooted c.space set x
 
-    sets : {stage : Stage} {x : Path} {edit : Edit} {answers : List ℕ} → is_fit_stage w c stage ≡ true → Sets w c pick stage x edit answers → IsSafeEdit w x edit
+    sets : {stage : Stage} {x : Path} {edit : Edit} {answers : List ℕ} → is_fit_stage w c stage ≡ true → Sets w c pick stage x edit answers
+        → IsSafeEdit w x edit
     sets fit (Points s x s2 x2 space space2 old to place place2 read read2 free) =
         let from = object_in-found w c _ space2 x2 to read2 in
         takes-at w (x ∷ space) to old (reference space x old read) (pointer_to-leads w (x2 ∷ space2) to from.body facts.valid from.there from.seen)

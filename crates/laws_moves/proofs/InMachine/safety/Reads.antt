@@ -14,7 +14,8 @@ use Rattle.fk_model.specs.Objects.Body.{Port, Thread_of, Reference}
 use Rattle.fk_model.specs.World.{World}
 use Rattle.fk_model.specs.Searches.{has_residents, leaf, is_serving, client_at}
 use Rattle.fk_model.specs.Outcomes.{Caller, path_of, last_slot, or_refuse}
-use Rattle.fk_model.specs.Readers.{and_read, slot_for, seen_as, anything, object_in, kind_at, is_kind, led_to, handled, handle, path_at, space_argument, referred}
+use Rattle.fk_model.specs.Readers.{and_read, slot_for, seen_as, anything, object_in, kind_at, is_kind, led_to, handled, handle, path_at, space_argument}
+use Rattle.fk_model.specs.Readers.{referred}
 use Rattle.fk_model.specs.Valid.{IsConsistent, kind_there, is_one_of, leads_there, may_lead, HasService, services, IsRooted, IsPaged}
 use Rattle.laws_moves.proofs.InMachine.safety.Safe.{IsAlone}
 

@@ -17,7 +17,8 @@ pub same_birth : (f : Body → Body) → ((o : Option Body) → option_map outli
     and_then birth_of (option_map f o) ≡ and_then birth_of o
 same_birth f same o = outline-birth (option_map f o) ∙ ap (and_then (λ (t : Outline). t.birth)) (same o) ∙ sym (outline-birth o)
 
-pub each : (f : Body → Body) → ((b : Body) → outline_of (f b) ≡ outline_of b) → (o : Option Body) → option_map outline_of (option_map f o) ≡ option_map outline_of o
+pub each : (f : Body → Body) → ((b : Body) → outline_of (f b) ≡ outline_of b) → (o : Option Body) → option_map outline_of (option_map f o)
+    ≡ option_map outline_of o
 each f same None = refl
 each f same (Some b) = ap (λ (t : Outline). Some t) (same b)
 

@@ -5,7 +5,8 @@ use Rattle.std.proofs.lemmas.Bool.{and_parts}
 use Rattle.fk_model.specs.declared.names.Kind.TheVariants as kinds
 use Rattle.fk_model.specs.declared.moves.Ask.TheVariants as asks
 use Rattle.fk_model.specs.declared.stage.Stage.{Stage}
-use Rattle.fk_model.specs.declared.stage.Stage.TheVariants.{ClientSend, ClientOver, Wait, ServerSend, ServerOver, ServerEnd, FaultDone, PageGive, PageTake, ClientOverRef}
+use Rattle.fk_model.specs.declared.stage.Stage.TheVariants.{ClientSend, ClientOver, Wait, ServerSend, ServerOver, ServerEnd, FaultDone, PageGive, PageTake}
+use Rattle.fk_model.specs.declared.stage.Stage.TheVariants.{ClientOverRef}
 use Rattle.fk_model.specs.declared.stage.Stage.TheVariants.{CountIn, LinkSet, LinkPark, FaultSet, FaultPark, HoldSet, SpaceMakeHeld, ServerOverRef}
 use Rattle.fk_model.specs.declared.statuses.status.TheConstants.{DENIED, HELD}
 use Rattle.fk_model.specs.Readers.{space_argument, object_in, referred}
@@ -41,7 +42,8 @@ use Rattle.laws_subtrees.proofs.InCut.cut.Plain.{AreQuiet}
 use Rattle.laws_subtrees.proofs.InCut.likeness.Holds.{strip_none}
 use Rattle.laws_subtrees.proofs.InCut.likeness.Instances.{cut-like}
 use Rattle.laws_subtrees.proofs.InCut.likeness.Outcomes.{closed-like}
-use Rattle.laws_subtrees.proofs.InCut.cut.Inside.{Quiet, quiet-refused, quiet-waits, quiet-goes, quiet-when, quiet-with_pick, with_pick-like, call_inside, inside_stages}
+use Rattle.laws_subtrees.proofs.InCut.cut.Inside.{Quiet, quiet-refused, quiet-waits, quiet-goes, quiet-when, quiet-with_pick, with_pick-like, call_inside}
+use Rattle.laws_subtrees.proofs.InCut.cut.Inside.{inside_stages}
 use Rattle.laws_subtrees.proofs.InCut.cut.Inside.{quiet->>=, quiet-done}
 use Rattle.laws_subtrees.proofs.InCut.cut.Outside.{outside_law, stage_outcome, stage_called, stepped-plain, untouched}
 use Rattle.laws_subtrees.proofs.InCut.cut.Rows.{plain_inner, quiet_row}

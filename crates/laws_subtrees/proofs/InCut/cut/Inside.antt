@@ -71,7 +71,8 @@ pub quiet-bind : {A : Type 0} (root : Path) (r : Result A ℕ) (go : A → Outco
 quiet-bind root (Ok a) go quiet = quiet a refl
 quiet-bind root (Err status) go quiet = quiet-refused
 
-pub quiet-telling : (root : Path) (said : Said) (o : Outcome) → ((v : World) (x : Path) → told_by_said v x said ≡ []) → Quiet root o → Quiet root (telling said o)
+pub quiet-telling : (root : Path) (said : Said) (o : Outcome) → ((v : World) (x : Path) → told_by_said v x said ≡ []) → Quiet root o → Quiet root
+    (telling said o)
 quiet-telling root said (Goes cs Nothing) hush h = record { quiet = h.quiet; mute = hush }
 quiet-telling root said o hush h = h
 

@@ -25,7 +25,8 @@ use Rattle.fk_model.proofs.walks.PlaceLaws.{strip-append}
 use Rattle.laws_subtrees.proofs.InCut.likeness.Instances.{cut-like}
 use Rattle.laws_subtrees.proofs.InCut.likeness.Reads.{place-like}
 use Rattle.laws_subtrees.proofs.InCut.cut.Plain.{AreQuiet}
-use Rattle.laws_subtrees.proofs.InCut.cut.Inside.{Quiet, quiet->>=, quiet-bind, quiet-telling, quiet-stays, quiet-done_at, quiet-done, stage_inside, inside_stages}
+use Rattle.laws_subtrees.proofs.InCut.cut.Inside.{Quiet, quiet->>=, quiet-bind, quiet-telling, quiet-stays, quiet-done_at, quiet-done, stage_inside}
+use Rattle.laws_subtrees.proofs.InCut.cut.Inside.{inside_stages}
 use Rattle.laws_subtrees.proofs.InCut.cut.Outside.{stage_outside}
 use Rattle.laws_subtrees.specs.Cut.RebindLaws.{StageRebinds}
 use Rattle.laws_subtrees.proofs.InCut.rebinding.Rebound.{own_rebinds}

@@ -2,9 +2,12 @@
 use Rattle.std.proofs.Common.{ℕ, eqb, Bool, true, false, cond, not, [], ◌∷◌, Option, Some, None, IfSome, refl, ◌≡◌, List, map, flat_map, ◌++◌}
 use Rattle.fk_model.specs.declared.thread.Turn.TheVariants as turns
 use Rattle.fk_model.specs.declared.thread.Turn.{Turn}
-use Rattle.fk_model.specs.declared.stage.Stage.TheVariants.{Create, Search, Point, Clear, Locate, GetState, SetState, GetPtr, SetPtr, SpaceHold, SpaceRelease, ClientOverRef}
-use Rattle.fk_model.specs.declared.stage.Stage.TheVariants.{ThreadStop, ThreadGo, PageGive, PageTake, PageRead, PageNext, MutexLock, MutexTrylock, MutexUnlock, ClientReceiveRef}
-use Rattle.fk_model.specs.declared.stage.Stage.TheVariants.{CondWait, CondAsleep, CondBroadcast, Connect, ClientReceive, ClientSend, ClientOver, Wait, ServerOverRef}
+use Rattle.fk_model.specs.declared.stage.Stage.TheVariants.{Create, Search, Point, Clear, Locate, GetState, SetState, GetPtr, SetPtr, SpaceHold, SpaceRelease}
+use Rattle.fk_model.specs.declared.stage.Stage.TheVariants.{ClientOverRef}
+use Rattle.fk_model.specs.declared.stage.Stage.TheVariants.{ThreadStop, ThreadGo, PageGive, PageTake, PageRead, PageNext, MutexLock, MutexTrylock, MutexUnlock}
+use Rattle.fk_model.specs.declared.stage.Stage.TheVariants.{ClientReceiveRef}
+use Rattle.fk_model.specs.declared.stage.Stage.TheVariants.{CondWait, CondAsleep, CondBroadcast, Connect, ClientReceive, ClientSend, ClientOver, Wait}
+use Rattle.fk_model.specs.declared.stage.Stage.TheVariants.{ServerOverRef}
 use Rattle.fk_model.specs.declared.stage.Stage.TheVariants.{ServerSend, ServerOver, ServerEnd, FaultDone}
 use Rattle.fk_model.specs.declared.limits.TheConstants.{SLOTS}
 use Rattle.fk_model.specs.declared.stage.Stage.{Stage}
@@ -34,8 +37,10 @@ use Rattle.laws_subtrees.specs.Cut.LikeChanges.{IsLikeOutcome}
 use Rattle.laws_subtrees.specs.Cut.Likeness.{IsLikeness}
 use Rattle.laws_subtrees.specs.Cut.RebindLaws.{StageRebinds}
 use Rattle.laws_subtrees.specs.Cut.CutLaws.{IsPlainStage, StageKeepsCut}
-use Rattle.laws_subtrees.proofs.InCut.likeness.PlainRows.{mutex_trylock-like, mutex_unlock-like, cond_wait-like, cond_asleep-like, cond_broadcast-like, space_release-like, receive_ref-like}
-use Rattle.laws_subtrees.proofs.InCut.likeness.PlainRows.{thread_go-like, page_read-like, page_next-like, search-like, locate-like, clear-like, get_ptr-like, set_ptr-like}
+use Rattle.laws_subtrees.proofs.InCut.likeness.PlainRows.{mutex_trylock-like, mutex_unlock-like, cond_wait-like, cond_asleep-like, cond_broadcast-like}
+use Rattle.laws_subtrees.proofs.InCut.likeness.PlainRows.{space_release-like, receive_ref-like}
+use Rattle.laws_subtrees.proofs.InCut.likeness.PlainRows.{thread_go-like, page_read-like, page_next-like, search-like, locate-like, clear-like, get_ptr-like}
+use Rattle.laws_subtrees.proofs.InCut.likeness.PlainRows.{set_ptr-like}
 use Rattle.laws_subtrees.proofs.InCut.likeness.PlainRows.{no_porter, set_state-like, connect-like, client_turns, receive-like}
 use Rattle.laws_subtrees.proofs.InCut.likeness.Rows.{mutex_lock-like, thread_stop-like}
 use Rattle.laws_subtrees.proofs.InCut.cut.Plain.{IsQuiet, AreQuiet}

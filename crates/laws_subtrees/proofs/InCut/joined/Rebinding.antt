@@ -1,12 +1,17 @@
 -- The law of rebinding for every move, and for every list of moves.
-use Rattle.std.proofs.Common.{◌≡◌, ℕ, Bool, true, false, cond, ◌&&◌, ◌||◌, ◌==◌, List, [], ◌∷◌, ◌++◌, map, Option, Some, None, is_none, refl, sym, ap, ◌∙◌, subst}
+use Rattle.std.proofs.Common.{◌≡◌, ℕ, Bool, true, false, cond, ◌&&◌, ◌||◌, ◌==◌, List, [], ◌∷◌, ◌++◌, map, Option, Some, None, is_none, refl, sym, ap, ◌∙◌}
+use Rattle.std.proofs.Common.{subst}
 use Rattle.std.proofs.Common.{append-nil}
 use Rattle.std.proofs.lemmas.List.{map-append}
 use Rattle.fk_model.specs.declared.stage.Stage.{Stage}
-use Rattle.fk_model.specs.declared.stage.Stage.TheVariants.{Create, Destroy, Rename, Search, Point, Clear, Locate, CountIn, GetState, SetState, GetPtr, SetPtr, ClientOverRef}
-use Rattle.fk_model.specs.declared.stage.Stage.TheVariants.{SpaceHold, SpaceRelease, ThreadStop, ThreadGo, PageGive, PageTake, PageRead, PageNext, MutexLock, ClientReceiveRef}
-use Rattle.fk_model.specs.declared.stage.Stage.TheVariants.{MutexTrylock, MutexUnlock, CondWait, CondAsleep, CondSignal, CondBroadcast, Connect, ClientReceive, ServerOverRef}
-use Rattle.fk_model.specs.declared.stage.Stage.TheVariants.{ClientSend, ClientOver, Disconnect, Wait, ServerReceive, ServerSend, ServerOver, ServerEnd, ServerReceiveRef}
+use Rattle.fk_model.specs.declared.stage.Stage.TheVariants.{Create, Destroy, Rename, Search, Point, Clear, Locate, CountIn, GetState, SetState, GetPtr, SetPtr}
+use Rattle.fk_model.specs.declared.stage.Stage.TheVariants.{ClientOverRef}
+use Rattle.fk_model.specs.declared.stage.Stage.TheVariants.{SpaceHold, SpaceRelease, ThreadStop, ThreadGo, PageGive, PageTake, PageRead, PageNext, MutexLock}
+use Rattle.fk_model.specs.declared.stage.Stage.TheVariants.{ClientReceiveRef}
+use Rattle.fk_model.specs.declared.stage.Stage.TheVariants.{MutexTrylock, MutexUnlock, CondWait, CondAsleep, CondSignal, CondBroadcast, Connect, ClientReceive}
+use Rattle.fk_model.specs.declared.stage.Stage.TheVariants.{ServerOverRef}
+use Rattle.fk_model.specs.declared.stage.Stage.TheVariants.{ClientSend, ClientOver, Disconnect, Wait, ServerReceive, ServerSend, ServerOver, ServerEnd}
+use Rattle.fk_model.specs.declared.stage.Stage.TheVariants.{ServerReceiveRef}
 use Rattle.fk_model.specs.declared.stage.Stage.TheVariants.{FaultDone, LinkSet, LinkPark, FaultSet, FaultPark, HoldSet, SpaceMakeHeld}
 use Rattle.fk_model.specs.Places.{Path, Ptr}
 use Rattle.fk_model.specs.Objects.{Mode, Thread}
@@ -39,7 +44,8 @@ use Rattle.laws_subtrees.proofs.InCut.talks.Receives.{server_receive_rebinds, se
 use Rattle.laws_subtrees.proofs.InCut.waits.Signals.{signal_rebinds}
 use Rattle.laws_subtrees.proofs.InCut.waits.FaultEnds.{fault_done_rebinds}
 use Rattle.laws_subtrees.proofs.InCut.rebinding.Denied.{denied_rebinds}
-use Rattle.laws_subtrees.proofs.InCut.rebinding.Messages.{client_send_rebinds, client_over_rebinds, server_send_rebinds, server_over_rebinds, client_over_ref_rebinds, server_over_ref_rebinds}
+use Rattle.laws_subtrees.proofs.InCut.rebinding.Messages.{client_send_rebinds, client_over_rebinds, server_send_rebinds, server_over_rebinds}
+use Rattle.laws_subtrees.proofs.InCut.rebinding.Messages.{client_over_ref_rebinds, server_over_ref_rebinds}
 use Rattle.laws_subtrees.proofs.InCut.rebinding.Rebound.{rebinds_from, row_anew}
 use Rattle.laws_subtrees.proofs.InCut.rebinding.Touches.{touch_rebinds}
 use Rattle.laws_subtrees.proofs.InCut.rebinding.Waits.{wait_rebinds}
@@ -152,7 +158,8 @@ module _ (c : World) (x : Path) (pick : Option Path) (n : ℕ) where
   by_stage ServerEnd at = end_rebinds c x pick n ServerEnd refl at
   by_stage FaultDone at = fault_done_rebinds c x pick n FaultDone refl at
   by_stage (ServerOverRef reference) at = server_over_ref_rebinds c x pick n (ServerOverRef reference) (reference, refl) at
-  by_stage (ServerReceiveRef into room reference) at = server_receive_ref_rebinds c x pick n (ServerReceiveRef into room reference) (into, room, reference, refl) at
+  by_stage (ServerReceiveRef into room reference) at = server_receive_ref_rebinds c x pick n (ServerReceiveRef into room reference)
+      (into, room, reference, refl) at
   by_stage (LinkSet s y port server) at = denied_rebinds c x pick n (LinkSet s y port server) refl at
   by_stage (LinkPark s y port) at = denied_rebinds c x pick n (LinkPark s y port) refl at
   by_stage (FaultSet s y port taker) at = denied_rebinds c x pick n (FaultSet s y port taker) refl at

@@ -1,5 +1,6 @@
 -- The laws of likenesses.
-use Rattle.laws_subtrees.specs.Cut.LikenessLaws.{CutIsLikeness, CutIsServedAlike, LikenessIsCutWorld, RebindingIsLikeness, LikenessReadsAlike, LikenessHoldsAlike}
+use Rattle.laws_subtrees.specs.Cut.LikenessLaws.{CutIsLikeness, CutIsServedAlike, LikenessIsCutWorld, RebindingIsLikeness, LikenessReadsAlike}
+use Rattle.laws_subtrees.specs.Cut.LikenessLaws.{LikenessHoldsAlike}
 use Rattle.laws_subtrees.specs.Cut.LikenessLaws.{LikenessServesAlike, LockActsAlike, LikenessStays, CutChangesAlike, PlainStays}
 use Rattle.laws_subtrees.proofs.InCut.likeness.Instances.{cut-like, like-cut_world, rebind-like}
 use Rattle.laws_subtrees.proofs.InCut.likeness.Reads.{anything_in-like, kind_at-like, handle-like, place-like, referred-like}

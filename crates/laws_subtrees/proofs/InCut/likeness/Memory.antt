@@ -14,7 +14,8 @@ use Rattle.fk_model.specs.Reach.Reach.{Missing, Bad}
 use Rattle.fk_model.specs.SpaceRows.{next_page}
 use Rattle.fk_model.specs.Valid.{kind_there}
 use Rattle.fk_model.specs.Cut.{seen_by, unheld}
-use Rattle.laws_subtrees.specs.Cut.Likeness.{seeing, seen_window, seen_extent, PtrLikeness, HasLikeness, IsPlainBody, IsLikeness, AlikeOptions, IsSeenAs, IsSeenWindow}
+use Rattle.laws_subtrees.specs.Cut.Likeness.{seeing, seen_window, seen_extent, PtrLikeness, HasLikeness, IsPlainBody, IsLikeness, AlikeOptions, IsSeenAs}
+use Rattle.laws_subtrees.specs.Cut.Likeness.{IsSeenWindow}
 use Rattle.laws_subtrees.specs.Cut.Likeness.{IsSeenExtent, IsSeenPlace, ReachLikeness}
 use Rattle.laws_subtrees.specs.Cut.Likeness.PtrLikeness.{Nulls, Deads, Inside, PortAt, PortOut}
 use Rattle.laws_subtrees.specs.Cut.Likeness.ReachLikeness.{Homes, Misses, Bads}

@@ -27,7 +27,8 @@ use Rattle.fk_model.specs.LinkRows.{user_at}
 use Rattle.fk_model.specs.ObjectRows.{new_object, create, pointer_to, point, rename}
 use Rattle.fk_model.specs.Cut.{seen_by}
 use Rattle.fk_model.proofs.walks.PlaceLaws.{same_path_cancel}
-use Rattle.laws_subtrees.specs.Cut.Likeness.{seeing, HasLikeness, IsPlainBody, IsLikeness, under, AlikeResults, AlikeOptions, IsSeenAs, IsSeenHolder, EndLikeness}
+use Rattle.laws_subtrees.specs.Cut.Likeness.{seeing, HasLikeness, IsPlainBody, IsLikeness, under, AlikeResults, AlikeOptions, IsSeenAs, IsSeenHolder}
+use Rattle.laws_subtrees.specs.Cut.Likeness.{EndLikeness}
 use Rattle.laws_subtrees.specs.Cut.Likeness.PtrLikeness.{Nulls, Inside}
 use Rattle.laws_subtrees.specs.Cut.Likeness.EndLikeness.{Ends}
 use Rattle.laws_subtrees.specs.Cut.LikeChanges.{LikeChange, LikeChanges, IsLikeOutcome}
@@ -40,7 +41,8 @@ use Rattle.laws_subtrees.proofs.InCut.likeness.Holds.{holder_of-like, is_held_by
 use Rattle.laws_subtrees.proofs.InCut.likeness.Talks.{thread_at-like}
 use Rattle.laws_subtrees.proofs.InCut.likeness.Walks.{is_within_inside, is_taken-like, has_residents-like, any_beneath-like}
 use Rattle.laws_subtrees.proofs.InCut.likeness.Records.{record-seen}
-use Rattle.laws_subtrees.proofs.InCut.likeness.Outcomes.{bind-like, bind_any, bind_same, bind_path, bind_ptr, bind_body, refuse-like, when-like, done-like, own_page-like}
+use Rattle.laws_subtrees.proofs.InCut.likeness.Outcomes.{bind-like, bind_any, bind_same, bind_path, bind_ptr, bind_body, refuse-like, when-like, done-like}
+use Rattle.laws_subtrees.proofs.InCut.likeness.Outcomes.{own_page-like}
 
 -- a new thread
 abbrev fresh_thread : Thread

@@ -49,7 +49,8 @@ use Rattle.laws_subtrees.proofs.InCut.likeness.Holds.{leads_to-like, is_frozen_f
 use Rattle.laws_subtrees.proofs.InCut.likeness.Talks.{talk_at-like}
 use Rattle.laws_subtrees.proofs.InCut.likeness.Walks.{way_to-like, asleep_on-like}
 use Rattle.laws_subtrees.proofs.InCut.likeness.Records.{set_edits-seen, held_kinds-seen, is_native-seen, is_inner-seen, field_number-like, takes_state-like}
-use Rattle.laws_subtrees.proofs.InCut.likeness.Outcomes.{append-like, bind-like, bind_any, bind_same, bind_path, bind_ptr, bind_body, bind_holder, bind_end, refuse-like}
+use Rattle.laws_subtrees.proofs.InCut.likeness.Outcomes.{append-like, bind-like, bind_any, bind_same, bind_path, bind_ptr, bind_body, bind_holder, bind_end}
+use Rattle.laws_subtrees.proofs.InCut.likeness.Outcomes.{refuse-like}
 use Rattle.laws_subtrees.proofs.InCut.likeness.Outcomes.{done-like, own_page-like}
 use Rattle.laws_subtrees.proofs.InCut.likeness.Rows.{thread_by-like}
 use Rattle.laws_subtrees.proofs.InCut.likeness.ObjectRows.{copies_home-like}
@@ -403,5 +404,6 @@ module _ {root : Path} {see : Ptr → Ptr} {small big : World} (like : IsLikenes
       Alike (receive_ref small c side into room reference) (receive_ref big (under root c) side into room reference)
   unfolding receive_ref
   receive_ref-like c side into room reference lines =
-      bind_any like (IsSeenAs root see big) (object_in small c reference_of c.space reference) (object_in big (under root c) reference_of (c.space ++ root) reference)
+      bind_any like (IsSeenAs root see big) (object_in small c reference_of c.space reference)
+      (object_in big (under root c) reference_of (c.space ++ root) reference)
       _ _ (reference_in-like like c c.space reference) (λ near far. receive-like c side into room lines)

@@ -16,7 +16,8 @@ use Rattle.fk_model.specs.Readers.{referred}
 use Rattle.fk_model.specs.SyncRows.{cond_of}
 use Rattle.fk_model.specs.LinkRows.{portset_of}
 use Rattle.fk_model.specs.Cut.{seen_by, unheld}
-use Rattle.laws_subtrees.specs.Cut.Likeness.{seeing, seen_thread, seen_window, seen_extent, PtrLikeness, HasLikeness, IsPlainBody, IsLikeness, under, AlikeResults}
+use Rattle.laws_subtrees.specs.Cut.Likeness.{seeing, seen_thread, seen_window, seen_extent, PtrLikeness, HasLikeness, IsPlainBody, IsLikeness, under}
+use Rattle.laws_subtrees.specs.Cut.Likeness.{AlikeResults}
 use Rattle.laws_subtrees.specs.Cut.Likeness.{AlikeOptions, IsBeneath, IsSeenAs, IsSeenHandle, IsSeenBody, IsSeenHolder}
 use Rattle.laws_subtrees.specs.Cut.Likeness.PtrLikeness.{Nulls, Deads, Inside, PortAt, PortOut}
 use Rattle.laws_subtrees.proofs.InCut.likeness.Alike.{alike_same, alike_or_refuse, alike_and_read, alike_if}

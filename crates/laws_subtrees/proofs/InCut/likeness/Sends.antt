@@ -1,5 +1,6 @@
 -- A Send and an Over go alike in a likeness where their other end is seen, and the outside hears of them alike.
-use Rattle.std.proofs.Common.{◌≡◌, ℕ, ◌%◌, eqb, Bool, true, false, cond, not, ◌&&◌, List, [], ◌∷◌, ◌++◌, Option, Some, None, is_some, Result, Ok, Err, refl, nat_le, option_map}
+use Rattle.std.proofs.Common.{◌≡◌, ℕ, ◌%◌, eqb, Bool, true, false, cond, not, ◌&&◌, List, [], ◌∷◌, ◌++◌, Option, Some, None, is_some, Result, Ok, Err, refl}
+use Rattle.std.proofs.Common.{nat_le, option_map}
 use Rattle.std.proofs.Common.{sym, ap, ◌∙◌, subst}
 use Rattle.fk_model.specs.declared.limits.TheConstants.{PAGE_WORDS, BLOCK_WORDS, LAST_USER_SLOT}
 use Rattle.fk_model.specs.declared.statuses.status.TheConstants.{FULL, WRONGTURN}
@@ -19,13 +20,16 @@ use Rattle.fk_model.specs.Outcomes.{Said, Outcome, ◌>>=◌, when, done}
 use Rattle.fk_model.specs.Outcomes.Outcome.{Refused, Waits, Goes}
 use Rattle.fk_model.specs.Outcomes.Said.{Nothing, Words, Passed}
 use Rattle.fk_model.specs.Readers.{own_page_at, own_page, their_page_at, their_page, object_in}
-use Rattle.fk_model.specs.Talks.{Line, line_from, line, other_side, same_side, receiving, path_to, is_service_free, awaited, first_stage, is_handled, receive_on}
-use Rattle.fk_model.specs.TransferRows.{overwritten, block, moved_words, at_turn, has_sent, sends_words, sends_into, sends_to_thread, sends_to, sends, send, may_carry}
+use Rattle.fk_model.specs.Talks.{Line, line_from, line, other_side, same_side, receiving, path_to, is_service_free, awaited, first_stage, is_handled}
+use Rattle.fk_model.specs.Talks.{receive_on}
+use Rattle.fk_model.specs.TransferRows.{overwritten, block, moved_words, at_turn, has_sent, sends_words, sends_into, sends_to_thread, sends_to, sends, send}
+use Rattle.fk_model.specs.TransferRows.{may_carry}
 use Rattle.fk_model.specs.TransferRows.{passes, passes_to_thread, passes_to, over, over_ref, taken_answers, takes_turn}
 use Rattle.fk_model.specs.LinkRows.{user_at}
 use Rattle.fk_model.specs.Cut.{is_out, seen_by, unheld}
 use Rattle.fk_model.specs.Further.{told_by_said}
-use Rattle.laws_subtrees.specs.Cut.Likeness.{seen_peer, seen_talk, seen_thread, PtrLikeness, HasLikeness, IfServer, IsLikeness, AlikeResults, AlikeOptions, IsBeneath, IsSeenAs}
+use Rattle.laws_subtrees.specs.Cut.Likeness.{seen_peer, seen_talk, seen_thread, PtrLikeness, HasLikeness, IfServer, IsLikeness, AlikeResults, AlikeOptions}
+use Rattle.laws_subtrees.specs.Cut.Likeness.{IsBeneath, IsSeenAs}
 use Rattle.laws_subtrees.specs.Cut.Likeness.{IsSeenTalk, ReachLikeness, PeerLikeness, EndLikeness, seeing}
 use Rattle.laws_subtrees.specs.Cut.Likeness.PtrLikeness.{Nulls, Deads, Inside, PortAt, PortOut}
 use Rattle.laws_subtrees.specs.Cut.Likeness.ReachLikeness.{Homes, Misses, Bads}
@@ -47,7 +51,8 @@ use Rattle.laws_subtrees.proofs.InCut.likeness.Reads.{reference_in-like}
 
 -- the same words, or the same turn, at the port as it is seen
 pub data SaidLikeness (see : Ptr → Ptr) : Said → Said → Type 0 where
-  Hushed : (said told : Said) → ((v : World) (x : Path) → told_by_said v x said ≡ []) → ((v : World) (x : Path) → told_by_said v x told ≡ []) → SaidLikeness see said told
+  Hushed : (said told : Said) → ((v : World) (x : Path) → told_by_said v x said ≡ []) → ((v : World) (x : Path) → told_by_said v x told ≡ [])
+      → SaidLikeness see said told
   SaysWords : (port : Ptr) (words : List ℕ) → SaidLikeness see (Words (see port) words) (Words port words)
   SaysPassed : (port : Ptr) → SaidLikeness see (Passed (see port)) (Passed port)
 
@@ -149,11 +154,13 @@ module _ {root : Path} {see : Ptr → Ptr} {small big : World} (like : IsLikenes
 
   -- ---- who receives
 
-  reference-seen : (space : Path) (k : ℕ) → holds (λ b. is_some (reference_of b)) (small.body (k ∷ space)) ≡ holds (λ b. is_some (reference_of b)) (big.body (k ∷ (space ++ root)))
+  reference-seen : (space : Path) (k : ℕ) → holds (λ b. is_some (reference_of b)) (small.body (k ∷ space)) ≡ holds (λ b. is_some (reference_of b))
+      (big.body (k ∷ (space ++ root)))
   unfolding seen_by
   reference-seen space k = rw (like.bodies (k ∷ space)) (by (big.body (k ∷ (space ++ root))))
     where
-      by : (o : Option Body) → holds (λ b. is_some (reference_of b)) (option_map (λ b. unheld (k ∷ space) (seen_by (seeing see) b)) o) ≡ holds (λ b. is_some (reference_of b)) o
+      by : (o : Option Body) → holds (λ b. is_some (reference_of b)) (option_map (λ b. unheld (k ∷ space) (seen_by (seeing see) b)) o) ≡ holds
+          (λ b. is_some (reference_of b)) o
       by None = refl
       by (Some (Reference to)) = refl
       by (Some b) = refl
@@ -169,7 +176,8 @@ module _ {root : Path} {see : Ptr → Ptr} {small big : World} (like : IsLikenes
   abbrev pub CarriedLike : Option Ptr → Option Ptr → Type 0
   CarriedLike seen carried = AlikeOptions (IsSeenAs root see big) seen carried
 
-  fills-like : (space : Path) (seen carried : Option Ptr) (to : Option ℕ) → CarriedLike seen carried → LikeChanges root see big (fills_in space seen to) (fills_in (space ++ root) carried to)
+  fills-like : (space : Path) (seen carried : Option Ptr) (to : Option ℕ) → CarriedLike seen carried → LikeChanges root see big (fills_in space seen to)
+      (fills_in (space ++ root) carried to)
   fills-like space None None to h = Empty
   fills-like space (Some seen) (Some p) None h = Empty
   fills-like space (Some seen) (Some p) (Some k) h = Both (Alters k space (SetPointer seen) (SetPointer p) (ap SetPointer h.0) h.1) Empty
@@ -186,7 +194,8 @@ module _ {root : Path} {see : Ptr → Ptr} {small big : World} (like : IsLikenes
   pub takes_turn-like : (i : ℕ) (y : Path) (seen carried : Option Ptr) (to : Option ℕ) → CarriedLike seen carried →
       LikeChanges root see big (takes_turn (i ∷ y) seen to) (takes_turn (i ∷ (y ++ root)) carried to)
   takes_turn-like i y seen carried to h =
-      append-like (fills-like y seen carried to h) (Both (Alters i y _ (Finish (taken_answers to carried)) (ap Finish (answers-like seen carried to h)) tt) Empty)
+      append-like (fills-like y seen carried to h)
+      (Both (Alters i y _ (Finish (taken_answers to carried)) (ap Finish (answers-like seen carried to h)) tt) Empty)
 
   -- ---- a Send
 
@@ -286,7 +295,8 @@ module _ {root : Path} {see : Ptr → Ptr} {small big : World} (like : IsLikenes
 
     passes_to_same : (side : Turn) (j : ℕ) (z : Path) (seen_carried carried : Option Ptr) (o p : Option (Path × Thread)) → CarriedLike seen_carried carried →
         AlikeOptions (EndLikeness root see big) o p →
-        Same (passes_to_thread small (user_at (k ∷ q)) side (j ∷ z) seen_carried o) (passes_to_thread big (user_at (k ∷ (q ++ root))) side (j ∷ (z ++ root)) carried p)
+        Same (passes_to_thread small (user_at (k ∷ q)) side (j ∷ z) seen_carried o)
+        (passes_to_thread big (user_at (k ∷ (q ++ root))) side (j ∷ (z ++ root)) carried p)
     passes_to_same side j z seen_carried carried None None alike h = (tt, tt)
     passes_to_same side j z seen_carried carried (Some seen) (Some e) alike h = by seen e h
       where
@@ -318,10 +328,12 @@ module _ {root : Path} {see : Ptr → Ptr} {small big : World} (like : IsLikenes
         by _ _ Waiters ends = (tt, tt)
 
     -- what may be handed on in the big world may be here. A port outside may be frozen, and isn't seen to be
-    pub may_carry-like : (seen carried : Option Ptr) → CarriedLike seen carried → may_carry big (k ∷ (q ++ root)) carried ≡ true → may_carry small (k ∷ q) seen ≡ true
+    pub may_carry-like : (seen carried : Option Ptr) → CarriedLike seen carried → may_carry big (k ∷ (q ++ root)) carried ≡ true → may_carry small
+        (k ∷ q) seen ≡ true
     may_carry-like None None h on = refl
     may_carry-like (Some seen) (Some p) h on =
-        ap not (leads_to_frozen-like like free (k ∷ q) p seen (subst (λ (s : Ptr). PtrLikeness root big p s) (sym h.0) h.1) (off (leads_to_frozen big (k ∷ (q ++ root)) p) on))
+        ap not (leads_to_frozen-like like free (k ∷ q) p seen (subst (λ (s : Ptr). PtrLikeness root big p s) (sym h.0) h.1)
+        (off (leads_to_frozen big (k ∷ (q ++ root)) p) on))
       where
         off : (b : Bool) → not b ≡ true → b ≡ false
         off false h = refl
@@ -348,12 +360,14 @@ module _ {root : Path} {see : Ptr → Ptr} {small big : World} (like : IsLikenes
     send-same side address count lines = same_bind (NearLine root see big) _ _ _ _ (turn_near side _ _ lines) (same_sends side address count)
 
     -- where both may be handed on, or neither
-    pub over-same : (side : Turn) (seen carried : Option Ptr) → CarriedLike seen carried → may_carry small (k ∷ q) seen ≡ may_carry big (k ∷ (q ++ root)) carried →
+    pub over-same : (side : Turn) (seen carried : Option Ptr) → CarriedLike seen carried → may_carry small (k ∷ q) seen ≡ may_carry big
+        (k ∷ (q ++ root)) carried →
         AlikeOptions (NearLine root see big) (line small (k ∷ q) side) (line big (k ∷ (q ++ root)) side) →
         Same (over small (user_at (k ∷ q)) side seen) (over big (user_at (k ∷ (q ++ root))) side carried)
     unfolding over
     over-same side seen carried alike may lines = same_bind (NearLine root see big) _ _ _ _ (turn_near side _ _ lines)
-        (λ near far h. same_when (may_carry small (k ∷ q) seen) (may_carry big (k ∷ (q ++ root)) carried) _ _ may (passes_same side seen carried alike near far h))
+        (λ near far h. same_when (may_carry small (k ∷ q) seen) (may_carry big (k ∷ (q ++ root)) carried) _ _ may
+        (passes_same side seen carried alike near far h))
 
     pub weak_bind : {A B : Type 0} (R : A → B → Type 0) (a : Result A ℕ) (b : Result B ℕ) (f : A → Outcome) (g : B → Outcome) →
         AlikeResults R a b → ((x : A) (y : B) → R x y → IsLikeUnlessWaiting root see big (f x) (g y)) → IsLikeUnlessWaiting root see big (a >>= f) (b >>= g)
@@ -382,13 +396,15 @@ module _ {root : Path} {see : Ptr → Ptr} {small big : World} (like : IsLikenes
         (object_in big (user_at (k ∷ (q ++ root))) reference_of (q ++ root) reference) _ _ (reference_in-like like (user_at (k ∷ q)) q reference)
         (λ seen p h. over-weak side (Some seen) (Some p) h lines)
 
-    pub over_ref-same : ((p : Ptr) → HasLikeness root see big p → may_carry small (k ∷ q) (Some (see p)) ≡ may_carry big (k ∷ (q ++ root)) (Some p)) → (side : Turn) (reference : ℕ) →
+    pub over_ref-same : ((p : Ptr) → HasLikeness root see big p → may_carry small (k ∷ q) (Some (see p)) ≡ may_carry big (k ∷ (q ++ root)) (Some p)) →
+        (side : Turn) (reference : ℕ) →
         AlikeOptions (NearLine root see big) (line small (k ∷ q) side) (line big (k ∷ (q ++ root)) side) →
         Same (over_ref small (user_at (k ∷ q)) side reference) (over_ref big (user_at (k ∷ (q ++ root))) side reference)
     unfolding over_ref
     over_ref-same may side reference lines = same_bind (IsSeenAs root see big) (object_in small (user_at (k ∷ q)) reference_of q reference)
         (object_in big (user_at (k ∷ (q ++ root))) reference_of (q ++ root) reference) _ _ (reference_in-like like (user_at (k ∷ q)) q reference)
-        (λ seen p h. over-same side (Some seen) (Some p) h (subst (λ (s : Ptr). may_carry small (k ∷ q) (Some s) ≡ may_carry big (k ∷ (q ++ root)) (Some p)) (sym h.0) (may p h.1)) lines)
+        (λ seen p h. over-same side (Some seen) (Some p) h
+        (subst (λ (s : Ptr). may_carry small (k ∷ q) (Some s) ≡ may_carry big (k ∷ (q ++ root)) (Some p)) (sym h.0) (may p h.1)) lines)
 
   -- ---- the lines
 

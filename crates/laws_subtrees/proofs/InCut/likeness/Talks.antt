@@ -11,8 +11,10 @@ use Rattle.fk_model.specs.World.{World}
 use Rattle.fk_model.specs.Searches.{talk_at, fault_at, client_of}
 use Rattle.fk_model.specs.Talks.{line_from, line, path_to, thread_led_to}
 use Rattle.fk_model.specs.Cut.{is_out, seen_by, unheld}
-use Rattle.laws_subtrees.specs.Cut.Likeness.{seeing, seen_peer, PtrLikeness, HasLikeness, IfServer, AllInTalk, AllInFault, IsPlainBody, IsLikeness, AlikeOptions}
-use Rattle.laws_subtrees.specs.Cut.Likeness.{IsBeneath, IsOuter, ServesNobodyOutside, IsSeenTalk, IsSeenFault, IsSeenThread, PeerLikeness, EndLikeness, LineLikeness}
+use Rattle.laws_subtrees.specs.Cut.Likeness.{seeing, seen_peer, PtrLikeness, HasLikeness, IfServer, AllInTalk, AllInFault, IsPlainBody, IsLikeness}
+use Rattle.laws_subtrees.specs.Cut.Likeness.{AlikeOptions}
+use Rattle.laws_subtrees.specs.Cut.Likeness.{IsBeneath, IsOuter, ServesNobodyOutside, IsSeenTalk, IsSeenFault, IsSeenThread, PeerLikeness, EndLikeness}
+use Rattle.laws_subtrees.specs.Cut.Likeness.{LineLikeness}
 use Rattle.laws_subtrees.specs.Cut.Likeness.PtrLikeness.{Nulls, Deads, Inside, PortAt, PortOut}
 use Rattle.laws_subtrees.specs.Cut.Likeness.PeerLikeness.{Outsiders, Servers, Services, Waiters}
 use Rattle.laws_subtrees.specs.Cut.Likeness.EndLikeness.{Ends}

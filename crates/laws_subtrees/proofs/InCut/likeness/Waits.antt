@@ -18,7 +18,8 @@ use Rattle.fk_model.specs.LinkRows.{user_at, if_read, port_named, connecting_to,
 use Rattle.fk_model.specs.LinkRows.{resuming, candidate_by, candidate}
 use Rattle.fk_model.specs.LinkRows.Candidate.{Faulting, Connecting, Resuming}
 use Rattle.fk_model.specs.Cut.{is_out, seen_by, unheld}
-use Rattle.laws_subtrees.specs.Cut.Likeness.{seeing, seen_peer, seen_thread, PtrLikeness, HasLikeness, AllInTalk, AllInFault, IsLikeness, AlikeResults, AlikeOptions}
+use Rattle.laws_subtrees.specs.Cut.Likeness.{seeing, seen_peer, seen_thread, PtrLikeness, HasLikeness, AllInTalk, AllInFault, IsLikeness, AlikeResults}
+use Rattle.laws_subtrees.specs.Cut.Likeness.{AlikeOptions}
 use Rattle.laws_subtrees.specs.Cut.Likeness.{IsSeenAs, IsSeenHandle, IsSeenThread, CandidateLikeness}
 use Rattle.laws_subtrees.specs.Cut.Likeness.PtrLikeness.{Nulls, Deads, Inside, PortAt, PortOut}
 use Rattle.laws_subtrees.specs.Cut.Likeness.CandidateLikeness.{Faults, Connects, Resumes}

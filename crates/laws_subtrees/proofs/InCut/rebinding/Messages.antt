@@ -1,5 +1,6 @@
 -- The law of rebinding for a Send and an Over, with what the outside is told of them.
-use Rattle.std.proofs.Common.{◌≡◌, ℕ, eqb, leb, ltb, Bool, true, false, cond, ◌&&◌, List, [], ◌∷◌, ◌++◌, map, find, Option, Some, None, is_none, Ok, Err, refl, not}
+use Rattle.std.proofs.Common.{◌≡◌, ℕ, eqb, leb, ltb, Bool, true, false, cond, ◌&&◌, List, [], ◌∷◌, ◌++◌, map, find, Option, Some, None, is_none, Ok, Err, refl}
+use Rattle.std.proofs.Common.{not}
 use Rattle.std.proofs.Common.{sym, ap, subst, ◌∙◌, append-nil}
 use Rattle.fk_model.specs.declared.limits.TheConstants.{BLOCK_WORDS}
 use Rattle.fk_model.specs.declared.statuses.status.TheConstants.{WRONGTURN}
@@ -23,11 +24,13 @@ use Rattle.fk_model.specs.TransferRows.{block, moved_words, in_turn, may_carry}
 use Rattle.fk_model.specs.LinkRows.{user_at}
 use Rattle.fk_model.specs.Moves.{stage_row, is_for_porters, chooses, closed, call_row}
 use Rattle.fk_model.specs.Cut.{is_out}
-use Rattle.fk_model.specs.Further.{is_outside, takes_words, sends_outside, passes_outside, talks_outside, outside_row, own_row, counted, onward_row, over_outside}
+use Rattle.fk_model.specs.Further.{is_outside, takes_words, sends_outside, passes_outside, talks_outside, outside_row, own_row, counted, onward_row}
+use Rattle.fk_model.specs.Further.{over_outside}
 use Rattle.fk_model.specs.Further.Onward.{Own}
 use Rattle.fk_model.specs.Rebind.{rebound_ptr, rebound}
 use Rattle.laws_subtrees.specs.Cut.CutLaws.{IsAtStage, IsServerSend, IsServerOver, IsClientSend, IsClientOver, IsClientOverRef, IsServerOverRef}
-use Rattle.laws_subtrees.specs.Cut.Likeness.{seen_talk, seen_thread, IsLikeness, IsCutWorld, ServesNobodyOutside, IsBeneath, AlikeOptions, IsSeenTalk, IsSeenAs, PtrLikeness}
+use Rattle.laws_subtrees.specs.Cut.Likeness.{seen_talk, seen_thread, IsLikeness, IsCutWorld, ServesNobodyOutside, IsBeneath, AlikeOptions, IsSeenTalk, IsSeenAs}
+use Rattle.laws_subtrees.specs.Cut.Likeness.{PtrLikeness}
 use Rattle.laws_subtrees.specs.Cut.LikeChanges.LikeChange.{Alters}
 use Rattle.laws_subtrees.specs.Cut.LikeChanges.LikeChanges.{Empty, Both}
 use Rattle.laws_subtrees.specs.Cut.RebindLaws.{RebindsTo, StageRebinds}
@@ -38,7 +41,8 @@ use Rattle.laws_subtrees.proofs.InCut.likeness.Talks.{talk_at-like}
 use Rattle.laws_subtrees.proofs.InCut.likeness.Walks.{beneath-like}
 use Rattle.laws_subtrees.proofs.InCut.likeness.Sweeps.{serves_alike}
 use Rattle.laws_subtrees.proofs.InCut.likeness.Servers.{cut_world-apart}
-use Rattle.laws_subtrees.proofs.InCut.likeness.Sends.{NearLine, says_nothing, Same, same_when, same_own, same_sent, send-same, over-same, client_near, server_near, CarriedLike, over_ref-same}
+use Rattle.laws_subtrees.proofs.InCut.likeness.Sends.{NearLine, says_nothing, Same, same_when, same_own, same_sent, send-same, over-same, client_near}
+use Rattle.laws_subtrees.proofs.InCut.likeness.Sends.{server_near, CarriedLike, over_ref-same}
 use Rattle.laws_subtrees.proofs.InCut.likeness.Sends.{same_bind}
 use Rattle.laws_subtrees.proofs.InCut.likeness.Sends.SaidLikeness.{SaysWords, SaysPassed}
 use Rattle.laws_subtrees.proofs.InCut.cut.Inside.{call_closed}
@@ -179,10 +183,12 @@ server_over_rebinds = told_rebinds IsServerOver (λ p n stage such. rw such (law
     law p n see small c like outs world k q =
         rw (silent_row p n ServerOver small (k ∷ q) (λ n o. refl), silent_row p n ServerOver c (k ∷ (q ++ [])) (λ n o. refl))
         (same_call like k q p ServerOver refl
-        refl (over-same like (top_free c world) k q turns.Server None None tt refl (server_near like (k ∷ q) (client_same like (cut_world-apart c see outs world) (k ∷ q)))))
+        refl (over-same like (top_free c world) k q turns.Server None None tt refl
+        (server_near like (k ∷ q) (client_same like (cut_world-apart c see outs world) (k ∷ q)))))
 
 -- in a world that is all inside, what is frozen is seen so
-frozen_alike : {see : Ptr → Ptr} {small c : World} (like : IsLikeness [] see small c) → is_frozen c [] ≡ false → (me : Path) (p seen : Ptr) → PtrLikeness [] c p seen →
+frozen_alike : {see : Ptr → Ptr} {small c : World} (like : IsLikeness [] see small c) → is_frozen c [] ≡ false → (me : Path) (p seen : Ptr)
+    → PtrLikeness [] c p seen →
     leads_to_frozen small me seen ≡ leads_to_frozen c (me ++ []) p
 frozen_alike like free me _ _ Nulls = refl
 frozen_alike like free me _ _ Deads = refl
@@ -321,8 +327,10 @@ client_over_ref_rebinds = told_rebinds IsClientOverRef (λ p n stage such. rw su
     law : (p : Option Path) (n reference : ℕ) → IsRebound p n (ClientOverRef reference)
     law p n reference =
         client_rebound n (ClientOverRef reference) refl refl
-        (λ see small c like free k q lines. over_ref-same like free k q (λ p h. ap not (frozen_alike like free (k ∷ q) p (see p) h)) turns.Client reference lines)
+        (λ see small c like free k q lines. over_ref-same like free k q
+        (λ p h. ap not (frozen_alike like free (k ∷ q) p (see p) h)) turns.Client reference lines)
         (λ see small c like free k q talk near far o o2.
-        same_bind like (IsSeenAs [] see c) (object_in small (user_at (k ∷ q)) reference_of q reference) (object_in c (user_at (k ∷ (q ++ []))) reference_of (q ++ []) reference)
+        same_bind like (IsSeenAs [] see c) (object_in small (user_at (k ∷ q)) reference_of q reference)
+        (object_in c (user_at (k ∷ (q ++ []))) reference_of (q ++ []) reference)
         _ _ (reference_in-like like (user_at (k ∷ q)) q reference) (λ seen p h. over_told like k q talk near far (Some seen) (Some p) h
         (ap not (frozen_alike like free (k ∷ q) p seen (subst (λ (s : Ptr). PtrLikeness [] c p s) (sym h.0) h.1))))) p

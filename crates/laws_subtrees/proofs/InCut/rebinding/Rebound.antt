@@ -19,7 +19,8 @@ use Rattle.fk_model.specs.LinkRows.{user_at}
 use Rattle.fk_model.specs.Freezing.{AreAllowed}
 use Rattle.fk_model.specs.Moves.{call_row, goes_on}
 use Rattle.fk_model.specs.Cut.{is_out}
-use Rattle.fk_model.specs.Further.{Onward, Told, talks_outside, own_stage, goes_out, counted, onward_row, ends_told, told_fault, told_by_change, told_by_said, carried_by}
+use Rattle.fk_model.specs.Further.{Onward, Told, talks_outside, own_stage, goes_out, counted, onward_row, ends_told, told_fault, told_by_change, told_by_said}
+use Rattle.fk_model.specs.Further.{carried_by}
 use Rattle.fk_model.specs.Further.{told_by, OnwardTo, reference_handed}
 use Rattle.fk_model.specs.Further.Onward.{Own}
 use Rattle.fk_model.specs.Further.Told.{ToldEnd, ToldFault, ToldOver}
@@ -166,15 +167,19 @@ same_move w m (Goes cs said) told heard later after h g = (g.1 ∙ sym h.1, g.2 
 same_move w m Waits told heard later after h g = absurd h
 same_move w m (Refused status) told heard later after h g = absurd h
 
-pub rebinds_from : (bind : ℕ → ℕ) (c : World) (m : Onward) (near far : Outcome) → onward_row (rebound bind c) (rebound_move bind m) ≡ near → onward_row c m ≡ far →
-    ((told : List Told) (later : World) → OnwardTo c m far told later → OnwardTo (rebound bind c) (rebound_move bind m) near (map (rebound_told bind) told) (rebound bind later)) →
-    ((heard : List Told) (after : World) → OnwardTo (rebound bind c) (rebound_move bind m) near heard after → (told : List Told) × (later : World) × OnwardTo c m far told later) →
+pub rebinds_from : (bind : ℕ → ℕ) (c : World) (m : Onward) (near far : Outcome) → onward_row (rebound bind c) (rebound_move bind m) ≡ near → onward_row c m
+    ≡ far →
+    ((told : List Told) (later : World) → OnwardTo c m far told later → OnwardTo (rebound bind c) (rebound_move bind m) near (map (rebound_told bind) told)
+    (rebound bind later)) →
+    ((heard : List Told) (after : World) → OnwardTo (rebound bind c) (rebound_move bind m) near heard after → (told : List Told) × (later : World)
+    × OnwardTo c m far told later) →
     ((told : List Told) (later : World) → OnwardTo c m far told later → IsCutWorld later) → RebindsTo bind c m
 rebinds_from bind c m near far near_is far_is forth back stays = record {
   forth = λ told later onward. subst (λ (o : Outcome). OnwardTo (rebound bind c) (rebound_move bind m) o (map (rebound_told bind) told) (rebound bind later))
       (sym near_is) (forth told later (subst (λ (o : Outcome). OnwardTo c m o told later) far_is onward));
   back = λ heard after onward.
-      let here : OnwardTo (rebound bind c) (rebound_move bind m) near heard after = subst (λ (o : Outcome). OnwardTo (rebound bind c) (rebound_move bind m) o heard after) near_is onward in
+      let here : OnwardTo (rebound bind c) (rebound_move bind m) near heard after = subst
+      (λ (o : Outcome). OnwardTo (rebound bind c) (rebound_move bind m) o heard after) near_is onward in
       let was = back heard after here in
       let now = forth was.0 was.1 was.2 in
       let same = same_move (rebound bind c) (rebound_move bind m) near (map (rebound_told bind) was.0) heard (rebound bind was.1) after now here in
@@ -213,7 +218,8 @@ module _ (bind : ℕ → ℕ) (c : World) (world : IsCutWorld c) (k : ℕ) (q : 
   unfolding rebound
   carried_anew x = by (c.body x)
     where
-      held : (o : Option Body) (y : Path) → option_map (rebound_ptr bind) (and_then reference_of o) ≡ and_then reference_of (option_map (through (rebinding bind) y) o)
+      held : (o : Option Body) (y : Path) → option_map (rebound_ptr bind) (and_then reference_of o) ≡ and_then reference_of
+          (option_map (through (rebinding bind) y) o)
       held None y = refl
       held (Some (Reference to)) y = refl
       held (Some b) y = refl

@@ -1,5 +1,6 @@
 -- The law of rebinding for what the outside does to a subtree: with other outward ports it is done in the same way.
-use Rattle.std.proofs.Common.{◌≡◌, ℕ, ◌%◌, eqb, leb, ltb, min, Bool, true, false, cond, ◌&&◌, List, [], ◌∷◌, ◌++◌, map, length, Option, Some, None, is_none, not}
+use Rattle.std.proofs.Common.{◌≡◌, ℕ, ◌%◌, eqb, leb, ltb, min, Bool, true, false, cond, ◌&&◌, List, [], ◌∷◌, ◌++◌, map, length, Option, Some, None, is_none}
+use Rattle.std.proofs.Common.{not}
 use Rattle.std.proofs.Common.{is_some, option_map, refl, sym, ap, subst, ◌∙◌, append-nil}
 use Rattle.std.proofs.lemmas.Bool.{and_parts}
 use Rattle.fk_model.specs.declared.limits.TheConstants.{PAGE_WORDS, BLOCK_WORDS}
@@ -22,12 +23,14 @@ use Rattle.fk_model.specs.Talks.{same_side, receiving, is_talking, awaited}
 use Rattle.fk_model.specs.TransferRows.{overwritten, to_page_end, taken_answers}
 use Rattle.fk_model.specs.LinkRows.{new_talk}
 use Rattle.fk_model.specs.Cut.{is_out, seen_by, unheld, is_far, is_outer}
-use Rattle.fk_model.specs.Further.{Touch, Told, is_outside, on_found, is_outside_talk, taken_at, if_awaiting, given_at, given_to, left_by_peer, handed_with, is_named}
+use Rattle.fk_model.specs.Further.{Touch, Told, is_outside, on_found, is_outside_talk, taken_at, if_awaiting, given_at, given_to, left_by_peer, handed_with}
+use Rattle.fk_model.specs.Further.{is_named}
 use Rattle.fk_model.specs.Further.{fault_taken_outside, done_fault, touch_row, onward_row, OnwardTo, leads_to_held, may_take}
 use Rattle.fk_model.specs.Further.Touch.{Taken, Given, Filled, Handed, Left, FaultTaken, FaultDone, PageGiven, PageTaken, HandedWith}
 use Rattle.fk_model.specs.Further.Onward.{ByOthers}
 use Rattle.fk_model.specs.Rebind.{rebound_ptr, rebound, rebound_told, rebound_move, touch_by}
-use Rattle.laws_subtrees.specs.Cut.Likeness.{seeing, seen_peer, seen_talk, seen_fault, seen_thread, IsLikeness, IsCutWorld, AlikeOptions, IsSeenAs, IsSeenThread, HasLikeness}
+use Rattle.laws_subtrees.specs.Cut.Likeness.{seeing, seen_peer, seen_talk, seen_fault, seen_thread, IsLikeness, IsCutWorld, AlikeOptions, IsSeenAs}
+use Rattle.laws_subtrees.specs.Cut.Likeness.{IsSeenThread, HasLikeness}
 use Rattle.laws_subtrees.specs.Cut.Likeness.{PtrLikeness}
 use Rattle.laws_subtrees.specs.Cut.LikeChanges.{LikeChanges, IsLikeOutcome, HasFaultSeen}
 use Rattle.laws_subtrees.specs.Cut.LikeChanges.LikeChange.{Alters, AltersOut, PutsPage, DropsPage}
@@ -81,7 +84,8 @@ fault_shown t shown fault is =
     the_one : (a b : Fault) → Some a ≡ Some b → a ≡ b
     the_one a b h = cc
 
-module _ {see : Ptr → Ptr} {small c : World} (like : IsLikeness [] see small c) (outs : (p : Ptr) → is_out (see p) ≡ is_out p) (fars : (p : Ptr) → is_far (see p) ≡ is_far p)
+module _ {see : Ptr → Ptr} {small c : World} (like : IsLikeness [] see small c) (outs : (p : Ptr) → is_out (see p) ≡ is_out p)
+    (fars : (p : Ptr) → is_far (see p) ≡ is_far p)
     (outers : (p : Ptr) → is_outer (see p) ≡ is_outer p) (world : IsCutWorld c) where
   abbrev Alike : Outcome → Outcome → Type 0
   Alike = IsLikeOutcome [] see c
@@ -150,7 +154,8 @@ module _ {see : Ptr → Ptr} {small c : World} (like : IsLikeness [] see small c
   awaiting k q near far go t shown =
       when_so _ (is_free c (q ++ []) t && holds (λ (talk : Talk). is_outside_talk talk && same_side talk.turn turns.Server) t.talk)
       (on_found near (receiving small q turns.Client t.mode)) (on_found far (receiving c (q ++ []) turns.Client t.mode))
-      (rw (free_here q t, talk_test (λ (talk : Talk). same_side talk.turn turns.Server) (λ talk. refl) t shown) refl) (λ on. rw (receiving-like like q turns.Client t.mode) (by (receiving c (q ++ []) turns.Client t.mode)))
+      (rw (free_here q t, talk_test (λ (talk : Talk). same_side talk.turn turns.Server) (λ talk. refl) t shown) refl)
+      (λ on. rw (receiving-like like q turns.Client t.mode) (by (receiving c (q ++ []) turns.Client t.mode)))
     where
       by : (o : Option (ℕ × ℕ)) → Alike (on_found near o) (on_found far o)
       by None = tt
@@ -240,7 +245,8 @@ module _ {see : Ptr → Ptr} {small c : World} (like : IsLikeness [] see small c
 
   kind_same : (y : Path) → kind_there small y ≡ kind_there c y
   unfolding kind_there
-  kind_same y = kinds_map (small.body y) ∙ kind-there like y ∙ sym (kinds_map (c.body (y ++ []))) ∙ ap (λ (x : Path). option_map kind_of (c.body x)) (append-nil y)
+  kind_same y = kinds_map (small.body y) ∙ kind-there like y ∙ sym (kinds_map (c.body (y ++ []))) ∙ ap (λ (x : Path). option_map kind_of (c.body x))
+      (append-nil y)
     where
       kinds_map : (o : Option Body) → option_map kind_of o ≡ and_then (λ b. Some (kind_of b)) o
       kinds_map None = refl
@@ -368,7 +374,8 @@ module _ {see : Ptr → Ptr} {small c : World} (like : IsLikeness [] see small c
 module _ (bind : ℕ → ℕ) (c : World) (world : IsCutWorld c) (touch : Touch) where
   touch_gone : (near far : Outcome) → IsLikeOutcome [] (rebound_ptr bind) c near far → IsLikeOutcome [] (λ p. p) c far far →
       (told : List Told) (later : World) →
-      OnwardTo c (ByOthers touch) far told later → OnwardTo (rebound bind c) (rebound_move bind (ByOthers touch)) near (map (rebound_told bind) told) (rebound bind later)
+      OnwardTo c (ByOthers touch) far told later → OnwardTo (rebound bind c) (rebound_move bind (ByOthers touch)) near (map (rebound_told bind) told)
+      (rebound bind later)
   touch_gone (Goes cs was) (Goes ds said) h again told later onward =
       let now : World = apply_all ds c in
       let world_now : IsCutWorld now = changes-like c c ds ds again world in
@@ -381,7 +388,8 @@ module _ (bind : ℕ → ℕ) (c : World) (world : IsCutWorld c) (touch : Touch)
   touch_gone Waits (Goes ds said) h again told later onward = absurd h
 
   touch_back : (near far : Outcome) → IsLikeOutcome [] (rebound_ptr bind) c near far → (heard : List Told) (after : World) →
-      OnwardTo (rebound bind c) (rebound_move bind (ByOthers touch)) near heard after → (told : List Told) × (later : World) × OnwardTo c (ByOthers touch) far told later
+      OnwardTo (rebound bind c) (rebound_move bind (ByOthers touch)) near heard after → (told : List Told) × (later : World) × OnwardTo c
+      (ByOthers touch) far told later
   touch_back (Goes cs was) (Goes ds said) h heard after onward = ([], apply_all ds c, (tt, refl, refl))
   touch_back Waits far h heard after onward = absurd onward
   touch_back (Refused status) far h heard after onward = absurd onward

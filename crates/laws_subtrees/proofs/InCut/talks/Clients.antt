@@ -22,7 +22,8 @@ use Rattle.fk_model.specs.Outcomes.Outcome.{Refused, Waits, Goes}
 use Rattle.fk_model.specs.Outcomes.Said.{Nothing, Words, Passed}
 use Rattle.fk_model.specs.Readers.{own_page_at, own_page, their_page_at, their_page, object_in, handled}
 use Rattle.fk_model.specs.Talks.{Line, line, same_side, receiving, thread_led_to, is_service_free, awaited, is_handled}
-use Rattle.fk_model.specs.TransferRows.{overwritten, block, moved_words, in_turn, has_sent, sends_words, sends_into, sends_to_thread, sends_to_service, may_carry, over_ref}
+use Rattle.fk_model.specs.TransferRows.{overwritten, block, moved_words, in_turn, has_sent, sends_words, sends_into, sends_to_thread, sends_to_service}
+use Rattle.fk_model.specs.TransferRows.{may_carry, over_ref}
 use Rattle.fk_model.specs.TransferRows.{sends_to, sends, send, passes, passes_to_thread, passes_to, over, takes_turn}
 use Rattle.fk_model.specs.LinkRows.{user_at}
 use Rattle.fk_model.specs.Moves.{stage_row, is_for_porters, chooses, with_pick, closed, call_row}
@@ -31,7 +32,8 @@ use Rattle.fk_model.specs.Further.{is_outside, counted, takes_words, sends_outsi
 use Rattle.fk_model.specs.Seen.{count_set, writes_inside, only_fills, leads_out}
 use Rattle.fk_model.proofs.walks.PlaceLaws.{same_path_refl, strip_some, strip-append}
 use Rattle.laws_moves.proofs.InMachine.Frame.{or_off}
-use Rattle.laws_subtrees.specs.Cut.Likeness.{seen_peer, seen_talk, PtrLikeness, HasLikeness, IfServer, AllInTalk, IsLikeness, IsOuter, AlikeOptions, IsSeenTalk, IsSeenAs}
+use Rattle.laws_subtrees.specs.Cut.Likeness.{seen_peer, seen_talk, PtrLikeness, HasLikeness, IfServer, AllInTalk, IsLikeness, IsOuter, AlikeOptions, IsSeenTalk}
+use Rattle.laws_subtrees.specs.Cut.Likeness.{IsSeenAs}
 use Rattle.laws_subtrees.specs.Cut.Likeness.{ReachLikeness}
 use Rattle.laws_subtrees.specs.Cut.Likeness.PtrLikeness.{Nulls, Deads, Inside, PortAt, PortOut}
 use Rattle.laws_subtrees.specs.Cut.Likeness.ReachLikeness.{Homes, Misses, Bads}
@@ -191,7 +193,8 @@ module _ {root : Path} {see : Ptr → Ptr} {small big : World}
   to_thread page None outer many = λ takes. tt
   to_thread page (Some e) outer many = by (is_free big (parent e.0) e.1)
     where
-      by : (b : Bool) → Taking (near_row page) (when b (sends_into big (user_at me) me e.0 address count page (receiving big (parent e.0) turns.Server e.1.mode)))
+      by : (b : Bool) → Taking (near_row page)
+          (when b (sends_into big (user_at me) me e.0 address count page (receiving big (parent e.0) turns.Server e.1.mode)))
       by true = into e.0 (outer e refl) page (receiving big (parent e.0) turns.Server e.1.mode) many
       by false = λ takes. tt
 
@@ -267,7 +270,8 @@ module _ {root : Path} {see : Ptr → Ptr} {small big : World}
     passed ds told on h =
         rw on (append-like (append-like h (Both (Alters k q _ (PassTurn turns.Server) refl tt) Empty)) (Both (Alters k q _ (Finish []) refl tt) Empty))
 
-    turn-beyond : (y : Path) → is_within root y ≡ false → (to : Option ℕ) → is_handled big (parent y) to ≡ true → LikeChanges root see big [] (takes_turn y carried to)
+    turn-beyond : (y : Path) → is_within root y ≡ false → (to : Option ℕ) → is_handled big (parent y) to ≡ true → LikeChanges root see big []
+        (takes_turn y carried to)
     turn-beyond y out to handled = by carried to handled
       where
         by : (carried : Option Ptr) (to : Option ℕ) → is_handled big (parent y) to ≡ true → LikeChanges root see big [] (takes_turn y carried to)

@@ -369,7 +369,8 @@ module _ (w : World) (nester : Path) (slot : ℕ) (plain : IsPlain w nester slot
   -- ---- the row of a Send
 
   sent : (turn : same_side talk.turn turns.Server ≡ true)
-      (free : is_free w (z ++ root) t ≡ true) (receive : ℕ × ℕ) (awaits : receiving w (z ++ root) turns.Client t.mode ≡ Some receive) (address count : ℕ) (page : List ℕ) →
+      (free : is_free w (z ++ root) t ≡ true) (receive : ℕ × ℕ) (awaits : receiving w (z ++ root) turns.Client t.mode ≡ Some receive) (address count : ℕ)
+      (page : List ℕ) →
       length page ≡ PAGE_WORDS → 0 < moved_words address count receive.0 receive.1 →
       (s : Path) (p : ℕ) → reach_word small z receive.0 true ≡ Home s p → is_some (w.page (s ++ root) p) ≡ true → Touches (sends_words (user_at x)
       client client (moved_words address count receive.0 receive.1) address count page receive.0 (s ++ root) p (words_at w (s ++ root) p))
@@ -394,7 +395,8 @@ module _ (w : World) (nester : Path) (slot : ℕ) (plain : IsPlain w nester slot
       by false = goes (Alter me (Shift m) ∷ []) (Beyond out Empty) (tt, tt)
 
   their : (turn : same_side talk.turn turns.Server ≡ true)
-      (free : is_free w (z ++ root) t ≡ true) (receive : ℕ × ℕ) (awaits : receiving w (z ++ root) turns.Client t.mode ≡ Some receive) (address count : ℕ) (page : List ℕ) →
+      (free : is_free w (z ++ root) t ≡ true) (receive : ℕ × ℕ) (awaits : receiving w (z ++ root) turns.Client t.mode ≡ Some receive) (address count : ℕ)
+      (page : List ℕ) →
       length page ≡ PAGE_WORDS → 0 < moved_words address count receive.0 receive.1 →
       (a b : Reach) → reach_word small z receive.0 true ≡ a → IsThere w b → ReachLikeness root see w a b → Touches (their_page_at (λ s other.
       sends_words (user_at x) client client (moved_words address count receive.0 receive.1) address count page receive.0 s other (words_at w s other)) b)
@@ -403,7 +405,8 @@ module _ (w : World) (nester : Path) (slot : ℕ) (plain : IsPlain w nester slot
   their turn free receive awaits address count page long some _ _ e there Bads = nothing_seen Waits refl refl
 
   into : same_side talk.turn turns.Server ≡ true → is_free w (z ++ root) t ≡ true → (address count : ℕ) (page : List ℕ) → length page ≡ PAGE_WORDS →
-      eqb count 0 ≡ false → (o : Option (ℕ × ℕ)) → receiving w (z ++ root) turns.Client t.mode ≡ o → Touches (sends_into w (user_at x) client client address count page o)
+      eqb count 0 ≡ false → (o : Option (ℕ × ℕ)) → receiving w (z ++ root) turns.Client t.mode ≡ o → Touches
+      (sends_into w (user_at x) client client address count page o)
   into turn free address count page long many None awaits = nothing_seen Waits refl refl
   into turn free address count page long many (Some receive) awaits = by (eqb receive.1 0) refl
     where
@@ -420,7 +423,8 @@ module _ (w : World) (nester : Path) (slot : ℕ) (plain : IsPlain w nester slot
   to_thread turn address count page long many = rw is (by (is_free w (z ++ root) t) refl)
     where
       by : (b : Bool) →
-          is_free w (z ++ root) t ≡ b → Touches (when b (sends_into w (user_at x) client client address count page (receiving w (z ++ root) turns.Client t.mode)))
+          is_free w (z ++ root) t ≡ b → Touches
+          (when b (sends_into w (user_at x) client client address count page (receiving w (z ++ root) turns.Client t.mode)))
       by true e = into turn e address count page long many (receiving w (z ++ root) turns.Client t.mode) refl
       by false e = nothing_seen Waits refl refl
 
@@ -455,7 +459,8 @@ module _ (w : World) (nester : Path) (slot : ℕ) (plain : IsPlain w nester slot
   touches-so false o h = nothing_seen Waits refl refl
 
   native_words : same_side talk.turn turns.Server ≡ true → is_free w (z ++ root) t ≡ true →
-      (receive : ℕ × ℕ) → receiving w (z ++ root) turns.Client t.mode ≡ Some receive → (port : Path) (words : List ℕ) → 0 < moved_words 0 (length words) receive.0 receive.1 →
+      (receive : ℕ × ℕ) → receiving w (z ++ root) turns.Client t.mode ≡ Some receive → (port : Path) (words : List ℕ) → 0 < moved_words 0
+      (length words) receive.0 receive.1 →
       (a b : Reach) → reach_word small z receive.0 true ≡ a → IsThere w b → ReachLikeness root see w a b →
       Touches (their_page_at (gives_words w port client words receive.0 receive.1) b)
   native_words turn free receive awaits port words some _ _ home there (Homes s p) =
@@ -465,7 +470,8 @@ module _ (w : World) (nester : Path) (slot : ℕ) (plain : IsPlain w nester slot
   native_words turn free receive awaits port words some _ _ home there (Misses s p keeper kept h) = nothing_seen Waits refl refl
   native_words turn free receive awaits port words some _ _ home there Bads = nothing_seen Waits refl refl
 
-  native_gives : same_side talk.turn turns.Server ≡ true → is_free w (z ++ root) t ≡ true → (receive : ℕ × ℕ) → receiving w (z ++ root) turns.Client t.mode ≡ Some receive →
+  native_gives : same_side talk.turn turns.Server ≡ true → is_free w (z ++ root) t ≡ true → (receive : ℕ × ℕ) → receiving w (z ++ root) turns.Client t.mode
+      ≡ Some receive →
       (port : Path) (words : List ℕ) → eqb (length words) 0 ≡ false → Touches (gives_to w port words client receive)
   native_gives turn free receive awaits port words many = by (eqb receive.1 0) refl
     where

@@ -1,5 +1,6 @@
 -- The law of the cut for an Over of a server outside: the subtree sees that a thread of it is handed the turn.
-use Rattle.std.proofs.Common.{◌≡◌, ℕ, Bool, true, false, cond, ◌&&◌, List, [], ◌∷◌, ◌++◌, Option, Some, None, is_some, is_none, option_map, Ok, Err, refl, sym, IfSome, ◌||◌}
+use Rattle.std.proofs.Common.{◌≡◌, ℕ, Bool, true, false, cond, ◌&&◌, List, [], ◌∷◌, ◌++◌, Option, Some, None, is_some, is_none, option_map, Ok, Err, refl, sym}
+use Rattle.std.proofs.Common.{IfSome, ◌||◌}
 use Rattle.std.proofs.Common.{ap, subst, ◌∙◌, Result, not}
 use Rattle.std.proofs.lemmas.Bool.{and_parts}
 use Rattle.fk_model.specs.declared.moves.Ask.TheVariants as asks
@@ -182,7 +183,8 @@ module _ (w : World) (nester : Path) (slot : ℕ) (plain : IsPlain w nester slot
     abbrev far_changes : List ℕ → List Change
     far_changes answers = Alter client (Finish answers) ∷ Alter client (PassTurn turns.Client) ∷ Alter me (Finish []) ∷ []
 
-    handed_alone : (answers : List ℕ) → taken_answers (awaited t.mode) None ≡ answers → IsHanded w nester slot plain x (Some (Handed (k ∷ z))) (apply_all (far_changes answers) w)
+    handed_alone : (answers : List ℕ) → taken_answers (awaited t.mode) None ≡ answers → IsHanded w nester slot plain x (Some (Handed (k ∷ z)))
+        (apply_all (far_changes answers) w)
     unfolding apply_all
     handed_alone answers e touch seen =
         let form : touch ≡ Handed (k ∷ z) = cc in
@@ -268,7 +270,8 @@ module _ (w : World) (nester : Path) (slot : ℕ) (plain : IsPlain w nester slot
 
         by : (carried : Option Ptr) → CanHold w carried → (to : Option ℕ) → awaited t.mode ≡ to →
             GoesAllowed w me (passes (user_at x) turns.Server client (takes_turn client carried to)) → (touch : Touch) →
-            seen_by_reference to carried ≡ Some touch → IsPlain (stepped w (passes (user_at x) turns.Server client (takes_turn client carried to))).world nester slot ×
+            seen_by_reference to carried ≡ Some touch → IsPlain
+            (stepped w (passes (user_at x) turns.Server client (takes_turn client carried to))).world nester slot ×
             ((told : List Told) × IsOnward small (ByOthers touch) told
             (cut (stepped w (passes (user_at x) turns.Server client (takes_turn client carried to))).world nester slot))
         by None may to e ready touch seen = handed_alone (taken_answers to None) (ap (λ (o : Option ℕ). taken_answers o None) e) touch seen
@@ -286,18 +289,21 @@ module _ (w : World) (nester : Path) (slot : ℕ) (plain : IsPlain w nester slot
       Hands w nester slot plain x (seen_as carried) (passes_to_thread w (user_at x) turns.Server client carried (thread_led_to w (At client)))
   to_thread carried may turn = rw is (hands-when w nester slot plain x (seen_as carried)
       (is_free w (z ++ root) t && is_some (receiving w (z ++ root) turns.Client t.mode)) _
-      (λ on. by (receiving w (z ++ root) turns.Client t.mode) refl (and_parts (is_free w (z ++ root) t) (is_some (receiving w (z ++ root) turns.Client t.mode)) on)))
+      (λ on. by (receiving w (z ++ root) turns.Client t.mode) refl
+      (and_parts (is_free w (z ++ root) t) (is_some (receiving w (z ++ root) turns.Client t.mode)) on)))
     where
       by : (o : Option (ℕ × ℕ)) → receiving w (z ++ root) turns.Client t.mode ≡ o →
           (is_free w (z ++ root) t ≡ true) × (is_some (receiving w (z ++ root) turns.Client t.mode) ≡ true) →
           Hands w nester slot plain x (seen_as carried) (passes (user_at x) turns.Server client (takes_turn client carried (awaited t.mode)))
-      by None e both = let off : is_some (receiving w (z ++ root) turns.Client t.mode) ≡ false = ap is_some e in let clash : true ≡ false = sym both.1 ∙ off in cc
+      by None e both = let off : is_some (receiving w (z ++ root) turns.Client t.mode) ≡ false = ap is_some e in let clash : true ≡ false = sym both.1
+          ∙ off in cc
       by (Some receive) e both = handed turn both.0 receive e carried may
 
   abbrev its_line : Line
   its_line = record { client = client; talk = talk; other = Server (At client) }
 
-  over_hands : (carried : Option Ptr) → CanHold w carried → client_of w me ≡ Some client → Hands w nester slot plain x (seen_as carried) (over w (user_at x) turns.Server carried)
+  over_hands : (carried : Option Ptr) → CanHold w carried → client_of w me ≡ Some client → Hands w nester slot plain x (seen_as carried)
+      (over w (user_at x) turns.Server carried)
   unfolding over line
   over_hands carried may served = rw (served, ap (and_then (λ (t : Thread). t.talk)) is ∙ its) (by (same_side talk.turn turns.Server) refl)
     where
@@ -308,7 +314,8 @@ module _ (w : World) (nester : Path) (slot : ℕ) (plain : IsPlain w nester slot
 
   call_hands : client_of w me ≡ Some client → (pick : Option Path) → Hands w nester slot plain x (seen_as None) (call_row w (user_at x) pick ServerOver)
   unfolding call_row
-  call_hands served pick = hands-closed w nester slot plain x (seen_as None) _ (hands-picked w nester slot plain x (seen_as None) pick _ (over_hands None tt served))
+  call_hands served pick = hands-closed w nester slot plain x (seen_as None) _
+      (hands-picked w nester slot plain x (seen_as None) pick _ (over_hands None tt served))
 
   -- with the pointer of a reference
   over_ref_hands : client_of w me ≡ Some client → (reference : ℕ) →
@@ -321,7 +328,8 @@ module _ (w : World) (nester : Path) (slot : ℕ) (plain : IsPlain w nester slot
       by (Err status) e = no_hands w nester slot plain x _ (Refused status) refl
       by (Ok p) e =
           let there = reference-there w (reference ∷ parent x) p (object_in-found w (user_at x) reference_of (parent x) reference p e) in
-          subst (λ (c : Option Ptr). Hands w nester slot plain x (seen_as c) (over w (user_at x) turns.Server (Some p))) (sym (ap (and_then reference_of) there))
+          subst (λ (c : Option Ptr). Hands w nester slot plain x (seen_as c) (over w (user_at x) turns.Server (Some p)))
+          (sym (ap (and_then reference_of) there))
           (over_hands (Some p) (reference-leads w (reference ∷ parent x) p valid there) served)
 
   call_ref_hands : client_of w me ≡ Some client → (reference : ℕ) (pick : Option Path) →
@@ -359,7 +367,8 @@ module _ (w : World) (nester : Path) (slot : ℕ) (plain : IsPlain w nester slot
       same_path_is : (a b : Path) → Some a ≡ Some b → a ≡ b
       same_path_is a b h = cc
 
-      of_touch : (o : Option Touch) → ((touch : Touch) → o ≡ Some touch → DoneBy (ByOthers touch)) → option_map (λ (touch : Touch). ByOthers touch) o ≡ Some m → DoneBy m
+      of_touch : (o : Option Touch) → ((touch : Touch) → o ≡ Some touch → DoneBy (ByOthers touch)) → option_map (λ (touch : Touch). ByOthers touch) o
+          ≡ Some m → DoneBy m
       of_touch None go h = cc
       of_touch (Some touch) go h = let form : m ≡ ByOthers touch = cc in rw form (go touch refl)
 
@@ -380,7 +389,8 @@ module _ (w : World) (nester : Path) (slot : ℕ) (plain : IsPlain w nester slot
       by true passed (Some c) served h = of_path c served passed (strip (slot ∷ nester) c) refl h
 
 -- a thread outside whose stage passes the turn
-turn_outside : (w : World) (nester : Path) (slot : ℕ) (plain : IsPlain w nester slot) → IsWhole w → (j : ℕ) (s : Path) (pick : Option Path) (stage : Stage) (carried : Option Ptr) →
+turn_outside : (w : World) (nester : Path) (slot : ℕ) (plain : IsPlain w nester slot) → IsWhole w → (j : ℕ) (s : Path) (pick : Option Path) (stage : Stage)
+    (carried : Option Ptr) →
     is_within (slot ∷ nester) (j ∷ s) ≡ false → IsAtStage w (j ∷ s) stage →
     ((cs : List Change) → stage_touch w (slot ∷ nester) (user_at (j ∷ s)) pick cs stage ≡ over_touch w (slot ∷ nester) (user_at (j ∷ s)) cs carried) →
     Still (slot ∷ nester) (stage_row w (user_at (j ∷ s)) pick stage) →

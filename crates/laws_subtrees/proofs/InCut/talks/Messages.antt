@@ -19,7 +19,8 @@ use Rattle.fk_model.specs.Valid.{is_fit}
 use Rattle.fk_model.specs.Cut.{ports_of, cut_ptr, cut, IsPlain, is_out}
 use Rattle.fk_model.specs.Further.{talks_outside, outside_row, goes_out, counted}
 use Rattle.fk_model.specs.Seen.{Seen, IsSeen, count_set, writes_inside, only_fills, leads_out, sends_out, words_out, is_send}
-use Rattle.laws_subtrees.specs.Cut.CutLaws.{HasDone, KeepsCut, IsAtStage, moves, IsClientSend, IsClientOver, StageKeepsCut, StageInsideKeepsCut, IsClientOverRef}
+use Rattle.laws_subtrees.specs.Cut.CutLaws.{HasDone, KeepsCut, IsAtStage, moves, IsClientSend, IsClientOver, StageKeepsCut, StageInsideKeepsCut}
+use Rattle.laws_subtrees.specs.Cut.CutLaws.{IsClientOverRef}
 use Rattle.laws_subtrees.specs.Cut.Likeness.{seen_talk, seen_thread, IsLikeness, IsOuter, AlikeOptions}
 use Rattle.laws_subtrees.specs.Cut.LikeChanges.{IsLikeOutcome, IsLikeUnlessWaiting}
 use Rattle.laws_subtrees.proofs.InCut.likeness.Instances.{cut-like}
@@ -28,8 +29,10 @@ use Rattle.laws_subtrees.proofs.InCut.likeness.Servers.{cut-apart}
 use Rattle.laws_subtrees.proofs.InCut.likeness.Outcomes.{unless_waiting, closed-like, closed-unless}
 use Rattle.laws_subtrees.proofs.InCut.likeness.Sends.{NearLine, send-same, over-same, client_near, over_ref-weak}
 use Rattle.laws_subtrees.proofs.InCut.cut.Inside.{call_row-like, inside_stages, unsent_counts, unsent_stage}
-use Rattle.laws_subtrees.proofs.InCut.talks.Sends.{Still, still_outside, own_is, either_way, own_law, still-call, still-send, still-over, call_weak, still-over_ref}
-use Rattle.laws_subtrees.proofs.InCut.talks.Clients.{Takes, AlikeTaking, send_out, over_out, alone, picked, outward_only, outside_at, outside_talk, inward_only, over_ref_out}
+use Rattle.laws_subtrees.proofs.InCut.talks.Sends.{Still, still_outside, own_is, either_way, own_law, still-call, still-send, still-over, call_weak}
+use Rattle.laws_subtrees.proofs.InCut.talks.Sends.{still-over_ref}
+use Rattle.laws_subtrees.proofs.InCut.talks.Clients.{Takes, AlikeTaking, send_out, over_out, alone, picked, outward_only, outside_at, outside_talk, inward_only}
+use Rattle.laws_subtrees.proofs.InCut.talks.Clients.{over_ref_out}
 
 -- a row that is refused takes no words
 module _ {root : Path} {see : Ptr → Ptr} {small big : World} (like : IsLikeness root see small big) (k : ℕ) (q : Path) where
@@ -86,7 +89,8 @@ module _ (w : World) (nester : Path) (slot : ℕ) (plain : IsPlain w nester slot
 
   -- alike where it is outside
   abbrev IsAlikeOut : Type 0
-  IsAlikeOut = is_frozen w root ≡ false → (talk : Talk) → talk_at small (k ∷ q) ≡ Some (seen_talk see talk) → talk_at w me ≡ Some talk → IsOuter root talk.peer → leads_out root
+  IsAlikeOut = is_frozen w root ≡ false → (talk : Talk) → talk_at small (k ∷ q) ≡ Some (seen_talk see talk) → talk_at w me ≡ Some talk
+      → IsOuter root talk.peer → leads_out root
       talk.port ≡ true → is_out (see talk.port) ≡ true → (cs : List Change) → cs ≡ listed (closed (user_at me) (stage_row w (user_at me) None stage)) →
       (sends_out w root me && only_fills root cs) ≡ false → (writes_inside root cs && sends_out w root me) ≡ false → (o : Outcome) →
       WeaklyHere (counted (words_out w root me cs) (closed (user_at (k ∷ q)) (outside_row small (user_at (k ∷ q)) (words_out w root me cs) stage o)))
@@ -131,7 +135,8 @@ module _ (w : World) (nester : Path) (slot : ℕ) (plain : IsPlain w nester slot
       inward_none p e free off = rw (unsent_counts w root me (listed (call_row w (user_at me) None stage)) (stays_inside off))
           (inward p e free off)
 
-      outward : is_frozen w root ≡ false → talks_outside small (k ∷ q) ≡ true → (sends_out w root me && only_fills root (listed (call_row w (user_at me) None stage))) ≡ false →
+      outward : is_frozen w root ≡ false → talks_outside small (k ∷ q) ≡ true →
+          (sends_out w root me && only_fills root (listed (call_row w (user_at me) None stage))) ≡ false →
           (writes_inside root (listed (call_row w (user_at me) None stage)) && sends_out w root me) ≡ false → (o : Outcome) →
           WeaklyHere (counted (words_out w root me (listed (call_row w (user_at me) None stage)))
           (closed (user_at (k ∷ q)) (outside_row small (user_at (k ∷ q)) (words_out w root me (listed (call_row w (user_at me) None stage))) stage o)))
@@ -187,7 +192,8 @@ client_over_ref_keeps = whole IsClientOverRef (inside_stages IsClientOverRef law
         (λ free lines. over_ref-weak like free k q turns.Client such.0 lines)
         (λ free talk near far outer leads out cs is fills through o.
         rw (unsent_counts w (slot ∷ nester) (k ∷ (q ++ slot ∷ nester)) cs (unsent_stage w (slot ∷ nester) (k ∷ (q ++ slot ∷ nester))
-        (ClientOverRef such.0) refl (rw such.1 at at))) (closed-unless like (user_at (k ∷ q)) _ _ (over_ref_out like k q talk 0 0 0 out free such.0 near far outer)))
+        (ClientOverRef such.0) refl (rw such.1 at at)))
+        (closed-unless like (user_at (k ∷ q)) _ _ (over_ref_out like k q talk 0 0 0 out free such.0 near far outer)))
 
 -- ---- a Send
 

@@ -179,7 +179,8 @@ module _ (w : World) (nester : Path) (slot : ℕ) (plain : IsPlain w nester slot
     hands-so false o h = λ ready. absurd ready
 
     handed : same_side talk.turn turns.Server ≡ true →
-        is_free w (z ++ root) t ≡ true → (receive : ℕ × ℕ) → receiving w (z ++ root) turns.Client t.mode ≡ Some receive → Hands (passes_client w port client receive)
+        is_free w (z ++ root) t ≡ true → (receive : ℕ × ℕ) → receiving w (z ++ root) turns.Client t.mode ≡ Some receive → Hands
+        (passes_client w port client receive)
     unfolding touch_row
     handed turn free receive awaits ready =
         let like = cut-like w nester slot plain in
@@ -224,7 +225,8 @@ still_with root w port go still = by (client_at w port) refl
 
     of_thread : (x : Path) → client_at w port ≡ Some x → (o : Option Thread) → and_then thread_of (w.body x) ≡ o → Still root (with_client w port go)
     of_thread x e None f = rw (e, f) (still-when root (is_serving_port w port) Waits still-waits)
-    of_thread x e (Some t) f = rw (e, f) (still-when root (is_serving_port w port) (if_receiving w x go t) (of_mode x t (receiving w (parent x) turns.Client t.mode) refl))
+    of_thread x e (Some t) f = rw (e, f)
+        (still-when root (is_serving_port w port) (if_receiving w x go t) (of_mode x t (receiving w (parent x) turns.Client t.mode) refl))
 
     by : (o : Option Path) → client_at w port ≡ o → Still root (with_client w port go)
     by None e = rw e (still-when root (is_serving_port w port) Waits still-waits)

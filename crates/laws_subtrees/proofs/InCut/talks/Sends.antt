@@ -23,7 +23,8 @@ use Rattle.fk_model.specs.Outcomes.Outcome.{Refused, Waits, Goes}
 use Rattle.fk_model.specs.Outcomes.Said.{Nothing, Words}
 use Rattle.fk_model.specs.Readers.{own_page_at, their_page_at}
 use Rattle.fk_model.specs.Talks.{Line, receiving, other_side, thread_led_to, is_service_free, awaited}
-use Rattle.fk_model.specs.TransferRows.{overwritten, block, has_sent, moved_words, sends_into, sends_to_thread, sends_to, sends, send, passes, passes_to_thread, may_carry}
+use Rattle.fk_model.specs.TransferRows.{overwritten, block, has_sent, moved_words, sends_into, sends_to_thread, sends_to, sends, send, passes, passes_to_thread}
+use Rattle.fk_model.specs.TransferRows.{may_carry}
 use Rattle.fk_model.specs.TransferRows.{passes_to, over, over_ref, takes_turn}
 use Rattle.fk_model.specs.LinkRows.{user_at}
 use Rattle.fk_model.specs.Moves.{stage_row, is_for_porters, chooses, with_pick, closed, call_row, goes_on, outcome, GoesAllowed, stepped, step}
@@ -165,7 +166,8 @@ still-passes_to root w x side l carried Parked = still-waits
 
 pub still-over : (root : Path) (w : World) (x : Path) (side : Turn) (carried : Option Ptr) → Still root (over w (user_at x) side carried)
 unfolding over
-still-over root w x side carried = still->>= root _ _ (λ l. still-when root (may_carry w (slot_of x ∷ parent x) carried) _ (still-passes_to root w x side l carried l.other))
+still-over root w x side carried = still->>= root _ _
+    (λ l. still-when root (may_carry w (slot_of x ∷ parent x) carried) _ (still-passes_to root w x side l carried l.other))
 
 pub still-over_ref : (root : Path) (w : World) (x : Path) (side : Turn) (reference : ℕ) → Still root (over_ref w (user_at x) side reference)
 unfolding over_ref
@@ -361,10 +363,12 @@ server_over_keeps w nester slot x pick stage such within at sound plain =
         let like = cut-like w nester slot plain in
         silent_law w nester slot plain k q pick ServerOver at (λ n o. refl) (still-over (slot ∷ nester) w (k ∷ (q ++ slot ∷ nester)) turns.Server None)
         (λ p free. (over-same like free
-        k q turns.Server None None tt refl (server_near like (k ∷ q) (client_of-like like (cut-served w nester slot sound.valid plain sound.few) (k ∷ q)))).0) sound plain
+        k q turns.Server None None tt refl
+        (server_near like (k ∷ q) (client_of-like like (cut-served w nester slot sound.valid plain sound.few) (k ∷ q)))).0) sound plain
 
 -- a call of no pick that is for users, where its stage is alike unless the other end isn't ready
-pub call_weak : {root : Path} {see : Ptr → Ptr} {small big : World} (like : IsLikeness root see small big) (k : ℕ) (q : Path) (p pick : Option Path) (stage : Stage) →
+pub call_weak : {root : Path} {see : Ptr → Ptr} {small big : World} (like : IsLikeness root see small big) (k : ℕ) (q : Path) (p pick : Option Path)
+    (stage : Stage) →
     chooses stage ≡ false → is_for_porters stage ≡ false → is_none p ≡ is_none pick →
     IsLikeUnlessWaiting root see big (stage_row small (user_at (k ∷ q)) None stage) (stage_row big (user_at (k ∷ (q ++ root))) None stage) →
     IsLikeUnlessWaiting root see big (call_row small (user_at (k ∷ q)) p stage) (call_row big (user_at (k ∷ (q ++ root))) pick stage)

@@ -22,7 +22,8 @@ use Rattle.fk_model.specs.Cut.{cut, IsPlain}
 use Rattle.fk_model.specs.Further.{Touch}
 use Rattle.fk_model.specs.Further.Touch.{Handed, Left, FaultDone, PageTaken}
 use Rattle.fk_model.specs.Further.Onward.{ByOthers}
-use Rattle.fk_model.specs.Seen.{accepted, outcome_said, page_put, drops_page, passes_turn, ends_talk, serves_outside, given_of, on_inner, taken_as, page_given, handed_by}
+use Rattle.fk_model.specs.Seen.{accepted, outcome_said, page_put, drops_page, passes_turn, ends_talk, serves_outside, given_of, on_inner, taken_as, page_given}
+use Rattle.fk_model.specs.Seen.{handed_by}
 use Rattle.fk_model.specs.Seen.{on_place, stage_touch, caller_stage, outer_touch, IsSeen, IsStranger}
 use Rattle.fk_model.specs.Seen.Seen.{Unseen}
 use Rattle.laws_moves.proofs.InMachine.safety.Outcomes.{SafeOutcome}

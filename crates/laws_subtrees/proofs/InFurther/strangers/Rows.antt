@@ -32,7 +32,8 @@ use Rattle.laws_moves.proofs.InMachine.safety.Reads.{object_in-found, body-refer
 use Rattle.laws_moves.specs.Rows.Stages.{Sets, Work, Own, Step}
 use Rattle.laws_moves.specs.Rows.Stages.Sets.{Locks, Wakes, Stops, Lets_go, Points, Clears, Gets_pointer, Sets_pointer, Holds, Releases, Restores_hold, Fills}
 use Rattle.laws_moves.specs.Rows.Stages.Sets.{Passes_service, Takes_fault, Resumes, Frees, Restores_talk, Parks_talk, Restores_fault, Parks_fault}
-use Rattle.laws_moves.specs.Rows.Stages.Work.{Looks, Edits, Makes, Makes_held, Kills, Renames, Writes_record, Sets_record, Gives, Copies, Drops, Sleeps, Wakes_all}
+use Rattle.laws_moves.specs.Rows.Stages.Work.{Looks, Edits, Makes, Makes_held, Kills, Renames, Writes_record, Sets_record, Gives, Copies, Drops, Sleeps}
+use Rattle.laws_moves.specs.Rows.Stages.Work.{Wakes_all}
 use Rattle.laws_moves.specs.Rows.Stages.Work.{Takes_client, Hangs_up, Sends, Sends_service, Passes, Hands_over, Hands_over}
 use Rattle.laws_moves.specs.Rows.Stages.Own.{Stayed, Renamed}
 use Rattle.laws_moves.specs.Rows.Stages.Step.{Is_refused, Is_waiting, Raises, Answers, Stays, Finishes, Ends}
@@ -215,7 +216,8 @@ module _ (w : World) (nester : Path) (slot : ℕ) (valid : IsConsistent w) (plai
     sets (Takes_fault set k x fault idle at) = (candidate-out w nester slot valid plain c.space set its.away x _ at, tt)
     sets (Resumes set k x talk idle at) = (candidate-out w nester slot valid plain c.space set its.away x _ at, tt)
     sets (Frees x at unheld) = (faulter-out w nester slot valid plain (path_of c) x me_object at, tt)
-    sets (Restores_talk s x port server space t at thread place read read2 read3 free) = (at_place s x space place, referred-out kinds.Thread server thread read3)
+    sets (Restores_talk s x port server space t at thread place read read2 read3 free) =
+        (at_place s x space place, referred-out kinds.Thread server thread read3)
     sets (Parks_talk s x port space t was place read read2 free) = (at_place s x space place, refl)
     sets (Restores_fault s x port taker space t at who place read read2 named free) = (at_place s x space place, taker_out taker who named)
     sets (Parks_fault s x port taken space t was place read read2 free) = (at_place s x space place, parked_out (taken == 1))

@@ -22,7 +22,8 @@ use Rattle.fk_model.specs.Further.Told.{ToldWords, ToldOver, ToldEnd, ToldFault}
 use Rattle.fk_model.specs.Seen.{outcome_said}
 use Rattle.laws_subtrees.specs.Cut.Likeness.{seeing, IsCutWorld}
 use Rattle.laws_moves.specs.Frozen.Once.{is_mild, AreMild, MakesAnew, EitherOf, TouchOnce}
-use Rattle.laws_subtrees.specs.Further.Told.{IsTold, IsTalkLost, IsFaultRaised, renames, EndsAreTold, FaultsAreTold, RenamesTellNoEnds, WordsAreTold, OversAreTold}
+use Rattle.laws_subtrees.specs.Further.Told.{IsTold, IsTalkLost, IsFaultRaised, renames, EndsAreTold, FaultsAreTold, RenamesTellNoEnds, WordsAreTold}
+use Rattle.laws_subtrees.specs.Further.Told.{OversAreTold}
 use Rattle.laws_subtrees.specs.Further.Told.{TouchesTellNothing}
 use Rattle.laws_subtrees.proofs.InFurther.told.Own.{own-once}
 use Rattle.laws_subtrees.proofs.InFurther.told.Exact.{EndCase, FaultCase, HasOuterPeers, told-either, told-first, all-told, mild-told, ends_case, faults_case}
@@ -85,7 +86,8 @@ said_no_end w x (Passed at) q port (inl e) = cc
 said_no_end w x (Passed at) q port (inr h) = h
 said_no_end w x said q port h = h
 
-said_no_fault : (w : World) (x : Path) (said : Said) (q : Path) (port : Ptr) (page : ℕ) (write : Bool) → IsTold (ToldFault q port page write) (told_by_said w x said) → ⊥
+said_no_fault : (w : World) (x : Path) (said : Said) (q : Path) (port : Ptr) (page : ℕ) (write : Bool) → IsTold (ToldFault q port page write)
+    (told_by_said w x said) → ⊥
 said_no_fault w x (Words at words) q port page write (inl e) = cc
 said_no_fault w x (Words at words) q port page write (inr h) = h
 said_no_fault w x (Passed at) q port page write (inl e) = cc

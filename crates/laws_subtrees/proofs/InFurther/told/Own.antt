@@ -21,7 +21,8 @@ use Rattle.fk_model.specs.TransferRows.{in_turn, moved_words, has_sent, block, m
 use Rattle.fk_model.specs.LinkRows.{user_at}
 use Rattle.fk_model.specs.Moves.{goes_on}
 use Rattle.fk_model.specs.Valid.{kind_there}
-use Rattle.fk_model.specs.Further.{takes_words, sends_outside, passes_outside, talks_outside, outside_row, own_stage, own_move, own_row, goes_out, onward_row, over_outside}
+use Rattle.fk_model.specs.Further.{takes_words, sends_outside, passes_outside, talks_outside, outside_row, own_stage, own_move, own_row, goes_out, onward_row}
+use Rattle.fk_model.specs.Further.{over_outside}
 use Rattle.fk_model.specs.Further.Onward.{Own}
 use Rattle.laws_moves.specs.Frozen.Once.{IsFaultless, TouchOnce}
 use Rattle.laws_moves.proofs.InFrozen.once.Outcomes.{OnceOutcome, waits, once->>=, once-when, once-if, once-done, once-telling, own_page-once}

@@ -5,4 +5,5 @@ use Rattle.fk_checkpoint.specs.Gathering.Gathering.{items_of}
 use Rattle.fk_checkpoint.proofs.assembly.image.pages.Given as goal
 
 abbrev pub invariant-loop-item : goal.invariant-loop-item
-invariant-loop-item l = l.pages.items ++ map narrow_page (map page_rec (items_of (drop l.item-index l.items))) ≡ map narrow_page (map page_rec (items_of l.items))
+invariant-loop-item l = l.pages.items ++ map narrow_page (map page_rec (items_of (drop l.item-index l.items))) ≡ map narrow_page
+    (map page_rec (items_of l.items))

@@ -1,6 +1,6 @@
 use Rattle.std.proofs.Common.{length, refl, sym, ap, ◌∙◌}
 use Rattle.std.specs.Prelude.{slice_index}
-use Rattle.fk_checkpoint.specs.declared.gathering.kinds.Fields.TheVariants.{Zero}
+use Rattle.fk_checkpoint.specs.declared.seeking.fields.Fields.TheVariants.{Zero}
 use Rattle.fk_checkpoint.proofs.InGathering.Todos.{holder_found}
 use Rattle.fk_checkpoint.proofs.gathering.todo.holder.Goals as goal
 

@@ -5,4 +5,5 @@ pub returns-then-dropped-lt-SCRATCH : goal.returns-then-dropped-lt-SCRATCH
 returns-then-dropped-lt-SCRATCH c more port = rw c.from.ensures (calls_drop c.args.slot c.args.dropped more port c.if-dropped-lt-SCRATCH.true)
 
 pub returns-else-dropped-lt-SCRATCH : goal.returns-else-dropped-lt-SCRATCH
-returns-else-dropped-lt-SCRATCH c more port = rw c.from-else-dropped-lt-SCRATCH.ensures (calls_destroy c.args.slot c.args.dropped more port c.if-dropped-lt-SCRATCH.false)
+returns-else-dropped-lt-SCRATCH c more port = rw c.from-else-dropped-lt-SCRATCH.ensures
+    (calls_destroy c.args.slot c.args.dropped more port c.if-dropped-lt-SCRATCH.false)

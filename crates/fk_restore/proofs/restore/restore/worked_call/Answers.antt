@@ -5,7 +5,8 @@ use Rattle.fk_restore.proofs.InRestore.Worked.{calls_release, calls_order}
 use Rattle.fk_restore.proofs.restore.restore.worked_call.Goals as goal
 
 pub returns-in-None : goal.returns-in-None
-returns-in-None c = rw (c.requires.zeros, c.releases.ensures) (calls_release (image_of c.args.spaces.now) c.args.slot c.args.pairs.now c.args.at c.requires.sound.1
+returns-in-None c = rw (c.requires.zeros, c.releases.ensures)
+    (calls_release (image_of c.args.spaces.now) c.args.slot c.args.pairs.now c.args.at c.requires.sound.1
     (sym c.in-None.is ∙ c.stage_at.ensures))
 
 pub returns-in-Some : goal.returns-in-Some

@@ -1,5 +1,5 @@
 use Rattle.std.proofs.Common.{map}
-use Rattle.fk_core.specs.Cores.Goings.{IsGoing}
+use Rattle.fk_core.specs.Cores.Goings.{IsReachable}
 use Rattle.fk_core.specs.Cores.Served.{AllFit}
 use Rattle.lens_verbs.proofs.hunt.runs.go.Given as goal
 
@@ -7,5 +7,5 @@ use Rattle.lens_verbs.proofs.hunt.runs.go.Given as goal
 abbrev pub invariant-loop : goal.invariant-loop
 invariant-loop g l = record {
   fits : AllFit (map (λ r. r.rule) l.table.list.items) l.core.services.list;
-  come : IsGoing l.core;
+  come : IsReachable l.core;
 }

@@ -1,6 +1,7 @@
 use Rattle.std.proofs.Common.{◌∙◌, refl, ap}
 use Rattle.fk_core.specs.Rounds.Kernels.{world_of as world}
-use Rattle.fk_jobs.specs.Jobs.{Queue, unmoved_of}
+use Rattle.fk_jobs.specs.Ended.{unmoved_of}
+use Rattle.fk_jobs.specs.Jobs.{Queue}
 use Rattle.fk_core.specs.Cores.Cores.{run_core}
 use Rattle.fk_core.proofs.InCores.Settles.{fewer, none_of, one_idle, stays}
 use Rattle.fk_core.proofs.cores.turns.Core.settle_idle.Goals as goal

@@ -1,9 +1,15 @@
+use Rattle.std.proofs.Common.{subst}
+use Rattle.laws_jobs.specs.Machines.{IsAtCall}
+use Rattle.laws_restore.specs.Rooms.Restoring.{restore_of}
+use Rattle.fk_restore.specs.Restore.Restores.{Restoring}
 use Rattle.fk_restore.proofs.InRestore.Worked.{at_call}
 use Rattle.fk_restore.proofs.restore.restore.Restore.end.Goals as goal
 
 pub returns-in_default : goal.returns-in_default
-returns-in_default c = record {
-  some = tt;
-  way = tt;
-  none = at_call c.args.self.now.slot c.args.self.now.image c.args.self.now.pairs c.args.self.now.phase c.in_default.not-Over;
-}
+returns-in_default c =
+    let i = c.self.inside in
+    record {
+      some = tt;
+      none = subst (λ (r : Restoring). IsAtCall (restore_of r.slot r.image r.pairs) r.state) c.self.view_is
+          (at_call i.slot i.image i.pairs i.phase c.in_default.not-Over);
+    }

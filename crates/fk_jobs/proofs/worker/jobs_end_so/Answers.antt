@@ -1,5 +1,0 @@
-use Rattle.fk_jobs.proofs.Turns.{job_ends}
-use Rattle.fk_jobs.proofs.worker.jobs_end_so.Goals as goal
-
-pub returns : goal.returns
-returns g c = job_ends _

@@ -1,5 +1,0 @@
-use Rattle.fk_jobs.proofs.Turns.{job_moves}
-use Rattle.fk_jobs.proofs.worker.jobs_move_so.Goals as goal
-
-pub returns : goal.returns
-returns g c = job_moves _
