@@ -47,8 +47,25 @@ impl<S: Service + Drop, W: Worker + Drop> Core<S, W> {
         made
     }
 
-    /// Makes instructions of the thread that moved last, at most so many and none past the end of the round, where no job is left, and gives whose
-    /// they are and how many. Where it makes none all is as before.
+    /// Whose instructions are to be made: those of the thread that moved last, or where that waits, of the first of the ready. It is a hint: nothing is said of
+    /// it.
+    fn runner(&self) -> Option<Who> {
+        match self.same_thread() {
+            Some(who) => Some(who),
+            None => self.front(),
+        }
+    }
+
+    /// The first of the ready, but where the look goes round, or a server heard of the last move.
+    fn front(&self) -> Option<Who> {
+        if self.events % ROUND == 0 || self.rounds.may_serve(&self.moment()) {
+            return None;
+        }
+        self.kernel.waits().next()
+    }
+
+    /// Makes instructions of the thread that moved last, or of the first of the ready where that waits, at most so many and none past the end of the round,
+    /// where no job is left, and gives whose they are and how many. Where it makes none all is as before.
     fn proceed_by(&mut self, most: u64) -> Option<(Move, u64)>
         requires come { IsGoing self.old }
         ensures made { IfSome result (λ made. AreMade self.old.jobs.jobs self.old.budget most (run_core self.old) made.0 made.1 (run_core self.new)) }
@@ -60,11 +77,15 @@ impl<S: Service + Drop, W: Worker + Drop> Core<S, W> {
         ensures budget { self.new.budget ≡ self.old.budget }
         ensures jobs { self.new.jobs.jobs ≡ self.old.jobs.jobs }
     {
-        if self.jobs.current().is_some() {
+        if self.rounds.is_lone() || self.jobs.current().is_some() {
             return None;
         }
-        let who = self.same_thread()?;
-        let made = self.run_on(who, most.min(self.left()));
+        let who = self.runner()?;
+        let most = most.min(self.left());
+        let made = self.run_on(who, most);
+        if made < most {
+            self.rounds.lone();
+        }
         if made == 0 {
             return None;
         }

@@ -17,7 +17,7 @@ ghost use Rattle.fk_turns.specs.Steps.Classes.{is_made};
 ghost use Rattle.fk_turns.specs.Steps.Steps.{was_made, ComesByPorter, IsPut, MayBeQuiet};
 
 use crate::steps::going::{Gone, go_stage};
-use crate::steps::plain::{after_call, after_off, after_on, after_plain, after_stay};
+use crate::steps::plain::{after_call, after_entry, after_off, after_on, after_plain, after_stay};
 use crate::steps::room::{reserve_for, reserve_for_stage, seat_for};
 use fk_calls::{Ran, Sent, Told};
 use fk_model::{Ask, Move, NoMemory, Said, Stage, Who};
@@ -212,12 +212,12 @@ pub fn proceed(store: &mut Store, turns: &mut Turns, who: Who) -> Gone
             after_off(turns, store, who);
             Gone::Made
         }
-        Ran::Not => go_stage(store, turns, who),
+        Ran::Not => go_stage(store, turns, who, false),
     }
 }
 
-/// The same of the user that has moved last. An instruction leaves it where it stands among the ready, so that the lists aren't written: who moves on and on
-/// isn't to be put last each time.
+/// The same of the user that has moved last. An instruction, or a stage that is made by one look and leaves it in its turn, leaves it where it stands among
+/// the ready, so that the lists aren't written: who moves on and on isn't to be put last each time.
 pub fn proceed_on(store: &mut Store, turns: &mut Turns, who: Who) -> Gone
     requires valid { IsValid (world store.old) }
     requires kept { AreKept store.old turns.old.waits turns.old.marks }
@@ -240,10 +240,10 @@ pub fn proceed_on(store: &mut Store, turns: &mut Turns, who: Who) -> Gone
             Gone::Made
         }
         Ran::Off => {
-            after_off(turns, store, who);
+            after_entry(turns, store, who);
             Gone::Made
         }
-        Ran::Not => go_stage(store, turns, who),
+        Ran::Not => go_stage(store, turns, who, true),
     }
 }
 

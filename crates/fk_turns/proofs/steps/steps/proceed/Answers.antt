@@ -14,7 +14,7 @@ use Rattle.fk_plans.specs.declared.wakes.touching.Touched.TheVariants.{Few}
 use Rattle.fk_turns.specs.Steps.Steps.{IsPut}
 use Rattle.fk_turns.specs.Steps.Classes.{is_made}
 use Rattle.fk_turns.proofs.InSteps.Stepped.{comes_ran, put_true, quiet_ran, run_fit, valid_true}
-use Rattle.fk_turns.proofs.InSteps.Went.{running_there, under_way_going}
+use Rattle.fk_turns.proofs.InSteps.Went.{running_there, under_way_quiet}
 use Rattle.fk_turns.proofs.steps.steps.proceed.Goals as goal
 
 pub after_on-requires : goal.after_on-requires
@@ -32,7 +32,7 @@ after_on-requires c =
           c.run-ran.ensures.same;
       quiet = quiet_ran m n run c.requires.valid c.names.ensures.few (run_fit m run) c.names.ensures.born c.names-2.ensures.born c.names-2.ensures.few
           (Few None None None) was.waits was.marks says.Nothing c.requires.kept (running_there m c.args.who ran)
-          (under_way_going n c.args.who on) refl made.0 made.1 tells;
+          (under_way_quiet n c.args.who on) refl made.0 made.1 tells;
       comes = comes_ran m n run c.requires.valid c.names.ensures.few (run_fit m run) c.names.ensures.born c.names-2.ensures.born c.names-2.ensures.few
           (Few None None None) was.waits was.marks says.Nothing c.requires.kept refl made.0 made.1 tells;
       on = on;

@@ -3,6 +3,7 @@ use Rattle.fk_calls.specs.declared.calls.going.Talked.TheVariants.{Passes}
 use Rattle.fk_waits.proofs.InCauses.Numbers.{clash}
 use Rattle.fk_waits.specs.Waits.Lists.{stands}
 use Rattle.fk_turns.proofs.InSteps.Talked.{kept_passed, receiver_stands}
+use Rattle.fk_turns.proofs.InSteps.Went.{off_anyway}
 use Rattle.fk_turns.proofs.steps.talking.after_turn.Goals as goal
 
 pub wake-requires : goal.wake-requires
@@ -15,8 +16,8 @@ wake-requires c =
       marks = λ off. clash (stands c.args.receiver was.waits) there off;
     }
 
-pub settle_talker-requires : goal.settle_talker-requires
-settle_talker-requires c =
+pub settle_unless-requires : goal.settle_unless-requires
+settle_unless-requires c =
     let was = c.args.turns.now in
     let now = c.wake.new.self in
     record {
@@ -24,3 +25,6 @@ settle_talker-requires c =
       kept = kept_passed c.args.store.now c.args.mover c.args.client c.args.receiver was.waits was.marks now.waits now.marks c.requires.comes
           (OnTrue_at c.if-not-is_alone.false c.is_alone.ensures) c.wake.ensures.waits c.wake.ensures.met c.wake.ensures.away c.wake.ensures.sound;
     }
+
+pub returns-then-not-is_alone-clause-placed : goal.returns-then-not-is_alone-clause-placed
+returns-then-not-is_alone-clause-placed c = off_anyway c.args.stays c.after_any.ensures.placed
