@@ -116,14 +116,7 @@ fn go(store: &mut Store, turns: &mut Turns, who: Who, stays: bool) -> Gone
 /// The lists after a stage that did this, after which its thread is there: first whom it may have freed is looked at again, and then the thread goes to its
 /// place.
 #[inline(always)]
-fn after_class(
-    turns: &mut Turns,
-    store: &Store,
-    mover: Who,
-    what: What,
-    at: Then,
-    stays: bool,
-)
+fn after_class(turns: &mut Turns, store: &Store, mover: Who, what: What, at: Then, stays: bool)
     requires valid { IsValid (world store.now) }
     requires comes { ComesMildly store.now mover what turns.old.waits turns.old.marks }
     requires at { IsThen store.now mover at }
@@ -153,7 +146,7 @@ fn rouse_by(turns: &mut Turns, store: &Store, mover: Who, what: What)
 
 /// A thread that runs goes from first to last, unless it stays.
 #[inline(always)]
-fn go_last_unless(turns: &mut Turns, store: &Store, mover: Who, stays: bool)
+pub fn go_last_unless(turns: &mut Turns, store: &Store, mover: Who, stays: bool)
     requires valid { IsValid (world store.now) }
     requires kept { AreKept store.now turns.old.waits turns.old.marks }
     requires on { is_under_way_at store.now mover ≡ true }
@@ -167,7 +160,7 @@ fn go_last_unless(turns: &mut Turns, store: &Store, mover: Who, stays: bool)
 
 /// A thread that runs goes from first to last.
 #[inline(always)]
-pub fn go_last(turns: &mut Turns, store: &Store, mover: Who)
+fn go_last(turns: &mut Turns, store: &Store, mover: Who)
     requires valid { IsValid (world store.now) }
     requires kept { AreKept store.now turns.old.waits turns.old.marks }
     requires on { is_under_way_at store.now mover ≡ true }
