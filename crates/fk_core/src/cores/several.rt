@@ -83,9 +83,7 @@ impl<S: Service + Drop, W: Worker + Drop> Core<S, W> {
         let who = self.runner()?;
         let most = most.min(self.left());
         let made = self.run_on(who, most);
-        if made < most {
-            self.rounds.lone();
-        }
+        self.rounds.lone_if(made < most);
         if made == 0 {
             return None;
         }
