@@ -15,5 +15,6 @@ mod whys;
 
 pub use causes::cause;
 pub use hearing::heard_at;
+pub(crate) use stages::first_stage;
 pub use staying::reasons_stay;
 pub use whys::{Why, asleep_at, at_locked, reason};

@@ -72,7 +72,7 @@ impl<S: Service + Drop, W: JobMachine + Drop> Core<S, W> {
         if !picks(code) {
             return None;
         }
-        match self.kernel.pick(who) {
+        match self.kernel.pick(who, true) {
             Some(other) => {
                 self.events += 1;
                 self.rounds.hear(None);

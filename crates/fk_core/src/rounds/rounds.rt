@@ -22,6 +22,8 @@ pub struct Rounds {
     next: usize,
     /// The thread that moved last is known to wait.
     stuck: bool,
+    /// Its next move is known to be none of several at once. It is a hint: nothing is said of it.
+    lone: bool,
 }
 
 /// The place after one, among so many.
@@ -41,6 +43,7 @@ impl Rounds {
             heard: None,
             next: 0,
             stuck: false,
+            lone: false,
         }
     }
 
@@ -117,6 +120,9 @@ impl Rounds {
         if self.stuck {
             self.stuck = false;
         }
+        if self.lone {
+            self.lone = false;
+        }
         if heard.is_none() && self.heard.is_none() {
             return;
         }
@@ -137,6 +143,18 @@ impl Rounds {
         if waits {
             self.stuck = true;
         }
+    }
+
+    /// Whether the next move of the thread that moved last is known to be none of several at once.
+    pub fn lone_if(&mut self, lone: bool)
+        ensures { self.new.heard ≡ self.old.heard }
+    {
+        self.lone = lone;
+    }
+
+    /// Whether it is known to be none. It is a hint: nothing is said of it.
+    pub fn is_lone(&self) -> bool {
+        self.lone
     }
 
     /// A ready act that comes before the threads: of the server that heard of the last move, but where the look goes round; and in every second round of

@@ -1,4 +1,4 @@
--- Quiet: an instruction after which a thread runs on leaves the reasons of all others.
+-- Quiet: an instruction after which a thread runs on, or is at a stage at which no other reaches it, leaves the reasons of all others.
 use Rattle.std.proofs.Common.{◌≡◌, ◌&&◌, Bool, true, false, is_none, Option, Some, None, IsSome, refl, sym, ap, subst, ◌∙◌}
 use Rattle.fk_model.specs.declared.moves.Ask.TheVariants as asks
 use Rattle.fk_model.specs.declared.names.Who.{Who}
@@ -22,7 +22,7 @@ use Rattle.fk_turns.specs.Whys.Whys.{IsAt, IsLoudly, IsStill, IsWhy}
 use Rattle.fk_turns.proofs.InWhys.Apart.{is_barred_why, key_there, why_calm}
 use Rattle.fk_turns.proofs.InWhys.Calmly.{instructions_calm, is_on}
 use Rattle.laws_waits.specs.Calm.{AreCalm}
-use Rattle.fk_turns.specs.Moved.Told.{is_going, runs_on_at, IsMadeTo, IsRunning, IsStored, IsToldOf, ToldQuiet}
+use Rattle.fk_turns.specs.Moved.Told.{goes_quietly_at, is_going, EntersQuietly, IsMadeTo, IsRunning, IsStored, IsToldOf, ToldQuiet}
 use Rattle.fk_turns.proofs.InMoved.Told.{same_name, stays, taken_off, user_there}
 
 running_there : (w : World) (x : Path) (t : Thread) → thread_at w x ≡ Some t → IsSome (w.body x)
@@ -41,7 +41,7 @@ on_by t is = by t.mode refl is
     by (Halted g code) e h = let off : false ≡ true = rw e at h in absurd (cc)
     by (Native g) e h = let off : false ≡ true = rw e at h in absurd (cc)
 
-on_of : (o : Option Thread) → holds (λ (t : Thread). is_going t.mode && is_none t.fault) o ≡ true → holds is_on o ≡ true
+pub on_of : (o : Option Thread) → holds (λ (t : Thread). is_going t.mode && is_none t.fault) o ≡ true → holds is_on o ≡ true
 on_of None is = absurd (cc)
 on_of (Some t) is = on_by t is
 
@@ -52,7 +52,7 @@ not_barred whys.Loud some = refl
 not_barred whys.Barred some = absurd (some refl)
 
 module _ (m n : Contents) (mover : Who) (pick : Option Path) (old : IsStored m) (new : IsStored n) (made : IsMadeTo m n mover pick asks.Run)
-    (told : IsToldOf m mover pick asks.Run (Few None None None)) (running : IsRunning m mover) (on : runs_on_at n mover ≡ true) where
+    (told : IsToldOf m mover pick asks.Run (Few None None None)) (running : IsRunning m mover) (on : goes_quietly_at n mover ≡ true) where
   -- a name of what is there leads where it led
   leads : (who : Who) → IsSome ((world m).body (place_of m who)) → place_of n who ≡ place_of m who
   leads who live =
@@ -65,7 +65,7 @@ module _ (m n : Contents) (mover : Who) (pick : Option Path) (old : IsStored m) 
   after : holds is_on (thread_at (step (world m) (place_of m mover) pick asks.Run).world (place_of m mover)) ≡ true
   after =
       ap (λ (u : World). holds is_on (thread_at u (place_of m mover))) (sym made.step) ∙ ap (λ (x : Path). holds is_on (thread_at (world n) x)) (sym (leads mover live))
-      ∙ on_of (thread_at (world n) (place_of n mover)) on
+      ∙ on
 
   calm : AreCalm (world m) (place_of m mover) (listed (outcome (world m) (place_of m mover) pick asks.Run))
   calm = instructions_calm (world m) mover.slot (path m mover.space) pick running.thread running.registers running.there running.mode after
@@ -98,5 +98,10 @@ module _ (m n : Contents) (mover : Who) (pick : Option Path) (old : IsStored m) 
           subst (λ (x : Path). IsLoudly (world n) x) (sym (leads who there)) (subst (λ (u : World). IsLoudly u (place_of m who)) (sym made.step) now)
       by whys.Barred none was now = absurd (none refl)
 
+pub enters_quietly : EntersQuietly
+enters_quietly m n mover pick old new made told running on =
+    record { quiet = λ who why off user some is. left m n mover pick old new made told running on who why off user some is }
+
 pub told_quiet : ToldQuiet
-told_quiet m n mover pick old new made told running on = record { quiet = λ who why off user some is. left m n mover pick old new made told running on who why off user some is }
+told_quiet m n mover pick old new made told running on =
+    enters_quietly m n mover pick old new made told running (on_of (thread_at (world n) (place_of n mover)) on)

@@ -1,7 +1,7 @@
 -- Locked: the lists after a stage that set a mutex.
-use Rattle.std.proofs.Common.{◌≡◌, ◌≤◌, ◌⊎◌, ◌||◌, ◌&&◌, ◌==◌, Bool, true, false, not, [], Option, Some, None, is_none, inl, inr, refl, sym, ap, subst, ◌∙◌}
+use Rattle.std.proofs.Common.{◌≡◌, ◌≤◌, ◌⊎◌, ◌||◌, ◌&&◌, ◌==◌, Bool, true, false, not, [], Option, Some, None, IfSome, is_none, inl, inr, refl, sym, ap, subst, ◌∙◌}
 use Rattle.std.proofs.lemmas.Bool.{and_parts, or_from, or_right}
-use Rattle.std.specs.Bool.{OnTrue}
+use Rattle.std.specs.Bool.{OnTrue, OnFalse}
 use Rattle.fk_calls.specs.declared.calls.going.Then.{Then}
 use Rattle.fk_calls.specs.declared.calls.going.Then.TheVariants as thens
 use Rattle.fk_calls.specs.declared.calls.going.Went.{Went}
@@ -237,6 +237,16 @@ put_made m n who what waits valid few born born_new few_new ready tells placed =
 pub if_true : {P Q : Type 0} (b : Bool) → (P → Q) → OnTrue b P → OnTrue b Q
 if_true true f p = f p
 if_true false f p = tt
+
+pub if_false : {P Q : Type 0} (b : Bool) → (P → Q) → OnFalse b P → OnFalse b Q
+if_false true f p = tt
+if_false false f p = f p
+
+pub unless_some : {A : Type 0} (P : A → Type 0) (b : Bool) (o : Option A) → IfSome o P → IfSome o (λ a. OnFalse b (P a))
+unless_some P true None p = tt
+unless_some P false None p = tt
+unless_some P true (Some a) p = tt
+unless_some P false (Some a) p = p
 
 -- a free user is one
 pub free_user : (m : Contents) (who : Who) → is_free_at (world m) (place (path m) who) ≡ true → is_user_at m who ≡ true

@@ -22,9 +22,9 @@ use Rattle.fk_waits.specs.Turns.Turns.{all_marks, waits_at}
 use Rattle.fk_turns.specs.Moved.Kept.{is_user_at, AreKept}
 use Rattle.fk_turns.specs.Moved.Moved.{now_named, HasPlaceFor, HasRoom, IsLeft, IsMoved}
 use Rattle.fk_turns.specs.Next.Waiting.{standing, ComesAfter, IsPlaced}
-use Rattle.fk_turns.specs.Moved.Told.{runs_on_at, IsMadeTo, IsRunning, IsStored, IsToldOf}
+use Rattle.fk_turns.specs.Moved.Told.{goes_quietly_at, IsMadeTo, IsRunning, IsStored, IsToldOf}
 use Rattle.fk_turns.proofs.InMoved.After.{refiled}
-use Rattle.fk_turns.proofs.InMoved.Quiet.{told_quiet}
+use Rattle.fk_turns.proofs.InMoved.Quiet.{enters_quietly}
 use Rattle.fk_turns.proofs.InMoved.Told.{told_moves_leave, told_names}
 use Rattle.fk_waits.specs.Waits.Lists.{is_in, is_queued, stands, Lists}
 use Rattle.fk_waits.proofs.InCauses.Numbers.{clash}
@@ -226,7 +226,7 @@ module _ (m n : Contents) (move : Move) (valid : IsValid (world m)) (few : (worl
   comes_ran waits marks said kept none ready step tells =
       comes m n move asks.Run valid few fit born born_new few_new touched waits marks kept (no_seat n touched waits marks none) said ready step tells
 
-  pub quiet_ran : (waits marks : Lists) (said : Said) → AreKept m waits marks → IsRunning m move.who → runs_on_at n move.who ≡ true →
+  pub quiet_ran : (waits marks : Lists) (said : Said) → AreKept m waits marks → IsRunning m move.who → goes_quietly_at n move.who ≡ true →
       touched ≡ Few None None None → IsReadyMove m move asks.Run → IsStepTo m move asks.Run n said → TellsTouched m move asks.Run touched →
       IsQuietFrom n move.who waits marks
   quiet_ran waits marks said kept running on alone ready step tells =
@@ -241,7 +241,7 @@ module _ (m n : Contents) (move : Move) (valid : IsValid (world m)) (few : (worl
         kept = kept;
         free = free_when_ready m waits marks move.who (picked_by (path m) move.pick) valid few kept ready;
         moved = told_moves_leave m n move.who (picked_by (path m) move.pick) asks.Run (Few None None None) old new was told;
-        quiet = told_quiet m n move.who (picked_by (path m) move.pick) old new was told running on;
+        quiet = enters_quietly m n move.who (picked_by (path m) move.pick) old new was told running on;
       }
 
 -- ---- words for a native server

@@ -1,6 +1,6 @@
 -- Went: the lists after a move of a thread that runs on and touches nobody else.
 use Rattle.std.proofs.Common.{◌≡◌, ◌≤◌, ◌&&◌, ◌||◌, ◌==◌, ℕ, Bool, true, false, not, List, [], ◌∷◌, length, ◌⊎◌, ◌++◌, slice_index, Option, Some}
-use Rattle.std.proofs.Common.{None, is_none, option_map, inl, inr, refl, sym, ap}
+use Rattle.std.proofs.Common.{None, is_none, is_some, option_map, inl, inr, refl, sym, ap}
 use Rattle.std.proofs.Common.{subst, ◌∙◌}
 use Rattle.std.proofs.lemmas.Bool.{and_parts, eqb-true, or_from, or_right}
 use Rattle.std.specs.Bool.{OnTrue, OnFalse}
@@ -11,7 +11,10 @@ use Rattle.fk_model.specs.declared.thread.Mode.TheVariants as modes
 use Rattle.fk_model.specs.declared.thread.Thread as threads_of
 use Rattle.fk_model.specs.declared.thread.Peer as peers_of
 use Rattle.fk_model.specs.declared.thread.Peer.TheVariants as peers
+use Rattle.fk_model.specs.declared.stage.Stage.{Stage}
 use Rattle.fk_model.specs.declared.thread.Talk as talks_of
+use Rattle.fk_model.specs.Talks.{first_stage}
+use Rattle.laws_waits.specs.Touching.{is_reachable_stage}
 use Rattle.fk_model.specs.Holds.{decider, is_free, is_porter, is_user}
 use Rattle.fk_model.specs.Moves.{IsReady}
 use Rattle.fk_model.specs.Objects.{Mode, Thread, holds}
@@ -30,7 +33,8 @@ use Rattle.fk_waits.specs.Turns.Turns.{all_marks, loud_cause, waits_at, IsSound}
 use Rattle.fk_waits.proofs.InTurns.Woken.{queued_less, queued_off, stands_woken, waits_behind, waits_cause, waits_more, waits_other, waits_split}
 use Rattle.fk_turns.specs.Moved.Kept.{is_user_at, AreKept, IsFiled, IsFiledAs}
 use Rattle.fk_turns.specs.Moved.Moved.{is_it, is_named, is_told, is_wide, now_named, IsMoved}
-use Rattle.fk_turns.specs.Moved.Told.{is_going, runs_on_at, IsQuietTo, IsRunning}
+use Rattle.fk_turns.specs.Moved.Told.{goes_quietly, goes_quietly_at, is_going, is_quiet_mode, runs_on_at, IsQuietTo, IsRunning}
+use Rattle.fk_turns.proofs.InMoved.Quiet.{on_of}
 use Rattle.fk_turns.specs.Next.Runs.{is_under_way, is_under_way_at}
 use Rattle.fk_turns.specs.Next.Waiting.{ComesAfter, IsMoveReady}
 use Rattle.fk_turns.proofs.InNext.Passed.{queued_unready}
@@ -166,6 +170,9 @@ module _ (n : Contents) (who : Who) (on : is_under_way_at n who ≡ true) where
       by None is = absurd (cc)
       by (Some t) is = rw (goes t.mode (apart t is).0, (apart t is).2) refl
 
+  pub under_way_quiet : goes_quietly_at n who ≡ true
+  under_way_quiet = on_of (thread_at (world n) (place_of n who)) under_way_going
+
   pub under_way_user : is_user_at n who ≡ true
   under_way_user = by (thread_at (world n) (place_of n who)) on
     where
@@ -187,6 +194,36 @@ module _ (n : Contents) (who : Who) (on : is_under_way_at n who ≡ true) where
       by : (o : Option Thread) → thread_at (world n) (place_of n who) ≡ o → holds is_under_way o ≡ true → IsMoveReady (world n) (place_of n who)
       by None there is = absurd (cc)
       by (Some t) there is = by_mode t there ((apart t is).1, (apart t is).2) t.mode refl (apart t is).0
+
+-- one that goes quietly is a user's
+pub quiet_user : (n : Contents) (who : Who) → goes_quietly_at n who ≡ true → is_user_at n who ≡ true
+quiet_user n who is = by (thread_at (world n) (place_of n who)) is
+  where
+    no_porter : (k : Mode) → is_quiet_mode k ≡ true → not (is_porter k) ≡ true
+    no_porter (Running g) is = refl
+    no_porter (Calling todo rest) is = refl
+    no_porter (Halted g code) is = absurd (cc)
+    no_porter (Native g) is = absurd (cc)
+
+    by : (o : Option Thread) → holds goes_quietly o ≡ true → holds (λ (t : Thread). not (is_porter t.mode)) o ≡ true
+    by None is = absurd (cc)
+    by (Some t) is = no_porter t.mode (and_parts (is_quiet_mode t.mode) (is_none t.fault) is).0
+
+-- without a fault, at a stage at which no other thread reaches it
+pub quiet_at : (p : ℕ → Path) (t : threads_of.Thread) (stage : Stage) (r : Bool) → is_some t.fault ≡ false →
+    Some stage ≡ first_stage (thread_by p t).mode → r ≡ is_reachable_stage stage → OnTrue (not r) (goes_quietly (thread_by p t) ≡ true)
+quiet_at p t stage true fault at is = tt
+quiet_at p t stage false fault at is = rw (mode (thread_by p t).mode (sym at) (sym is), faultless t.fault fault) refl
+  where
+    faultless : (o : Option _) → is_some o ≡ false → is_none (option_map (fault_by p) o) ≡ true
+    faultless None is = refl
+    faultless (Some fault) is = absurd (cc)
+
+    mode : (k : Mode) → first_stage k ≡ Some stage → is_reachable_stage stage ≡ false → is_quiet_mode k ≡ true
+    mode (Running g) first off = refl
+    mode (Calling todo rest) first off = rw (first, off) refl
+    mode (Halted g code) first off = absurd (cc)
+    mode (Native g) first off = absurd (cc)
 
 pub on_going : {P : Type 0} (b g : Bool) → b ≡ g → (g ≡ true → P) → OnTrue b P
 on_going true g e f = f (sym e)

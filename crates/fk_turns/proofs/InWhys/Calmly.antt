@@ -1,5 +1,5 @@
--- Calmly: an instruction after which a thread runs on touches no reason of another.
-use Rattle.std.proofs.Common.{◌≡◌, ◌&&◌, ◌||◌, ◌/◌, ℕ, zero, suc, Bool, true, false, is_some, is_none, List, ◌∷◌, Option, Some, None, if◌then◌else◌}
+-- Calmly: an instruction after which a thread runs on, or is at a stage at which no other reaches it, touches no reason of another.
+use Rattle.std.proofs.Common.{◌≡◌, ◌&&◌, ◌||◌, ◌/◌, ℕ, zero, suc, Bool, true, false, is_some, is_none, List, [], ◌∷◌, Option, Some, None, if◌then◌else◌}
 use Rattle.std.proofs.Common.{refl, sym, ap, subst, ◌∙◌}
 use Rattle.std.specs.Prelude.{nat_lt}
 use Rattle.fk_model.specs.declared.instruction.Act.{Act}
@@ -27,17 +27,13 @@ use Rattle.fk_model.specs.World.Change.{Alter}
 use Rattle.fk_model.specs.World.Edit.{Proceed, SetFault}
 use Rattle.fk_model.proofs.walks.PlaceLaws.{same_path_refl}
 use Rattle.laws_moves.proofs.InMachine.safety.Reads.{body-thread_of}
+use Rattle.fk_turns.specs.Moved.Told.{is_quiet_mode}
 use Rattle.laws_waits.specs.Calm.{AreCalm, IsCalm}
+use Rattle.laws_waits.specs.Touching.{is_reachable}
 
--- a thread runs, and has no fault
-abbrev pub runs : Mode → Bool
-runs (Running g) = true
-runs (Calling todo rest) = false
-runs (Halted g code) = false
-runs (Native g) = false
-
+-- a thread runs or is at such a stage, and has no fault
 abbrev pub is_on : Thread → Bool
-is_on t = runs t.mode && is_none t.fault
+is_on t = is_quiet_mode t.mode && is_none t.fault
 
 -- ---- where a word is there is a page
 
@@ -88,11 +84,11 @@ module _ (w : World) (me : Path) (t : Thread) (g : List ℕ) (there : thread_at 
       by (Some b) e h = e ∙ ap (λ (c : Body). Some c) (body-thread_of b t (rw e at h))
 
   proceeded : (v : World) (m : Mode) (c : ℕ) → v.body me ≡ Some (Thread_of t) →
-      holds is_on (thread_at (apply (Alter me (Proceed m c)) v) me) ≡ (runs m && is_none t.fault)
+      holds is_on (thread_at (apply (Alter me (Proceed m c)) v) me) ≡ (is_quiet_mode m && is_none t.fault)
   unfolding apply edited
   proceeded v m c at = rw (same_path_refl me, at) refl
 
-  faulted : (v : World) (f : _) → v.body me ≡ Some (Thread_of t) → holds is_on (thread_at (apply (Alter me (SetFault (Some f))) v) me) ≡ (runs t.mode && false)
+  faulted : (v : World) (f : _) → v.body me ≡ Some (Thread_of t) → holds is_on (thread_at (apply (Alter me (SetFault (Some f))) v) me) ≡ (is_quiet_mode t.mode && false)
   unfolding apply edited
   faulted v f at = rw (same_path_refl me, at) refl
 
@@ -106,7 +102,18 @@ module _ (w : World) (me : Path) (t : Thread) (g : List ℕ) (there : thread_at 
     plain = (refl, refl, refl);
   }
 
-  -- calm, where the thread runs on after it
+  entering : (v : World) (todo : List Stage) (rest : List ℕ) (c : ℕ) → v.body me ≡ Some (Thread_of t) → is_reachable (Calling todo rest) ≡ false →
+      IsCalm v me (Alter me (Proceed (Calling todo rest) c))
+  entering v todo rest c at off = record {
+    edit = Proceed (Calling todo rest) c;
+    thread = t;
+    is = refl;
+    there = ap (and_then thread_of) at;
+    quiet = rw (mode, off) refl;
+    plain = (refl, refl, refl);
+  }
+
+  -- calm, where the thread runs on after it, or is at such a stage
   record Fine (o : Outcome) : Type 0 where
     calm : holds is_on (thread_at (stepped w o).world me) ≡ true → AreCalm w me (listed o)
 
@@ -117,7 +124,14 @@ module _ (w : World) (me : Path) (t : Thread) (g : List ℕ) (there : thread_at 
   proceeds_fine : (m : Mode) (c : ℕ) → Fine (proceeds me m c)
   unfolding apply_all
   proceeds_fine (Running h) c = record { calm = λ after. (quiet w h c body_is, tt) }
-  proceeds_fine (Calling todo rest) c = record { calm = λ after. let off : false ≡ true = sym (proceeded w (Calling todo rest) c body_is) ∙ after in absurd (cc) }
+  proceeds_fine (Calling todo rest) c = record { calm = λ after. by (is_reachable (Calling todo rest)) refl after }
+    where
+      by : (b : Bool) → is_reachable (Calling todo rest) ≡ b →
+          holds is_on (thread_at (apply_all (Alter me (Proceed (Calling todo rest) c) ∷ []) w) me) ≡ true →
+          AreCalm w me (Alter me (Proceed (Calling todo rest) c) ∷ [])
+      by false e after = (entering w todo rest c body_is e, tt)
+      by true e after =
+          let off : false ≡ true = sym (proceeded w (Calling todo rest) c body_is ∙ rw e refl) ∙ after in absurd (cc)
   proceeds_fine (Halted h code) c = record { calm = λ after. let off : false ≡ true = sym (proceeded w (Halted h code) c body_is) ∙ after in absurd (cc) }
   proceeds_fine (Native h) c = record { calm = λ after. let off : false ≡ true = sym (proceeded w (Native h) c body_is) ∙ after in absurd (cc) }
 
@@ -129,7 +143,7 @@ module _ (w : World) (me : Path) (t : Thread) (g : List ℕ) (there : thread_at 
   unfolding apply_all
   missed_fine otherwise page write None fine = fine
   missed_fine otherwise page write (Some port) fine =
-      record { calm = λ after. never_on (runs t.mode) (sym (faulted w (record { page = page; write = write; port = port; taker = None }) body_is) ∙ after) }
+      record { calm = λ after. never_on (is_quiet_mode t.mode) (sym (faulted w (record { page = page; write = write; port = port; taker = None }) body_is) ∙ after) }
 
   access_fine : (write : Bool) (halts : ℕ → Outcome) (go : Path → ℕ → Outcome) (r : Reach) → IsThere w r → ((n : ℕ) → Fine (halts n)) →
       ((s : Path) (page : ℕ) → is_some (w.page s page) ≡ true → Fine (go s page)) → Fine (accessed me write halts go r)
@@ -170,7 +184,7 @@ run_fine w k s t g there mode counter =
     (word_there w s counter false) (λ n. proceeds_fine w (k ∷ s) t g there mode _ _)
     (λ space page is. performs_fine w (k ∷ s) t g there mode s counter (act (word_at w space page counter) g counter))
 
--- an instruction after which the thread runs on is calm
+-- an instruction after which the thread runs on, or is at such a stage, is calm
 pub instructions_calm : (w : World) (k : ℕ) (s : Path) (pick : Option Path) (t : Thread) (g : List ℕ) → thread_at w (k ∷ s) ≡ Some t → t.mode ≡ Running g →
     holds is_on (thread_at (step w (k ∷ s) pick asks.Run).world (k ∷ s)) ≡ true → AreCalm w (k ∷ s) (listed (outcome w (k ∷ s) pick asks.Run))
 unfolding outcome step

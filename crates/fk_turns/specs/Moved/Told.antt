@@ -1,5 +1,5 @@
 -- Told: what is told of a move of the machine, and what it leaves of a store's user threads.
-use Rattle.std.specs.Prelude.{◌≡◌, ◌≤◌, ◌||◌, ◌&&◌, ℕ, Bool, true, false, List, ◌∷◌, Option, Some, None, is_none, if◌then◌else◌}
+use Rattle.std.specs.Prelude.{◌≡◌, ◌≤◌, ◌||◌, ◌&&◌, ℕ, Bool, true, false, not, List, ◌∷◌, Option, Some, None, is_none, if◌then◌else◌}
 use Rattle.fk_model.specs.declared.moves.Ask.{Ask}
 use Rattle.fk_model.specs.declared.moves.Ask.TheVariants as asks
 use Rattle.fk_model.specs.declared.names.Who.{Who}
@@ -27,6 +27,7 @@ use Rattle.fk_turns.specs.declared.whys.whys.Why.{Why}
 use Rattle.fk_turns.specs.declared.whys.whys.Why.TheVariants as whys
 use Rattle.fk_turns.specs.Whys.Whys.{IsWhy}
 use Rattle.laws_moves.specs.Machine.Frame.{name_body}
+use Rattle.laws_waits.specs.Touching.{is_reachable}
 
 -- what a store holds, as its type keeps it
 pub record IsStored (m : Contents) : Type 0 where
@@ -75,6 +76,20 @@ is_going (Native registers) = false
 abbrev pub runs_on_at : Contents → Who → Bool
 runs_on_at n who = holds (λ (t : Thread). is_going t.mode && is_none t.fault) (thread_at (world n) (place_of n who))
 
+-- it runs, or is at a stage at which no other thread reaches it
+abbrev pub is_quiet_mode : Mode → Bool
+is_quiet_mode (Running registers) = true
+is_quiet_mode (Calling todo rest) = not (is_reachable (Calling todo rest))
+is_quiet_mode (Halted registers code) = false
+is_quiet_mode (Native registers) = false
+
+-- so it is, without a fault
+abbrev pub goes_quietly : Thread → Bool
+goes_quietly t = is_quiet_mode t.mode && is_none t.fault
+
+abbrev pub goes_quietly_at : Contents → Who → Bool
+goes_quietly_at n who = holds goes_quietly (thread_at (world n) (place_of n who))
+
 -- a move of one leaves the reason of every other, but of whom any change may free
 pub record IsQuietTo (m n : Contents) (mover : Who) : Type 0 where
   pub quiet : (who : Who) (why : Why) → is_same mover who ≡ false → is_user_at m who ≡ true → (why ≡ whys.Barred → ⊥) →
@@ -84,6 +99,11 @@ pub record IsQuietTo (m n : Contents) (mover : Who) : Type 0 where
 abbrev pub ToldQuiet : Type 0
 ToldQuiet = (m n : Contents) (mover : Who) (pick : Option Path) → IsStored m → IsStored n → IsMadeTo m n mover pick asks.Run →
     IsToldOf m mover pick asks.Run (Few None None None) → IsRunning m mover → runs_on_at n mover ≡ true → IsQuietTo m n mover
+
+-- so does one after which it runs, or is at such a stage
+abbrev pub EntersQuietly : Type 0
+EntersQuietly = (m n : Contents) (mover : Who) (pick : Option Path) → IsStored m → IsStored n → IsMadeTo m n mover pick asks.Run →
+    IsToldOf m mover pick asks.Run (Few None None None) → IsRunning m mover → goes_quietly_at n mover ≡ true → IsQuietTo m n mover
 
 -- ---- names
 

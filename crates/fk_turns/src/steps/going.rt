@@ -35,9 +35,10 @@ pub enum Gone {
     Made,
 }
 
-/// Makes the next stage of the user in a slot, where that is made by one look or tells nothing, and keeps the lists.
+/// Makes the next stage of the user in a slot, where that is made by one look or tells nothing, and keeps the lists. Who stays needn't go last: where a
+/// stage that is made by one look leaves it in its turn, it stands where it stood.
 #[inline(never)]
-pub fn go_stage(store: &mut Store, turns: &mut Turns, who: Who) -> Gone
+pub fn go_stage(store: &mut Store, turns: &mut Turns, who: Who, stays: bool) -> Gone
     requires valid { IsValid (world store.old) }
     requires kept { AreKept store.old turns.old.waits turns.old.marks }
     ensures made { OnTrue (is_made result) (IsReadyMove store.old (run_of who) asks.Run × IsStepTo store.old (run_of who) asks.Run store.new Said.Nothing) }
@@ -46,10 +47,10 @@ pub fn go_stage(store: &mut Store, turns: &mut Turns, who: Who) -> Gone
     ensures same { OnFalse (is_made result) (store.new ≡ store.old) }
     ensures valid { IsValid (world store.new) }
     ensures kept { AreKept store.new turns.new.waits turns.new.marks }
-    ensures placed { OnTrue (is_made result) (IsPut store.old (run_of who) asks.Run store.new (standing turns.new.waits)) }
+    ensures placed { OnFalse stays (OnTrue (is_made result) (IsPut store.old (run_of who) asks.Run store.new (standing turns.new.waits))) }
     ensures still { OnFalse (is_made result) (standing turns.new.waits ≡ standing turns.old.waits) }
 {
-    match go(store, turns, who) {
+    match go(store, turns, who, stays) {
         Gone::Not => go_silently(store, turns, who),
         Gone::Waits => Gone::Waits,
         Gone::Made => Gone::Made,
@@ -76,7 +77,7 @@ fn go_silently(store: &mut Store, turns: &mut Turns, who: Who) -> Gone
 }
 
 /// The same of a stage that is made by one look. It declines while anything is held, or somebody is marked whom any change may free.
-fn go(store: &mut Store, turns: &mut Turns, who: Who) -> Gone
+fn go(store: &mut Store, turns: &mut Turns, who: Who, stays: bool) -> Gone
     requires valid { IsValid (world store.old) }
     requires kept { AreKept store.old turns.old.waits turns.old.marks }
     ensures made { OnTrue (is_made result) (IsReadyMove store.old (run_of who) asks.Run × IsStepTo store.old (run_of who) asks.Run store.new Said.Nothing) }
@@ -85,7 +86,7 @@ fn go(store: &mut Store, turns: &mut Turns, who: Who) -> Gone
     ensures same { OnFalse (is_made result) (store.new ≡ store.old) }
     ensures valid { IsValid (world store.new) }
     ensures kept { AreKept store.new turns.new.waits turns.new.marks }
-    ensures placed { OnTrue (is_made result) (IsPut store.old (run_of who) asks.Run store.new (standing turns.new.waits)) }
+    ensures placed { OnFalse stays (OnTrue (is_made result) (IsPut store.old (run_of who) asks.Run store.new (standing turns.new.waits))) }
     ensures still { OnFalse (is_made result) (standing turns.new.waits ≡ standing turns.old.waits) }
 {
     if store.is_any_held() {
@@ -102,11 +103,11 @@ fn go(store: &mut Store, turns: &mut Turns, who: Who) -> Gone
         Went::Not => Gone::Not,
         Went::Waits => Gone::Waits,
         Went::Made { what, at } => {
-            after_class(turns, store, who, what, at);
+            after_class(turns, store, who, what, at, stays);
             Gone::Made
         }
         Went::Talked { by } => {
-            after_talk(turns, store, who, by);
+            after_talk(turns, store, who, by, stays);
             Gone::Made
         }
     }
@@ -115,16 +116,16 @@ fn go(store: &mut Store, turns: &mut Turns, who: Who) -> Gone
 /// The lists after a stage that did this, after which its thread is there: first whom it may have freed is looked at again, and then the thread goes to its
 /// place.
 #[inline(always)]
-fn after_class(turns: &mut Turns, store: &Store, mover: Who, what: What, at: Then)
+fn after_class(turns: &mut Turns, store: &Store, mover: Who, what: What, at: Then, stays: bool)
     requires valid { IsValid (world store.now) }
     requires comes { ComesMildly store.now mover what turns.old.waits turns.old.marks }
     requires at { IsThen store.now mover at }
     ensures kept { AreKept store.now turns.new.waits turns.new.marks }
-    ensures placed { IsPlaced store.now (standing turns.new.waits) mover }
+    ensures placed { OnFalse stays (IsPlaced store.now (standing turns.new.waits) mover) }
 {
     rouse_by(turns, store, mover, what);
     match at {
-        Then::Runs => go_last(turns, store, mover),
+        Then::Runs => go_last_unless(turns, store, mover, stays),
         Then::Asleep => go_to_sleep(turns, store, mover),
     }
 }
@@ -143,9 +144,23 @@ fn rouse_by(turns: &mut Turns, store: &Store, mover: Who, what: What)
     }
 }
 
+/// A thread that runs goes from first to last, unless it stays.
+#[inline(always)]
+pub fn go_last_unless(turns: &mut Turns, store: &Store, mover: Who, stays: bool)
+    requires valid { IsValid (world store.now) }
+    requires kept { AreKept store.now turns.old.waits turns.old.marks }
+    requires on { is_under_way_at store.now mover ≡ true }
+    ensures kept { AreKept store.now turns.new.waits turns.new.marks }
+    ensures placed { OnFalse stays (IsPlaced store.now (standing turns.new.waits) mover) }
+{
+    if !stays {
+        go_last(turns, store, mover);
+    }
+}
+
 /// A thread that runs goes from first to last.
 #[inline(always)]
-pub fn go_last(turns: &mut Turns, store: &Store, mover: Who)
+fn go_last(turns: &mut Turns, store: &Store, mover: Who)
     requires valid { IsValid (world store.now) }
     requires kept { AreKept store.now turns.old.waits turns.old.marks }
     requires on { is_under_way_at store.now mover ≡ true }

@@ -1,7 +1,10 @@
 //! Moves after which only who moved is looked at, and most often not even that.
-ghost use Rattle.std.specs.Prelude.{◌≡◌, ◌||◌, ◌&&◌, [], true, false, None, not};
+ghost use Rattle.std.specs.Prelude.{◌≡◌, ◌||◌, ◌&&◌, ℕ, [], true, false, None, not};
 ghost use Rattle.std.specs.Bool.{OnTrue, OnFalse};
 ghost use Rattle.fk_model.specs.Valid.{IsValid};
+ghost use Rattle.fk_model.specs.Places.{Path};
+ghost use Rattle.laws_waits.specs.Touching as touching;
+ghost use Rattle.fk_store.specs.Store.Bodies.{thread_by};
 ghost use Rattle.fk_store.specs.Store.Names.{at};
 ghost use Rattle.fk_store.specs.Store.World.{world, place_of};
 ghost use Rattle.fk_waits.specs.Turns.Turns.{all_marks, loud_cause, IsFreed, IsSound};
@@ -13,16 +16,17 @@ ghost use Rattle.fk_turns.specs.Moved.Moved.{is_it, now_named};
 ghost use Rattle.fk_turns.specs.Next.Runs.{is_under_way_at};
 ghost use Rattle.fk_turns.specs.Next.Waiting.{standing, ComesAfter, IsMoveReady, IsPlaced};
 ghost use Rattle.fk_turns.specs.Steps.Steps as steps_of;
-ghost use Rattle.fk_turns.specs.Moved.Told.{runs_on_at};
+ghost use Rattle.fk_turns.specs.Moved.Told.{goes_quietly, goes_quietly_at, runs_on_at};
 ghost use Rattle.fk_turns.specs.Steps.Steps.{touches_only, AreApart, AreRousedAt, AreUnknown, ComesByPorter, IsApartAt};
 ghost use Rattle.fk_turns.specs.Steps.Steps.{IsCalm, IsGentle, IsOneApart, IsQuietFrom, IsTurned, MayBeQuiet};
 
 use crate::next::after;
+use crate::whys::first_stage;
 use fk_calls::ready;
 use fk_model::call::{
     self, CLIENT_OVER, CLIENT_OVER_RECEIVE, CLIENT_SEND, CLIENT_SEND_OVER_RECEIVE,
 };
-use fk_model::{Ask, Mode, Move, Peer, Thread, Who};
+use fk_model::{Ask, Mode, Move, Peer, Stage, Thread, Who};
 use fk_plans::wakes::Touched;
 use fk_store::Store;
 use fk_waits::turns::Turns;
@@ -133,6 +137,65 @@ pub fn after_stay(turns: &mut Turns, store: &Store, mover: Who)
         return;
     }
     after_off(turns, store, mover);
+}
+
+/// The lists after any other instruction, whose thread needn't go last. Where that came to a call of which nobody else waits to see the first stage, and nobody
+/// is queued whom any change may free, it stands where it stood, and nothing is written.
+#[inline(always)]
+pub fn after_entry(turns: &mut Turns, store: &Store, mover: Who)
+    requires valid { IsValid (world store.now) }
+    requires quiet { goes_quietly_at store.now mover ≡ true → IsQuietFrom store.now mover turns.old.waits turns.old.marks }
+    requires comes { ComesAfter store.now mover (Touched.Few None None None) turns.old.waits turns.old.marks }
+    ensures kept { AreKept store.now turns.new.waits turns.new.marks }
+{
+    if is_entered(turns, store, mover) {
+        return;
+    }
+    after_off(turns, store, mover);
+}
+
+/// A thread is at a stage that nobody else waits to see, and nobody is marked whom any change may free.
+#[inline(always)]
+fn is_entered(turns: &Turns, store: &Store, who: Who) -> bool
+    ensures none { OnTrue result (turns.now.marks.ready ≡ []) }
+    ensures quiet { OnTrue result (goes_quietly_at store.now who ≡ true) }
+{
+    if !turns.marks_nobody() {
+        return false;
+    }
+    match store.thread(who) {
+        Some(thread) => enters_quietly(thread),
+        None => false,
+    }
+}
+
+/// It has no fault, and is at such a stage.
+#[inline(always)]
+fn enters_quietly(thread: &Thread) -> bool
+    ensures { (p : ℕ → Path) → OnTrue result (goes_quietly (thread_by p thread.now) ≡ true) }
+{
+    if thread.fault.is_some() {
+        return false;
+    }
+    match first_stage(thread) {
+        Some(stage) => !is_reachable_stage(&stage),
+        None => false,
+    }
+}
+
+/// A stage at which another thread may reach its thread: a Receive of either side, or a Connect.
+#[inline(always)]
+fn is_reachable_stage(stage: &Stage) -> bool
+    ensures { result ≡ touching.is_reachable_stage stage.now }
+{
+    match stage {
+        Stage::ClientReceive { .. }
+        | Stage::ServerReceive { .. }
+        | Stage::ClientReceiveRef { .. }
+        | Stage::ServerReceiveRef { .. }
+        | Stage::Connect { .. } => true,
+        _ => false,
+    }
 }
 
 /// The lists after a move whose thread needn't go last. Where that was an instruction, the thread runs on and nothing is held, who moved stands where it

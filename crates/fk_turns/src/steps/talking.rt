@@ -1,7 +1,7 @@
 //! The lists after a stage in which two threads met in their talk: all others wait as before, the other end is looked at again, and the thread goes to its
 //! place.
 ghost use Rattle.std.specs.Prelude.{◌≡◌, true, false, Some, None, IfSome};
-ghost use Rattle.std.specs.Bool.{OnTrue};
+ghost use Rattle.std.specs.Bool.{OnTrue, OnFalse};
 ghost use Rattle.fk_model.specs.Objects.Peer.{Server};
 ghost use Rattle.fk_model.specs.Places.{Path};
 ghost use Rattle.fk_model.specs.Places.Ptr.{At};
@@ -26,19 +26,21 @@ use fk_waits::turns::Turns;
 
 /// The lists after a stage that did this.
 #[inline(always)]
-pub fn after_talk(turns: &mut Turns, store: &Store, mover: Who, by: Talked)
+pub fn after_talk(turns: &mut Turns, store: &Store, mover: Who, by: Talked, stays: bool)
     requires valid { IsValid (world store.now) }
     requires comes { ComesTalked store.now mover by turns.old.waits turns.old.marks }
     ensures kept { AreKept store.now turns.new.waits turns.new.marks }
-    ensures placed { is_user_at store.now mover ≡ true → IsPlaced store.now (standing turns.new.waits) mover }
+    ensures placed { OnFalse stays (is_user_at store.now mover ≡ true → IsPlaced store.now (standing turns.new.waits) mover) }
 {
     match by {
         Talked::Sends {
             client,
             receiver,
             sender,
-        } => after_words(turns, store, mover, client, receiver, sender),
-        Talked::Passes { client, receiver } => after_turn(turns, store, mover, client, receiver),
+        } => after_words(turns, store, mover, client, receiver, sender, stays),
+        Talked::Passes { client, receiver } => after_turn(
+            turns, store, mover, client, receiver, stays,
+        ),
     }
 }
 
@@ -51,14 +53,15 @@ fn after_words(
     client: Who,
     receiver: Who,
     sender: Who,
+    stays: bool,
 )
     requires valid { IsValid (world store.now) }
     requires comes { ComesTalked store.now mover (Talked.Sends client receiver sender) turns.old.waits turns.old.marks }
     ensures kept { AreKept store.now turns.new.waits turns.new.marks }
-    ensures placed { is_user_at store.now mover ≡ true → IsPlaced store.now (standing turns.new.waits) mover }
+    ensures placed { OnFalse stays (is_user_at store.now mover ≡ true → IsPlaced store.now (standing turns.new.waits) mover) }
 {
     tell_receiver(turns, store, mover, client, receiver, sender);
-    settle_talker(turns, store, mover);
+    settle_unless(turns, store, mover, stays);
 }
 
 /// Who received words waits for more where it stood, or may move.
@@ -78,12 +81,12 @@ fn tell_receiver(
     if hears_still(store, receiver) {
         return;
     }
-    turns.wake(receiver);
+    turns.rise(receiver);
 }
 
 /// It waits at its Receive for the other end.
 #[inline(always)]
-fn hears_still(store: &Store, who: Who) -> bool
+pub fn hears_still(store: &Store, who: Who) -> bool
     requires valid { IsValid (world store.now) }
     ensures { OnTrue result (IsLoudly (world store.now) (place_of store.now who)) }
 {
@@ -95,18 +98,18 @@ fn hears_still(store: &Store, who: Who) -> bool
 
 /// The lists after a turn that went to a receiver. Where one of the two is in another talk too, those who wait for it there are looked at as after any move.
 #[inline(always)]
-fn after_turn(turns: &mut Turns, store: &Store, mover: Who, client: Who, receiver: Who)
+fn after_turn(turns: &mut Turns, store: &Store, mover: Who, client: Who, receiver: Who, stays: bool)
     requires valid { IsValid (world store.now) }
     requires comes { ComesTalked store.now mover (Talked.Passes client receiver) turns.old.waits turns.old.marks }
     ensures kept { AreKept store.now turns.new.waits turns.new.marks }
-    ensures placed { is_user_at store.now mover ≡ true → IsPlaced store.now (standing turns.new.waits) mover }
+    ensures placed { OnFalse stays (is_user_at store.now mover ≡ true → IsPlaced store.now (standing turns.new.waits) mover) }
 {
     if !is_alone(store, client) {
         after_any(turns, store, mover, client, receiver);
         return;
     }
-    turns.wake(receiver);
-    settle_talker(turns, store, mover);
+    turns.rise(receiver);
+    settle_unless(turns, store, mover, stays);
 }
 
 /// The same as after any move.
@@ -134,6 +137,34 @@ pub enum Place {
     Hears { port: Who },
     /// That is for a judgement to tell.
     Unsaid,
+}
+
+/// A thread that was in a talk goes to its place. Who stays is looked at again where it waits for the other end alone.
+#[inline(always)]
+fn settle_unless(turns: &mut Turns, store: &Store, mover: Who, stays: bool)
+    requires valid { IsValid (world store.now) }
+    requires kept { AreKept store.now turns.old.waits turns.old.marks }
+    ensures kept { AreKept store.now turns.new.waits turns.new.marks }
+    ensures placed { OnFalse stays (is_user_at store.now mover ≡ true → IsPlaced store.now (standing turns.new.waits) mover) }
+{
+    if stays {
+        rest_talker(turns, store, mover);
+    } else {
+        settle_talker(turns, store, mover);
+    }
+}
+
+/// A thread that waits at its Receive for the other end is queued there; any other stands where it stood.
+#[inline(always)]
+pub fn rest_talker(turns: &mut Turns, store: &Store, mover: Who)
+    requires valid { IsValid (world store.now) }
+    requires kept { AreKept store.now turns.old.waits turns.old.marks }
+    ensures { AreKept store.now turns.new.waits turns.new.marks }
+{
+    match heard_at(store, mover) {
+        Some(port) => settle_loud(turns, store, mover, port),
+        None => {}
+    }
 }
 
 /// A thread that was in a talk goes to its place.
@@ -226,7 +257,7 @@ fn has_no_talk(store: &Store, who: Who) -> bool
 
 /// A thread serves nobody.
 #[inline(always)]
-fn serves_nobody(store: &Store, who: Who) -> bool
+pub fn serves_nobody(store: &Store, who: Who) -> bool
     requires valid { IsValid (world store.now) }
     ensures { OnTrue result ((q : Path) → is_peer_of (world store.now) (place_of store.now who) q ≡ false) }
 {

@@ -6,9 +6,10 @@ use Rattle.fk_store.specs.Store.Contents.{Contents}
 use Rattle.fk_store.specs.Store.World.{world}
 use Rattle.fk_turns.specs.Moved.Kept.{AreKept}
 use Rattle.fk_turns.specs.Next.Goings.{run_of, was_made}
-use Rattle.fk_turns.proofs.InSteps.Locked.{mildly_made, put_made}
+use Rattle.fk_turns.proofs.InSteps.Locked.{if_false, mildly_made, put_made}
 use Rattle.fk_turns.proofs.InSteps.Stepped.{run_fit, valid_true}
 use Rattle.fk_turns.proofs.InSteps.Talked.{put_talked, talked_made}
+use Rattle.fk_turns.proofs.InSteps.Went.{off_anyway}
 use Rattle.fk_turns.proofs.steps.going.go.Goals as goal
 
 pub go-went-requires : goal.go-went-requires
@@ -45,8 +46,8 @@ returns-in-Made-clause-placed c =
     let m = c.args.store.now in
     let made = rw c.in-Made.is at c.go-went.ensures.made in
     let tells = rw c.in-Made.is at c.go-went.ensures.touched in
-    put_made m c.go-went.new.store c.args.who c.in-Made.what c.after_class.new.turns.waits c.requires.valid c.names.ensures.few c.names.ensures.born
-    c.names-2.ensures.born c.names-2.ensures.few made.0 tells c.after_class.ensures.placed
+    if_false c.args.stays (λ placed. put_made m c.go-went.new.store c.args.who c.in-Made.what c.after_class.new.turns.waits c.requires.valid
+    c.names.ensures.few c.names.ensures.born c.names-2.ensures.born c.names-2.ensures.few made.0 tells placed) c.after_class.ensures.placed
 
 -- ---- a stage in which two threads met
 
@@ -80,8 +81,8 @@ returns-in-Talked-clause-placed c =
     let m = c.args.store.now in
     let made = rw c.in-Talked.is at c.go-went.ensures.made in
     let tells = rw c.in-Talked.is at c.go-went.ensures.tells in
-    put_talked m c.go-went.new.store c.args.who c.in-Talked.by c.after_talk.new.turns.waits c.requires.valid c.names.ensures.few c.names.ensures.born
-    c.names-2.ensures.born c.names-2.ensures.few made.0 tells c.after_talk.ensures.placed
+    if_false c.args.stays (λ placed. put_talked m c.go-went.new.store c.args.who c.in-Talked.by c.after_talk.new.turns.waits c.requires.valid
+    c.names.ensures.few c.names.ensures.born c.names-2.ensures.born c.names-2.ensures.few made.0 tells placed) c.after_talk.ensures.placed
 
 -- ---- nothing was made
 
@@ -93,7 +94,7 @@ returns-in-Not c =
       made = tt;
       ended = tt;
       waits = λ is. absurd (cc);
-      placed = tt;
+      placed = off_anyway c.args.stays tt;
       still = refl;
       same = same;
       valid = subst (λ (d : Contents). IsValid (world d)) (sym same) c.requires.valid;
@@ -107,7 +108,7 @@ returns-in-Waits c =
     record {
       made = tt;
       ended = tt;
-      placed = tt;
+      placed = off_anyway c.args.stays tt;
       still = refl;
       waits = λ is. c.go-went.ensures.waits c.in-Waits.is;
       same = same;

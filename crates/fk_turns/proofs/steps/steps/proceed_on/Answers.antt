@@ -13,7 +13,7 @@ use Rattle.fk_turns.specs.Moved.Kept.{AreKept}
 use Rattle.fk_plans.specs.declared.wakes.touching.Touched.TheVariants.{Few}
 use Rattle.fk_turns.specs.Steps.Classes.{is_made}
 use Rattle.fk_turns.proofs.InSteps.Stepped.{comes_ran, quiet_ran, run_fit, valid_true}
-use Rattle.fk_turns.proofs.InSteps.Went.{running_there, under_way_going}
+use Rattle.fk_turns.proofs.InSteps.Went.{running_there, under_way_quiet}
 use Rattle.fk_turns.proofs.steps.steps.proceed_on.Goals as goal
 
 pub after_stay-requires : goal.after_stay-requires
@@ -31,29 +31,33 @@ after_stay-requires c =
           c.run-ran.ensures.same;
       quiet = quiet_ran m n run c.requires.valid c.names.ensures.few (run_fit m run) c.names.ensures.born c.names-2.ensures.born c.names-2.ensures.few
           (Few None None None) was.waits was.marks says.Nothing c.requires.kept (running_there m c.args.who ran)
-          (under_way_going n c.args.who on) refl made.0 made.1 tells;
+          (under_way_quiet n c.args.who on) refl made.0 made.1 tells;
       comes = comes_ran m n run c.requires.valid c.names.ensures.few (run_fit m run) c.names.ensures.born c.names-2.ensures.born c.names-2.ensures.few
           (Few None None None) was.waits was.marks says.Nothing c.requires.kept refl made.0 made.1 tells;
       on = on;
     }
 
-pub after_off-requires : goal.after_off-requires
-after_off-requires c =
+pub after_entry-requires : goal.after_entry-requires
+after_entry-requires c =
     let m = c.args.store.now in
     let n = c.run-ran.new.store in
     let run : Move = record { who = c.args.who; pick = None } in
     let was = c.args.turns.now in
     let made = rw c.in-Off.is at c.run-ran.ensures.made in
     let tells = rw c.in-Off.is at c.run-ran.ensures.touched in
+    let ran = rw c.in-Off.is at c.run-ran.ensures.ran in
     record {
       valid = valid_true m n run asks.Run c.requires.valid c.names.ensures.few (run_fit m run) says.Nothing (has_run c.run-ran.result) c.run-ran.ensures.made
           c.run-ran.ensures.same;
+      quiet = λ quiet. quiet_ran m n run c.requires.valid c.names.ensures.few (run_fit m run) c.names.ensures.born c.names-2.ensures.born
+          c.names-2.ensures.few (Few None None None) was.waits was.marks says.Nothing c.requires.kept (running_there m c.args.who ran) quiet refl made.0
+          made.1 tells;
       comes = comes_ran m n run c.requires.valid c.names.ensures.few (run_fit m run) c.names.ensures.born c.names-2.ensures.born c.names-2.ensures.few
           (Few None None None) was.waits was.marks says.Nothing c.requires.kept refl made.0 made.1 tells;
     }
 
-pub go_stage-requires : goal.go_stage-requires
-go_stage-requires c =
+pub go_stage-requires-in-Not : goal.go_stage-requires-in-Not
+go_stage-requires-in-Not c =
     let same = rw c.in-Not.is at c.run-ran.ensures.same in
     let was = c.args.turns.now in
     record {
@@ -97,21 +101,21 @@ pub returns-in-Not-clause-made : goal.returns-in-Not-clause-made
 returns-in-Not-clause-made c =
     let run : Move = record { who = c.args.who; pick = None } in
     let same = rw c.in-Not.is at c.run-ran.ensures.same in
-    let v = c.go_stage.new.store in
-    subst (λ (d : Contents). OnTrue (is_made c.go_stage.result) (IsReadyMove d run asks.Run × IsStepTo d run asks.Run v says.Nothing)) same
-    c.go_stage.ensures.made
+    let v = c.go_stage-in-Not.new.store in
+    subst (λ (d : Contents). OnTrue (is_made c.go_stage-in-Not.result) (IsReadyMove d run asks.Run × IsStepTo d run asks.Run v says.Nothing)) same
+    c.go_stage-in-Not.ensures.made
 
 pub returns-in-Not-clause-ended : goal.returns-in-Not-clause-ended
 returns-in-Not-clause-ended c =
     let same = rw c.in-Not.is at c.run-ran.ensures.same in
-    subst (λ (d : Contents). OnTrue (is_made c.go_stage.result) (IsEnded d c.go_stage.new.store None)) same c.go_stage.ensures.ended
+    subst (λ (d : Contents). OnTrue (is_made c.go_stage-in-Not.result) (IsEnded d c.go_stage-in-Not.new.store None)) same c.go_stage-in-Not.ensures.ended
 
 pub returns-in-Not-clause-same : goal.returns-in-Not-clause-same
 returns-in-Not-clause-same c =
     let same = rw c.in-Not.is at c.run-ran.ensures.same in
-    subst (λ (d : Contents). OnFalse (is_made c.go_stage.result) (c.go_stage.new.store ≡ d)) same c.go_stage.ensures.same
+    subst (λ (d : Contents). OnFalse (is_made c.go_stage-in-Not.result) (c.go_stage-in-Not.new.store ≡ d)) same c.go_stage-in-Not.ensures.same
 
 pub returns-in-Not-clause-waits : goal.returns-in-Not-clause-waits
 returns-in-Not-clause-waits c waits up =
     let same = rw c.in-Not.is at c.run-ran.ensures.same in
-    c.go_stage.ensures.waits waits (subst (λ (d : Contents). IsMoveReady (world d) (place_of d c.args.who)) (sym same) up)
+    c.go_stage-in-Not.ensures.waits waits (subst (λ (d : Contents). IsMoveReady (world d) (place_of d c.args.who)) (sym same) up)
