@@ -6,6 +6,7 @@
 //! for notes, and for the words of a console in a tap or a post.
 #![tactic(auto)]
 
+mod drafts;
 mod post;
 mod posts;
 mod replay;

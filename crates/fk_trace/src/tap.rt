@@ -7,9 +7,10 @@ ghost use Rattle.fk_responders.specs.Notes as facts;
 ghost use Rattle.fk_responders.specs.Notes.{note_of};
 ghost use Rattle.fk_trace.specs.Taps.{noted};
 
+use crate::drafts::{Drafts, write_reply, write_said, write_taken};
 use fk_model::{NoMemory, Turn};
 use fk_natives::{Heard, Service, Side};
-use fk_responders::{Note, Table, reply_of};
+use fk_responders::{Note, Table};
 use std::alloc::Global;
 
 /// Does what the server in it does, and keeps the notes of it that an observer sees.
@@ -19,6 +20,7 @@ pub struct Tap<S: Service + Drop> {
     /// Its observer's place in the table.
     watch: u8,
     notes: Vec<Note>,
+    drafts: Drafts,
 }
 
 /// Whether a server asks for nothing: it is its client's turn.
@@ -55,32 +57,35 @@ fn keep(notes: &mut Vec<Note>, watch: u8, table: &Table, note: &Note)
     }
 }
 
-// Each note is made in a function that stands apart: a note has room for 64 words, which is cleared wherever one may be made.
-
 /// Keeps the note of a talk that is taken up.
-#[inline(never)]
-fn keep_taken(notes: &mut Vec<Note>, watch: u8, table: &Table, turn: Turn, moved: u16)
+fn keep_taken(
+    notes: &mut Vec<Note>,
+    watch: u8,
+    table: &Table,
+    draft: &mut Note,
+    turn: Turn,
+    moved: u16,
+)
     requires { vec_len notes.old < vec_capacity notes.old }
     ensures kept { noted notes.new.items ≡ noted notes.old.items ++ seen_of watch (facts.Taken turn moved ∷ []) }
     ensures len { vec_len notes.new ≤ vec_len notes.old + 1 }
     ensures capacity { vec_capacity notes.new ≡ vec_capacity notes.old }
 {
-    keep(notes, watch, table, &Note::Taken { turn, moved });
+    write_taken(draft, turn, moved);
+    keep(notes, watch, table, draft);
 }
 
 /// Keeps the note of words that the client has sent.
-#[inline(never)]
-#[tactic(auto, using(crate::proofs::Notes::padded_words))]
-fn keep_said(notes: &mut Vec<Note>, watch: u8, table: &Table, words: &[u64])
+fn keep_said(notes: &mut Vec<Note>, watch: u8, table: &Table, draft: &mut Note, words: &[u64])
     requires room { vec_len notes.old < vec_capacity notes.old }
     requires few { length words.now ≤ 64 }
     ensures { noted notes.new.items ≡ noted notes.old.items ++ seen_of watch (facts.Said words.now ∷ []) }
 {
-    keep(notes, watch, table, &Note::Said(reply_of(words)));
+    write_said(draft, words);
+    keep(notes, watch, table, draft);
 }
 
 /// Keeps the note of a client that hands over.
-#[inline(never)]
 fn keep_over(notes: &mut Vec<Note>, watch: u8, table: &Table)
     requires { vec_len notes.old < vec_capacity notes.old }
     ensures kept { noted notes.new.items ≡ noted notes.old.items ++ seen_of watch (facts.Over ∷ []) }
@@ -91,24 +96,29 @@ fn keep_over(notes: &mut Vec<Note>, watch: u8, table: &Table)
 }
 
 /// Keeps the note of a reply of these words.
-#[inline(never)]
-#[tactic(auto, using(crate::proofs::Notes::padded_words))]
-fn keep_reply(notes: &mut Vec<Note>, watch: u8, table: &Table, words: &[u64])
+fn keep_reply(notes: &mut Vec<Note>, watch: u8, table: &Table, draft: &mut Note, words: &[u64])
     requires room { vec_len notes.old < vec_capacity notes.old }
     requires few { length words.now ≤ 64 }
     ensures { noted notes.new.items ≡ noted notes.old.items ++ seen_of watch (facts.Reply words.now ∷ []) }
 {
-    keep(notes, watch, table, &Note::Reply(reply_of(words)));
+    write_reply(draft, words);
+    keep(notes, watch, table, draft);
 }
 
 /// Keeps the note of the reply that a server asks to give at its own turn.
 #[tactic(auto, using(crate::proofs::Notes::given_own))]
-fn keep_left<S: Service>(notes: &mut Vec<Note>, watch: u8, table: &Table, inner: &S)
+fn keep_left<S: Service>(
+    notes: &mut Vec<Note>,
+    watch: u8,
+    table: &Table,
+    draft: &mut Note,
+    inner: &S,
+)
     requires room { vec_len notes.old < vec_capacity notes.old }
     requires own { side_of (S.meaning inner.now) ≡ sides.Own }
     ensures { noted notes.new.items ≡ noted notes.old.items ++ seen_of watch (facts.Reply (given_by (asks_for (S.meaning inner.now))) ∷ []) }
 {
-    keep_reply(notes, watch, table, inner.left());
+    keep_reply(notes, watch, table, draft, inner.left());
 }
 
 /// Keeps the notes of a talk that is taken up at the server's turn, and of the reply to that.
@@ -117,6 +127,7 @@ fn keep_taken_and_reply<S: Service>(
     notes: &mut Vec<Note>,
     watch: u8,
     table: &Table,
+    drafts: &mut Drafts,
     moved: u16,
     inner: &S,
 )
@@ -125,24 +136,29 @@ fn keep_taken_and_reply<S: Service>(
     ensures { noted notes.new.items ≡ noted notes.old.items
         ++ seen_of watch (facts.Taken turns.Server moved ∷ facts.Reply (given_by (asks_for (S.meaning inner.now))) ∷ []) }
 {
-    keep_taken(notes, watch, table, Turn::Server, moved);
-    keep_left(notes, watch, table, inner);
+    keep_taken(notes, watch, table, &mut drafts.taken, Turn::Server, moved);
+    keep_left(notes, watch, table, &mut drafts.reply, inner);
 }
 
 /// Keeps the notes of a client that hands over, and of the reply to that.
 #[tactic(auto, using(crate::proofs::Notes::seen_both))]
-fn keep_over_and_reply<S: Service>(notes: &mut Vec<Note>, watch: u8, table: &Table, inner: &S)
+fn keep_over_and_reply<S: Service>(
+    notes: &mut Vec<Note>,
+    watch: u8,
+    table: &Table,
+    draft: &mut Note,
+    inner: &S,
+)
     requires room { vec_len notes.old + 2 ≤ vec_capacity notes.old }
     requires own { side_of (S.meaning inner.now) ≡ sides.Own }
     ensures { noted notes.new.items ≡ noted notes.old.items
         ++ seen_of watch (facts.Over ∷ facts.Reply (given_by (asks_for (S.meaning inner.now))) ∷ []) }
 {
     keep_over(notes, watch, table);
-    keep_left(notes, watch, table, inner);
+    keep_left(notes, watch, table, draft, inner);
 }
 
 /// Keeps the note of a talk that has ended.
-#[inline(never)]
 fn keep_ended(notes: &mut Vec<Note>, watch: u8, table: &Table)
     requires { vec_len notes.old < vec_capacity notes.old }
     ensures { noted notes.new.items ≡ noted notes.old.items ++ seen_of watch (facts.Ended ∷ []) }
@@ -162,6 +178,7 @@ impl<S: Service + Drop> Tap<S> {
             inner,
             watch,
             notes: Vec::new(alloc),
+            drafts: Drafts::new(),
         }
     }
 
@@ -211,7 +228,15 @@ impl<S: Service + Drop> Service for Tap<S> {
                 ..
             } => {
                 self.inner.absorb(table, heard);
-                keep_taken(&mut self.notes, self.watch, table, Turn::Client, moved);
+                let draft = &mut self.drafts.taken;
+                keep_taken(
+                    &mut self.notes,
+                    self.watch,
+                    table,
+                    draft,
+                    Turn::Client,
+                    moved,
+                );
             }
             Heard::Taken {
                 turn: Turn::Server,
@@ -219,17 +244,27 @@ impl<S: Service + Drop> Service for Tap<S> {
                 ..
             } => {
                 self.inner.absorb(table, heard);
-                keep_taken_and_reply(&mut self.notes, self.watch, table, moved, &self.inner);
+                let drafts = &mut self.drafts;
+                keep_taken_and_reply(
+                    &mut self.notes,
+                    self.watch,
+                    table,
+                    drafts,
+                    moved,
+                    &self.inner,
+                );
             }
             Heard::Words(words) => {
                 self.inner.absorb(table, Heard::Words(words));
-                keep_said(&mut self.notes, self.watch, table, words);
+                let draft = &mut self.drafts.said;
+                keep_said(&mut self.notes, self.watch, table, draft, words);
             }
             Heard::Over => {
                 let hands_over = is_clients_turn(&self.inner);
                 self.inner.absorb(table, heard);
                 if hands_over {
-                    keep_over_and_reply(&mut self.notes, self.watch, table, &self.inner);
+                    let draft = &mut self.drafts.reply;
+                    keep_over_and_reply(&mut self.notes, self.watch, table, draft, &self.inner);
                 }
             }
             Heard::Given(_) => self.inner.absorb(table, heard),
