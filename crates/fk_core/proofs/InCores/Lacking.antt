@@ -1,5 +1,5 @@
 -- Lacking: moves that may lack memory, and what is answered where they do.
-use Rattle.std.proofs.Common.{◌≡◌, ◌↔◌, ◌||◌, ℕ, ◌<◌, ◌≤◌, Bool, true, false, if◌then◌else◌, IsTrue, List, Option, Some, None, Result, Ok, Err, IfOk, IsOk, OnErr}
+use Rattle.std.proofs.Common.{◌≡◌, ◌↔◌, ◌||◌, ℕ, ◌≤◌, Bool, true, false, if◌then◌else◌, IsTrue, List, Option, Some, None, Result, Ok, Err, IfOk, IsOk, OnErr}
 use Rattle.std.proofs.Common.{refl, sym, ap, subst, ◌∙◌}
 use Rattle.fk_model.specs.declared.moves.Ask.{Ask}
 use Rattle.fk_model.specs.declared.moves.Ask.TheVariants as asks
@@ -17,8 +17,8 @@ use Rattle.laws_moves.specs.Whole.Runnable.{has_all_words}
 use Rattle.laws_house.specs.Houses.{Job, State, End, machine}
 use Rattle.laws_jobs.specs.Machines.{Head, IsReadyAt}
 use Rattle.laws_jobs.specs.Machines.Head.{Stops, Asks}
-use Rattle.laws_runs.specs.Cores.{Asker, Work, IsReadyBy, asker, job_asks, others_ask, work_asks, work_of}
-use Rattle.laws_runs.specs.Cores.Asker.{Nobody, Others, Job as OfJob}
+use Rattle.laws_runs.specs.Cores.{Asker, Work, IsReadyBy, job_asks, others_ask, work_asks, work_of}
+use Rattle.laws_runs.specs.Cores.Asker.{Nobody, Others}
 use Rattle.fk_jobs.specs.Jobs.{Queue, asked_by, call_at, current, first_of, grows, grows_by, state_from, state_of}
 use Rattle.fk_jobs.specs.Turns.{core_of}
 use Rattle.fk_core.specs.Rounds.Events.{is_who, step_of, IsReadyEvent}
@@ -31,7 +31,7 @@ use Rattle.fk_store.specs.Store.Moves.{said_by}
 use Rattle.fk_served.proofs.Growing.{told-same}
 use Rattle.fk_core.specs.Rounds.Tolds.{Told}
 use Rattle.fk_core.specs.Rounds.Tried.{tried_of}
-use Rattle.fk_core.specs.Cores.Cores.{RunCore, house, core_at, is_porter, IsReadyMove, IsAskedMove, IsCalledMove, IsTried, IsLacking}
+use Rattle.fk_core.specs.Cores.Cores.{RunCore, house, core_at, is_porter, IsAskedMove, IsCalledMove, IsTried}
 use Rattle.fk_core.specs.Cores.Memory.{IsStill, does_lack, may_lack, may_lack_by, may_lack_asked, may_lack_call, may_lack_called}
 use Rattle.fk_core.proofs.InRounds.Asking.{as_job, as_other}
 

@@ -1,10 +1,9 @@
 -- What a sound start gives to the runs that begin there.
-use Rattle.std.proofs.Common.{◌≡◌, ℕ, zero, suc, ◌+◌, ◌≤◌, true, List, [], ◌∷◌, map, Some, None, refl, subst, arith}
+use Rattle.std.proofs.Common.{◌≡◌, ℕ, zero, suc, ◌+◌, ◌≤◌, List, [], ◌∷◌, map, subst, arith}
 use Rattle.std.proofs.lemmas.List.Elements.{All-head, All-tail}
-use Rattle.std.specs.List.{slice_get, All}
-use Rattle.fk_model.specs.Places.{Path}
+use Rattle.std.specs.List.{All}
 use Rattle.fk_model.specs.Searches.{depth}
-use Rattle.fk_model.specs.Sound.{Start, MayWork, IsSoundStart}
+use Rattle.fk_model.specs.Sound.{Start, MayWork}
 use Rattle.laws_house.specs.Houses.{Job, Task}
 use Rattle.laws_house.specs.Houses.Task.{Checkpoint, Restore}
 use Rattle.laws_house.specs.Laws.{NamesUsersSlots, NameUsersSlots}

@@ -1,7 +1,6 @@
 -- Moments: the run's core that a kernel with its servers and its jobs is at a moment, and which moves are ready there.
-use Rattle.std.specs.Prelude.{◌≡◌, ℕ, ◌<◌, ◌≤◌, ◌%◌, ◌==◌, ◌&&◌, ◌||◌, nat_le, nat_lt, Bool, true, false, List, Option, Some, None, IfSome}
+use Rattle.std.specs.Prelude.{◌≡◌, ℕ, ◌<◌, ◌%◌, ◌==◌, ◌&&◌, ◌||◌, nat_le, nat_lt, Bool, true, false, List, Option, Some, None, IfSome}
 use Rattle.std.specs.Prelude.{is_some}
-use Rattle.std.specs.List.{slice_get}
 use Rattle.fk_model.specs.declared.limits.TheConstants.{LAST_PORTER_SLOT}
 use Rattle.fk_model.specs.declared.moves.Ask.{Ask}
 use Rattle.fk_model.specs.declared.moves.Ask.TheVariants as asks
@@ -12,7 +11,6 @@ use Rattle.fk_model.specs.World.{World}
 use Rattle.fk_jobs.specs.Jobs.{Queue, current, asked_by, state_of}
 use Rattle.fk_jobs.specs.Turns.{core_of}
 use Rattle.fk_served.specs.Events.{is_who}
-use Rattle.fk_natives.specs.Natives.{State}
 use Rattle.fk_served.specs.Kernels.{Kept}
 use Rattle.fk_served.specs.Kernels.{world_of as world}
 use Rattle.laws_house.specs.Houses as houses

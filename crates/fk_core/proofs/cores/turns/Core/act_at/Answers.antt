@@ -1,4 +1,4 @@
-use Rattle.std.proofs.Common.{◌≡◌, ◌∙◌, Some, None, refl, sym, ap, map}
+use Rattle.std.proofs.Common.{◌≡◌, ◌∙◌, Some, None, sym, ap, map}
 use Rattle.fk_model.specs.declared.moves.Said.TheVariants as says
 use Rattle.fk_natives.specs.Natives.{gives_left}
 use Rattle.fk_core.specs.Rounds.Kernels.{world_of as world}

@@ -1,4 +1,3 @@
-use Rattle.std.proofs.Common.{◌∙◌, sym, refl}
 use Rattle.std.proofs.lemmas.Bool.{OnTrue_at, OnFalse_at}
 use Rattle.fk_core.proofs.InCores.Lacking.{same_core}
 use Rattle.fk_core.proofs.cores.turns.Core.act_on.Goals as goal

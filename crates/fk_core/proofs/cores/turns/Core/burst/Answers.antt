@@ -1,4 +1,4 @@
-use Rattle.std.proofs.Common.{◌≡◌, Bool, true, false, None, replicate, sym, subst, refl, ◌∙◌}
+use Rattle.std.proofs.Common.{◌≡◌, Bool, true, None, replicate, sym, subst, refl, ◌∙◌}
 use Rattle.std.specs.Bool.{OnTrue}
 use Rattle.std.specs.Fn.{FnOnceReturnsAtMut}
 use Rattle.laws_runs.specs.Cores.{IsRun}

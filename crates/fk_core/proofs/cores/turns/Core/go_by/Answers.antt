@@ -1,13 +1,13 @@
-use Rattle.std.proofs.Common.{◌≡◌, ◌∙◌, ◌+◌, true, refl, sym, ap, subst, map, Some}
+use Rattle.std.proofs.Common.{◌≡◌, ◌∙◌, ◌+◌, true, ap, map, Some}
 use Rattle.laws_moves.specs.Whole.Runnable.{has_all_words}
 use Rattle.fk_model.specs.Who.{named, event_of}
 use Rattle.fk_core.specs.Rounds.Events.{may_lack}
 use Rattle.fk_core.specs.Rounds.Kernels.{world_of as world}
-use Rattle.fk_core.specs.Rounds.Served.{asked, told, some_grow}
+use Rattle.fk_core.specs.Rounds.Served.{asked, told}
 use Rattle.fk_core.proofs.InRounds.Acts.{fit-asked}
 use Rattle.fk_core.proofs.InRounds.Hearing.{fits-told}
 use Rattle.fk_core.proofs.InRounds.Asking.{asks_other, others_ready, ready_asked}
-use Rattle.fk_core.proofs.InCores.Lacking.{asked-iff, asked-lacks, lacks-unless, or-left, or-right, same_core, still-told, tried-unmade}
+use Rattle.fk_core.proofs.InCores.Lacking.{asked-iff, asked-lacks, or-right, same_core, still-told, tried-unmade}
 use Rattle.fk_core.proofs.InCores.Turning.{turned}
 use Rattle.fk_core.proofs.cores.turns.Core.go_by.Goals as goal
 

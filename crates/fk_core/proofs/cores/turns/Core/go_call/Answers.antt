@@ -1,15 +1,13 @@
 use Rattle.std.proofs.Common.{◌≡◌, ◌∙◌, ◌+◌, sym, ap, length, map, Some, true}
 use Rattle.std.specs.Prelude.{slice_get}
-use Rattle.fk_core.specs.Rounds.Events.{may_lack}
 use Rattle.fk_core.specs.Rounds.Kernels.{world_of as world}
 use Rattle.fk_model.specs.declared.moves.Ask.TheVariants as asks
 use Rattle.fk_model.specs.Who.{event_of}
-use Rattle.fk_jobs.specs.Jobs.{Queue, asked_by, call_with, first_of, grows_by, state_from, state_of}
-use Rattle.fk_core.specs.Rounds.Served.{told, some_grow}
-use Rattle.fk_core.specs.Cores.Cores.{run_core}
+use Rattle.fk_jobs.specs.Jobs.{Queue, asked_by, call_with, first_of, state_from, state_of}
+use Rattle.fk_core.specs.Rounds.Served.{told}
 use Rattle.fk_core.proofs.InRounds.Hearing.{fits-told}
 use Rattle.fk_core.proofs.InCores.Going.{call_fits}
-use Rattle.fk_core.proofs.InCores.Lacking.{called-iff, called-lacks, or-left, or-right, still-told, tried-unmade}
+use Rattle.fk_core.proofs.InCores.Lacking.{called-iff, called-lacks, still-told, tried-unmade}
 use Rattle.fk_core.proofs.InCores.Turning.{hears-jobs, hears-same}
 use Rattle.fk_core.proofs.cores.turns.Core.go_call.Goals as goal
 
