@@ -1,4 +1,4 @@
-use Rattle.std.proofs.Common.{◌≡◌, ◌≤◌, sym, subst, arith}
+use Rattle.std.proofs.Common.{arith}
 use Rattle.fk_workers.proofs.InBooks.Runs.{no_run}
 use Rattle.fk_workers.proofs.books.book.Book.of.Goals as goal
 
