@@ -36,198 +36,196 @@ fn porters_move() -> Move {
     }
 }
 
-impl<S: Service + Drop> Pair<S> {
-    /// Takes an event where it is ready, and says whether it was.
-    #[tactic(auto, using(crate::proofs::Driving::drives_equal, crate::proofs::Driving::drives_step))]
-    fn try_event(&mut self, table: &Table, e: &Event) -> Result<bool, NoMemory>
-        requires driven { IsDriven (map (λ r. r.rule) table.now.list.items) (shown self.old) }
-        ensures drives { OnOk result (Drives (map (λ r. r.rule) table.now.list.items) (shown self.old) (shown self.new)) }
-    {
-        let is_ready = self.ready(e)?;
-        if !is_ready {
-            return Ok(false);
-        }
-        self.step(table, e)?;
-        Ok(true)
+/// Takes an event where it is ready, and says whether it was.
+#[tactic(auto, using(crate::proofs::Driving::drives_equal, crate::proofs::Driving::drives_step))]
+fn try_event<S: Service + Drop>(pair: &mut Pair<S>, table: &Table, e: &Event) -> Result<bool, NoMemory>
+    requires driven { IsDriven (map (λ r. r.rule) table.now.list.items) (shown pair.old) }
+    ensures drives { OnOk result (Drives (map (λ r. r.rule) table.now.list.items) (shown pair.old) (shown pair.new)) }
+{
+    let is_ready = pair.ready(e)?;
+    if !is_ready {
+        return Ok(false);
     }
+    pair.step(table, e)?;
+    Ok(true)
+}
 
-    /// The same of a move, which a budget counts.
-    #[tactic(auto, using(crate::proofs::Driving::drives_equal))]
-    fn try_move(&mut self, table: &Table, e: &Event, budget: &mut Budget) -> Result<bool, NoMemory>
-        requires driven { IsDriven (map (λ r. r.rule) table.now.list.items) (shown self.old) }
-        ensures drives { OnOk result (Drives (map (λ r. r.rule) table.now.list.items) (shown self.old) (shown self.new)) }
-    {
-        if budget.left == 0 {
-            budget.is_used = self.ready(e)?;
-            return Ok(false);
-        }
-        let made = self.try_event(table, e)?;
-        if made {
-            budget.left -= 1;
-        }
-        Ok(made)
+/// The same of a move, which a budget counts.
+#[tactic(auto, using(crate::proofs::Driving::drives_equal))]
+fn try_move<S: Service + Drop>(pair: &mut Pair<S>, table: &Table, e: &Event, budget: &mut Budget) -> Result<bool, NoMemory>
+    requires driven { IsDriven (map (λ r. r.rule) table.now.list.items) (shown pair.old) }
+    ensures drives { OnOk result (Drives (map (λ r. r.rule) table.now.list.items) (shown pair.old) (shown pair.new)) }
+{
+    if budget.left == 0 {
+        budget.is_used = pair.ready(e)?;
+        return Ok(false);
     }
-
-    // ---- the near kernel before the migration, and the far one after it
-
-    /// Moves of users and servers of the near kernel, at most so many.
-    #[tactic(auto, using(crate::proofs::Driving::drives_on, crate::proofs::Driving::drives_not, crate::proofs::Driving::drives_equal))]
-    fn run_near(&mut self, table: &Table, most: u64, budget: &mut Budget) -> Result<(), NoMemory>
-        requires driven { IsDriven (map (λ r. r.rule) table.now.list.items) (shown self.old) }
-        ensures drives { OnOk result (Drives (map (λ r. r.rule) table.now.list.items) (shown self.old) (shown self.new)) }
-    {
-        for _ in 0..most {
-            let Some(m) = self.choose_near() else {
-                return Ok(());
-            };
-            if !self.try_move(table, &Event::Near(m), budget)? {
-                return Ok(());
-            }
-        }
-        Ok(())
+    let made = try_event(pair, table, e)?;
+    if made {
+        budget.left -= 1;
     }
+    Ok(made)
+}
 
-    /// One move of a user or a server of the far kernel.
-    #[tactic(auto, using(crate::proofs::Driving::drives_on, crate::proofs::Driving::drives_not, crate::proofs::Driving::drives_equal))]
-    fn move_far(&mut self, table: &Table, budget: &mut Budget) -> Result<bool, NoMemory>
-        requires driven { IsDriven (map (λ r. r.rule) table.now.list.items) (shown self.old) }
-        ensures drives { OnOk result (Drives (map (λ r. r.rule) table.now.list.items) (shown self.old) (shown self.new)) }
-    {
-        match self.choose_far() {
-            Some(m) => self.try_move(table, &Event::Far(m), budget),
-            None => Ok(false),
-        }
-    }
+// ---- the near kernel before the migration, and the far one after it
 
-    /// All of them.
-    #[tactic(auto, using(crate::proofs::Driving::drives_on, crate::proofs::Driving::drives_not))]
-    fn run_far(&mut self, table: &Table, budget: &mut Budget) -> Result<(), NoMemory>
-        requires driven { IsDriven (map (λ r. r.rule) table.now.list.items) (shown self.old) }
-        ensures drives { OnOk result (Drives (map (λ r. r.rule) table.now.list.items) (shown self.old) (shown self.new)) }
-    {
-        let left = budget.left;
-        for _ in 0..left {
-            if !self.move_far(table, budget)? {
-                return Ok(());
-            }
-        }
-        // Where the budget is used one more tells whether anything is left.
-        self.move_far(table, budget)?;
-        Ok(())
-    }
-
-    // ---- the migration
-
-    /// Delivers a packet twice.
-    #[tactic(auto, using(crate::proofs::Driving::drives_on))]
-    fn deliver(&mut self, table: &Table, e: &Event) -> Result<(), NoMemory>
-        requires driven { IsDriven (map (λ r. r.rule) table.now.list.items) (shown self.old) }
-        ensures drives { OnOk result (Drives (map (λ r. r.rule) table.now.list.items) (shown self.old) (shown self.new)) }
-    {
-        self.try_event(table, e)?;
-        self.try_event(table, e)?;
-        Ok(())
-    }
-
-    /// Delivers the packets of the near side that haven't been, the last one first.
-    #[tactic(auto, using(crate::proofs::Driving::drives_on, crate::proofs::Driving::drives_not, crate::proofs::Driving::drives_equal))]
-    fn deliver_to_far(&mut self, table: &Table, from: u64) -> Result<u64, NoMemory>
-        requires driven { IsDriven (map (λ r. r.rule) table.now.list.items) (shown self.old) }
-        ensures drives { OnOk result (Drives (map (λ r. r.rule) table.now.list.items) (shown self.old) (shown self.new)) }
-    {
-        let to = self.sent_near()?;
-        for k in from..to {
-            self.deliver(table, &Event::ToFar(to - 1 - (k - from)))?;
-        }
-        Ok(to)
-    }
-
-    /// The same of the far side.
-    #[tactic(auto, using(crate::proofs::Driving::drives_on, crate::proofs::Driving::drives_not))]
-    fn deliver_to_near(&mut self, table: &Table, from: u64) -> Result<u64, NoMemory>
-        requires driven { IsDriven (map (λ r. r.rule) table.now.list.items) (shown self.old) }
-        ensures drives { OnOk result (Drives (map (λ r. r.rule) table.now.list.items) (shown self.old) (shown self.new)) }
-    {
-        let to = self.sent_far();
-        for k in from..to {
-            self.deliver(table, &Event::ToNear(to - 1 - (k - from)))?;
-        }
-        Ok(to)
-    }
-
-    /// Delivers all packets that haven't been. What the far side has to say may have the near one send one packet more.
-    #[tactic(auto, using(crate::proofs::Driving::drives_on))]
-    fn deliver_all(&mut self, table: &Table, delivered: &mut Delivered) -> Result<(), NoMemory>
-        requires driven { IsDriven (map (λ r. r.rule) table.now.list.items) (shown self.old) }
-        ensures drives { OnOk result (Drives (map (λ r. r.rule) table.now.list.items) (shown self.old) (shown self.new)) }
-    {
-        delivered.to_far = self.deliver_to_far(table, delivered.to_far)?;
-        delivered.to_near = self.deliver_to_near(table, delivered.to_near)?;
-        delivered.to_far = self.deliver_to_far(table, delivered.to_far)?;
-        Ok(())
-    }
-
-    /// A call of the near root's porter, or else of the far one's; all packets come before it.
-    #[tactic(auto, using(crate::proofs::Driving::drives_on))]
-    fn go_on(
-        &mut self,
-        table: &Table,
-        delivered: &mut Delivered,
-        budget: &mut Budget,
-    ) -> Result<bool, NoMemory>
-        requires driven { IsDriven (map (λ r. r.rule) table.now.list.items) (shown self.old) }
-        ensures drives { OnOk result (Drives (map (λ r. r.rule) table.now.list.items) (shown self.old) (shown self.new)) }
-    {
-        self.deliver_all(table, delivered)?;
-        if self.try_move(table, &Event::Near(porters_move()), budget)? {
-            return Ok(true);
-        }
-        if budget.is_used {
-            return Ok(false);
-        }
-        self.try_move(table, &Event::Far(porters_move()), budget)
-    }
-
-    /// The migration up to its end.
-    #[tactic(auto, using(crate::proofs::Driving::drives_on, crate::proofs::Driving::drives_not))]
-    fn migrate(&mut self, table: &Table, budget: &mut Budget) -> Result<(), NoMemory>
-        requires driven { IsDriven (map (λ r. r.rule) table.now.list.items) (shown self.old) }
-        ensures drives { OnOk result (Drives (map (λ r. r.rule) table.now.list.items) (shown self.old) (shown self.new)) }
-    {
-        let mut delivered = Delivered {
-            to_far: 0,
-            to_near: 0,
+/// Moves of users and servers of the near kernel, at most so many.
+#[tactic(auto, using(crate::proofs::Driving::drives_on, crate::proofs::Driving::drives_not, crate::proofs::Driving::drives_equal))]
+fn run_near<S: Service + Drop>(pair: &mut Pair<S>, table: &Table, most: u64, budget: &mut Budget) -> Result<(), NoMemory>
+    requires driven { IsDriven (map (λ r. r.rule) table.now.list.items) (shown pair.old) }
+    ensures drives { OnOk result (Drives (map (λ r. r.rule) table.now.list.items) (shown pair.old) (shown pair.new)) }
+{
+    for _ in 0..most {
+        let Some(m) = pair.choose_near() else {
+            return Ok(());
         };
-        let left = budget.left;
-        for _ in 0..left {
-            if !self.go_on(table, &mut delivered, budget)? {
-                return Ok(());
-            }
+        if !try_move(pair, table, &Event::Near(m), budget)? {
+            return Ok(());
         }
-        self.go_on(table, &mut delivered, budget)?;
-        Ok(())
     }
+    Ok(())
+}
 
-    /// The near kernel runs for so many moves, or fewer where none is ready; then the subtree moves, while nobody else does; then the far kernel
-    /// runs. Of all moves there are no more than the budget has.
-    #[tactic(auto, using(crate::proofs::Driving::drives_on))]
-    pub fn drive(&mut self, table: &Table, moves: u64, most: u64) -> Result<Budget, NoMemory>
-        requires driven { IsDriven (map (λ r. r.rule) table.now.list.items) (shown self.old) }
-        ensures drives { OnOk result (Drives (map (λ r. r.rule) table.now.list.items) (shown self.old) (shown self.new)) }
-    {
-        let mut budget = Budget {
-            left: most,
-            is_used: false,
-        };
-        self.run_near(table, moves, &mut budget)?;
-        if budget.is_used {
-            return Ok(budget);
-        }
-        self.migrate(table, &mut budget)?;
-        if budget.is_used {
-            return Ok(budget);
-        }
-        self.run_far(table, &mut budget)?;
-        Ok(budget)
+/// One move of a user or a server of the far kernel.
+#[tactic(auto, using(crate::proofs::Driving::drives_on, crate::proofs::Driving::drives_not, crate::proofs::Driving::drives_equal))]
+fn move_far<S: Service + Drop>(pair: &mut Pair<S>, table: &Table, budget: &mut Budget) -> Result<bool, NoMemory>
+    requires driven { IsDriven (map (λ r. r.rule) table.now.list.items) (shown pair.old) }
+    ensures drives { OnOk result (Drives (map (λ r. r.rule) table.now.list.items) (shown pair.old) (shown pair.new)) }
+{
+    match pair.choose_far() {
+        Some(m) => try_move(pair, table, &Event::Far(m), budget),
+        None => Ok(false),
     }
+}
+
+/// All of them.
+#[tactic(auto, using(crate::proofs::Driving::drives_on, crate::proofs::Driving::drives_not))]
+fn run_far<S: Service + Drop>(pair: &mut Pair<S>, table: &Table, budget: &mut Budget) -> Result<(), NoMemory>
+    requires driven { IsDriven (map (λ r. r.rule) table.now.list.items) (shown pair.old) }
+    ensures drives { OnOk result (Drives (map (λ r. r.rule) table.now.list.items) (shown pair.old) (shown pair.new)) }
+{
+    let left = budget.left;
+    for _ in 0..left {
+        if !move_far(pair, table, budget)? {
+            return Ok(());
+        }
+    }
+    // Where the budget is used one more tells whether anything is left.
+    move_far(pair, table, budget)?;
+    Ok(())
+}
+
+// ---- the migration
+
+/// Delivers a packet twice.
+#[tactic(auto, using(crate::proofs::Driving::drives_on))]
+fn deliver<S: Service + Drop>(pair: &mut Pair<S>, table: &Table, e: &Event) -> Result<(), NoMemory>
+    requires driven { IsDriven (map (λ r. r.rule) table.now.list.items) (shown pair.old) }
+    ensures drives { OnOk result (Drives (map (λ r. r.rule) table.now.list.items) (shown pair.old) (shown pair.new)) }
+{
+    try_event(pair, table, e)?;
+    try_event(pair, table, e)?;
+    Ok(())
+}
+
+/// Delivers the packets of the near side that haven't been, the last one first.
+#[tactic(auto, using(crate::proofs::Driving::drives_on, crate::proofs::Driving::drives_not, crate::proofs::Driving::drives_equal))]
+fn deliver_to_far<S: Service + Drop>(pair: &mut Pair<S>, table: &Table, from: u64) -> Result<u64, NoMemory>
+    requires driven { IsDriven (map (λ r. r.rule) table.now.list.items) (shown pair.old) }
+    ensures drives { OnOk result (Drives (map (λ r. r.rule) table.now.list.items) (shown pair.old) (shown pair.new)) }
+{
+    let to = pair.sent_near()?;
+    for k in from..to {
+        deliver(pair, table, &Event::ToFar(to - 1 - (k - from)))?;
+    }
+    Ok(to)
+}
+
+/// The same of the far side.
+#[tactic(auto, using(crate::proofs::Driving::drives_on, crate::proofs::Driving::drives_not))]
+fn deliver_to_near<S: Service + Drop>(pair: &mut Pair<S>, table: &Table, from: u64) -> Result<u64, NoMemory>
+    requires driven { IsDriven (map (λ r. r.rule) table.now.list.items) (shown pair.old) }
+    ensures drives { OnOk result (Drives (map (λ r. r.rule) table.now.list.items) (shown pair.old) (shown pair.new)) }
+{
+    let to = pair.sent_far();
+    for k in from..to {
+        deliver(pair, table, &Event::ToNear(to - 1 - (k - from)))?;
+    }
+    Ok(to)
+}
+
+/// Delivers all packets that haven't been. What the far side has to say may have the near one send one packet more.
+#[tactic(auto, using(crate::proofs::Driving::drives_on))]
+fn deliver_all<S: Service + Drop>(pair: &mut Pair<S>, table: &Table, delivered: &mut Delivered) -> Result<(), NoMemory>
+    requires driven { IsDriven (map (λ r. r.rule) table.now.list.items) (shown pair.old) }
+    ensures drives { OnOk result (Drives (map (λ r. r.rule) table.now.list.items) (shown pair.old) (shown pair.new)) }
+{
+    delivered.to_far = deliver_to_far(pair, table, delivered.to_far)?;
+    delivered.to_near = deliver_to_near(pair, table, delivered.to_near)?;
+    delivered.to_far = deliver_to_far(pair, table, delivered.to_far)?;
+    Ok(())
+}
+
+/// A call of the near root's porter, or else of the far one's; all packets come before it.
+#[tactic(auto, using(crate::proofs::Driving::drives_on))]
+fn go_on<S: Service + Drop>(
+    pair: &mut Pair<S>,
+    table: &Table,
+    delivered: &mut Delivered,
+    budget: &mut Budget,
+) -> Result<bool, NoMemory>
+    requires driven { IsDriven (map (λ r. r.rule) table.now.list.items) (shown pair.old) }
+    ensures drives { OnOk result (Drives (map (λ r. r.rule) table.now.list.items) (shown pair.old) (shown pair.new)) }
+{
+    deliver_all(pair, table, delivered)?;
+    if try_move(pair, table, &Event::Near(porters_move()), budget)? {
+        return Ok(true);
+    }
+    if budget.is_used {
+        return Ok(false);
+    }
+    try_move(pair, table, &Event::Far(porters_move()), budget)
+}
+
+/// The migration up to its end.
+#[tactic(auto, using(crate::proofs::Driving::drives_on, crate::proofs::Driving::drives_not))]
+fn migrate<S: Service + Drop>(pair: &mut Pair<S>, table: &Table, budget: &mut Budget) -> Result<(), NoMemory>
+    requires driven { IsDriven (map (λ r. r.rule) table.now.list.items) (shown pair.old) }
+    ensures drives { OnOk result (Drives (map (λ r. r.rule) table.now.list.items) (shown pair.old) (shown pair.new)) }
+{
+    let mut delivered = Delivered {
+        to_far: 0,
+        to_near: 0,
+    };
+    let left = budget.left;
+    for _ in 0..left {
+        if !go_on(pair, table, &mut delivered, budget)? {
+            return Ok(());
+        }
+    }
+    go_on(pair, table, &mut delivered, budget)?;
+    Ok(())
+}
+
+/// The near kernel runs for so many moves, or fewer where none is ready; then the subtree moves, while nobody else does; then the far kernel
+/// runs. Of all moves there are no more than the budget has.
+#[tactic(auto, using(crate::proofs::Driving::drives_on))]
+pub fn drive<S: Service + Drop>(pair: &mut Pair<S>, table: &Table, moves: u64, most: u64) -> Result<Budget, NoMemory>
+    requires driven { IsDriven (map (λ r. r.rule) table.now.list.items) (shown pair.old) }
+    ensures drives { OnOk result (Drives (map (λ r. r.rule) table.now.list.items) (shown pair.old) (shown pair.new)) }
+{
+    let mut budget = Budget {
+        left: most,
+        is_used: false,
+    };
+    run_near(pair, table, moves, &mut budget)?;
+    if budget.is_used {
+        return Ok(budget);
+    }
+    migrate(pair, table, &mut budget)?;
+    if budget.is_used {
+        return Ok(budget);
+    }
+    run_far(pair, table, &mut budget)?;
+    Ok(budget)
 }

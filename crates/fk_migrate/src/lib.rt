@@ -14,7 +14,7 @@ mod pair;
 mod receiver;
 mod sender;
 
-pub use driver::Budget;
+pub use driver::{Budget, drive};
 pub use pair::Pair;
 pub use receiver::Receiver;
 pub use sender::Sender;

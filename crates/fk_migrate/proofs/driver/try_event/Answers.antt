@@ -2,7 +2,7 @@ use Rattle.std.proofs.Common.{map, subst, sym}
 use Rattle.fk_served.specs.Served.{AllFit}
 use Rattle.fk_migrate.specs.Pairs.{Shown, IsSomeRun}
 use Rattle.fk_migrate.proofs.Driving.{ready_there}
-use Rattle.fk_migrate.proofs.driver.Pair.try_event.Goals as goal
+use Rattle.fk_migrate.proofs.driver.try_event.Goals as goal
 
 pub step-requires-clause-run : goal.step-requires-clause-run
 step-requires-clause-run g c = subst (λ (s : Shown). IsSomeRun s) (sym c.ready.ensures.same) c.requires.driven.run
