@@ -4,6 +4,7 @@ pub mod Moving
 pub mod Nearing
 pub mod Faring
 pub mod Running
+pub mod Counting
 pub mod Stepping
 pub mod Leading
 pub mod Promised

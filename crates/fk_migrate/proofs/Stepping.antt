@@ -24,8 +24,11 @@ use Rattle.fk_sides.specs.Sides.{NearSide, FarSide, both, packet_of}
 use Rattle.fk_migrate.specs.Turns.{NearPart, FarPart, IsKept, IsNearMove, IsNearFit, IsFarMove, IsFarFit, HasFarMove}
 use Rattle.fk_migrate.specs.Runs.{Run, Step, IsRun, near_part, far_part, step_of, next_run, IsReadyAs, IsReadyEvent}
 use Rattle.fk_migrate.specs.Parts.{NearLands, FarLands, told_near, given_up}
-use Rattle.fk_migrate.specs.Pairs.{Shown, Start, Stands, IsRunOf, IsSomeRun, IsNew, IsBegun, IsReady, Leads, LeadsTo, GoesOn, IsSame, begun, made_of, with_event}
+use Rattle.fk_migrate.specs.declared.places.Places.{Places}
+use Rattle.fk_migrate.specs.Places.{counted, no_places}
+use Rattle.fk_migrate.specs.Pairs.{Shown, Start, Stands, IsRunOf, IsSomeRun, IsNew, IsBegun, IsReady, Counts, Leads, LeadsTo, GoesOn, IsSame, begun, made_of, with_event}
 use Rattle.fk_migrate.proofs.Running.{runs_so, are_ready}
+use Rattle.fk_migrate.proofs.Counting.{counted_more}
 use Rattle.fk_migrate.proofs.Nearing.{near_ready, near_back, near_fits, near_alone}
 use Rattle.fk_migrate.proofs.Faring.{far_ready, far_back, far_fits, far_alone}
 
@@ -43,6 +46,7 @@ begins s new may = record {
     far = refl;
     far_side = new.far;
   };
+  places = new.places;
 }
 
 pub run_on : (s : Shown) (e : PairEvent) (t : Shown) (from : Start) → GoesOn s e t → IsRunOf s from → IsRunOf t from
@@ -56,6 +60,8 @@ run_on s e t from goes its =
       ran = subst (λ (es : List PairEvent). IsRun from.slot (begun from) es (its.steps ++ leads.step ∷ []) (next_run from.slot its.run leads.step)) (sym goes.events)
           (IsRun.After s.events its.steps its.run e leads.step its.ran leads.is leads.ready);
       stands = leads.stands;
+      places = goes.counts from its leads.step leads.is ∙ ap (λ (p : Places). counted p leads.step) its.places
+          ∙ sym (counted_more no_places its.steps leads.step);
     }
 
 pub same_run : (s t : Shown) (from : Start) → IsSame s t → IsRunOf s from → IsRunOf t from
@@ -70,6 +76,7 @@ same_run s t from same its = record {
     far = same.far ∙ its.stands.far;
     far_side = same.makes its.run.pair.far its.stands.far_side;
   };
+  places = same.places ∙ its.places;
 }
 
 pub same_some : (s t : Shown) → IsSame s t → IsSomeRun s → IsSomeRun t
@@ -79,7 +86,7 @@ pub some_on : (s : Shown) (e : PairEvent) (t : Shown) → GoesOn s e t → IsSom
 some_on s e t goes run = record { from = run.from; its = run_on s e t run.from goes run.its }
 
 pub same_self : (s : Shown) → IsSame s s
-same_self s = record { slot = refl; far_slot = refl; near = refl; far = refl; makes = λ f is. is; events = refl }
+same_self s = record { slot = refl; far_slot = refl; near = refl; far = refl; makes = λ f is. is; events = refl; places = refl }
 
 pub same_of : (s t : Shown) → t ≡ s → IsSame s t
 same_of s t same = subst (λ (x : Shown). IsSame s x) (sym same) (same_self s)
@@ -96,11 +103,13 @@ same_then s t u first second = record {
   far = second.far ∙ first.far;
   makes = λ f is. second.makes f (first.makes f is);
   events = second.events ∙ first.events;
+  places = second.places ∙ first.places;
 }
 
 -- what has been led to, with the event noted
-pub goes_so : (s t u : Shown) (e : PairEvent) → t.events ≡ s.events → LeadsTo s e t → u ≡ with_event t e → GoesOn s e u
-goes_so s t u e events leads noted = subst (λ (x : Shown). GoesOn s e x) (sym noted) (record {
+pub goes_so : (s t u : Shown) (e : PairEvent) (places : Places) → t.events ≡ s.events → LeadsTo s e t → Counts s e places → u ≡ with_event t e places
+    → GoesOn s e u
+goes_so s t u e places events leads counts noted = subst (λ (x : Shown). GoesOn s e x) (sym noted) (record {
   events = ap (λ (es : List PairEvent). es ++ e ∷ []) events;
   leads = λ from its. (
       let there = leads from its in
@@ -112,6 +121,7 @@ goes_so s t u e events leads noted = subst (λ (x : Shown). GoesOn s e x) (sym n
         ready = there.ready;
         stands = record { near = there.stands.near; far = there.stands.far; far_side = there.stands.far_side };
       });
+  counts = counts;
 })
 
 -- whether there was memory or not

@@ -15,6 +15,8 @@ use Rattle.laws_migrate.specs.Migration.{MayMigrate, IsReadyIn}
 use Rattle.fk_migrate.specs.Turns.{NearPart, FarPart}
 use Rattle.fk_migrate.specs.Runs.{Run, Step, near_part, far_part, step_of, next_run, IsRun, IsReadyEvent, first_run}
 use Rattle.fk_migrate.specs.Parts.{near_seen, far_seen}
+use Rattle.fk_migrate.specs.Places.{no_places, counted, places_of}
+use Rattle.fk_migrate.specs.declared.places.Places.{Places}
 use Rattle.fk_migrate.specs.declared.pair.Pair as pairs
 
 -- both kernels with their sides, and the events that were taken
@@ -25,6 +27,7 @@ pub record Shown : Type 0 where
   pub far : FarPart
   pub makes : Makes
   pub events : List PairEvent
+  pub places : Places
 
 abbrev pub shown : {S : Type 0} → pairs.Pair S → Shown
 shown p = record {
@@ -34,6 +37,7 @@ shown p = record {
   far = far_seen p.receiver;
   makes = p.receiver.far.makes;
   events = p.events.items;
+  places = p.places;
 }
 
 -- ---- the run that it is
@@ -64,6 +68,7 @@ pub record IsRunOf (s : Shown) (from : Start) : Type 0 where
   pub run : Run
   pub ran : IsRun from.slot (begun from) s.events steps run
   pub stands : Stands s run
+  pub places : s.places ≡ places_of steps
 
 -- of some kernels
 pub record IsSomeRun (s : Shown) : Type 0 where
@@ -76,6 +81,7 @@ pub record IsNew (s : Shown) : Type 0 where
   pub near : s.near.side ≡ AtWork Holds
   pub far : IsFar s.makes (Listens [])
   pub events : s.events ≡ []
+  pub places : s.places ≡ no_places
 
 -- the kernels of which it was made
 abbrev pub made_of : (s : Shown) → MayMigrate s.slot s.near.world s.far.world → Start
@@ -111,14 +117,19 @@ pub record Leads (s : Shown) (e : PairEvent) (t : Shown) (from : Start) (its : I
 abbrev pub LeadsTo : Shown → PairEvent → Shown → Type 0
 LeadsTo s e t = (from : Start) (its : IsRunOf s from) → Leads s e t from its
 
+-- these are the places once an event is made, of whichever run it is
+abbrev pub Counts : Shown → PairEvent → Places → Type 0
+Counts s e places = (from : Start) (its : IsRunOf s from) (step : Step) → step_of its.run e ≡ Some step → places ≡ counted s.places step
+
 -- with one event more noted
-abbrev pub with_event : Shown → PairEvent → Shown
-with_event s e = record s { events = s.events ++ e ∷ [] }
+abbrev pub with_event : Shown → PairEvent → Places → Shown
+with_event s e places = record s { events = s.events ++ e ∷ []; places = places }
 
 -- it is the same run, with one event more
 pub record GoesOn (s : Shown) (e : PairEvent) (t : Shown) : Type 0 where
   pub events : t.events ≡ s.events ++ e ∷ []
   pub leads : LeadsTo s e t
+  pub counts : Counts s e t.places
 
 -- nothing that is seen of it has changed
 pub record IsSame (s t : Shown) : Type 0 where
@@ -128,6 +139,7 @@ pub record IsSame (s t : Shown) : Type 0 where
   pub far : t.far ≡ s.far
   pub makes : (f : FarSide) → IsFar s.makes f → IsFar t.makes f
   pub events : t.events ≡ s.events
+  pub places : t.places ≡ s.places
 
 -- ---- a pair that is driven
 

@@ -11,6 +11,7 @@
 mod driver;
 mod hearing;
 mod pair;
+mod places;
 mod receiver;
 mod sender;
 

@@ -3,7 +3,7 @@ ghost use Rattle.std.specs.Prelude.{◌≡◌, ◌↔◌, ◌<◌, ◌≤◌, []
 ghost use Rattle.fk_model.specs.declared.limits.TheConstants.{LAST_USER_SLOT};
 ghost use Rattle.fk_model.specs.declared.moves.Move as moves;
 ghost use Rattle.fk_packets.specs.declared.events.Event.TheVariants as event;
-ghost use Rattle.fk_migrate.specs.Pairs.{shown, with_event, Start, GoesOn, IsBegun, IsNew, IsReady, IsRunOf, IsSame, IsSomeRun, LeadsTo};
+ghost use Rattle.fk_migrate.specs.Pairs.{shown, with_event, Counts, Start, GoesOn, IsBegun, IsNew, IsReady, IsRunOf, IsSame, IsSomeRun, LeadsTo};
 ghost use Rattle.fk_migrate.specs.Promises.{IsPromised, KeepsWhole, MovesWhole};
 ghost use Rattle.fk_migrate.specs.Runs.{IsReadyEvent};
 ghost use Rattle.fk_served.specs.Acts.{IsReadyAsked};
@@ -13,6 +13,7 @@ ghost use Rattle.fk_sides.specs.Sides.{FarSide};
 ghost use Rattle.laws_handover.specs.Sent.{sent_far, sent_near};
 ghost use Rattle.laws_migrate.specs.Images.{image_codec};
 
+use crate::places::Places;
 use crate::receiver::Receiver;
 use crate::sender::Sender;
 use fk_host::Host;
@@ -29,6 +30,7 @@ pub struct Pair<S: Service + Drop> {
     sender: Sender<S>,
     receiver: Receiver<S>,
     events: Vec<Event>,
+    places: Places,
 }
 
 impl<S: Service + Drop> Pair<S> {
@@ -57,6 +59,7 @@ impl<S: Service + Drop> Pair<S> {
             sender: Sender::new(alloc, near, slot),
             receiver: Receiver::new(alloc, far, slot),
             events: Vec::new(alloc),
+            places: Places::new(),
         }
     }
 
@@ -95,6 +98,7 @@ impl<S: Service + Drop> Pair<S> {
             sender: _,
             receiver: _,
             events,
+            places: _,
         } = self;
         events
     }
@@ -196,6 +200,7 @@ impl<S: Service + Drop> Pair<S> {
         ensures near_fits { AllFit (map (λ r. r.rule) table.now.list.items) (shown self.new).near.servers }
         ensures receiver { self.new.receiver ≡ self.old.receiver }
         ensures events { self.new.events ≡ self.old.events }
+        ensures places { self.new.places ≡ self.old.places }
         ensures lacking { OnErr result (IsSame (shown self.old) (shown self.new)) }
     {
         self.sender.turn(table, m)?;
@@ -210,6 +215,7 @@ impl<S: Service + Drop> Pair<S> {
         ensures far_fits { AllFit (map (λ r. r.rule) table.now.list.items) (shown self.new).far.servers }
         ensures sender { self.new.sender ≡ self.old.sender }
         ensures events { self.new.events ≡ self.old.events }
+        ensures places { self.new.places ≡ self.old.places }
         ensures lacking { OnErr result (IsSame (shown self.old) (shown self.new)) }
     {
         self.receiver.turn(table, m)?;
@@ -223,6 +229,7 @@ impl<S: Service + Drop> Pair<S> {
         ensures near { (shown self.new).near ≡ (shown self.old).near }
         ensures far { (shown self.new).far ≡ (shown self.old).far }
         ensures events { self.new.events ≡ self.old.events }
+        ensures places { self.new.places ≡ self.old.places }
         ensures lacking { OnErr result (IsSame (shown self.old) (shown self.new)) }
     {
         let packet = self.sender.packet(number)?;
@@ -242,6 +249,7 @@ impl<S: Service + Drop> Pair<S> {
         ensures near_servers { (shown self.new).near.servers ≡ (shown self.old).near.servers }
         ensures receiver { self.new.receiver ≡ self.old.receiver }
         ensures events { self.new.events ≡ self.old.events }
+        ensures places { self.new.places ≡ self.old.places }
         ensures lacking { OnErr result (IsSame (shown self.old) (shown self.new)) }
     {
         match self.receiver.packet(number) {
@@ -259,6 +267,7 @@ impl<S: Service + Drop> Pair<S> {
         ensures near_servers { (shown self.new).near.servers ≡ (shown self.old).near.servers }
         ensures receiver { self.new.receiver ≡ self.old.receiver }
         ensures events { self.new.events ≡ self.old.events }
+        ensures places { self.new.places ≡ self.old.places }
         ensures lacking { OnErr result (IsSame (shown self.old) (shown self.new)) }
     {
         self.sender.give_up()?;
@@ -275,6 +284,7 @@ impl<S: Service + Drop> Pair<S> {
         ensures near_fits { AllFit (map (λ r. r.rule) table.now.list.items) (shown self.new).near.servers }
         ensures far_fits { AllFit (map (λ r. r.rule) table.now.list.items) (shown self.new).far.servers }
         ensures events { self.new.events ≡ self.old.events }
+        ensures places { self.new.places ≡ self.old.places }
         ensures lacking { OnErr result (IsSame (shown self.old) (shown self.new)) }
     {
         match e {
@@ -297,12 +307,48 @@ impl<S: Service + Drop> Pair<S> {
         Ok(())
     }
 
-    /// An event is noted.
-    fn note(&mut self, e: &Event)
+    // ---- the places, which an event has once it is made
+
+    fn count_near(&self, m: &Move) -> Places
+        requires run { IsSomeRun (shown self.now) }
+        requires room { length self.now.events.items < vec_capacity self.now.events }
+        ensures { Counts (shown self.now) (event.Near m.now) result }
+    {
+        let is_own = self.sender.is_porters(m);
+        self.places.near(is_own, self.events.capacity())
+    }
+
+    fn count_far(&self, m: &Move) -> Places
+        requires run { IsSomeRun (shown self.now) }
+        requires room { length self.now.events.items < vec_capacity self.now.events }
+        ensures { Counts (shown self.now) (event.Far m.now) result }
+    {
+        let is_own = self.receiver.is_porters(m);
+        self.places.far(is_own, self.events.capacity())
+    }
+
+    /// The places once an event, which isn't made yet, is.
+    fn count(&self, e: &Event) -> Places
+        requires run { IsSomeRun (shown self.now) }
+        requires room { length self.now.events.items < vec_capacity self.now.events }
+        ensures { Counts (shown self.now) e.now result }
+    {
+        match e {
+            Event::Near(m) => self.count_near(m),
+            Event::Far(m) => self.count_far(m),
+            Event::ToFar(_) => self.places,
+            Event::ToNear(_) => self.places,
+            Event::GiveUp => self.places,
+        }
+    }
+
+    /// An event is noted, with the places once it is made.
+    fn note(&mut self, e: &Event, places: Places)
         requires { length self.old.events.items < vec_capacity self.old.events }
-        ensures { shown self.new ≡ with_event (shown self.old) e.now }
+        ensures { shown self.new ≡ with_event (shown self.old) e.now places }
     {
         self.events.push_reserved(*e);
+        self.places = places;
     }
 
     /// An event is made and noted.
@@ -317,8 +363,9 @@ impl<S: Service + Drop> Pair<S> {
         ensures lacking { OnErr result (IsSame (shown self.old) (shown self.new)) }
     {
         self.make_room()?;
+        let places = self.count(e);
         self.make(table, e)?;
-        self.note(e);
+        self.note(e, places);
         Ok(())
     }
 

@@ -2,7 +2,7 @@
 ghost use Rattle.std.specs.Prelude.{◌≡◌, ◌↔◌, ◌≤◌, [], IsTrue, IfNone, IfSome, OnErr, OnOk, length, map, option_map};
 ghost use Rattle.std.specs.List.{slice_get};
 ghost use Rattle.fk_migrate.specs.Parts.{far_seen, FarLands};
-ghost use Rattle.fk_migrate.specs.Turns.{given_in, heard_by, HasFarMove, IsFarMove, IsKept};
+ghost use Rattle.fk_migrate.specs.Turns.{given_in, heard_by, is_porters, HasFarMove, IsFarMove, IsKept};
 ghost use Rattle.fk_model.specs.declared.limits.TheConstants.{LAST_USER_SLOT};
 ghost use Rattle.fk_model.specs.declared.moves.Move as moves;
 ghost use Rattle.fk_served.specs.Acts.{IsReadyAsked};
@@ -69,6 +69,13 @@ impl<S: Service + Drop> Receiver<S> {
         ensures far { self.new.far ≡ self.old.far }
     {
         self.host.choose()
+    }
+
+    /// Whether a move is that of the root's porter.
+    pub fn is_porters(&self, m: &Move) -> bool
+        ensures { result ≡ is_porters (far_seen self.now).world m.now }
+    {
+        is_porters(self.host.kernel(), m)
     }
 
     /// What is handed in with a move: the call for which its side asks, to the root's porter; everybody else runs.

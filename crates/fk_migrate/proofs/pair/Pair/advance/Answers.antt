@@ -10,10 +10,13 @@ make-requires-clause-run g c = subst (λ (s : Shown). IsSomeRun s) (sym c.make_r
 pub make-requires-clause-ready : goal.make-requires-clause-ready
 make-requires-clause-ready g c = subst (λ (s : Shown). IsReady s c.args.e.now) (sym c.make_room.ensures.same) c.requires.ready
 
+pub count-requires-clause-run : goal.count-requires-clause-run
+count-requires-clause-run g c = subst (λ (s : Shown). IsSomeRun s) (sym c.make_room.ensures.same) c.requires.run
+
 pub returns-clause-goes : goal.returns-clause-goes
 returns-clause-goes g c =
     subst (λ (s : Shown). GoesOn s c.args.e.now (shown c.note.new.self)) c.make_room.ensures.same
-    (goes_so _ _ _ c.args.e.now (λ i. (c.make.ensures.events i).items) c.in_ok-make.ensures.leads c.note.ensures)
+    (goes_so _ _ _ c.args.e.now c.count-places.result (λ i. (c.make.ensures.events i).items) c.in_ok-make.ensures.leads c.count-places.ensures c.note.ensures)
 
 pub returns-in_err-make_room-clause-lacking : goal.returns-in_err-make_room-clause-lacking
 returns-in_err-make_room-clause-lacking g c =

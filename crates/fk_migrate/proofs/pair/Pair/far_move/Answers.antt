@@ -21,4 +21,5 @@ returns-in_err-turn-clause-lacking g c =
       far = c.in_err-turn.ensures.lacking;
       makes = same_makes _ _ c.in_err-turn.ensures.lacking_side;
       events = refl;
+      places = refl;
     })

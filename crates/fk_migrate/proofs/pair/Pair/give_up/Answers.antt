@@ -11,4 +11,4 @@ returns-clause-leads g c =
 pub returns-in_err-give_up-clause-lacking : goal.returns-in_err-give_up-clause-lacking
 returns-in_err-give_up-clause-lacking g c =
     let p = err_from_is_err_and c.from_residual.result c.from_residual.ensures.1 in rw p.1
-    (record { slot = c.give_up.ensures.slot; far_slot = refl; near = c.in_err-give_up.ensures.lacking; far = refl; makes = λ f is. is; events = refl })
+    (record { slot = c.give_up.ensures.slot; far_slot = refl; near = c.in_err-give_up.ensures.lacking; far = refl; makes = λ f is. is; events = refl; places = refl })

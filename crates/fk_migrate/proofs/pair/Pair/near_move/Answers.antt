@@ -17,4 +17,4 @@ returns-clause-leads g c = leads_near (shown c.args.self.now) _ c.args.m.now c.t
 pub returns-in_err-turn-clause-lacking : goal.returns-in_err-turn-clause-lacking
 returns-in_err-turn-clause-lacking g c =
     let p = err_from_is_err_and c.from_residual.result c.from_residual.ensures.1 in rw p.1
-    (record { slot = c.turn.ensures.slot; far_slot = refl; near = c.in_err-turn.ensures.lacking; far = refl; makes = λ f is. is; events = refl })
+    (record { slot = c.turn.ensures.slot; far_slot = refl; near = c.in_err-turn.ensures.lacking; far = refl; makes = λ f is. is; events = refl; places = refl })

@@ -17,7 +17,7 @@ returns-in-None-clause-leads g c =
 pub returns-in_err-packet-clause-lacking : goal.returns-in_err-packet-clause-lacking
 returns-in_err-packet-clause-lacking g c =
     let p = err_from_is_err_and c.from_residual.result c.from_residual.ensures.1 in rw p.1
-    (record { slot = c.packet.ensures.slot; far_slot = refl; near = c.packet.ensures.same; far = refl; makes = λ f is. is; events = refl })
+    (record { slot = c.packet.ensures.slot; far_slot = refl; near = c.packet.ensures.same; far = refl; makes = λ f is. is; events = refl; places = refl })
 
 pub returns-in_err-take-in-Some-clause-lacking : goal.returns-in_err-take-in-Some-clause-lacking
 returns-in_err-take-in-Some-clause-lacking g c =
@@ -29,4 +29,5 @@ returns-in_err-take-in-Some-clause-lacking g c =
       far = c.take.ensures.same;
       makes = c.in_err-take-in-Some.ensures.lacking;
       events = refl;
+      places = refl;
     })

@@ -16,4 +16,4 @@ returns-in-None-clause-leads g c =
 pub returns-in_err-take-in-Some-clause-lacking : goal.returns-in_err-take-in-Some-clause-lacking
 returns-in_err-take-in-Some-clause-lacking g c =
     let p = err_from_is_err_and c.from_residual.result c.from_residual.ensures.1 in rw p.1
-    (record { slot = c.take.ensures.slot; far_slot = refl; near = c.in_err-take-in-Some.ensures.lacking; far = refl; makes = λ f is. is; events = refl })
+    (record { slot = c.take.ensures.slot; far_slot = refl; near = c.in_err-take-in-Some.ensures.lacking; far = refl; makes = λ f is. is; events = refl; places = refl })
