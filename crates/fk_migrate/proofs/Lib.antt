@@ -5,6 +5,7 @@ pub mod Nearing
 pub mod Faring
 pub mod Running
 pub mod Counting
+pub mod Fated
 pub mod Stepping
 pub mod Leading
 pub mod Promised

@@ -9,6 +9,7 @@
 #![tactic(auto)]
 
 mod driver;
+mod fates;
 mod hearing;
 mod pair;
 mod places;
@@ -16,6 +17,7 @@ mod receiver;
 mod sender;
 
 pub use driver::{Budget, drive};
+pub use fates::Fate;
 pub use pair::Pair;
 pub use receiver::Receiver;
 pub use sender::Sender;

@@ -1,18 +1,21 @@
 //! Two kernels between which a subtree moves.
-ghost use Rattle.std.specs.Prelude.{◌≡◌, ◌↔◌, ◌<◌, ◌≤◌, [], IsTrue, IfNone, IfOk, IfSome, OnErr, OnOk, length, map, vec_capacity};
+ghost use Rattle.std.specs.Prelude.{◌≡◌, ◌↔◌, ◌<◌, ◌≤◌, [], None, IsTrue, IfNone, IfOk, IfSome, OnErr, OnOk, length, map, vec_capacity};
 ghost use Rattle.fk_model.specs.declared.limits.TheConstants.{LAST_USER_SLOT};
 ghost use Rattle.fk_model.specs.declared.moves.Move as moves;
 ghost use Rattle.fk_packets.specs.declared.events.Event.TheVariants as event;
+ghost use Rattle.fk_migrate.specs.Fates.{IsFate};
 ghost use Rattle.fk_migrate.specs.Pairs.{shown, with_event, Counts, Start, GoesOn, IsBegun, IsNew, IsReady, IsRunOf, IsSame, IsSomeRun, LeadsTo};
 ghost use Rattle.fk_migrate.specs.Promises.{IsPromised, KeepsWhole, MovesWhole};
 ghost use Rattle.fk_migrate.specs.Runs.{IsReadyEvent};
 ghost use Rattle.fk_served.specs.Acts.{IsReadyAsked};
 ghost use Rattle.fk_served.specs.Served.{AllFit};
 ghost use Rattle.fk_sides.specs.Fars.{IsFar};
+ghost use Rattle.fk_sides.specs.Kept.{pieces_of, why_kept};
 ghost use Rattle.fk_sides.specs.Sides.{FarSide};
 ghost use Rattle.laws_handover.specs.Sent.{sent_far, sent_near};
 ghost use Rattle.laws_migrate.specs.Images.{image_codec};
 
+use crate::fates::Fate;
 use crate::places::Places;
 use crate::receiver::Receiver;
 use crate::sender::Sender;
@@ -101,6 +104,46 @@ impl<S: Service + Drop> Pair<S> {
             places: _,
         } = self;
         events
+    }
+
+    // ---- what it has come to
+
+    /// What it has come to.
+    pub fn fate(&self) -> Fate<'_>
+        ensures { (from : Start) (its : IsRunOf (shown self.now) from) → IsFate its.run its.steps result }
+    {
+        match self.sender.kept() {
+            Some(why) => Fate::Kept(why),
+            None => self.moved(),
+        }
+    }
+
+    /// The same, where the original isn't kept.
+    fn moved(&self) -> Fate<'_>
+        requires { why_kept (shown self.now).near.side ≡ None }
+        ensures { (from : Start) (its : IsRunOf (shown self.now) from) → IsFate its.run its.steps result }
+    {
+        if !self.receiver.has_moved() {
+            return Fate::Working;
+        }
+        match self.places.calls() {
+            Some(calls) => Fate::Moved {
+                hold: calls.hold,
+                make: calls.make,
+                release: calls.release,
+            },
+            // All three calls were made.
+            None => Fate::Working,
+        }
+    }
+
+    /// How many pieces the near side has sent, none before its image is gathered. There may be no memory for the bytes of its image; nothing else
+    /// changes.
+    pub fn pieces(&mut self) -> Result<u64, NoMemory>
+        ensures same { shown self.new ≡ shown self.old }
+        ensures pieces { IfOk result (λ many. many ≡ pieces_of (shown self.old).near.side) }
+    {
+        self.sender.pieces()
     }
 
     /// How many packets the near side has sent. There may be no memory for the bytes of its image; nothing else changes.

@@ -1,5 +1,6 @@
 //! Before which of its kernel's moves each porter has made the calls on which a fate hangs.
 ghost use Rattle.std.specs.Prelude.{◌≡◌, ◌<◌};
+ghost use Rattle.fk_migrate.specs.Fates.{calls_of};
 ghost use Rattle.fk_migrate.specs.Places.{far_counted, first_at, last_at, near_counted, no_places};
 
 /// How many moves each kernel has made, and how many of them before some calls of its porter.
@@ -13,6 +14,14 @@ pub struct Places {
     pub make: Option<u64>,
     /// The far porter's last call.
     pub release: Option<u64>,
+}
+
+/// The places of the three calls on which a fate hangs.
+#[derive(Clone, Copy)]
+pub struct Calls {
+    pub hold: u64,
+    pub make: u64,
+    pub release: u64,
 }
 
 /// The place of the first call, once there is another move.
@@ -68,5 +77,24 @@ impl Places {
             release: last_at(self.release, is_own, self.far),
             ..self
         }
+    }
+    /// All three places, once there are all of them.
+    pub fn calls(self) -> Option<Calls>
+        ensures { result ≡ calls_of self }
+    {
+        let Some(hold) = self.hold else {
+            return None;
+        };
+        let Some(make) = self.make else {
+            return None;
+        };
+        let Some(release) = self.release else {
+            return None;
+        };
+        Some(Calls {
+            hold,
+            make,
+            release,
+        })
     }
 }

@@ -9,6 +9,7 @@ ghost use Rattle.fk_served.specs.Acts.{IsReadyAsked};
 ghost use Rattle.fk_served.specs.Kernels.{world_of as world};
 ghost use Rattle.fk_served.specs.Served.{AllFit};
 ghost use Rattle.fk_sides.specs.Fars.{IsFar};
+ghost use Rattle.fk_sides.specs.Kept.{is_moved};
 ghost use Rattle.fk_sides.specs.Sides.{FarSide, both, far_call, far_heard, packet_of};
 ghost use Rattle.laws_handover.specs.FarSide.Far.{Listens};
 ghost use Rattle.laws_handover.specs.Handover.{far_told};
@@ -151,5 +152,11 @@ impl<S: Service + Drop> Receiver<S> {
             Some(_) => 1,
             None => 0,
         }
+    }
+    /// Whether the copy is let go.
+    pub fn has_moved(&self) -> bool
+        ensures { (f : FarSide) → IsFar self.now.far.makes f → result ≡ is_moved f }
+    {
+        self.far.has_moved()
     }
 }

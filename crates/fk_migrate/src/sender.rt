@@ -7,6 +7,7 @@ ghost use Rattle.fk_model.specs.declared.moves.Move as moves;
 ghost use Rattle.fk_served.specs.Acts.{IsReadyAsked};
 ghost use Rattle.fk_served.specs.Kernels.{world_of as world};
 ghost use Rattle.fk_served.specs.Served.{AllFit};
+ghost use Rattle.fk_sides.specs.Kept.{pieces_of, reason_of, why_kept};
 ghost use Rattle.fk_sides.specs.Nears.{has_room_in, saves_of};
 ghost use Rattle.fk_sides.specs.Sides.{near_call, near_heard, packet_of};
 ghost use Rattle.laws_checkpoint.specs.Checkpoint.State.{Holds};
@@ -21,7 +22,7 @@ use fk_model::{Ask, Move, NoMemory, Said};
 use fk_natives::Service;
 use fk_packets::Packet;
 use fk_responders::Table;
-use fk_sides::Near;
+use fk_sides::{Near, Reason};
 use std::alloc::Global;
 
 /// A kernel with its servers, and the side of a migration that sends what stands in a slot of its root.
@@ -179,5 +180,20 @@ impl<S: Service + Drop> Sender<S> {
             Some(many) => Ok(many),
             None => unreachable!(),
         }
+    }
+    /// How many pieces it has sent. There may be no memory for the bytes of its image.
+    pub fn pieces(&mut self) -> Result<u64, NoMemory>
+        ensures same { near_seen self.new ≡ near_seen self.old }
+        ensures slot { self.new.near.slot ≡ self.old.near.slot }
+        ensures pieces { IfOk result (λ many. many ≡ pieces_of (near_seen self.old).side) }
+    {
+        self.near.pieces()
+    }
+
+    /// Why the original is kept and let go, once it is.
+    pub fn kept(&self) -> Option<Reason<'_>>
+        ensures { option_map reason_of result ≡ why_kept (near_seen self.now).side }
+    {
+        self.near.kept()
     }
 }
