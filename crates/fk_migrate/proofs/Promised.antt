@@ -17,10 +17,14 @@ use Rattle.std.specs.Prelude.{Result, Ok, Err, OnOk}
 use Rattle.laws_migrate.specs.Births.{HasNone}
 use Rattle.laws_migrate.specs.Images.{image_codec}
 use Rattle.laws_migrate.specs.Laws.{Happens, pair_after, SaysWhy}
+use Rattle.fk_model.specs.Closed.{Place}
+use Rattle.laws_checkpoint.specs.Checkpoint.State.{Releases}
+use Rattle.laws_checkpoint.specs.Checkpoint.End.{Foreign as OpenAt}
+use Rattle.laws_migrate.specs.Migration.Why.{Foreign}
 use Rattle.laws_migrate.specs.Migration.{Why, Both, IsReadyIn, top, IsFree, make_from}
 use Rattle.laws_migrate.specs.Porters.{IsCalmNow}
 use Rattle.laws_migrate.proofs.Images.{images_are_read}
-use Rattle.laws_migrate.proofs.Migrates.{never_both_free, moved_is_same, kept_is_same, failed_says_why, cancelled_says_why, kept_is_alone}
+use Rattle.laws_migrate.proofs.Migrates.{never_both_free, moved_is_same, kept_is_same, foreign_is_same, failed_says_why, cancelled_says_why, kept_is_alone}
 use Rattle.laws_migrate.proofs.Readies.{migration_goes_on}
 use Rattle.laws_migrate.proofs.FarBounded.{both_are_bounded}
 use Rattle.fk_sides.specs.declared.far.Makes.{Makes}
@@ -31,7 +35,7 @@ use Rattle.fk_migrate.specs.Turns.{NearPart, FarPart}
 use Rattle.fk_migrate.specs.Runs.{Run, Step, near_part, far_part, next_run}
 use Rattle.fk_migrate.specs.Pairs.{Shown, Start, IsRunOf, Leads, LeadsTo, GoesOn, begun}
 use Rattle.fk_packets.specs.declared.events.Event.{Event as PairEvent}
-use Rattle.fk_migrate.specs.Promises.{IsHold, IsMake, NeverTwo, MovesWhole, KeepsWhole, FailsSo, CancelsSo, KeepsAlone, KeepsGoing, IsBounded, IsPromised}
+use Rattle.fk_migrate.specs.Promises.{IsHold, IsMake, NeverTwo, MovesWhole, KeepsWhole, ForeignWhole, FailsSo, CancelsSo, KeepsAlone, KeepsGoing, IsBounded, IsPromised}
 use Rattle.fk_migrate.proofs.Running.{runs_so, are_ready}
 
 module _ (s : Shown) (from : Start) (its : IsRunOf s from) where
@@ -188,46 +192,79 @@ cancelled i why = near.Cancelled i why
 not_released : (i j : Image) (x y : Why) → cancels i x ≡ cancelled j y → ⊥
 not_released i j x y e = cc
 
-module _ (slot : ℕ) (r : Run) (i : Image) (why : Why) (is : r.pair.near ≡ cancels i why) where
+-- only its own call takes a near side that hears nothing to another
+module _ (slot : ℕ) (r : Run) (n m : NearSide) (differs : n ≡ m → ⊥) (deaf : (p : Packets) → handover.near_told (both slot) n p ≡ n)
+    (still : handover.gives_up (both slot) n ≡ n) (is : r.pair.near ≡ n) where
   abbrev Frees : Step → Type 0
-  Frees step = (next_run slot r step).pair.near ≡ cancelled i why
+  Frees step = (next_run slot r step).pair.near ≡ m
 
-  keeps : (n : NearSide) → n ≡ r.pair.near → n ≡ cancelled i why → ⊥
-  keeps n same frees = not_released i i why why (sym is ∙ sym same ∙ frees)
+  keeps : r.pair.near ≡ m → ⊥
+  keeps frees = differs (sym is ∙ frees)
 
-  hears : (o : Option (Sent Piece Why)) → (number : ℕ) → (handover.delivered_near (both slot) r.pair number o).near ≡ cancelled i why → ⊥
-  hears None number frees = keeps r.pair.near refl frees
-  hears (Some p) number frees = not_released i i why why (sym (ap (λ (n : NearSide). handover.near_told (both slot) n p) is) ∙ frees)
+  hears : (o : Option Packets) → (number : ℕ) → (handover.delivered_near (both slot) r.pair number o).near ≡ m → ⊥
+  hears None number frees = keeps frees
+  hears (Some p) number frees = differs (sym (ap (λ (x : NearSide). handover.near_told (both slot) x p) is ∙ deaf p) ∙ frees)
 
-  far_hears : (o : Option (Sent Piece Why)) → (number : ℕ) → (handover.delivered_far (both slot) r.pair number o).near ≡ cancelled i why → ⊥
-  far_hears None number frees = keeps r.pair.near refl frees
-  far_hears (Some p) number frees = keeps r.pair.near refl frees
+  far_hears : (o : Option Packets) → (number : ℕ) → (handover.delivered_far (both slot) r.pair number o).near ≡ m → ⊥
+  far_hears None number frees = keeps frees
+  far_hears (Some p) number frees = keeps frees
 
   near_own_step : (step : Step) → Frees step → step ≡ handover.NearOwn
   near_own_step handover.NearOwn frees = refl
-  near_own_step (handover.OfNear e) frees = absurd (keeps r.pair.near refl frees)
-  near_own_step (handover.OfFar e) frees = absurd (keeps r.pair.near refl frees)
-  near_own_step handover.FarOwn frees = absurd (keeps r.pair.near refl frees)
+  near_own_step (handover.OfNear e) frees = absurd (keeps frees)
+  near_own_step (handover.OfFar e) frees = absurd (keeps frees)
+  near_own_step handover.FarOwn frees = absurd (keeps frees)
   near_own_step (handover.ToFar number) frees = absurd (far_hears (slice_get (sent_near image_codec r.pair.near) number) number frees)
   near_own_step (handover.ToNear number) frees = absurd (hears (slice_get (sent_far r.pair.far) number) number frees)
-  near_own_step handover.GiveUp frees =
-      absurd (not_released i i why why (sym (ap (λ (n : NearSide). handover.gives_up (both slot) n) is) ∙ frees))
+  near_own_step handover.GiveUp frees = absurd (differs (sym (ap (λ (x : NearSide). handover.gives_up (both slot) x) is ∙ still) ∙ frees))
 
-pub keeps_whole : (s t : Shown) (e : PairEvent) → LeadsTo s e t → KeepsWhole s t
-keeps_whole s t e leads_to from its h image why held kept freed =
+-- the own call that takes it there, and the world behind it
+record Freed (s t : Shown) (from : Start) (its : IsRunOf s from) (n : NearSide) : Type 0 where
+  side : (end s from its).near ≡ n
+  ready : IsReadyIn image_codec from.slot (end s from its) handover.NearOwn
+  world : t.near.world ≡ (handover.next (both from.slot) (end s from its) handover.NearOwn).near_world
+
+freed_so : (s t : Shown) (e : PairEvent) (from : Start) (its : IsRunOf s from) (n m : NearSide) → LeadsTo s e t → (n ≡ m → ⊥)
+    → ((p : Packets) → handover.near_told (both from.slot) n p ≡ n) → handover.gives_up (both from.slot) n ≡ n → s.near.side ≡ n → t.near.side ≡ m
+    → Freed s t from its n
+freed_so s t e from its n m leads_to differs deaf still kept freed =
     let leads = leads_to from its in
     let is = ap (λ (p : NearPart). p.side) (sym its.stands.near) ∙ kept in
     let frees = ap (λ (p : NearPart). p.side) (sym leads.stands.near) ∙ freed in
-    let own : leads.step ≡ handover.NearOwn = near_own_step from.slot its.run image why is leads.step frees in
+    let own : leads.step ≡ handover.NearOwn = near_own_step from.slot its.run n m differs deaf still is leads.step frees in
     let ready : IsReadyIn image_codec from.slot its.run.pair handover.NearOwn = subst (IsReadyIn image_codec from.slot its.run.pair) own leads.ready in
     let back : its.run.pair ≡ end s from its = sym (come s from its) in
+    record {
+      side = ap (λ (p : Both image_codec from.slot). p.near) (come s from its) ∙ is;
+      ready = subst (λ (p : Both image_codec from.slot). IsReadyIn image_codec from.slot p handover.NearOwn) back ready;
+      world = ap (λ (p : NearPart). p.world) leads.stands.near ∙ ap (λ (step : Step). (next_run from.slot its.run step).pair.near_world) own
+          ∙ ap (λ (p : Both image_codec from.slot). (handover.next (both from.slot) p handover.NearOwn).near_world) back;
+    }
+
+pub keeps_whole : (s t : Shown) (e : PairEvent) → LeadsTo s e t → KeepsWhole s t
+keeps_whole s t e leads_to from its h image why held kept freed =
+    let there = freed_so s t e from its (cancels image why) (cancelled image why) leads_to (not_released image image why why) (λ p. refl) refl kept freed in
     let whole = kept_is_same image_codec from.slot from.may.low images_are_read from.near from.far its.steps h image why (happens s from its h held)
-    (ap (λ (p : Both image_codec from.slot). p.near) (come s from its) ∙ is)
-    (subst (λ (p : Both image_codec from.slot). IsReadyIn image_codec from.slot p handover.NearOwn) back ready) in
-    let there : t.near.world ≡ (handover.next (both from.slot) (end s from its) handover.NearOwn).near_world =
-    ap (λ (p : NearPart). p.world) leads.stands.near ∙ ap (λ (step : Step). (next_run from.slot its.run step).pair.near_world) own
-    ∙ ap (λ (p : Both image_codec from.slot). (handover.next (both from.slot) p handover.NearOwn).near_world) back in
-    ap (λ (w : World). cut w top from.slot) there ∙ whole
+    there.side there.ready in
+    ap (λ (w : World). cut w top from.slot) there.world ∙ whole
+
+-- ---- the near one that isn't closed
+
+abbrev opens : Place → NearSide
+opens place = near.Saves (Releases (OpenAt place))
+
+abbrev opened : Place → NearSide
+opened place = near.Failed (Foreign place)
+
+not_opened : (x y : Place) → opens x ≡ opened y → ⊥
+not_opened x y e = cc
+
+pub foreign_whole : (s t : Shown) (e : PairEvent) → LeadsTo s e t → ForeignWhole s t
+foreign_whole s t e leads_to from its h place held kept freed =
+    let there = freed_so s t e from its (opens place) (opened place) leads_to (not_opened place place) (λ p. refl) refl kept freed in
+    let whole = foreign_is_same image_codec from.slot from.may.low images_are_read from.near from.far its.steps h place (happens s from its h held)
+    there.side there.ready in
+    (ap (λ (w : World). cut w top from.slot) there.world ∙ whole.0, whole.1)
 
 pub moves_on : {E : Type 0} (r : Result (Unit {0}) E) (s t : Shown) (e : PairEvent) → OnOk r (GoesOn s e t) → OnOk r (MovesWhole s t)
 moves_on (Ok x) s t e goes = moves_whole s t e goes.leads
@@ -236,3 +273,7 @@ moves_on (Err x) s t e goes = tt
 pub keeps_on : {E : Type 0} (r : Result (Unit {0}) E) (s t : Shown) (e : PairEvent) → OnOk r (GoesOn s e t) → OnOk r (KeepsWhole s t)
 keeps_on (Ok x) s t e goes = keeps_whole s t e goes.leads
 keeps_on (Err x) s t e goes = tt
+
+pub foreign_on : {E : Type 0} (r : Result (Unit {0}) E) (s t : Shown) (e : PairEvent) → OnOk r (GoesOn s e t) → OnOk r (ForeignWhole s t)
+foreign_on (Ok x) s t e goes = foreign_whole s t e goes.leads
+foreign_on (Err x) s t e goes = tt

@@ -1,5 +1,6 @@
 -- What a migration promises of a pair, in the words of its two kernels. `s` is the pair, and `t` the one behind one event more.
 use Rattle.std.specs.Prelude.{◌≡◌, ℕ, ◌+◌, ◌*◌, ◌≤◌, true, false, ◌⊎◌, ◌∷◌, ◌++◌, List, Some, None}
+use Rattle.fk_model.specs.Closed.{Place, open_place}
 use Rattle.fk_model.specs.Cut.{cut}
 use Rattle.fk_model.specs.Valid.{birth_at}
 use Rattle.fk_model.specs.World.{World}
@@ -12,12 +13,14 @@ use Rattle.laws_handover.specs.Handover as handover
 use Rattle.laws_handover.specs.Handover.{first}
 use Rattle.laws_handover.specs.Laws.{AllCame, is_kept, is_over, IsIn, why_cancelled}
 use Rattle.laws_jobs.specs.Machines.{LiesWithin}
+use Rattle.laws_checkpoint.specs.Checkpoint.State.{Releases}
+use Rattle.laws_checkpoint.specs.Checkpoint.End.{Foreign as OpenAt}
 use Rattle.laws_checkpoint.specs.Bounded.{count_of}
 use Rattle.laws_migrate.specs.Births.{HasNone}
 use Rattle.laws_migrate.specs.Images.{image_codec}
 use Rattle.laws_migrate.specs.Laws.{SaysWhy, RefusesSo, pair_after}
 use Rattle.laws_migrate.specs.Migration.{Why, top, hold_from, make_from, MakesCopy, IsFree, IsReadyIn, is_near_own, is_far_own, counted_from}
-use Rattle.laws_migrate.specs.Migration.Why.{GaveUp}
+use Rattle.laws_migrate.specs.Migration.Why.{Foreign, GaveUp}
 use Rattle.laws_migrate.specs.Porters.{HasPorter, IsCalmNow}
 use Rattle.fk_migrate.specs.Runs.{Step}
 use Rattle.fk_migrate.specs.Pairs.{Shown, Start, IsRunOf}
@@ -45,6 +48,12 @@ MovesWhole s t = (from : Start) (its : IsRunOf s from) (h : World) (image : Imag
 abbrev pub KeepsWhole : Shown → Shown → Type 0
 KeepsWhole s t = (from : Start) (its : IsRunOf s from) (h : World) (image : Image) (why : Why) → IsHold s from its h →
     s.near.side ≡ near.Cancels image why → t.near.side ≡ near.Cancelled image why → cut t.near.world top from.slot ≡ cut h top from.slot
+
+-- where the subtree isn't closed the near one is kept and released too, and its cut is what it was at the hold; the place says so as at the hold
+abbrev pub ForeignWhole : Shown → Shown → Type 0
+ForeignWhole s t = (from : Start) (its : IsRunOf s from) (h : World) (place : Place) → IsHold s from its h →
+    s.near.side ≡ near.Saves (Releases (OpenAt place)) → t.near.side ≡ near.Failed (Foreign place) →
+    (cut t.near.world top from.slot ≡ cut h top from.slot) × (open_place h top from.slot ≡ Some place)
 
 -- where its checkpoint has ended without an image it says why
 abbrev pub FailsSo : Shown → Type 0

@@ -5,7 +5,7 @@ ghost use Rattle.fk_model.specs.declared.moves.Move as moves;
 ghost use Rattle.fk_packets.specs.declared.events.Event.TheVariants as event;
 ghost use Rattle.fk_migrate.specs.Fates.{IsFate};
 ghost use Rattle.fk_migrate.specs.Pairs.{shown, with_event, Counts, Start, GoesOn, IsBegun, IsNew, IsReady, IsRunOf, IsSame, IsSomeRun, LeadsTo};
-ghost use Rattle.fk_migrate.specs.Promises.{IsPromised, KeepsWhole, MovesWhole};
+ghost use Rattle.fk_migrate.specs.Promises.{ForeignWhole, IsPromised, KeepsWhole, MovesWhole};
 ghost use Rattle.fk_migrate.specs.Runs.{IsReadyEvent};
 ghost use Rattle.fk_served.specs.Acts.{IsReadyAsked};
 ghost use Rattle.fk_served.specs.Served.{AllFit};
@@ -426,6 +426,7 @@ impl<S: Service + Drop> Pair<S> {
         ensures promised { IsPromised (shown self.new) }
         ensures moves { OnOk result (MovesWhole (shown self.old) (shown self.new)) }
         ensures keeps { OnOk result (KeepsWhole (shown self.old) (shown self.new)) }
+        ensures foreign { OnOk result (ForeignWhole (shown self.old) (shown self.new)) }
         ensures near_fits { AllFit (map (λ r. r.rule) table.now.list.items) (shown self.new).near.servers }
         ensures far_fits { AllFit (map (λ r. r.rule) table.now.list.items) (shown self.new).far.servers }
         ensures lacking { OnErr result (IsSame (shown self.old) (shown self.new)) }

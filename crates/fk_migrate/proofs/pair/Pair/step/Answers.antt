@@ -1,6 +1,6 @@
 use Rattle.fk_migrate.specs.Pairs.{shown}
 use Rattle.fk_migrate.proofs.Stepping.{run_either}
-use Rattle.fk_migrate.proofs.Promised.{promised, moves_on, keeps_on}
+use Rattle.fk_migrate.proofs.Promised.{promised, moves_on, keeps_on, foreign_on}
 use Rattle.fk_migrate.proofs.pair.Pair.step.Goals as goal
 
 pub returns-clause-run : goal.returns-clause-run
@@ -14,3 +14,6 @@ returns-clause-moves g c = moves_on c.advance.result _ _ c.args.e.now c.advance.
 
 pub returns-clause-keeps : goal.returns-clause-keeps
 returns-clause-keeps g c = keeps_on c.advance.result _ _ c.args.e.now c.advance.ensures.goes
+
+pub returns-clause-foreign : goal.returns-clause-foreign
+returns-clause-foreign g c = foreign_on c.advance.result _ _ c.args.e.now c.advance.ensures.goes
