@@ -61,7 +61,7 @@ few_near s run =
     let ran = run.its.ran in
     let same = as_many _ _ s.events run.its.steps run.its.run ran in
     let is : s.places.near ≡ (places_of run.its.steps).near = ap (λ (p : Places). p.near) run.its.places in
-    let many = near_many no_places run.its.steps in
+    let many : (places_of run.its.steps).near ≤ 0 + length run.its.steps = near_many no_places run.its.steps in
     omega (arith, same, is, many)
 
 pub few_far : (s : Shown) → IsSomeRun s → s.places.far ≤ length s.events
@@ -69,7 +69,7 @@ few_far s run =
     let ran = run.its.ran in
     let same = as_many _ _ s.events run.its.steps run.its.run ran in
     let is : s.places.far ≡ (places_of run.its.steps).far = ap (λ (p : Places). p.far) run.its.places in
-    let many = far_many no_places run.its.steps in
+    let many : (places_of run.its.steps).far ≤ 0 + length run.its.steps = far_many no_places run.its.steps in
     omega (arith, same, is, many)
 
 -- ---- by one event

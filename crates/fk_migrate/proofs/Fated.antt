@@ -37,12 +37,12 @@ some_stays o n own at is = ap (λ (x : Option ℕ). first_at x own at) is
 none_first : (o : Option ℕ) (own : Bool) (at : ℕ) → o ≡ None → first_at o own at ≡ first_at None own at
 none_first o own at is = ap (λ (x : Option ℕ). first_at x own at) is
 
-one_on : (n : ℕ) (o : Option ℕ) → option_map (λ (k : ℕ). suc n + k) o ≡ option_map (λ (k : ℕ). n + k) (option_map suc o)
+abbrev some_place : ℕ → Option ℕ
+some_place n = Some n
+
+one_on : (n : ℕ) (o : Option ℕ) → option_map (λ (k : ℕ). n + 1 + k) o ≡ option_map (λ (k : ℕ). n + k) (option_map suc o)
 one_on n None = refl
-one_on n (Some k) = ap some_place (let same : suc n + k ≡ n + suc k = omega arith in same)
-  where
-    some_place : ℕ → Option ℕ
-    some_place n = Some n
+one_on n (Some k) = ap some_place (let same : n + 1 + k ≡ n + suc k = omega arith in same)
 
 from_zero : (o : Option ℕ) → option_map (λ (k : ℕ). 0 + k) o ≡ o
 from_zero None = refl
@@ -50,9 +50,6 @@ from_zero (Some k) = refl
 
 some_zero : (n : ℕ) → Some n ≡ option_map (λ (k : ℕ). n + k) (Some 0)
 some_zero n = ap some_place (let same : n ≡ n + 0 = omega arith in same)
-  where
-    some_place : ℕ → Option ℕ
-    some_place n = Some n
 
 hold_stays : (p : Places) (ss : List Step) (n : ℕ) → p.hold ≡ Some n → (counted_from p ss).hold ≡ Some n
 hold_stays p [] n is = is
@@ -126,13 +123,13 @@ IsUnheld r = (r.pair.near ≡ saving) × (r.pair.far ≡ listening)
 module _ (slot : ℕ) (r : Run) where
   unheld_sends : (number : ℕ) → IsUnheld r → number < length (sent_near image_codec r.pair.near) → ⊥
   unheld_sends number un lt =
-      let few = subst (λ (n : NearSide). number < length (sent_near image_codec n)) un.0 lt in
-      absurd (omega (arith, few))
+      let few : number < 0 = subst (λ (n : NearSide). number < length (sent_near image_codec n)) un.0 lt in
+      omega (arith, few)
 
   unheld_hears : (number : ℕ) → IsUnheld r → number < length (sent_far r.pair.far) → ⊥
   unheld_hears number un lt =
-      let few = subst (λ (f : FarSide). number < length (sent_far f)) un.1 lt in
-      absurd (omega (arith, few))
+      let few : number < 0 = subst (λ (f : FarSide). number < length (sent_far f)) un.1 lt in
+      omega (arith, few)
 
   unheld_on : (p : Places) (s : Step) → (p.hold ≡ None → IsUnheld r) → IsReadyIn image_codec slot r.pair s → (counted p s).hold ≡ None
       → IsUnheld (next_run slot r s)
@@ -244,6 +241,27 @@ come from _ _ _ (IsRun.After es ss r e s before is ready) =
 
 -- ---- what the code answers
 
+same_calls : (one other : Calls) → Some one ≡ Some other → one ≡ other
+same_calls one other e = cc
+
+abbrev these : (h m r : ℕ) → Calls
+these h m r = record { hold = h; make = m; release = r }
+
+abbrev AreCalls : (h m r : Option ℕ) → Calls → Type 0
+AreCalls h m r calls = (h ≡ Some calls.hold) × (m ≡ Some calls.make) × (r ≡ Some calls.release)
+
+three_so : (h m r : Option ℕ) (calls : Calls) → three h m r ≡ Some calls → AreCalls h m r calls
+three_so None m r calls is = cc
+three_so (Some h) None r calls is = cc
+three_so (Some h) (Some m) None calls is = cc
+three_so (Some h) (Some m) (Some r) calls is = subst (AreCalls (Some h) (Some m) (Some r)) (same_calls (these h m r) calls is) (refl, refl, refl)
+
+three_none : (h m r : Option ℕ) → three h m r ≡ None → (h ≡ None → ⊥) → (m ≡ None → ⊥) → (r ≡ None → ⊥) → ⊥
+three_none None m r is hold make release = hold refl
+three_none (Some h) None r is hold make release = make refl
+three_none (Some h) (Some m) None is hold make release = release refl
+three_none (Some h) (Some m) (Some r) is hold make release = cc
+
 abbrev some_why : Why → Option Why
 some_why why = Some why
 
@@ -261,24 +279,6 @@ module _ (s : Shown) (from : Start) (its : IsRunOf s from) where
       → IsFate its.run its.steps fates.Working
   working_so b kept is moved = (sym near_is ∙ kept, sym (moved its.run.pair.far its.stands.far_side) ∙ is)
 
-  three_hold : (p : Places) (calls : Calls) → calls_of p ≡ Some calls
-      → (p.hold ≡ Some calls.hold) × (p.make ≡ Some calls.make) × (p.release ≡ Some calls.release)
-  three_hold p calls is = by p.hold p.make p.release is
-    where
-      by : (h m r : Option ℕ) → three h m r ≡ Some calls → (h ≡ Some calls.hold) × (m ≡ Some calls.make) × (r ≡ Some calls.release)
-      by None m r is = cc
-      by (Some h) None r is = cc
-      by (Some h) (Some m) None is = cc
-      by (Some h) (Some m) (Some r) is =
-          let same : record { hold = h; make = m; release = r } ≡ calls = cc in
-          (λ i. Some (same i).hold, λ i. Some (same i).make, λ i. Some (same i).release)
-
-  three_none : (h m r : Option ℕ) → three h m r ≡ None → (h ≡ None → ⊥) → (m ≡ None → ⊥) → (r ≡ None → ⊥) → ⊥
-  three_none None m r is hold make release = hold refl
-  three_none (Some h) None r is hold make release = make refl
-  three_none (Some h) (Some m) None is hold make release = release refl
-  three_none (Some h) (Some m) (Some r) is hold make release = cc
-
   abbrev places : Places
   places = places_of its.steps
 
@@ -291,7 +291,7 @@ module _ (s : Shown) (from : Start) (its : IsRunOf s from) where
   pub moved_so : (b : Bool) (calls : Calls) (o : Option Calls) → b ≡ true → ((f : FarSide) → IsFar s.makes f → b ≡ is_moved f) → o ≡ Some calls
       → o ≡ calls_of s.places → IsFate its.run its.steps (fates.Moved calls.hold calls.make calls.release)
   moved_so b calls o is moved there made =
-      let all = three_hold places calls (ap (λ (p : Places). calls_of p) (sym here) ∙ sym made ∙ there) in
+      let all = three_so places.hold places.make places.release calls (ap (λ (p : Places). calls_of p) (sym here) ∙ sym made ∙ there) in
       record {
         moved = moved_there b is moved;
         hold = sym (hold_is its.steps) ∙ all.0;

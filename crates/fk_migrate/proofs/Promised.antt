@@ -38,6 +38,9 @@ use Rattle.fk_packets.specs.declared.events.Event.{Event as PairEvent}
 use Rattle.fk_migrate.specs.Promises.{IsHold, IsMake, NeverTwo, MovesWhole, KeepsWhole, ForeignWhole, FailsSo, CancelsSo, KeepsAlone, KeepsGoing, IsBounded, IsPromised}
 use Rattle.fk_migrate.proofs.Running.{runs_so, are_ready}
 
+abbrev Packets : Type 0
+Packets = Sent Piece Why
+
 module _ (s : Shown) (from : Start) (its : IsRunOf s from) where
   abbrev end : Both image_codec from.slot
   end = pair_after image_codec from.slot from.near from.far its.steps

@@ -1,5 +1,5 @@
 -- How many moves each kernel has made, and before which of them its porter has made the calls on which a fate hangs.
-use Rattle.std.specs.Prelude.{ℕ, suc, Bool, true, false, List, [], ◌∷◌, Option, Some, None}
+use Rattle.std.specs.Prelude.{ℕ, ◌+◌, Bool, true, false, List, [], ◌∷◌, Option, Some, None}
 use Rattle.laws_handover.specs.Handover as handover
 use Rattle.fk_migrate.specs.Runs.{Step}
 use Rattle.fk_migrate.specs.declared.places.Places.{Places}
@@ -20,10 +20,10 @@ last_at was false at = was
 
 -- a move of the near kernel, which is its porter's or isn't; one of the far kernel
 abbrev pub near_counted : Places → Bool → Places
-near_counted p own = record p { near = suc p.near; hold = first_at p.hold own p.near }
+near_counted p own = record p { near = p.near + 1; hold = first_at p.hold own p.near }
 
 abbrev pub far_counted : Places → Bool → Places
-far_counted p own = record p { far = suc p.far; make = first_at p.make own p.far; release = last_at p.release own p.far }
+far_counted p own = record p { far = p.far + 1; make = first_at p.make own p.far; release = last_at p.release own p.far }
 
 abbrev pub counted : Places → Step → Places
 counted p (handover.OfNear e) = near_counted p false

@@ -10,8 +10,8 @@ make-requires-clause-run g c = subst (λ (s : Shown). IsSomeRun s) (sym c.make_r
 pub make-requires-clause-ready : goal.make-requires-clause-ready
 make-requires-clause-ready g c = subst (λ (s : Shown). IsReady s c.args.e.now) (sym c.make_room.ensures.same) c.requires.ready
 
-pub count-requires-clause-run : goal.count-requires-clause-run
-count-requires-clause-run g c = subst (λ (s : Shown). IsSomeRun s) (sym c.make_room.ensures.same) c.requires.run
+pub count-places-requires-clause-run : goal.count-places-requires-clause-run
+count-places-requires-clause-run g c = subst (λ (s : Shown). IsSomeRun s) (sym c.make_room.ensures.same) c.requires.run
 
 pub returns-clause-goes : goal.returns-clause-goes
 returns-clause-goes g c =
