@@ -37,7 +37,6 @@ fn porters_move() -> Move {
 }
 
 /// Takes an event where it is ready, and says whether it was.
-#[tactic(auto, using(crate::proofs::Driving::drives_equal, crate::proofs::Driving::drives_step))]
 fn try_event<S: Service + Drop>(pair: &mut Pair<S>, table: &Table, e: &Event) -> Result<bool, NoMemory>
     requires driven { IsDriven (map (λ r. r.rule) table.now.list.items) (shown pair.old) }
     ensures drives { OnOk result (Drives (map (λ r. r.rule) table.now.list.items) (shown pair.old) (shown pair.new)) }
@@ -51,7 +50,7 @@ fn try_event<S: Service + Drop>(pair: &mut Pair<S>, table: &Table, e: &Event) ->
 }
 
 /// The same of a move, which a budget counts.
-#[tactic(auto, using(crate::proofs::Driving::drives_equal))]
+#[tactic(auto, using(crate::proofs::Driving::drives_equal, crate::proofs::Driving::drives_not))]
 fn try_move<S: Service + Drop>(pair: &mut Pair<S>, table: &Table, e: &Event, budget: &mut Budget) -> Result<bool, NoMemory>
     requires driven { IsDriven (map (λ r. r.rule) table.now.list.items) (shown pair.old) }
     ensures drives { OnOk result (Drives (map (λ r. r.rule) table.now.list.items) (shown pair.old) (shown pair.new)) }
@@ -69,37 +68,48 @@ fn try_move<S: Service + Drop>(pair: &mut Pair<S>, table: &Table, e: &Event, bud
 
 // ---- the near kernel before the migration, and the far one after it
 
-/// Moves of users and servers of the near kernel, at most so many.
-#[tactic(auto, using(crate::proofs::Driving::drives_on, crate::proofs::Driving::drives_not, crate::proofs::Driving::drives_equal))]
+/// One move of a user or a server of the near kernel.
+#[tactic(auto, using(crate::proofs::Driving::drives_equal, crate::proofs::Driving::drives_from, crate::proofs::Driving::driven_equal))]
+fn move_near<S: Service + Drop>(pair: &mut Pair<S>, table: &Table, budget: &mut Budget) -> Result<bool, NoMemory>
+    requires driven { IsDriven (map (λ r. r.rule) table.now.list.items) (shown pair.old) }
+    ensures drives { OnOk result (Drives (map (λ r. r.rule) table.now.list.items) (shown pair.old) (shown pair.new)) }
+{
+    let Some(m) = pair.choose_near() else {
+        return Ok(false);
+    };
+    let made = try_move(pair, table, &Event::Near(m), budget)?;
+    Ok(made)
+}
+
+/// So many of them, or fewer where none is ready.
+#[tactic(auto, using(crate::proofs::Driving::drives_on, crate::proofs::Driving::drives_not, crate::proofs::Driving::driven_of))]
 fn run_near<S: Service + Drop>(pair: &mut Pair<S>, table: &Table, most: u64, budget: &mut Budget) -> Result<(), NoMemory>
     requires driven { IsDriven (map (λ r. r.rule) table.now.list.items) (shown pair.old) }
     ensures drives { OnOk result (Drives (map (λ r. r.rule) table.now.list.items) (shown pair.old) (shown pair.new)) }
 {
     for _ in 0..most {
-        let Some(m) = pair.choose_near() else {
-            return Ok(());
-        };
-        if !try_move(pair, table, &Event::Near(m), budget)? {
+        if !move_near(pair, table, budget)? {
             return Ok(());
         }
     }
     Ok(())
 }
 
-/// One move of a user or a server of the far kernel.
-#[tactic(auto, using(crate::proofs::Driving::drives_on, crate::proofs::Driving::drives_not, crate::proofs::Driving::drives_equal))]
+/// The same of the far kernel.
+#[tactic(auto, using(crate::proofs::Driving::drives_equal, crate::proofs::Driving::drives_from, crate::proofs::Driving::driven_equal))]
 fn move_far<S: Service + Drop>(pair: &mut Pair<S>, table: &Table, budget: &mut Budget) -> Result<bool, NoMemory>
     requires driven { IsDriven (map (λ r. r.rule) table.now.list.items) (shown pair.old) }
     ensures drives { OnOk result (Drives (map (λ r. r.rule) table.now.list.items) (shown pair.old) (shown pair.new)) }
 {
-    match pair.choose_far() {
-        Some(m) => try_move(pair, table, &Event::Far(m), budget),
-        None => Ok(false),
-    }
+    let Some(m) = pair.choose_far() else {
+        return Ok(false);
+    };
+    let made = try_move(pair, table, &Event::Far(m), budget)?;
+    Ok(made)
 }
 
-/// All of them.
-#[tactic(auto, using(crate::proofs::Driving::drives_on, crate::proofs::Driving::drives_not))]
+/// All moves of users and servers of the far kernel.
+#[tactic(auto, using(crate::proofs::Driving::drives_on, crate::proofs::Driving::drives_not, crate::proofs::Driving::driven_of))]
 fn run_far<S: Service + Drop>(pair: &mut Pair<S>, table: &Table, budget: &mut Budget) -> Result<(), NoMemory>
     requires driven { IsDriven (map (λ r. r.rule) table.now.list.items) (shown pair.old) }
     ensures drives { OnOk result (Drives (map (λ r. r.rule) table.now.list.items) (shown pair.old) (shown pair.new)) }
@@ -118,7 +128,7 @@ fn run_far<S: Service + Drop>(pair: &mut Pair<S>, table: &Table, budget: &mut Bu
 // ---- the migration
 
 /// Delivers a packet twice.
-#[tactic(auto, using(crate::proofs::Driving::drives_on))]
+#[tactic(auto, using(crate::proofs::Driving::drives_on, crate::proofs::Driving::driven_of))]
 fn deliver<S: Service + Drop>(pair: &mut Pair<S>, table: &Table, e: &Event) -> Result<(), NoMemory>
     requires driven { IsDriven (map (λ r. r.rule) table.now.list.items) (shown pair.old) }
     ensures drives { OnOk result (Drives (map (λ r. r.rule) table.now.list.items) (shown pair.old) (shown pair.new)) }
@@ -129,7 +139,7 @@ fn deliver<S: Service + Drop>(pair: &mut Pair<S>, table: &Table, e: &Event) -> R
 }
 
 /// Delivers the packets of the near side that haven't been, the last one first.
-#[tactic(auto, using(crate::proofs::Driving::drives_on, crate::proofs::Driving::drives_not, crate::proofs::Driving::drives_equal))]
+#[tactic(auto, using(crate::proofs::Driving::drives_on, crate::proofs::Driving::drives_not, crate::proofs::Driving::drives_equal, crate::proofs::Driving::driven_equal, crate::proofs::Driving::driven_of))]
 fn deliver_to_far<S: Service + Drop>(pair: &mut Pair<S>, table: &Table, from: u64) -> Result<u64, NoMemory>
     requires driven { IsDriven (map (λ r. r.rule) table.now.list.items) (shown pair.old) }
     ensures drives { OnOk result (Drives (map (λ r. r.rule) table.now.list.items) (shown pair.old) (shown pair.new)) }
@@ -142,7 +152,7 @@ fn deliver_to_far<S: Service + Drop>(pair: &mut Pair<S>, table: &Table, from: u6
 }
 
 /// The same of the far side.
-#[tactic(auto, using(crate::proofs::Driving::drives_on, crate::proofs::Driving::drives_not))]
+#[tactic(auto, using(crate::proofs::Driving::drives_on, crate::proofs::Driving::drives_not, crate::proofs::Driving::driven_of))]
 fn deliver_to_near<S: Service + Drop>(pair: &mut Pair<S>, table: &Table, from: u64) -> Result<u64, NoMemory>
     requires driven { IsDriven (map (λ r. r.rule) table.now.list.items) (shown pair.old) }
     ensures drives { OnOk result (Drives (map (λ r. r.rule) table.now.list.items) (shown pair.old) (shown pair.new)) }
@@ -155,7 +165,7 @@ fn deliver_to_near<S: Service + Drop>(pair: &mut Pair<S>, table: &Table, from: u
 }
 
 /// Delivers all packets that haven't been. What the far side has to say may have the near one send one packet more.
-#[tactic(auto, using(crate::proofs::Driving::drives_on))]
+#[tactic(auto, using(crate::proofs::Driving::drives_on, crate::proofs::Driving::driven_of))]
 fn deliver_all<S: Service + Drop>(pair: &mut Pair<S>, table: &Table, delivered: &mut Delivered) -> Result<(), NoMemory>
     requires driven { IsDriven (map (λ r. r.rule) table.now.list.items) (shown pair.old) }
     ensures drives { OnOk result (Drives (map (λ r. r.rule) table.now.list.items) (shown pair.old) (shown pair.new)) }
@@ -167,7 +177,7 @@ fn deliver_all<S: Service + Drop>(pair: &mut Pair<S>, table: &Table, delivered: 
 }
 
 /// A call of the near root's porter, or else of the far one's; all packets come before it.
-#[tactic(auto, using(crate::proofs::Driving::drives_on))]
+#[tactic(auto, using(crate::proofs::Driving::drives_on, crate::proofs::Driving::driven_of))]
 fn go_on<S: Service + Drop>(
     pair: &mut Pair<S>,
     table: &Table,
@@ -184,11 +194,12 @@ fn go_on<S: Service + Drop>(
     if budget.is_used {
         return Ok(false);
     }
-    try_move(pair, table, &Event::Far(porters_move()), budget)
+    let made = try_move(pair, table, &Event::Far(porters_move()), budget)?;
+    Ok(made)
 }
 
 /// The migration up to its end.
-#[tactic(auto, using(crate::proofs::Driving::drives_on, crate::proofs::Driving::drives_not))]
+#[tactic(auto, using(crate::proofs::Driving::drives_on, crate::proofs::Driving::drives_not, crate::proofs::Driving::driven_of))]
 fn migrate<S: Service + Drop>(pair: &mut Pair<S>, table: &Table, budget: &mut Budget) -> Result<(), NoMemory>
     requires driven { IsDriven (map (λ r. r.rule) table.now.list.items) (shown pair.old) }
     ensures drives { OnOk result (Drives (map (λ r. r.rule) table.now.list.items) (shown pair.old) (shown pair.new)) }
@@ -209,7 +220,7 @@ fn migrate<S: Service + Drop>(pair: &mut Pair<S>, table: &Table, budget: &mut Bu
 
 /// The near kernel runs for so many moves, or fewer where none is ready; then the subtree moves, while nobody else does; then the far kernel
 /// runs. Of all moves there are no more than the budget has.
-#[tactic(auto, using(crate::proofs::Driving::drives_on))]
+#[tactic(auto, using(crate::proofs::Driving::drives_on, crate::proofs::Driving::driven_of))]
 pub fn drive<S: Service + Drop>(pair: &mut Pair<S>, table: &Table, moves: u64, most: u64) -> Result<Budget, NoMemory>
     requires driven { IsDriven (map (λ r. r.rule) table.now.list.items) (shown pair.old) }
     ensures drives { OnOk result (Drives (map (λ r. r.rule) table.now.list.items) (shown pair.old) (shown pair.new)) }
