@@ -49,7 +49,19 @@ fn try_event<S: Service + Drop>(pair: &mut Pair<S>, table: &Table, e: &Event) ->
     Ok(true)
 }
 
-/// The same of a move, which a budget counts.
+/// Takes each of some events that is ready when its turn comes, and passes over the others.
+#[tactic(auto, using(crate::proofs::Driving::drives_on, crate::proofs::Driving::drives_not, crate::proofs::Driving::driven_of))]
+pub fn take_ready<S: Service + Drop>(pair: &mut Pair<S>, table: &Table, events: &[Event]) -> Result<(), NoMemory>
+    requires driven { IsDriven (map (λ r. r.rule) table.now.list.items) (shown pair.old) }
+    ensures drives { OnOk result (Drives (map (λ r. r.rule) table.now.list.items) (shown pair.old) (shown pair.new)) }
+{
+    for e in events {
+        try_event(pair, table, e)?;
+    }
+    Ok(())
+}
+
+/// Takes a move where it is ready, and says whether it was. A budget counts it.
 #[tactic(auto, using(crate::proofs::Driving::drives_equal, crate::proofs::Driving::drives_not))]
 fn try_move<S: Service + Drop>(pair: &mut Pair<S>, table: &Table, e: &Event, budget: &mut Budget) -> Result<bool, NoMemory>
     requires driven { IsDriven (map (λ r. r.rule) table.now.list.items) (shown pair.old) }

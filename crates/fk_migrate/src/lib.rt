@@ -16,7 +16,7 @@ mod places;
 mod receiver;
 mod sender;
 
-pub use driver::{Budget, drive};
+pub use driver::{Budget, drive, take_ready};
 pub use fates::Fate;
 pub use pair::Pair;
 pub use receiver::Receiver;
