@@ -5,7 +5,13 @@
 //! processes.
 //!
 //! It promises that each turn is its host's, in which the root's porter makes the calls for which its side asks; that a side is that of the laws at each
-//! answer and each packet; and that for want of memory all is as before.
+//! answer and each packet; that a pair is the run of its events, with the fate that the laws give it; and that for want of memory all is as before.
+//!
+//! - `hearing`: whose move it is, and the answer that it tells;
+//! - `sender`, `receiver`: each side over its kernel;
+//! - `places`, `fates`: at which moves the calls were made on which the fate hangs;
+//! - `pair`: both, event by event;
+//! - `driver`: by lists of events.
 #![tactic(auto)]
 
 mod driver;
