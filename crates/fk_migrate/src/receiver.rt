@@ -2,7 +2,8 @@
 ghost use Rattle.std.specs.Prelude.{◌≡◌, ◌↔◌, ◌≤◌, [], IsTrue, IfNone, IfSome, OnErr, OnOk, length, map, option_map};
 ghost use Rattle.std.specs.List.{slice_get};
 ghost use Rattle.fk_migrate.specs.Parts.{far_seen, FarLands};
-ghost use Rattle.fk_migrate.specs.Turns.{given_in, heard_by, is_porters, HasFarMove, IsFarMove, IsKept};
+ghost use Rattle.fk_migrate.specs.Turns.{given_in, heard_by, HasFarMove, IsFarMove, IsKept};
+ghost use Rattle.fk_migrate.specs.Turns.{is_porters as moves_porter};
 ghost use Rattle.fk_model.specs.declared.limits.TheConstants.{LAST_USER_SLOT};
 ghost use Rattle.fk_model.specs.declared.moves.Move as moves;
 ghost use Rattle.fk_served.specs.Acts.{IsReadyAsked};
@@ -74,7 +75,7 @@ impl<S: Service + Drop> Receiver<S> {
 
     /// Whether a move is that of the root's porter.
     pub fn is_porters(&self, m: &Move) -> bool
-        ensures { result ≡ is_porters (far_seen self.now).world m.now }
+        ensures { result ≡ moves_porter (far_seen self.now).world m.now }
     {
         is_porters(self.host.kernel(), m)
     }

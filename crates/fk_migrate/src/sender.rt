@@ -2,7 +2,8 @@
 ghost use Rattle.std.specs.Prelude.{◌≡◌, ◌↔◌, IsTrue, IfNone, IfSome, IfOk, OnErr, OnOk, length, map, option_map};
 ghost use Rattle.std.specs.List.{slice_get};
 ghost use Rattle.fk_migrate.specs.Parts.{near_seen, told_near, given_up, NearLands};
-ghost use Rattle.fk_migrate.specs.Turns.{given_in, heard_by, is_porters, IsKept, IsNearFit, IsNearMove};
+ghost use Rattle.fk_migrate.specs.Turns.{given_in, heard_by, IsKept, IsNearFit, IsNearMove};
+ghost use Rattle.fk_migrate.specs.Turns.{is_porters as moves_porter};
 ghost use Rattle.fk_model.specs.declared.moves.Move as moves;
 ghost use Rattle.fk_served.specs.Acts.{IsReadyAsked};
 ghost use Rattle.fk_served.specs.Kernels.{world_of as world};
@@ -75,7 +76,7 @@ impl<S: Service + Drop> Sender<S> {
 
     /// Whether a move is that of the root's porter.
     pub fn is_porters(&self, m: &Move) -> bool
-        ensures { result ≡ is_porters (near_seen self.now).world m.now }
+        ensures { result ≡ moves_porter (near_seen self.now).world m.now }
     {
         is_porters(self.host.kernel(), m)
     }
