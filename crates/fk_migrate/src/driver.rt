@@ -37,7 +37,11 @@ fn porters_move() -> Move {
 }
 
 /// Takes an event where it is ready, and says whether it was.
-fn try_event<S: Service + Drop>(pair: &mut Pair<S>, table: &Table, e: &Event) -> Result<bool, NoMemory>
+fn try_event<S: Service + Drop>(
+    pair: &mut Pair<S>,
+    table: &Table,
+    e: &Event,
+) -> Result<bool, NoMemory>
     requires driven { IsDriven (map (λ r. r.rule) table.now.list.items) (shown pair.old) }
     ensures drives { OnOk result (Drives (map (λ r. r.rule) table.now.list.items) (shown pair.old) (shown pair.new)) }
 {
@@ -51,7 +55,11 @@ fn try_event<S: Service + Drop>(pair: &mut Pair<S>, table: &Table, e: &Event) ->
 
 /// Takes each of some events that is ready when its turn comes, and passes over the others.
 #[tactic(auto, using(crate::proofs::Driving::drives_on, crate::proofs::Driving::drives_not, crate::proofs::Driving::driven_of))]
-pub fn take_ready<S: Service + Drop>(pair: &mut Pair<S>, table: &Table, events: &[Event]) -> Result<(), NoMemory>
+pub fn take_ready<S: Service + Drop>(
+    pair: &mut Pair<S>,
+    table: &Table,
+    events: &[Event],
+) -> Result<(), NoMemory>
     requires driven { IsDriven (map (λ r. r.rule) table.now.list.items) (shown pair.old) }
     ensures drives { OnOk result (Drives (map (λ r. r.rule) table.now.list.items) (shown pair.old) (shown pair.new)) }
 {
@@ -63,7 +71,12 @@ pub fn take_ready<S: Service + Drop>(pair: &mut Pair<S>, table: &Table, events: 
 
 /// Takes a move where it is ready, and says whether it was. A budget counts it.
 #[tactic(auto, using(crate::proofs::Driving::drives_equal, crate::proofs::Driving::drives_not))]
-fn try_move<S: Service + Drop>(pair: &mut Pair<S>, table: &Table, e: &Event, budget: &mut Budget) -> Result<bool, NoMemory>
+fn try_move<S: Service + Drop>(
+    pair: &mut Pair<S>,
+    table: &Table,
+    e: &Event,
+    budget: &mut Budget,
+) -> Result<bool, NoMemory>
     requires driven { IsDriven (map (λ r. r.rule) table.now.list.items) (shown pair.old) }
     ensures drives { OnOk result (Drives (map (λ r. r.rule) table.now.list.items) (shown pair.old) (shown pair.new)) }
 {
@@ -82,7 +95,11 @@ fn try_move<S: Service + Drop>(pair: &mut Pair<S>, table: &Table, e: &Event, bud
 
 /// One move of a user or a server of the near kernel.
 #[tactic(auto, using(crate::proofs::Driving::drives_equal, crate::proofs::Driving::drives_from, crate::proofs::Driving::driven_equal))]
-fn move_near<S: Service + Drop>(pair: &mut Pair<S>, table: &Table, budget: &mut Budget) -> Result<bool, NoMemory>
+fn move_near<S: Service + Drop>(
+    pair: &mut Pair<S>,
+    table: &Table,
+    budget: &mut Budget,
+) -> Result<bool, NoMemory>
     requires driven { IsDriven (map (λ r. r.rule) table.now.list.items) (shown pair.old) }
     ensures drives { OnOk result (Drives (map (λ r. r.rule) table.now.list.items) (shown pair.old) (shown pair.new)) }
 {
@@ -95,7 +112,12 @@ fn move_near<S: Service + Drop>(pair: &mut Pair<S>, table: &Table, budget: &mut 
 
 /// So many of them, or fewer where none is ready.
 #[tactic(auto, using(crate::proofs::Driving::drives_on, crate::proofs::Driving::drives_not, crate::proofs::Driving::driven_of))]
-fn run_near<S: Service + Drop>(pair: &mut Pair<S>, table: &Table, most: u64, budget: &mut Budget) -> Result<(), NoMemory>
+fn run_near<S: Service + Drop>(
+    pair: &mut Pair<S>,
+    table: &Table,
+    most: u64,
+    budget: &mut Budget,
+) -> Result<(), NoMemory>
     requires driven { IsDriven (map (λ r. r.rule) table.now.list.items) (shown pair.old) }
     ensures drives { OnOk result (Drives (map (λ r. r.rule) table.now.list.items) (shown pair.old) (shown pair.new)) }
 {
@@ -109,7 +131,11 @@ fn run_near<S: Service + Drop>(pair: &mut Pair<S>, table: &Table, most: u64, bud
 
 /// The same of the far kernel.
 #[tactic(auto, using(crate::proofs::Driving::drives_equal, crate::proofs::Driving::drives_from, crate::proofs::Driving::driven_equal))]
-fn move_far<S: Service + Drop>(pair: &mut Pair<S>, table: &Table, budget: &mut Budget) -> Result<bool, NoMemory>
+fn move_far<S: Service + Drop>(
+    pair: &mut Pair<S>,
+    table: &Table,
+    budget: &mut Budget,
+) -> Result<bool, NoMemory>
     requires driven { IsDriven (map (λ r. r.rule) table.now.list.items) (shown pair.old) }
     ensures drives { OnOk result (Drives (map (λ r. r.rule) table.now.list.items) (shown pair.old) (shown pair.new)) }
 {
@@ -122,7 +148,11 @@ fn move_far<S: Service + Drop>(pair: &mut Pair<S>, table: &Table, budget: &mut B
 
 /// All moves of users and servers of the far kernel.
 #[tactic(auto, using(crate::proofs::Driving::drives_on, crate::proofs::Driving::drives_not, crate::proofs::Driving::driven_of))]
-fn run_far<S: Service + Drop>(pair: &mut Pair<S>, table: &Table, budget: &mut Budget) -> Result<(), NoMemory>
+fn run_far<S: Service + Drop>(
+    pair: &mut Pair<S>,
+    table: &Table,
+    budget: &mut Budget,
+) -> Result<(), NoMemory>
     requires driven { IsDriven (map (λ r. r.rule) table.now.list.items) (shown pair.old) }
     ensures drives { OnOk result (Drives (map (λ r. r.rule) table.now.list.items) (shown pair.old) (shown pair.new)) }
 {
@@ -152,7 +182,11 @@ fn deliver<S: Service + Drop>(pair: &mut Pair<S>, table: &Table, e: &Event) -> R
 
 /// Delivers the packets of the near side that haven't been, the last one first.
 #[tactic(auto, using(crate::proofs::Driving::drives_on, crate::proofs::Driving::drives_not, crate::proofs::Driving::drives_equal, crate::proofs::Driving::driven_equal, crate::proofs::Driving::driven_of))]
-fn deliver_to_far<S: Service + Drop>(pair: &mut Pair<S>, table: &Table, from: u64) -> Result<u64, NoMemory>
+fn deliver_to_far<S: Service + Drop>(
+    pair: &mut Pair<S>,
+    table: &Table,
+    from: u64,
+) -> Result<u64, NoMemory>
     requires driven { IsDriven (map (λ r. r.rule) table.now.list.items) (shown pair.old) }
     ensures drives { OnOk result (Drives (map (λ r. r.rule) table.now.list.items) (shown pair.old) (shown pair.new)) }
 {
@@ -165,7 +199,11 @@ fn deliver_to_far<S: Service + Drop>(pair: &mut Pair<S>, table: &Table, from: u6
 
 /// The same of the far side.
 #[tactic(auto, using(crate::proofs::Driving::drives_on, crate::proofs::Driving::drives_not, crate::proofs::Driving::driven_of))]
-fn deliver_to_near<S: Service + Drop>(pair: &mut Pair<S>, table: &Table, from: u64) -> Result<u64, NoMemory>
+fn deliver_to_near<S: Service + Drop>(
+    pair: &mut Pair<S>,
+    table: &Table,
+    from: u64,
+) -> Result<u64, NoMemory>
     requires driven { IsDriven (map (λ r. r.rule) table.now.list.items) (shown pair.old) }
     ensures drives { OnOk result (Drives (map (λ r. r.rule) table.now.list.items) (shown pair.old) (shown pair.new)) }
 {
@@ -178,7 +216,11 @@ fn deliver_to_near<S: Service + Drop>(pair: &mut Pair<S>, table: &Table, from: u
 
 /// Delivers all packets that haven't been. What the far side has to say may have the near one send one packet more.
 #[tactic(auto, using(crate::proofs::Driving::drives_on, crate::proofs::Driving::driven_of))]
-fn deliver_all<S: Service + Drop>(pair: &mut Pair<S>, table: &Table, delivered: &mut Delivered) -> Result<(), NoMemory>
+fn deliver_all<S: Service + Drop>(
+    pair: &mut Pair<S>,
+    table: &Table,
+    delivered: &mut Delivered,
+) -> Result<(), NoMemory>
     requires driven { IsDriven (map (λ r. r.rule) table.now.list.items) (shown pair.old) }
     ensures drives { OnOk result (Drives (map (λ r. r.rule) table.now.list.items) (shown pair.old) (shown pair.new)) }
 {
@@ -212,7 +254,11 @@ fn go_on<S: Service + Drop>(
 
 /// The migration up to its end.
 #[tactic(auto, using(crate::proofs::Driving::drives_on, crate::proofs::Driving::drives_not, crate::proofs::Driving::driven_of))]
-fn migrate<S: Service + Drop>(pair: &mut Pair<S>, table: &Table, budget: &mut Budget) -> Result<(), NoMemory>
+fn migrate<S: Service + Drop>(
+    pair: &mut Pair<S>,
+    table: &Table,
+    budget: &mut Budget,
+) -> Result<(), NoMemory>
     requires driven { IsDriven (map (λ r. r.rule) table.now.list.items) (shown pair.old) }
     ensures drives { OnOk result (Drives (map (λ r. r.rule) table.now.list.items) (shown pair.old) (shown pair.new)) }
 {
@@ -233,7 +279,12 @@ fn migrate<S: Service + Drop>(pair: &mut Pair<S>, table: &Table, budget: &mut Bu
 /// The near kernel runs for so many moves, or fewer where none is ready; then the subtree moves, while nobody else does; then the far kernel
 /// runs. Of all moves there are no more than the budget has.
 #[tactic(auto, using(crate::proofs::Driving::drives_on, crate::proofs::Driving::driven_of))]
-pub fn drive<S: Service + Drop>(pair: &mut Pair<S>, table: &Table, moves: u64, most: u64) -> Result<Budget, NoMemory>
+pub fn drive<S: Service + Drop>(
+    pair: &mut Pair<S>,
+    table: &Table,
+    moves: u64,
+    most: u64,
+) -> Result<Budget, NoMemory>
     requires driven { IsDriven (map (λ r. r.rule) table.now.list.items) (shown pair.old) }
     ensures drives { OnOk result (Drives (map (λ r. r.rule) table.now.list.items) (shown pair.old) (shown pair.new)) }
 {
