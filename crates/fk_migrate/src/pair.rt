@@ -58,11 +58,15 @@ impl<S: Service + Drop> Pair<S> {
         ensures slot { (shown result).slot ≡ slot }
         ensures new { IsNew (shown result) }
     {
+        let sender = Sender::new(alloc, near, slot);
+        let receiver = Receiver::new(alloc, far, slot);
+        let events = Vec::new(alloc);
+        let places = Places::new();
         Pair {
-            sender: Sender::new(alloc, near, slot),
-            receiver: Receiver::new(alloc, far, slot),
-            events: Vec::new(alloc),
-            places: Places::new(),
+            sender,
+            receiver,
+            events,
+            places,
         }
     }
 
