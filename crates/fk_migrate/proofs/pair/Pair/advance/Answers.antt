@@ -13,6 +13,9 @@ make-requires-clause-ready g c = subst (λ (s : Shown). IsReady s c.args.e.now) 
 pub count-places-requires-clause-run : goal.count-places-requires-clause-run
 count-places-requires-clause-run g c = subst (λ (s : Shown). IsSomeRun s) (sym c.make_room.ensures.same) c.requires.run
 
+pub note-requires : goal.note-requires
+note-requires g c = rw c.make.ensures.events c.in_ok-make_room.ensures.room
+
 pub returns-clause-goes : goal.returns-clause-goes
 returns-clause-goes g c =
     subst (λ (s : Shown). GoesOn s c.args.e.now (shown c.note.new.self)) c.make_room.ensures.same
