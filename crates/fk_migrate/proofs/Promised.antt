@@ -21,7 +21,7 @@ use Rattle.fk_model.specs.Closed.{Place}
 use Rattle.laws_checkpoint.specs.Checkpoint.State.{Releases}
 use Rattle.laws_checkpoint.specs.Checkpoint.End.{Foreign as OpenAt}
 use Rattle.laws_migrate.specs.Migration.Why.{Foreign}
-use Rattle.laws_migrate.specs.Migration.{Why, Both, IsReadyIn, top, IsFree, make_from}
+use Rattle.laws_migrate.specs.Migration.{Why, AreReady, Both, IsReadyIn, top, IsFree, make_from}
 use Rattle.laws_migrate.specs.Porters.{IsCalmNow}
 use Rattle.laws_migrate.proofs.Images.{images_are_read}
 use Rattle.laws_migrate.proofs.Migrates.{never_both_free, moved_is_same, kept_is_same, foreign_is_same, failed_says_why, cancelled_says_why, kept_is_alone}
@@ -35,8 +35,8 @@ use Rattle.fk_migrate.specs.Turns.{NearPart, FarPart}
 use Rattle.fk_migrate.specs.Runs.{Run, Step, near_part, far_part, next_run}
 use Rattle.fk_migrate.specs.Pairs.{Shown, Start, IsRunOf, Leads, LeadsTo, GoesOn, begun}
 use Rattle.fk_packets.specs.declared.events.Event.{Event as PairEvent}
-use Rattle.fk_migrate.specs.Promises.{IsHold, IsMake, NeverTwo, MovesWhole, KeepsWhole, ForeignWhole, FailsSo, CancelsSo, KeepsAlone, KeepsGoing, IsBounded, IsPromised}
-use Rattle.fk_migrate.proofs.Running.{runs_so, are_ready}
+use Rattle.fk_migrate.specs.Promises.{IsHold, IsMake, NeverTwo, NeverTwoEver, MovesWhole, KeepsWhole, ForeignWhole, FailsSo, CancelsSo, KeepsAlone, KeepsGoing, IsBounded, IsPromised}
+use Rattle.fk_migrate.proofs.Running.{runs_so, are_ready, ready_front}
 
 abbrev Packets : Type 0
 Packets = Sent Piece Why
@@ -69,6 +69,14 @@ pub never_two : (s : Shown) → NeverTwo s
 never_two s from its h m number copy held named made copies near_free far_free =
     never_both_free image_codec from.slot from.may.low images_are_read from.near from.far its.steps h m number copy (happens s from its h held) named made copies
     (subst (λ (w : World). IsFree w number) (near_world s from its) near_free) (subst (λ (w : World). IsFree w copy) (far_world s from its) far_free)
+
+pub never_two_ever : (s : Shown) → NeverTwoEver s
+never_two_ever s from its es more h m number copy all held named made copies near_free far_free =
+    let ready = are_ready from.slot (begun from) s.events its.steps its.run its.ran in
+    let front = ready_front from.slot (first (both from.slot) from.near from.far) es more
+    (subst (λ (ss : List Step). AreReady image_codec from.slot (first (both from.slot) from.near from.far) ss) all ready) in
+    never_both_free image_codec from.slot from.may.low images_are_read from.near from.far es h m number copy
+    (record { good = images_are_read; may = from.may; ready = front; held = held }) named made copies near_free far_free
 
 pub fails_so : (s : Shown) → FailsSo s
 fails_so s from its h why held failed =
@@ -103,6 +111,7 @@ is_bounded s from its h d held deep = both_are_bounded image_codec from.slot fro
 pub promised : (s : Shown) → IsPromised s
 promised s = record {
   never_two = never_two s;
+  ever = never_two_ever s;
   fails = fails_so s;
   cancels = cancels_so s;
   alone = keeps_alone s;

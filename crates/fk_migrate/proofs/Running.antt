@@ -23,6 +23,11 @@ module _ (slot : ℕ) where
   ready_more p [] s before ready = (ready, tt)
   ready_more p (t ∷ ss) s before ready = (before.0, ready_more (next (both slot) p t) ss s before.1 ready)
 
+  -- those of a front are
+  pub ready_front : (p : Pairs) (es more : List Step) → AreReady image_codec slot p (es ++ more) → AreReady image_codec slot p es
+  ready_front p [] more ready = tt
+  ready_front p (s ∷ es) more ready = (ready.0, ready_front (next (both slot) p s) es more ready.1)
+
   pub runs_so : (from : Run) (es : List PairEvent) (ss : List Step) (r : Run) → IsRun slot from es ss r → run (both slot) from.pair ss ≡ r.pair
   unfolding run
   runs_so from _ _ _ IsRun.Before = refl

@@ -38,6 +38,14 @@ abbrev pub NeverTwo : Shown → Type 0
 NeverTwo s = (from : Start) (its : IsRunOf s from) (h m : World) (number copy : ℕ) → IsHold s from its h → birth_at h (from.slot ∷ top) ≡ Some number →
     IsMake s from its m → MakesCopy from.slot m copy → IsFree s.near.world number → IsFree s.far.world copy → ⊥
 
+-- nor did they at any moment before, after whichever of its steps
+abbrev pub NeverTwoEver : Shown → Type 0
+NeverTwoEver s = (from : Start) (its : IsRunOf s from) (es more : List Step) (h m : World) (number copy : ℕ) → its.steps ≡ es ++ more →
+    hold_from image_codec from.slot None (first (both from.slot) from.near from.far) es ≡ Some h → birth_at h (from.slot ∷ top) ≡ Some number →
+    make_from image_codec from.slot None (first (both from.slot) from.near from.far) es ≡ Some m → MakesCopy from.slot m copy →
+    IsFree (pair_after image_codec from.slot from.near from.far es).near_world number →
+    IsFree (pair_after image_codec from.slot from.near from.far es).far_world copy → ⊥
+
 -- where the copy is being released and then is, its cut is what the near one's was at the hold, and that one is gone
 abbrev pub MovesWhole : Shown → Shown → Type 0
 MovesWhole s t = (from : Start) (its : IsRunOf s from) (h : World) (image : Image) → IsHold s from its h → IsFar s.makes (far.Releases image) →
@@ -84,6 +92,7 @@ IsBounded s = (from : Start) (its : IsRunOf s from) (h : World) (d : ℕ) → Is
 -- all that holds of a pair, whatever has come before
 pub record IsPromised (s : Shown) : Type 0 where
   pub never_two : NeverTwo s
+  pub ever : NeverTwoEver s
   pub fails : FailsSo s
   pub cancels : CancelsSo s
   pub alone : KeepsAlone s
