@@ -3,3 +3,4 @@ pub mod Coming
 pub mod Nearness
 pub mod Looks
 pub mod Hearing
+pub mod Keeping

@@ -3,3 +3,4 @@ pub mod Nears
 pub mod Blocks
 pub mod Cames
 pub mod Fars
+pub mod Kept

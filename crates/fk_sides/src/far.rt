@@ -6,6 +6,7 @@ ghost use Rattle.fk_restore.specs.Restore.Restores.{Restoring as restores, end_o
 ghost use Rattle.fk_sides.specs.Cames.{IsCome};
 ghost use Rattle.fk_sides.specs.declared.far.Stand.TheVariants as stands;
 ghost use Rattle.fk_sides.specs.Fars.{fails_so, gone_on, look_of, refusal_of, slot_in, stand_of, Begins, IsFar};
+ghost use Rattle.fk_sides.specs.Kept.{is_moved};
 ghost use Rattle.fk_sides.specs.Sides.{FarSide, both, call_with, far_call, far_heard, option_list, packet_of, why_of};
 ghost use Rattle.laws_handover.specs.FarSide.Far.{Listens};
 ghost use Rattle.laws_handover.specs.Handover.{far_told};
@@ -276,6 +277,22 @@ fn why(refusal: Refusal) -> Why
     }
 }
 
+/// Whether the copy is let go.
+fn has_moved(stand: Stand) -> bool
+    ensures { (r : restores) → result ≡ is_moved (stand_of r stand) }
+{
+    match stand {
+        Stand::Moved => true,
+        Stand::Works => false,
+        Stand::Built => false,
+        Stand::Releases => false,
+        Stand::Refuses(_) => false,
+        Stand::Undoes => false,
+        Stand::Clears { .. } => false,
+        Stand::Ended { .. } => false,
+    }
+}
+
 /// What it has sent since its restore began: one packet at most.
 fn packet_in(stand: Stand) -> Option<Packet>
     ensures { (r : restores) → option_list (option_map packet_of result) ≡ sent_far (stand_of r stand) }
@@ -365,6 +382,16 @@ impl Far {
         match &self.makes {
             Makes::Restores { stand, .. } if number == 0 => packet_in(*stand),
             _ => None,
+        }
+    }
+    /// Whether the copy is let go.
+    pub fn has_moved(&self) -> bool
+        ensures { (f : FarSide) → IsFar self.now.makes f → result ≡ is_moved f }
+    {
+        match &self.makes {
+            Makes::Restores { stand, .. } => has_moved(*stand),
+            Makes::Listens(_) => false,
+            Makes::Never => false,
         }
     }
 }

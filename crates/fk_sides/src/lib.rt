@@ -9,6 +9,7 @@
 //!
 //! - `spelled`: an image with its bytes, cut into pieces;
 //! - `near`: the near side, which gathers an image and destroys its own once there is a copy;
+//! - `kept`: why it keeps its own, if it does;
 //! - `blocks`, `came`: pieces that have come, in whatever order and however often;
 //! - `restoring`, `far`: the far side, which makes the copy and releases or destroys it.
 #![tactic(auto)]
@@ -17,6 +18,7 @@ mod blocks;
 mod came;
 mod counting;
 mod far;
+mod kept;
 mod near;
 mod restoring;
 mod spelled;
@@ -24,6 +26,7 @@ mod spelled;
 pub use blocks::Block;
 pub use came::{Came, Table};
 pub use far::{Far, Makes, Refusal, Stand};
+pub use kept::Reason;
 pub use near::{Near, Saves, Since};
 pub use restoring::Restoring;
 pub use spelled::Spelled;

@@ -4,6 +4,7 @@ ghost use Rattle.std.specs.List.{slice_get};
 ghost use Rattle.fk_checkpoint.specs.Checkpoint.Checkpoints.{gathered_in};
 ghost use Rattle.fk_checkpoint.specs.Checkpoint.Phases.{state_of, HasRoom};
 ghost use Rattle.fk_image.specs.declared.image.image.Image.{Image as images};
+ghost use Rattle.fk_sides.specs.Kept.{pieces_of, reason_of, why_kept};
 ghost use Rattle.fk_sides.specs.Nears.{has_room_in, last_of, saves_of, since_of, slot_in, IsSpelled, IsStillIn};
 ghost use Rattle.fk_sides.specs.declared.near.Since.TheVariants as sinces;
 ghost use Rattle.fk_sides.specs.Sides.{bare, both, near_at, near_call, near_heard, option_list, packet_of};
@@ -15,6 +16,7 @@ ghost use Rattle.laws_migrate.specs.Images.{image_codec};
 ghost use Rattle.laws_migrate.specs.Migration.{may_give_up};
 
 use crate::counting::count_objects;
+use crate::kept::{Reason, failed, kept_since};
 use crate::spelled::Spelled;
 use fk_checkpoint::Checkpoint;
 use fk_model::limits::OWN_SPACE;
@@ -389,6 +391,28 @@ impl Near {
         match &self.saves {
             Saves::Works(checkpoint) => if has_image(checkpoint) { None } else { Some(0) },
             Saves::Gathered { spelled, since } => Some(count_since(spelled, since)),
+        }
+    }
+    /// How many pieces it has sent, none before its image is gathered. There may be no memory for the bytes of the image.
+    pub fn pieces(&mut self) -> Result<u64, NoMemory>
+        ensures slot { self.new.slot ≡ self.old.slot }
+        ensures same { saves_of self.new.saves ≡ saves_of self.old.saves }
+        ensures pieces { IfOk result (λ many. many ≡ pieces_of (saves_of self.old.saves)) }
+    {
+        self.spell()?;
+        match &self.saves {
+            Saves::Works(_) => Ok(0),
+            Saves::Gathered { spelled, .. } => Ok(spelled.total()),
+        }
+    }
+
+    /// Why its own is kept and let go, once it is.
+    pub fn kept(&self) -> Option<Reason<'_>>
+        ensures { option_map reason_of result ≡ why_kept (saves_of self.now.saves) }
+    {
+        match &self.saves {
+            Saves::Works(checkpoint) => failed(checkpoint),
+            Saves::Gathered { since, .. } => kept_since(since),
         }
     }
 }
