@@ -1,3 +1,4 @@
 pub mod Hosting
 pub mod Going
 pub mod Ending
+pub mod Making

@@ -2,6 +2,7 @@
 ghost use Rattle.std.specs.Prelude.{◌≡◌, IfErr, IfOk, List, Ok, map, string_bytes};
 ghost use Rattle.fk_embed.specs.Hosts.{IsFirst, IsRefused};
 ghost use Rattle.fk_model.specs.declared.moves.Rule.{Rule};
+ghost use Rattle.fk_scenario.specs.declared.scenario.scenario.Scenario.{Scenario};
 ghost use Rattle.fk_scenario.specs.Scenario.Kept.{HasRules, KeepsScenario};
 ghost use Rattle.fk_scenario.specs.Scenario.Reading.{scenario_reading};
 ghost use Rattle.fk_served.specs.Served.{AllFit};

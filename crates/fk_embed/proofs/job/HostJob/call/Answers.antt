@@ -1,4 +1,4 @@
-use Rattle.std.proofs.Common.{◌∙◌, ap, subst, sym}
+use Rattle.std.proofs.Common.{◌∙◌, ap, refl, subst, sym}
 use Rattle.std.specs.Prelude.{IsTrue}
 use Rattle.fk_embed.proofs.Going.{asks_it, goes_on}
 use Rattle.fk_jobs.specs.Porters.{state_of}
@@ -16,7 +16,7 @@ returns-in-Ok-clause-goes g c =
     let state = state_of self.porter in
     goes_on self.nester (world c.args.host.now.kernel) (world kernel) state (state_of c.absorb.new.self) c.args.stage c.args.words
     (said_by (path_of kernel) c.in-Ok.said)
-    (rw c.kernel-in-Ok.ensures at c.is_runnable-in-Ok.ensures.runnable.whole) (rw c.kernel-kernel.ensures at c.is_runnable.ensures.runnable.whole)
+    (rw c.kernel.ensures at c.is_runnable-in-Ok.ensures.runnable.whole) (rw c.kernel-kernel.ensures at c.is_runnable.ensures.runnable.whole)
     (asks_it (machine.head state) c.args.stage c.args.words c.requires.asked)
-    (c.ready.ensures.0 (subst IsTrue (sym c.if-not-ready.false) tt)) turn.step
+    (c.ready.ensures.0 (subst IsTrue (sym c.if-not-ready.false) refl)) turn.step
     (c.absorb.ensures ∙ sym (ap (λ (r : Reply). machine.next state r.status r.words) (c.answer_of.ensures (path_of kernel))))
