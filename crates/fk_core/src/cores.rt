@@ -22,6 +22,7 @@ mod looks;
 mod room;
 mod serving;
 mod settling;
+mod speaking;
 mod several;
 mod turns;
 

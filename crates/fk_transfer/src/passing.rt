@@ -276,3 +276,25 @@ fn came_without(awaited: Option<u64>) -> Option<bool>
         Some(_) => Some(false),
     }
 }
+
+/// What an Over of a client comes to where the turn goes to a native server: the port of its talk. It needs no verdict, which is large.
+#[tactic(auto, unfolding(fk_model::specs::TransferRows::over))]
+pub fn yielding(store: &Store, caller: Caller) -> Option<Who>
+    requires user { caller.is_porter ≡ false }
+    requires valid { IsValid (world store.now) }
+    ensures outcome { (words : List ℕ) → IfSome result (λ port. outcome_by (world store.now) (path store.now) (caller_by (path store.now) caller words)
+        (yielded_to caller.who port) ≡ rows.over (world store.now) (caller_by (path store.now) caller words) Turn.Client None) }
+    ensures fits { IfSome result (λ port. IsVerdict store.now caller (yielded_to caller.who port)) }
+{
+    let Ok(line) = in_turn(store, caller.who, Turn::Client, Turn::Client) else {
+        return None;
+    };
+    let Peer::Service = line.other else {
+        return None;
+    };
+    let port = line.talk.port;
+    if store.is_frozen(port.space) {
+        return None;
+    }
+    Some(port)
+}

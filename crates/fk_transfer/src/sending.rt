@@ -391,3 +391,55 @@ pub fn moving(store: &Store, caller: Caller, side: Turn, address: u64, count: u6
         Reach::Missing { .. } | Reach::Bad => None,
     }
 }
+
+/// Words of a page that go to a native server, and whether they are the last.
+#[derive(Clone, Copy)]
+pub struct Telling {
+    pub words: Words,
+    pub last: bool,
+}
+
+/// What a Send of a client comes to where its words go to a native server. It needs no verdict, which is large.
+#[tactic(auto, using(fk_plans::proofs::InPlans::Low::home_low))]
+pub fn telling(store: &Store, caller: Caller, address: u64, count: u64) -> Option<Telling>
+    requires user { caller.is_porter ≡ false }
+    requires valid { IsValid (world store.now) }
+    requires calling { IsSender (world store.now) (place (path store.now) caller.who) Turn.Client address count }
+    ensures outcome { (words : List ℕ) → IfSome result (λ t. outcome_by (world store.now) (path store.now) (caller_by (path store.now) caller words)
+        (telling_of caller.who t) ≡ rows.send (world store.now) (caller_by (path store.now) caller words) Turn.Client address count) }
+    ensures fits { IfSome result (λ t. IsVerdict store.now caller (telling_of caller.who t)) }
+{
+    if count == 0 {
+        return None;
+    }
+    let Ok(line) = in_turn(store, caller.who, Turn::Client, Turn::Client) else {
+        return None;
+    };
+    let Peer::Service = line.other else {
+        return None;
+    };
+    let port = line.talk.port;
+    if store.is_frozen(port.space) {
+        return None;
+    }
+    match store.reach_word(caller.who.space, address, false) {
+        Reach::Home { space, page } => Some(told(port, address, count, (space, page))),
+        Reach::Missing { .. } | Reach::Bad => None,
+    }
+}
+
+/// The words at an address of this page that a Send of so many tells at once.
+fn told(port: Who, address: u64, count: u64, page: (u32, u8)) -> Telling {
+    let moved = moved(address, count, 0, 64);
+    let words = Words {
+        port,
+        space: page.0,
+        page: page.1,
+        at: (address % 64) as u8,
+        count: moved,
+    };
+    Telling {
+        words,
+        last: u64::from(moved) == count,
+    }
+}

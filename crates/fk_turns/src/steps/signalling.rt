@@ -89,7 +89,7 @@ pub fn rise(turns: &mut Turns, store: &Store, mover: Who, other: Who)
     requires user { is_user_at store.now mover ≡ true }
     ensures kept { AreKept store.now turns.new.waits turns.new.marks }
 {
-    turns.wake(other);
+    turns.rise(other);
 }
 
 /// A thread that locks a mutex which is locked is queued there.

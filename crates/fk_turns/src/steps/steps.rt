@@ -20,7 +20,7 @@ use crate::steps::going::{Gone, go_stage};
 use crate::steps::plain::{after_call, after_entry, after_off, after_on, after_plain, after_stay};
 use crate::steps::room::{reserve_for, reserve_for_stage, seat_for};
 use fk_calls::{Ran, Sent, Told};
-use fk_model::{Ask, Move, NoMemory, Said, Stage, Who};
+use fk_model::{Ask, Mode, Move, NoMemory, Said, Stage, Who};
 use fk_plans::wakes::Touched;
 use fk_store::Store;
 use fk_waits::turns::Turns;
@@ -199,6 +199,9 @@ pub fn proceed(store: &mut Store, turns: &mut Turns, who: Who) -> Gone
     ensures placed { OnTrue (is_made result) (IsPut store.old (record { who = who; pick = None }) asks.Run store.new (standing turns.new.waits)) }
     ensures still { OnFalse (is_made result) (standing turns.new.waits ≡ standing turns.old.waits) }
 {
+    if is_calling(store, who) {
+        return go_stage(store, turns, who, false);
+    }
     store.names();
     let ran = fk_calls::run(store, who);
     // And so they do in the world that it leaves.
@@ -230,6 +233,9 @@ pub fn proceed_on(store: &mut Store, turns: &mut Turns, who: Who) -> Gone
     ensures kept { AreKept store.new turns.new.waits turns.new.marks }
     ensures still { OnFalse (is_made result) (standing turns.new.waits ≡ standing turns.old.waits) }
 {
+    if is_calling(store, who) {
+        return go_stage(store, turns, who, true);
+    }
     store.names();
     let ran = fk_calls::run(store, who);
     // And so they do in the world that it leaves.
@@ -244,6 +250,15 @@ pub fn proceed_on(store: &mut Store, turns: &mut Turns, who: Who) -> Gone
             Gone::Made
         }
         Ran::Not => go_stage(store, turns, who, true),
+    }
+}
+
+/// A thread is in a call, so that it makes no instruction. It is a hint: nothing is said of it.
+#[inline(always)]
+fn is_calling(store: &Store, who: Who) -> bool {
+    match store.thread(who) {
+        Some(thread) => matches!(thread.mode, Mode::Calling),
+        None => false,
     }
 }
 

@@ -81,7 +81,7 @@ fn tell_receiver(
     if hears_still(store, receiver) {
         return;
     }
-    turns.wake(receiver);
+    turns.rise(receiver);
 }
 
 /// It waits at its Receive for the other end.
@@ -115,7 +115,7 @@ fn after_turn(
         after_any(turns, store, mover, client, receiver);
         return;
     }
-    turns.wake(receiver);
+    turns.rise(receiver);
     settle_unless(turns, store, mover, stays);
 }
 

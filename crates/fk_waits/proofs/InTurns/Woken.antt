@@ -251,6 +251,10 @@ stands_marked (marks_of.At key) n x cause marks there = by (is_same free_cause k
 stands_marked marks_of.Loud n x cause marks there = stands_parked n x loud_cause marks
 stands_marked marks_of.Any n x cause marks there = stands_woken n x marks
 
+-- and where the marks stay as they are
+pub sound_risen : (n : Who) (waits marks : Lists) → stands n waits ≡ true → IsSound waits marks → IsSound (woken n waits) marks
+sound_risen n waits marks there sound = record { both = λ x. sound.both x ∙ stands_anyway n x waits there ∙ sym (stands_woken n x waits) }
+
 pub sound_parked : (mark : Mark) (n cause : Who) (waits marks : Lists) → stands n waits ≡ true → IsSound waits marks →
     IsSound (parked n cause waits) (marked_by cause mark n marks)
 sound_parked mark n cause waits marks there sound = record {

@@ -153,6 +153,20 @@ impl Turns {
         self.marks.park(who, FREE);
     }
 
+    /// A thread that stands is ready, last of all. At what it was marked it stays: of marks only those are asked who are queued.
+    pub fn rise(&mut self, who: Who)
+        requires sound { IsSound self.old.waits self.old.marks }
+        requires stands { stands who self.old.waits ≡ true }
+        ensures sound { IsSound self.new.waits self.new.marks }
+        ensures waits { self.new.waits ≡ woken who self.old.waits }
+        ensures marks { self.new.marks ≡ self.old.marks }
+        ensures met { AreMet self.old.marks self.new.marks self.new.waits }
+        ensures less { IsLess self.old.waits self.new.waits }
+        ensures away { is_queued who self.new.waits.queued ≡ false }
+    {
+        self.waits.wake(who);
+    }
+
     /// A thread is queued at a cause, last of all. It stands. What may free it is marked.
     pub fn park(&mut self, who: Who, cause: Who, mark: Mark)
         requires sound { IsSound self.old.waits self.old.marks }

@@ -1,27 +1,23 @@
 use Rattle.std.proofs.lemmas.Bool.{OnTrue_at}
 use Rattle.fk_calls.specs.declared.calls.going.Talked.TheVariants.{Sends}
-use Rattle.fk_waits.proofs.InCauses.Numbers.{clash}
-use Rattle.fk_waits.specs.Waits.Lists.{stands}
 use Rattle.fk_turns.proofs.InSteps.Talked.{kept_heard, kept_sent, receiver_stands}
 use Rattle.fk_turns.proofs.steps.talking.tell_receiver.Goals as goal
 
-pub wake-requires : goal.wake-requires
-wake-requires c =
+pub rise-requires : goal.rise-requires
+rise-requires c =
     let was = c.args.turns.now in
     let by = Sends c.args.client c.args.receiver c.args.sender in
-    let there = receiver_stands c.args.store.now c.args.mover by was.waits was.marks c.requires.comes in
     record {
       sound = c.requires.comes.kept.sound;
-      waits = λ off. clash (stands c.args.receiver was.waits) there off;
-      marks = λ off. clash (stands c.args.receiver was.waits) there off;
+      stands = receiver_stands c.args.store.now c.args.mover by was.waits was.marks c.requires.comes;
     }
 
 pub returns : goal.returns
 returns c =
     let was = c.args.turns.now in
-    let now = c.wake.new.self in
+    let now = c.rise.new.self in
     kept_sent c.args.store.now c.args.mover c.args.client c.args.receiver c.args.sender was.waits was.marks now.waits now.marks c.requires.comes
-    c.wake.ensures.waits c.wake.ensures.met c.wake.ensures.away c.wake.ensures.sound
+    c.rise.ensures.waits c.rise.ensures.met c.rise.ensures.away c.rise.ensures.sound
 
 pub returns-then-hears_still : goal.returns-then-hears_still
 returns-then-hears_still c =
