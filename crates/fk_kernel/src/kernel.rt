@@ -296,18 +296,18 @@ impl Kernel {
 
     /// Makes the signal or the wait of the user in a slot, where it is at one, with whoever is queued first at the condition or at a port of the set, and gives
     /// whom it picks. Else, and wherever it declines, it gives none and all stays as it is. No native server loses its client by it.
-    pub fn pick(&mut self, who: Who) -> Option<Who>
+    pub fn pick(&mut self, who: Who, stays: bool) -> Option<Who>
         ensures made { IfSome result (λ other.
             IsReadyEvent (world_of self.old) (event_of (world_of self.old) Ask.Run (record { who = who; pick = Some other }))
             × (step_of (world_of self.old) (event_of (world_of self.old) Ask.Run (record { who = who; pick = Some other }))
             ≡ record { world = world_of self.new; said = Nothing })) }
         ensures ended { IsSome result → (port : Who) → has_ended (world_of self.old) (world_of self.new) (named (world_of self.old) port) ≡ false }
-        ensures placed { IfSome result (λ other.
-            IsPut (store_of self.old) (record { who = who; pick = Some other }) Ask.Run (store_of self.new) (standing_of self.new)) }
+        ensures placed { OnFalse stays (IfSome result (λ other.
+            IsPut (store_of self.old) (record { who = who; pick = Some other }) Ask.Run (store_of self.new) (standing_of self.new))) }
         ensures same { IfNone result (self.new ≡ self.old) }
     {
         self.store.names();
-        let other = fk_turns::steps::pick(&mut self.store, &mut self.turns, who);
+        let other = fk_turns::steps::pick(&mut self.store, &mut self.turns, who, stays);
         // And so they do in the world that the stage leaves.
         self.store.names();
         other

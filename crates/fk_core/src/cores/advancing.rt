@@ -74,7 +74,7 @@ impl<S: Service + Drop, W: Worker + Drop> Core<S, W> {
         if !picks(code) {
             return None;
         }
-        match self.kernel.pick(who) {
+        match self.kernel.pick(who, true) {
             Some(other) => {
                 self.events += 1;
                 self.rounds.hear(None);

@@ -59,7 +59,7 @@ impl<S: Service + Drop, W: Worker + Drop> Core<S, W> {
         ensures budget { self.new.budget ≡ self.old.budget }
         ensures jobs { self.new.jobs.jobs ≡ self.old.jobs.jobs }
     {
-        match self.kernel.pick(who) {
+        match self.kernel.pick(who, false) {
             Some(other) => {
                 self.events += 1;
                 self.last = Some(who);

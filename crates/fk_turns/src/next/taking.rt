@@ -97,6 +97,10 @@ fn takes_first_at(turns: &Turns, store: &Store, who: Who, set: u64, port: Who) -
 
 /// Who is queued first at a port of the set on which the user in a slot waits, if it is at a wait. It is a hint: nothing is said of it.
 pub fn first_to_take(turns: &Turns, store: &Store, who: Who) -> Option<Who> {
+    // Mostly nobody is queued anywhere.
+    if turns.waits().len() == 0 {
+        return None;
+    }
     let thread = store.thread(who)?;
     if !begins_with_wait(thread.regs[0]) {
         return None;

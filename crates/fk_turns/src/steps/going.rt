@@ -153,7 +153,7 @@ fn rouse_by(turns: &mut Turns, store: &Store, mover: Who, what: What)
 
 /// A thread that runs goes from first to last, unless it stays.
 #[inline(always)]
-fn go_last_unless(turns: &mut Turns, store: &Store, mover: Who, stays: bool)
+pub fn go_last_unless(turns: &mut Turns, store: &Store, mover: Who, stays: bool)
     requires valid { IsValid (world store.now) }
     requires kept { AreKept store.now turns.old.waits turns.old.marks }
     requires on { is_under_way_at store.now mover ≡ true }
@@ -167,7 +167,7 @@ fn go_last_unless(turns: &mut Turns, store: &Store, mover: Who, stays: bool)
 
 /// A thread that runs goes from first to last.
 #[inline(always)]
-pub fn go_last(turns: &mut Turns, store: &Store, mover: Who)
+fn go_last(turns: &mut Turns, store: &Store, mover: Who)
     requires valid { IsValid (world store.now) }
     requires kept { AreKept store.now turns.old.waits turns.old.marks }
     requires on { is_under_way_at store.now mover ≡ true }

@@ -12,16 +12,16 @@ ghost use Rattle.fk_turns.specs.Steps.Beside.{ComesBeside};
 ghost use Rattle.fk_turns.specs.Steps.Steps.{IsPut};
 
 use crate::moved::settle_at;
-use crate::steps::going::go_last;
+use crate::steps::going::go_last_unless;
 use crate::whys::at_locked;
 use fk_model::{Said, Who};
 use fk_store::Store;
 use fk_waits::turns::Turns;
 
 /// Makes the signal of the user in a slot, where it is at one, by which whoever is queued first at the condition is woken; and whom it wakes. Wherever it
-/// declines all stays as it is: so it does while anything is held, or somebody is marked whom any change may free.
+/// declines all stays as it is: so it does while anything is held, or somebody is marked whom any change may free. Who stays needn't go last.
 #[inline(never)]
-pub fn signal(store: &mut Store, turns: &mut Turns, who: Who) -> Option<Who>
+pub fn signal(store: &mut Store, turns: &mut Turns, who: Who, stays: bool) -> Option<Who>
     requires valid { IsValid (world store.old) }
     requires kept { AreKept store.old turns.old.waits turns.old.marks }
     ensures made { IfSome result (λ other. IsReadyMove store.old (picking who other) asks.Run
@@ -30,7 +30,7 @@ pub fn signal(store: &mut Store, turns: &mut Turns, who: Who) -> Option<Who>
     ensures same { IfNone result (store.new ≡ store.old) }
     ensures valid { IsValid (world store.new) }
     ensures kept { AreKept store.new turns.new.waits turns.new.marks }
-    ensures placed { IfSome result (λ other. IsPut store.old (picking who other) asks.Run store.new (standing turns.new.waits)) }
+    ensures placed { OnFalse stays (IfSome result (λ other. IsPut store.old (picking who other) asks.Run store.new (standing turns.new.waits))) }
     ensures still { IfNone result (standing turns.new.waits ≡ standing turns.old.waits) }
 {
     if store.is_any_held() {
@@ -55,7 +55,7 @@ pub fn signal(store: &mut Store, turns: &mut Turns, who: Who) -> Option<Who>
     }
     // And so they do in the world that the signal leaves.
     store.names();
-    after_waking(turns, store, who, other);
+    after_waking(turns, store, who, other, stays);
     Some(other)
 }
 
@@ -68,18 +68,18 @@ fn first_at(turns: &Turns, space: u32, cond: u64) -> Option<u8> {
     Some(first.slot)
 }
 
-/// The lists after a signal: who was woken is ready, or is queued at its mutex, and who signalled goes last.
+/// The lists after a signal: who was woken is ready, or is queued at its mutex, and who signalled goes last, unless it stays.
 #[inline(always)]
-fn after_waking(turns: &mut Turns, store: &Store, mover: Who, other: Who)
+fn after_waking(turns: &mut Turns, store: &Store, mover: Who, other: Who, stays: bool)
     requires valid { IsValid (world store.now) }
     requires comes { ComesBeside store.now mover other turns.old.waits turns.old.marks }
     requires on { is_under_way_at store.now mover ≡ true }
     ensures kept { AreKept store.now turns.new.waits turns.new.marks }
-    ensures placed { IsPlaced store.now (standing turns.new.waits) mover }
+    ensures placed { OnFalse stays (IsPlaced store.now (standing turns.new.waits) mover) }
 {
     rise(turns, store, mover, other);
     rest_locked(turns, store, other);
-    go_last(turns, store, mover);
+    go_last_unless(turns, store, mover, stays);
 }
 
 /// A thread that another's move has changed is ready, and nobody else is looked at.

@@ -20,8 +20,8 @@ use fk_store::Store;
 use fk_waits::turns::Turns;
 
 /// Makes the signal or the wait of the user in a slot, where it is at one, with whoever is queued first at the condition or at a port of the set; and whom
-/// it picks. Wherever it declines all stays as it is.
-pub fn pick(store: &mut Store, turns: &mut Turns, who: Who) -> Option<Who>
+/// it picks. Wherever it declines all stays as it is. Who stays and signals needn't go last.
+pub fn pick(store: &mut Store, turns: &mut Turns, who: Who, stays: bool) -> Option<Who>
     requires valid { IsValid (world store.old) }
     requires kept { AreKept store.old turns.old.waits turns.old.marks }
     ensures made { IfSome result (λ other. IsReadyMove store.old (picking who other) asks.Run
@@ -30,12 +30,12 @@ pub fn pick(store: &mut Store, turns: &mut Turns, who: Who) -> Option<Who>
     ensures same { IfNone result (store.new ≡ store.old) }
     ensures valid { IsValid (world store.new) }
     ensures kept { AreKept store.new turns.new.waits turns.new.marks }
-    ensures placed { IfSome result (λ other. IsPut store.old (picking who other) asks.Run store.new (standing turns.new.waits)) }
+    ensures placed { OnFalse stays (IfSome result (λ other. IsPut store.old (picking who other) asks.Run store.new (standing turns.new.waits))) }
     ensures still { IfNone result (standing turns.new.waits ≡ standing turns.old.waits) }
 {
     match first_to_take(turns, store, who) {
         Some(other) => take_first(store, turns, who, other),
-        None => signal(store, turns, who),
+        None => signal(store, turns, who, stays),
     }
 }
 

@@ -3,6 +3,7 @@ use Rattle.fk_model.specs.Valid.{IsValid}
 use Rattle.fk_store.specs.Store.Contents.{Contents}
 use Rattle.fk_store.specs.Store.World.{world}
 use Rattle.fk_turns.specs.Moved.Kept.{AreKept}
+use Rattle.fk_turns.proofs.InSteps.Locked.{if_false}
 use Rattle.fk_turns.proofs.InSteps.Risen.{signal_beside, signal_put, signal_valid}
 use Rattle.fk_turns.proofs.steps.signalling.signal.Goals as goal
 
@@ -48,8 +49,8 @@ returns-clause-placed c =
     let n = c.signal.new.store in
     let was = c.args.turns.now in
     let woken = rw c.if-not-signal.false at c.signal.ensures.woken in
-    signal_put m n c.args.who _ was.waits was.marks c.requires.valid c.names.ensures.few c.names.ensures.born c.names-2.ensures.born
-    c.names-2.ensures.few c.requires.kept woken c.after_waking.new.turns.waits c.after_waking.ensures.placed
+    if_false c.args.stays (λ placed. signal_put m n c.args.who _ was.waits was.marks c.requires.valid c.names.ensures.few c.names.ensures.born
+    c.names-2.ensures.born c.names-2.ensures.few c.requires.kept woken c.after_waking.new.turns.waits placed) c.after_waking.ensures.placed
 
 -- ---- it declined
 
