@@ -22,8 +22,8 @@ mod looks;
 mod room;
 mod serving;
 mod settling;
-mod speaking;
 mod several;
+mod speaking;
 mod turns;
 
 pub use fk_served::Kernel;

@@ -302,8 +302,8 @@ impl Kernel {
             × (step_of (world_of self.old) (event_of (world_of self.old) Ask.Run (record { who = who; pick = Some other }))
             ≡ record { world = world_of self.new; said = Nothing })) }
         ensures ended { IsSome result → (port : Who) → has_ended (world_of self.old) (world_of self.new) (named (world_of self.old) port) ≡ false }
-        ensures placed { OnFalse stays (IfSome result (λ other.
-            IsPut (store_of self.old) (record { who = who; pick = Some other }) Ask.Run (store_of self.new) (standing_of self.new))) }
+        ensures placed { IfSome result (λ other. OnFalse stays
+            (IsPut (store_of self.old) (record { who = who; pick = Some other }) Ask.Run (store_of self.new) (standing_of self.new))) }
         ensures same { IfNone result (self.new ≡ self.old) }
     {
         self.store.names();

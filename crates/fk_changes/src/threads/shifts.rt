@@ -35,12 +35,24 @@ fn less(a: u64, b: u64) -> u64
 fn shifts(thread: &Thread, count: u64) -> Option<(Put, Put)> {
     match thread.regs[0] {
         CLIENT_SEND_OVER_RECEIVE | CLIENT_SEND | SERVER_SEND | SERVER_SEND_OVER_RECEIVE => Some((
-            Put { register: 2, value: thread.regs[2] + count },
-            Put { register: 3, value: less(thread.regs[3], count) },
+            Put {
+                register: 2,
+                value: thread.regs[2] + count,
+            },
+            Put {
+                register: 3,
+                value: less(thread.regs[3], count),
+            },
         )),
         CLIENT_RECEIVE | SERVER_RECEIVE | CLIENT_RECEIVE_REF | SERVER_RECEIVE_REF => Some((
-            Put { register: 4, value: thread.regs[4] + count },
-            Put { register: 5, value: less(thread.regs[5], count) },
+            Put {
+                register: 4,
+                value: thread.regs[4] + count,
+            },
+            Put {
+                register: 5,
+                value: less(thread.regs[5], count),
+            },
         )),
         _ => None,
     }

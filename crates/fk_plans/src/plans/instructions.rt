@@ -36,7 +36,13 @@ pub fn make_effect(
         }
         Effect::Jumps { counter } => store.proceed(me, &registers, counter, Mode::Running),
         Effect::Halts { code } => store.proceed(me, &registers, counter, Mode::Halted(code)),
-        Effect::Enters => store.step(me, same(&registers, 0), same(&registers, 1), counter, Mode::Calling),
+        Effect::Enters => store.step(
+            me,
+            same(&registers, 0),
+            same(&registers, 1),
+            counter,
+            Mode::Calling,
+        ),
         Effect::Stores {
             space,
             page,

@@ -1,5 +1,5 @@
 -- Locked: the lists after a stage that set a mutex.
-use Rattle.std.proofs.Common.{◌≡◌, ◌≤◌, ◌⊎◌, ◌||◌, ◌&&◌, ◌==◌, Bool, true, false, not, [], Option, Some, None, is_none, inl, inr, refl, sym, ap, subst, ◌∙◌}
+use Rattle.std.proofs.Common.{◌≡◌, ◌≤◌, ◌⊎◌, ◌||◌, ◌&&◌, ◌==◌, Bool, true, false, not, [], Option, Some, None, IfSome, is_none, inl, inr, refl, sym, ap, subst, ◌∙◌}
 use Rattle.std.proofs.lemmas.Bool.{and_parts, or_from, or_right}
 use Rattle.std.specs.Bool.{OnTrue, OnFalse}
 use Rattle.fk_calls.specs.declared.calls.going.Then.{Then}
@@ -250,6 +250,12 @@ if_true false f p = tt
 pub if_false : {P Q : Type 0} (b : Bool) → (P → Q) → OnFalse b P → OnFalse b Q
 if_false true f p = tt
 if_false false f p = f p
+
+pub unless_some : {A : Type 0} {P : A → Type 0} (b : Bool) (o : Option A) → IfSome o P → IfSome o (λ a. OnFalse b (P a))
+unless_some true None p = tt
+unless_some false None p = tt
+unless_some true (Some a) p = tt
+unless_some false (Some a) p = p
 
 -- a free user is one
 pub free_user : (m : Contents) (who : Who) → is_free_at (world m) (place (path m) who) ≡ true → is_user_at m who ≡ true

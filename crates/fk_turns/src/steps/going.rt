@@ -116,14 +116,7 @@ fn go(store: &mut Store, turns: &mut Turns, who: Who, stays: bool) -> Gone
 /// The lists after a stage that did this, after which its thread is there: first whom it may have freed is looked at again, and then the thread goes to its
 /// place.
 #[inline(always)]
-fn after_class(
-    turns: &mut Turns,
-    store: &Store,
-    mover: Who,
-    what: What,
-    at: Then,
-    stays: bool,
-)
+fn after_class(turns: &mut Turns, store: &Store, mover: Who, what: What, at: Then, stays: bool)
     requires valid { IsValid (world store.now) }
     requires comes { ComesMildly store.now mover what turns.old.waits turns.old.marks }
     requires at { IsThen store.now mover at }

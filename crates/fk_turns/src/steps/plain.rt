@@ -21,11 +21,11 @@ ghost use Rattle.fk_turns.specs.Steps.Steps.{touches_only, AreApart, AreRousedAt
 ghost use Rattle.fk_turns.specs.Steps.Steps.{IsCalm, IsGentle, IsOneApart, IsQuietFrom, IsTurned, MayBeQuiet};
 
 use crate::next::after;
+use crate::whys::first_stage;
 use fk_calls::ready;
 use fk_model::call::{
     self, CLIENT_OVER, CLIENT_OVER_RECEIVE, CLIENT_SEND, CLIENT_SEND_OVER_RECEIVE,
 };
-use crate::whys::first_stage;
 use fk_model::{Ask, Mode, Move, Peer, Stage, Thread, Who};
 use fk_plans::wakes::Touched;
 use fk_store::Store;

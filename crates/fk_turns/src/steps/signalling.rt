@@ -1,5 +1,6 @@
 //! Signals that are made by one look, and the lists after them: who is woken is looked at once, and nobody else is.
 ghost use Rattle.std.specs.Prelude.{◌≡◌, true, None, IfNone, IfSome, IsSome};
+ghost use Rattle.std.specs.Bool.{OnFalse};
 ghost use Rattle.fk_model.specs.declared.moves.Ask.TheVariants as asks;
 ghost use Rattle.fk_model.specs.Valid.{IsValid};
 ghost use Rattle.fk_store.specs.Store.World.{world};
@@ -30,7 +31,7 @@ pub fn signal(store: &mut Store, turns: &mut Turns, who: Who, stays: bool) -> Op
     ensures same { IfNone result (store.new ≡ store.old) }
     ensures valid { IsValid (world store.new) }
     ensures kept { AreKept store.new turns.new.waits turns.new.marks }
-    ensures placed { OnFalse stays (IfSome result (λ other. IsPut store.old (picking who other) asks.Run store.new (standing turns.new.waits))) }
+    ensures placed { IfSome result (λ other. OnFalse stays (IsPut store.old (picking who other) asks.Run store.new (standing turns.new.waits))) }
     ensures still { IfNone result (standing turns.new.waits ≡ standing turns.old.waits) }
 {
     if store.is_any_held() {

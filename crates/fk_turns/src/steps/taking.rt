@@ -30,7 +30,7 @@ pub fn pick(store: &mut Store, turns: &mut Turns, who: Who, stays: bool) -> Opti
     ensures same { IfNone result (store.new ≡ store.old) }
     ensures valid { IsValid (world store.new) }
     ensures kept { AreKept store.new turns.new.waits turns.new.marks }
-    ensures placed { OnFalse stays (IfSome result (λ other. IsPut store.old (picking who other) asks.Run store.new (standing turns.new.waits))) }
+    ensures placed { IfSome result (λ other. OnFalse stays (IsPut store.old (picking who other) asks.Run store.new (standing turns.new.waits))) }
     ensures still { IfNone result (standing turns.new.waits ≡ standing turns.old.waits) }
 {
     match first_to_take(turns, store, who) {

@@ -98,14 +98,7 @@ pub fn hears_still(store: &Store, who: Who) -> bool
 
 /// The lists after a turn that went to a receiver. Where one of the two is in another talk too, those who wait for it there are looked at as after any move.
 #[inline(always)]
-fn after_turn(
-    turns: &mut Turns,
-    store: &Store,
-    mover: Who,
-    client: Who,
-    receiver: Who,
-    stays: bool,
-)
+fn after_turn(turns: &mut Turns, store: &Store, mover: Who, client: Who, receiver: Who, stays: bool)
     requires valid { IsValid (world store.now) }
     requires comes { ComesTalked store.now mover (Talked.Passes client receiver) turns.old.waits turns.old.marks }
     ensures kept { AreKept store.now turns.new.waits turns.new.marks }
