@@ -61,8 +61,8 @@ fn tell(store: &mut Store, who: Who, address: u64, count: u64) -> Option<Spoken>
 /// So many words have moved, and with the last of them the stage is done.
 #[inline(always)]
 fn tells(store: &mut Store, who: Who, told: &Telling) {
-    count_moved(store, who, told.words.count);
-    advance(store, who, u64::from(told.words.count));
+    count_moved(store, told.client, told.words.count);
+    advance(store, told.sender, u64::from(told.words.count));
     if told.last {
         finish(store, who, Answers::Nothing);
     }
@@ -76,8 +76,8 @@ fn hand(store: &mut Store, who: Who) -> Option<Spoken> {
         who,
         is_porter: false,
     };
-    let port = yielding(store, caller)?;
-    store.pass_turn(who, Turn::Server);
+    let yields = yielding(store, caller)?;
+    store.pass_turn(yields.client, Turn::Server);
     finish(store, who, Answers::Nothing);
-    Some(Spoken::Over { port })
+    Some(Spoken::Over { port: yields.port })
 }
