@@ -22,7 +22,7 @@ use Rattle.fk_turns.specs.Whys.Whys.{IsAt, IsLoudly, IsStill, IsWhy}
 use Rattle.fk_turns.proofs.InWhys.Apart.{is_barred_why, key_there, why_calm}
 use Rattle.fk_turns.proofs.InWhys.Calmly.{instructions_calm, is_on}
 use Rattle.laws_waits.specs.Calm.{AreCalm}
-use Rattle.fk_turns.specs.Moved.Told.{is_going, runs_on_at, IsMadeTo, IsRunning, IsStored, IsToldOf, ToldQuiet}
+use Rattle.fk_turns.specs.Moved.Told.{goes_quietly_at, is_going, EntersQuietly, IsMadeTo, IsRunning, IsStored, IsToldOf, ToldQuiet}
 use Rattle.fk_turns.proofs.InMoved.Told.{same_name, stays, taken_off, user_there}
 
 running_there : (w : World) (x : Path) (t : Thread) → thread_at w x ≡ Some t → IsSome (w.body x)
