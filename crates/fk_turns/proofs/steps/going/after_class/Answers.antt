@@ -1,8 +1,5 @@
 use Rattle.fk_turns.proofs.InSteps.Locked.{then_user}
-<<<<<<< HEAD
 use Rattle.fk_turns.proofs.InSteps.Went.{off_anyway}
-=======
->>>>>>> origin/next
 use Rattle.fk_turns.proofs.steps.going.after_class.Goals as goal
 
 pub rouse_by-requires : goal.rouse_by-requires
