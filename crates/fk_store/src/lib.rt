@@ -12,4 +12,4 @@ pub mod freezing;
 pub mod holds;
 pub mod store;
 
-pub use store::{Put, Reach, Store};
+pub use store::{Reach, Store};

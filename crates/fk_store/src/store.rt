@@ -17,6 +17,5 @@ mod store;
 mod talks;
 mod threads;
 
-pub use fk_store_graph::bodies::Put;
 pub use reach::Reach;
 pub use store::Store;

@@ -10,6 +10,5 @@ mod edits;
 mod entry;
 mod objects;
 
-pub use alter::Put;
 pub use entry::{Entry, Hints, Told};
 pub use objects::Objects;

@@ -13,6 +13,5 @@ mod pages;
 mod scans;
 
 pub use bodies::Bodies;
-pub use fk_store_cells::objects::Put;
 pub use leaders::Leaders;
 pub use pages::Pages;

@@ -22,7 +22,7 @@ use fk_model::call::{
     SERVER_OVER_RECEIVE, SERVER_RECEIVE, SERVER_SEND_OVER_RECEIVE, WAIT_RECEIVE,
 };
 use fk_model::{Mode, Thread, Who, status};
-use fk_store::{Put, Store};
+use fk_store::Store;
 
 /// The answers of a stage.
 #[derive(Clone, Copy)]
@@ -109,63 +109,11 @@ fn ended_well(thread: &Thread, answers: Answers) -> [u64; 16]
     registers
 }
 
-/// The word of a thread's second register once its stage is done with such answers, where its third and fourth stay.
-#[inline(always)]
-fn second_of(thread: &Thread, answers: Answers) -> Option<Put> {
-    match answers {
-        Answers::Nothing => Some(Put {
-            register: 1,
-            value: thread.regs[1],
-        }),
-        Answers::One(value) => Some(Put { register: 1, value }),
-        Answers::Two(..) | Answers::Three(..) => None,
-    }
-}
-
-/// A calling thread is at the stages with a code, or its call is done.
-#[inline(always)]
-fn step_on(store: &mut Store, who: Who, code: Option<u64>, second: Put, counter: u64) {
-    match code {
-        Some(value) => {
-            let first = Put { register: 0, value };
-            store.step(who, first, second, counter, Mode::Calling);
-        }
-        None => {
-            let first = Put {
-                register: 0,
-                value: u64::from(status::OK),
-            };
-            store.step(who, first, second, counter.wrapping_add(1), Mode::Running);
-        }
-    }
-}
-
 /// The first stage of a thread's call is done, with answers that leave the arguments of its later
 /// stages. The call ends where it was the last. What is in no call stays as it is.
 #[tactic(auto, using(fk_store::proofs::InStore::changing::ThreadLaws::kind_thread, crate::proofs::InThreads::FinishLaws::finish_nobody))]
 #[inline(always)]
 pub fn finish(store: &mut Store, who: Who, answers: Answers)
-    requires apart { LeaveArguments answers (todo_at (world store.old) (place (path store.old) who)) }
-    ensures world { world store.new ≡ apply (Alter (place (path store.old) who) (Finish (listed answers))) (world store.old) }
-    ensures kinds { kind_there (world store.new) ≡ kind_there (world store.old) }
-    ensures paths { path store.new ≡ path store.old }
-{
-    if let Some(thread) = store.thread(who) {
-        if let Mode::Calling = thread.mode {
-            let counter = thread.pc;
-            let code = code_after(thread.regs[0]);
-            match second_of(thread, answers) {
-                Some(second) => step_on(store, who, code, second, counter),
-                None => finish_wide(store, who, answers),
-            }
-        }
-    }
-}
-
-/// The same with any answers.
-#[tactic(auto, using(fk_store::proofs::InStore::changing::ThreadLaws::kind_thread, crate::proofs::InThreads::FinishLaws::finish_nobody))]
-#[inline(never)]
-fn finish_wide(store: &mut Store, who: Who, answers: Answers)
     requires apart { LeaveArguments answers (todo_at (world store.old) (place (path store.old) who)) }
     ensures world { world store.new ≡ apply (Alter (place (path store.old) who) (Finish (listed answers))) (world store.old) }
     ensures kinds { kind_there (world store.new) ≡ kind_there (world store.old) }

@@ -21,7 +21,7 @@ use fk_model::call::{
     SERVER_RECEIVE_REF, SERVER_SEND, SERVER_SEND_OVER_RECEIVE,
 };
 use fk_model::{Mode, Thread, Turn, Who};
-use fk_store::{Put, Store};
+use fk_store::Store;
 
 /// What is left, or nothing.
 fn less(a: u64, b: u64) -> u64
@@ -30,32 +30,37 @@ fn less(a: u64, b: u64) -> u64
     if a < b { 0 } else { a - b }
 }
 
-/// The words by which a thread's first stage has moved so many words more: where the next one is, and how many are left.
+/// The first stage of the call in registers has moved so many words.
 #[inline(always)]
-fn shifts(thread: &Thread, count: u64) -> Option<(Put, Put)> {
-    match thread.regs[0] {
-        CLIENT_SEND_OVER_RECEIVE | CLIENT_SEND | SERVER_SEND | SERVER_SEND_OVER_RECEIVE => Some((
-            Put {
-                register: 2,
-                value: thread.regs[2] + count,
-            },
-            Put {
-                register: 3,
-                value: less(thread.regs[3], count),
-            },
-        )),
-        CLIENT_RECEIVE | SERVER_RECEIVE | CLIENT_RECEIVE_REF | SERVER_RECEIVE_REF => Some((
-            Put {
-                register: 4,
-                value: thread.regs[4] + count,
-            },
-            Put {
-                register: 5,
-                value: less(thread.regs[5], count),
-            },
-        )),
-        _ => None,
+fn shift(registers: &mut [u64; 16], count: u64)
+    requires { address_in (moving (slice_index registers.old 0)) registers.old + count < 2 ^ 64 }
+    ensures { registers.new ≡ shifted_registers count registers.old }
+{
+    match registers[0] {
+        CLIENT_SEND_OVER_RECEIVE | CLIENT_SEND | SERVER_SEND | SERVER_SEND_OVER_RECEIVE => {
+            registers[2] = registers[2] + count;
+            registers[3] = less(registers[3], count);
+        }
+        CLIENT_RECEIVE | SERVER_RECEIVE | CLIENT_RECEIVE_REF | SERVER_RECEIVE_REF => {
+            registers[4] = registers[4] + count;
+            registers[5] = less(registers[5], count);
+        }
+        _ => {}
     }
+}
+
+/// The registers of a calling thread whose first stage has moved so many words.
+#[inline(always)]
+fn shifted(thread: &Thread, count: u64) -> [u64; 16]
+    requires calling { thread.now.mode ≡ modes.Calling }
+    requires low { address_of (todo_of_mode (mode_by thread.now.mode thread.now.regs)) + count < 2 ^ 64 }
+    ensures call { is_some (todo_of thread.now.regs) ≡ true → is_some (todo_of result) ≡ true }
+    ensures edit { (p : ℕ → Path) → edited (Shift count) (Thread_of (thread_by p thread.now))
+        ≡ Thread_of (thread_by p (record thread.now { regs = result; mode = modes.Calling })) }
+{
+    let mut registers = thread.regs;
+    shift(&mut registers, count);
+    registers
 }
 
 /// The first stage of a thread's call has moved so many words. What is in no such stage stays as it
@@ -70,9 +75,8 @@ pub fn advance(store: &mut Store, who: Who, count: u64)
     if let Some(thread) = store.thread(who) {
         if let Mode::Calling = thread.mode {
             let counter = thread.pc;
-            if let Some((one, other)) = shifts(thread, count) {
-                store.step(who, one, other, counter, Mode::Calling);
-            }
+            let registers = shifted(thread, count);
+            store.proceed(who, &registers, counter, Mode::Calling);
         }
     }
 }

@@ -10,7 +10,7 @@ ghost use Rattle.fk_model.specs.Valid.{kind_there};
 
 use crate::plans::plan::Effect;
 use fk_model::{Mode, Who};
-use fk_store::{Put, Store};
+use fk_store::Store;
 
 /// Makes an effect of a running thread with these registers at this counter.
 #[tactic(auto, unfolding(fk_model::specs::World::apply_all))]
@@ -36,13 +36,7 @@ pub fn make_effect(
         }
         Effect::Jumps { counter } => store.proceed(me, &registers, counter, Mode::Running),
         Effect::Halts { code } => store.proceed(me, &registers, counter, Mode::Halted(code)),
-        Effect::Enters => store.step(
-            me,
-            same(&registers, 0),
-            same(&registers, 1),
-            counter,
-            Mode::Calling,
-        ),
+        Effect::Enters => store.proceed(me, &registers, counter, Mode::Calling),
         Effect::Stores {
             space,
             page,
@@ -52,15 +46,6 @@ pub fn make_effect(
             store.put_word(space, page, at, value);
             store.proceed(me, &registers, next, Mode::Running);
         }
-    }
-}
-
-/// A register stays as it is.
-#[inline(always)]
-fn same(registers: &[u64; 16], register: u8) -> Put {
-    Put {
-        register,
-        value: registers[register as usize],
     }
 }
 

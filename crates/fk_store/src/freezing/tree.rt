@@ -27,7 +27,7 @@ ghost use Rattle.fk_store_graph.specs.Bodies.Threads.{proceeded};
 use crate::freezing::settle::{forget, make_room, settle};
 use crate::holds::{Frozen, Held};
 use fk_model::{Body, Fault, Mode, NoMemory, Ptr, Who};
-use fk_store_graph::bodies::{Bodies, Leaders, Put};
+use fk_store_graph::bodies::{Bodies, Leaders};
 use fk_store_graph::leads::{Nudge, Part};
 use std::alloc::Global;
 use std::marker::Model;
@@ -124,16 +124,6 @@ impl Tree {
         ensures none { map.get self.old who ≡ None → self.new ≡ self.old }
     {
         self.bodies.proceed(who, registers, counter, mode);
-    }
-
-    /// A thread goes on with two registers of these words, at this counter and in this mode. What is no thread stays as it is.
-    #[inline]
-    pub fn step(&mut self, who: Who, one: Put, other: Put, counter: u64, mode: Mode)
-        requires registers { one.register < 16 × other.register < 16 }
-        ensures there { (b : Body) → map.get self.old who ≡ Some b → self.new ≡ map.insert self.old who (stepped one other counter mode b) }
-        ensures none { map.get self.old who ≡ None → self.new ≡ self.old }
-    {
-        self.bodies.step(who, one, other, counter, mode);
     }
 
     /// A thread changes a little. What is no thread stays as it is.

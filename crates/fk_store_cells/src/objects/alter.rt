@@ -16,26 +16,6 @@ pub fn proceed(body: &mut Body, registers: &[u64; 16], counter: u64, mode: Mode)
     }
 }
 
-/// A word for one of a thread's registers.
-#[derive(Clone, Copy)]
-pub struct Put {
-    pub register: u8,
-    pub value: u64,
-}
-
-/// A thread has these two registers, this counter and this mode, and its others as they are.
-pub fn step(body: &mut Body, one: Put, other: Put, counter: u64, mode: Mode)
-    requires registers { one.register < 16 × other.register < 16 }
-    ensures { body.new ≡ threads.on_thread (threads.stepping one other counter mode) body.old }
-{
-    if let Body::Thread(thread) = body {
-        thread.regs[one.register as usize] = one.value;
-        thread.regs[other.register as usize] = other.value;
-        thread.pc = counter;
-        thread.mode = mode;
-    }
-}
-
 /// A thread's talk has moved so many words more.
 pub fn count(body: &mut Body, words: u8)
     ensures { body.new ≡ threads.on_thread (threads.counting words) body.old }

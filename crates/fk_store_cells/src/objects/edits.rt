@@ -3,7 +3,6 @@ ghost use Rattle.fk_store_cells.specs.Objects.Edits.{Rewrites, with_body, with_h
 ghost use Rattle.fk_store_cells.specs.Objects.Threads as threads;
 
 use crate::objects::alter;
-use crate::objects::alter::Put;
 use crate::objects::entry::{Entry, Hints};
 use fk_model::{Body, Fault, Mode, Turn, Who};
 use slab::Slab;
@@ -41,16 +40,6 @@ pub fn proceed(entries: &mut Slab<Entry>, key: u32, registers: &[u64; 16], count
 {
     if let Some(entry) = entries.get_mut(key as usize) {
         alter::proceed(&mut entry.body, registers, counter, mode);
-    }
-}
-
-/// The thread under a key goes on with two registers of these words.
-pub fn step(entries: &mut Slab<Entry>, key: u32, one: Put, other: Put, counter: u64, mode: Mode)
-    requires registers { one.register < 16 × other.register < 16 }
-    ensures { Rewrites entries.old entries.new key (on_body (threads.on_thread (threads.stepping one other counter mode))) }
-{
-    if let Some(entry) = entries.get_mut(key as usize) {
-        alter::step(&mut entry.body, one, other, counter, mode);
     }
 }
 

@@ -12,7 +12,6 @@ ghost use Rattle.fk_store_cells.specs.Objects.Edits.{Edits, Makes, Keeps, Remove
 ghost use Rattle.fk_store_cells.specs.Objects.Threads as threads;
 
 use crate::keys::Keys;
-use crate::objects::alter::Put;
 use crate::objects::edits;
 use crate::objects::entry::{Entry, Hints};
 use fk_model::{Body, Fault, Mode, NoMemory, Turn, Who};
@@ -103,14 +102,6 @@ impl Objects {
         ensures { Edits self.old self.new key (on_body (threads.on_thread (threads.going registers.now counter mode))) }
     {
         edits::proceed(&mut self.entries, key, registers, counter, mode);
-    }
-
-    /// The thread under a key goes on with two registers of these words, at this counter and in this mode.
-    pub fn step(&mut self, key: u32, one: Put, other: Put, counter: u64, mode: Mode)
-        requires registers { one.register < 16 × other.register < 16 }
-        ensures { Edits self.old self.new key (on_body (threads.on_thread (threads.stepping one other counter mode))) }
-    {
-        edits::step(&mut self.entries, key, one, other, counter, mode);
     }
 
     /// The talk of the thread under a key has moved so many words more.

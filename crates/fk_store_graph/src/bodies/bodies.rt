@@ -43,7 +43,7 @@ use crate::linked::{
 };
 use crate::links::{Links, head_of};
 use fk_model::{Body, Fault, Mode, NoMemory, Ptr, Who};
-use fk_store_cells::objects::{Objects, Put};
+use fk_store_cells::objects::Objects;
 use std::alloc::Global;
 use std::marker::Model;
 
@@ -151,18 +151,6 @@ impl Bodies {
         self.objects.filed();
         if let Some(key) = self.objects.key(who) {
             self.objects.proceed(key, registers, counter, mode);
-        }
-    }
-
-    /// A thread goes on with two registers of these words, at this counter and in this mode. What is no thread stays as it is.
-    pub fn step(&mut self, who: Who, one: Put, other: Put, counter: u64, mode: Mode)
-        requires registers { one.register < 16 × other.register < 16 }
-        ensures there { (b : Body) → map.get self.old who ≡ Some b → self.new ≡ map.insert self.old who (stepped one other counter mode b) }
-        ensures none { map.get self.old who ≡ None → self.new ≡ self.old }
-    {
-        self.objects.filed();
-        if let Some(key) = self.objects.key(who) {
-            self.objects.step(key, one, other, counter, mode);
         }
     }
 

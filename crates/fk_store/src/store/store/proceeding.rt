@@ -12,7 +12,6 @@ ghost use Rattle.fk_store.specs.Store.World.{world};
 
 use crate::store::Store;
 use fk_model::{Mode, Who};
-use fk_store_graph::bodies::Put;
 use fk_store_graph::leads::Nudge;
 
 impl Store {
@@ -25,19 +24,6 @@ impl Store {
         ensures paths { path self.new ≡ path self.old }
     {
         self.bodies.proceed(me, registers, counter, mode);
-    }
-
-    /// A thread goes on with two registers of these words, at this counter and in this mode; its others stay as they are. Where it calls, the first register holds
-    /// a call's code then. What is no thread stays as it is.
-    pub fn step(&mut self, me: Who, one: Put, other: Put, counter: u64, mode: Mode)
-        ghost registers: { List ℕ }
-        requires at { AreStepped self.old me one other registers }
-        requires call { HasCall mode registers }
-        ensures world { world self.new ≡ apply (Alter (place (path self.old) me) (Proceed (mode_by mode registers) counter)) (world self.old) }
-        ensures kinds { kind_there (world self.new) ≡ kind_there (world self.old) }
-        ensures paths { path self.new ≡ path self.old }
-    {
-        self.bodies.step(me, one, other, counter, mode);
     }
 
     /// A thread or a mutex changes a little. What is neither stays as it is.
