@@ -47,9 +47,10 @@ impl<S: Service + Drop, W: Worker + Drop> Core<S, W> {
         made
     }
 
-    /// Whose instructions are to be made: those of the thread that moved last, or where that waits, of the first of the ready. It is a hint: nothing is said of
-    /// it.
-    fn runner(&self) -> Option<Who> {
+    /// Whose instructions are to be made: those of the thread that moved last, or where that waits, of the first of the ready. It is a hint.
+    fn runner(&self) -> Option<Who>
+        ensures { IsSome result → self.now.events < self.now.budget }
+    {
         match self.same_thread() {
             Some(who) => Some(who),
             None => self.front(),
@@ -57,11 +58,21 @@ impl<S: Service + Drop, W: Worker + Drop> Core<S, W> {
     }
 
     /// The first of the ready, but where the look goes round, or a server heard of the last move.
-    fn front(&self) -> Option<Who> {
-        if self.events % ROUND == 0 || self.rounds.may_serve(&self.moment()) {
+    fn front(&self) -> Option<Who>
+        ensures { IsSome result → self.now.events < self.now.budget }
+    {
+        if self.events >= self.budget {
+            return None;
+        }
+        if self.is_turning() {
             return None;
         }
         self.kernel.waits().next()
+    }
+
+    /// The look goes round, or a server heard of the last move. It is a hint: nothing is said of it.
+    fn is_turning(&self) -> bool {
+        self.events % ROUND == 0 || self.rounds.may_serve(&self.moment())
     }
 
     /// Makes instructions of the thread that moved last, or of the first of the ready where that waits, at most so many and none past the end of the round,
@@ -77,15 +88,16 @@ impl<S: Service + Drop, W: Worker + Drop> Core<S, W> {
         ensures budget { self.new.budget ≡ self.old.budget }
         ensures jobs { self.new.jobs.jobs ≡ self.old.jobs.jobs }
     {
-        if self.rounds.is_lone() || self.jobs.current().is_some() {
+        if self.rounds.is_lone() {
+            return None;
+        }
+        if self.jobs.current().is_some() {
             return None;
         }
         let who = self.runner()?;
         let most = most.min(self.left());
         let made = self.run_on(who, most);
-        if made < most {
-            self.rounds.lone();
-        }
+        self.rounds.lone_if(made < most);
         if made == 0 {
             return None;
         }

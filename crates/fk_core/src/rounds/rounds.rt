@@ -136,11 +136,20 @@ impl Rounds {
         self.stuck = true;
     }
 
-    /// The next move of the thread that moved last is none of several at once.
-    pub fn lone(&mut self)
+    /// The same where this holds.
+    pub fn park_if(&mut self, waits: bool)
         ensures { self.new.heard ≡ self.old.heard }
     {
-        self.lone = true;
+        if waits {
+            self.stuck = true;
+        }
+    }
+
+    /// Whether the next move of the thread that moved last is known to be none of several at once.
+    pub fn lone_if(&mut self, lone: bool)
+        ensures { self.new.heard ≡ self.old.heard }
+    {
+        self.lone = lone;
     }
 
     /// Whether it is known to be none. It is a hint: nothing is said of it.

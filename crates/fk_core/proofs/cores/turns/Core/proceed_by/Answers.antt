@@ -3,7 +3,7 @@ use Rattle.fk_core.proofs.cores.turns.Core.proceed_by.Goals as goal
 
 pub run_on-made-requires-clause-few : goal.run_on-made-requires-clause-few
 run_on-made-requires-clause-few g c =
-    let below = c.same_thread.ensures (subst (λ o. IsSome o) (sym c.in_ok-who.was) refl) in
+    let below = c.runner.ensures (subst (λ o. IsSome o) (sym c.in_ok-who.was) refl) in
     let room = c.left.ensures.budget in
     omega (arith, below, room)
 
@@ -15,7 +15,7 @@ returns-then-made-eq0-clause-events g c =
 
 pub returns-clause-made : goal.returns-clause-made
 returns-clause-made g c =
-    let below = c.same_thread.ensures (subst (λ o. IsSome o) (sym c.in_ok-who.was) refl) in
+    let below = c.runner.ensures (subst (λ o. IsSome o) (sym c.in_ok-who.was) refl) in
     let room = c.left.ensures.budget in
     let round = c.left.ensures.round in
     let few = c.run_on-made.ensures.few in
