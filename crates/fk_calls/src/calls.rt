@@ -26,6 +26,7 @@ mod rows;
 mod sayings;
 mod signalling;
 mod silent;
+mod speaking;
 mod straight;
 mod taking;
 
@@ -40,4 +41,5 @@ pub use picking::{Picks, may_pick};
 pub use sayings::{Saying, Sent, say};
 pub use signalling::{signal, signal_of};
 pub use silent::stage;
+pub use speaking::{Spoken, speak};
 pub use taking::take_up;

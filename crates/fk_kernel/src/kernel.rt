@@ -33,7 +33,7 @@ ghost use Rattle.fk_kernel.specs.Events.{IsReadyBesides, IsReadyEvent, may_lack,
 use fk_model::{Ask, Move, NoMemory, Said, Stage, Who};
 use fk_store::Store;
 use fk_turns::next::ready_move;
-use fk_turns::steps::{Gone, Sent, Told};
+use fk_turns::steps::{Gone, Sent, Spoken, Told};
 use fk_waits::Waits;
 use fk_waits::turns::Turns;
 use std::alloc::Global;
@@ -334,6 +334,26 @@ impl Kernel {
         // And so they do in the world that the stage leaves.
         self.store.names();
         sent
+    }
+
+    /// Makes the next stage of the user in a slot, where that is a Send or an Over to a native server and is ready, and tells what its server hears: words stay
+    /// in their page. Else all stays as it is, and whether the move is ready the general way tells. No native server loses its client by it.
+    pub fn speak(&mut self, who: Who) -> Option<Spoken>
+        ensures made { IfSome result (λ spoken.
+            IsReadyEvent (world_of self.old) (event_of (world_of self.old) Ask.Run (record { who = who; pick = None }))
+            × (step_of (world_of self.old) (event_of (world_of self.old) Ask.Run (record { who = who; pick = None }))
+            ≡ record { world = world_of self.new; said = said_by (path_of self.new) (said_of (store_of self.new) spoken) })) }
+        ensures ended { IsSome result → (port : Who) → has_ended (world_of self.old) (world_of self.new) (named (world_of self.old) port) ≡ false }
+        ensures told { IfSome result (λ spoken. (port : Who) →
+            says_to (step_of (world_of self.old) (event_of (world_of self.old) Ask.Run (record { who = who; pick = None }))).said
+            (named (world_of self.old) port) ≡ says_to_who (said_of (store_of self.new) spoken) port) }
+        ensures same { IfNone result (self.new ≡ self.old) }
+    {
+        self.store.names();
+        let spoken = fk_turns::steps::speak(&mut self.store, &mut self.turns, who);
+        // And so they do in the world that the stage leaves.
+        self.store.names();
+        spoken
     }
 
     /// The move of the first of the ready threads that can move. Those before it are queued, each at its cause. There is none exactly where no user's move is

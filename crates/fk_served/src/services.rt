@@ -269,6 +269,18 @@ impl<S: Service + Drop> Services<S> {
         tell_port(&mut self.list, table, port, Heard::Words(words_of(sent)));
     }
 
+    /// Tells the server of a port that its client has sent these words.
+    pub fn hear_slice(&mut self, table: &Table, port: Who, words: &[u64])
+        requires fits { AllFit (map (λ r. r.rule) table.now.list.items) self.old.list }
+        requires ready { self.old.ready ≡ true }
+        requires few { length words.now ≤ 64 }
+        ensures { (numbers : List ℕ) → take (length words.now) numbers ≡ words.now
+            → self.new.list ≡ map (told (says.Words port numbers (length words.now)) None) self.old.list }
+    {
+        self.used = true;
+        tell_port(&mut self.list, table, port, Heard::Words(words));
+    }
+
     /// Tells the server of a port that its client has taken so many words.
     pub fn hear_given(&mut self, table: &Table, port: Who, count: u8)
         requires fits { AllFit (map (λ r. r.rule) table.now.list.items) self.old.list }

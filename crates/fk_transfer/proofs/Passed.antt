@@ -1,15 +1,17 @@
 -- Passed: a turn that is handed to a thread.
-use Rattle.std.proofs.Common.{◌≡◌, ℕ, Bool, true, Option, Some, None, Ok, is_some, refl}
+use Rattle.std.proofs.Common.{◌≡◌, ℕ, Bool, true, [], Option, Some, None, Ok, is_some, refl}
 use Rattle.fk_changes.specs.Threads.Answers.{came_answers}
 use Rattle.fk_model.specs.declared.names.Who.{Who}
 use Rattle.fk_model.specs.declared.thread.Turn.{Turn}
+use Rattle.fk_model.specs.declared.thread.Turn.TheVariants as turns
 use Rattle.fk_model.specs.Objects.{Thread}
-use Rattle.fk_model.specs.Objects.Peer.{Server}
-use Rattle.fk_model.specs.Outcomes.{Caller, path_of, when}
+use Rattle.fk_model.specs.Objects.Peer.{Server, Service}
+use Rattle.fk_model.specs.Outcomes.{Caller, path_of, telling, when}
+use Rattle.fk_model.specs.Outcomes.Said.{Passed}
 use Rattle.fk_model.specs.Places.{Path, parent, Ptr}
 use Rattle.fk_model.specs.Places.Ptr.{At}
 use Rattle.fk_model.specs.Searches.{thread_at}
-use Rattle.fk_model.specs.Talks.{awaited, other_side, receiving, thread_led_to, Line}
+use Rattle.fk_model.specs.Talks.{awaited, is_service_free, other_side, receiving, thread_led_to, Line}
 use Rattle.fk_model.specs.TransferRows.{in_turn, over, passes, passes_to_thread, taken_answers, takes_turn}
 use Rattle.fk_model.specs.World.{World}
 use Rattle.fk_plans.specs.Plans.Verdicts.{outcome_by}
@@ -29,6 +31,12 @@ pub passed_row : (w : World) (p : ℕ → Path) (c : Caller) (side turn : Turn) 
     turn ≡ other_side side → came_answers came ≡ taken_answers to None →
     outcome_by w p c (passed_by client turn receiver came) ≡ passes c side (place p client) (takes_turn (place p receiver) None to)
 passed_row w p c side turn client receiver came to is answers = rw (is, answers) refl
+
+-- the row of an Over where a native server is there
+pub over_yields : (w : World) (c : Caller) (l : Line) → Ok l ≡ in_turn w (path_of c) turns.Client turns.Client → l.other ≡ Service →
+    is_service_free w l.talk.port ≡ true → telling (Passed l.talk.port) (passes c turns.Client l.client []) ≡ over w c turns.Client None
+unfolding over
+over_yields w c l line other free = rw (← line, other, free) refl
 
 -- the row of an Over where a thread is at the other end
 pub over_goes : (w : World) (c : Caller) (side : Turn) (l : Line) (y : Path) → Ok l ≡ in_turn w (path_of c) side side → l.other ≡ Server (At y) →

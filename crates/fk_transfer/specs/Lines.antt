@@ -22,7 +22,10 @@ use Rattle.fk_plans.specs.declared.plans.plan.Plan.TheVariants as plans
 use Rattle.fk_plans.specs.declared.plans.plan.Verdict.{Verdict}
 use Rattle.fk_plans.specs.declared.plans.plan.Verdict.TheVariants as verdicts
 use Rattle.fk_transfer.specs.declared.lines.Line.{Line}
+use Rattle.fk_plans.specs.declared.plans.plan.News.TheVariants as news
 use Rattle.fk_transfer.specs.declared.passing.Passage.{Passage}
+use Rattle.fk_transfer.specs.declared.passing.Yielding.{Yielding}
+use Rattle.fk_transfer.specs.declared.sending.Telling.{Telling}
 pub use Rattle.fk_changes.specs.Threads.Firsts.{IsFirst}
 
 -- a talk with who is at its ends, by paths
@@ -56,6 +59,14 @@ passed_by client turn peer came = verdicts.Done (plans.Two (deeds.Finishes peer 
 -- the verdict over a turn that passes to a thread at its Receive
 abbrev pub passed_of : Passage → Verdict
 passed_of h = passed_by h.client h.turn h.receiver h.came
+
+-- the turn passes to a native server, which hears it
+abbrev pub yielded_of : Yielding → Verdict
+yielded_of y = verdicts.Tells (plans.One (deeds.Passes y.client turns.Server)) (news.Passed y.port) true
+
+-- words of a page go to a native server
+abbrev pub telling_of : Telling → Verdict
+telling_of t = verdicts.Tells (plans.Two (deeds.Counts t.client t.words.count) (deeds.Shifts t.sender t.words.count)) (news.Words t.words) t.last
 
 -- ---- who meets whom
 

@@ -324,6 +324,9 @@ impl<S: Service + Drop, W: JobMachine + Drop> Core<S, W> {
         ensures budget { self.new.budget ≡ self.old.budget }
         ensures jobs { self.new.jobs.jobs ≡ self.old.jobs.jobs }
     {
+        if let Some(m) = self.go_spoken(table) {
+            return Ok(Some(m));
+        }
         match self.proceed() {
             Some(m) => Ok(Some(m)),
             None => self.go_further(table),

@@ -292,6 +292,9 @@ impl<S: Service + Drop, W: JobMachine + Drop> Core<S, W> {
         ensures budget { self.new.budget ≡ self.old.budget }
         ensures jobs { self.new.jobs.jobs ≡ self.old.jobs.jobs }
     {
+        if m.pick.is_none() && self.speak_at(table, m.who) {
+            return Ok(true);
+        }
         if self.go_said(table, m) {
             return Ok(true);
         }
