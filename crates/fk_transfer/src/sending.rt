@@ -450,6 +450,7 @@ fn told(store: &Store, caller: Caller, client: Who, message: Message, port: Who)
         message.address message.count (words_at (world store.now) (path store.now message.page.0) message.page.1) }
     ensures fits { IsVerdict store.now caller (telling_of result) }
 {
+    let sender = caller.who;
     let count = moved(message.address, message.count, 0, 64);
     let words = Words {
         port,
@@ -460,7 +461,7 @@ fn told(store: &Store, caller: Caller, client: Who, message: Message, port: Who)
     };
     Telling {
         client,
-        sender: caller.who,
+        sender,
         words,
         last: u64::from(count) == message.count,
     }
