@@ -5,7 +5,7 @@ ghost use Rattle.fk_core.specs.Rounds.Served.{AllFit};
 ghost use Rattle.fk_core.specs.Cores.Cores.{run_core, is_porter, IsAdvanced};
 
 use crate::cores::turns::Core;
-use fk_jobs::Worker;
+use fk_jobs::JobMachine;
 use fk_model::{Move, Peer, Thread, Who, call};
 use fk_natives::Service;
 use fk_plans::Words;
@@ -31,7 +31,7 @@ fn is_served(thread: &Thread) -> bool {
     }
 }
 
-impl<S: Service + Drop, W: Worker + Drop> Core<S, W> {
+impl<S: Service + Drop, W: JobMachine + Drop> Core<S, W> {
     /// A thread is at such a stage, in a talk with a native server. It is a hint: nothing is said of it.
     fn is_speaking(&self, who: Who) -> bool {
         match self.kernel.store().thread(who) {
