@@ -8,4 +8,5 @@ pub mod Tried
 pub mod Quiet
 pub mod Goings
 pub mod Signals
+pub mod Speaking
 pub mod Acted

@@ -26,6 +26,7 @@ use Rattle.fk_store.proofs.InStore.finding.Walks.{same_path_true}
 use Rattle.fk_plans.specs.declared.plans.plan.Moving.{Moving}
 use Rattle.fk_changes.specs.Threads.Shifted.{address_of, IsLow}
 use Rattle.fk_transfer.specs.Lines.{sending, AreEnds, IsFirst, IsSender}
+use Rattle.fk_transfer.proofs.Passed.{own_client}
 
 -- ---- who is at a Send or a Receive has no higher address
 
@@ -117,12 +118,15 @@ pub send_goes : (w : World) (c : Caller) (side : Turn) (address count page : ℕ
 unfolding send
 send_goes w c side address count page l you s line other some home = rw (← line, some, ← home, other) refl
 
+-- the row of a Send to a native server
 pub send_tells : (w : World) (c : Caller) (address count page : ℕ) (l : talks.Line) (s : Path) →
     Ok l ≡ in_turn w (path_of c) turns.Client turns.Client → l.other ≡ Service → (count == 0) ≡ false → Home s page ≡ reach_word w c.space address false →
     is_service_free w l.talk.port ≡ true →
-    sends_to_service c l.client l.talk.port address count (words_at w s page) ≡ send w c turns.Client address count
+    sends_to_service c (path_of c) l.talk.port address count (words_at w s page) ≡ send w c turns.Client address count
 unfolding send
-send_tells w c address count page l s line other some home free = rw (← line, some, ← home, other, free) refl
+send_tells w c address count page l s line other some home free =
+    ap (λ (client : Path). sends_to_service c client l.talk.port address count (words_at w s page)) (sym (own_client w (path_of c) l line))
+    ∙ rw (← line, some, ← home, other, free) refl
 
 pub some_words : (count : ℕ) → (count ≡ 0 → ⊥) → (count == 0) ≡ false
 some_words count some = grind (arith, nat_tests, some)

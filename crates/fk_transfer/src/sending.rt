@@ -396,21 +396,19 @@ pub fn moving(store: &Store, caller: Caller, side: Turn, address: u64, count: u6
 /// Words of a page that go to a native server, and whether they are the last.
 #[derive(Clone, Copy)]
 pub struct Telling {
-    pub client: Who,
-    pub sender: Who,
     pub words: Words,
     pub last: bool,
 }
 
 /// What a Send of a client comes to where its words go to a native server. It needs no verdict, which is large.
 #[tactic(auto, using(fk_plans::proofs::InPlans::Low::home_low))]
-pub fn telling(store: &Store, caller: Caller, address: u64, count: u64) -> Option<Telling>
+pub fn speaking(store: &Store, caller: Caller, address: u64, count: u64) -> Option<Telling>
     requires user { caller.is_porter ≡ false }
     requires valid { IsValid (world store.now) }
     requires calling { IsSender (world store.now) (place (path store.now) caller.who) turns.Client address count }
     ensures outcome { (words : List ℕ) → IfSome result (λ t. outcome_by (world store.now) (path store.now) (caller_by (path store.now) caller words)
-        (telling_of t) ≡ rows.send (world store.now) (caller_by (path store.now) caller words) turns.Client address count) }
-    ensures fits { IfSome result (λ t. IsVerdict store.now caller (telling_of t)) }
+        (telling_of caller.who t) ≡ rows.send (world store.now) (caller_by (path store.now) caller words) turns.Client address count) }
+    ensures fits { IfSome result (λ t. IsVerdict store.now caller (telling_of caller.who t)) }
 {
     if count == 0 {
         return None;
@@ -432,25 +430,24 @@ pub fn telling(store: &Store, caller: Caller, address: u64, count: u64) -> Optio
                 count,
                 page: (space, page),
             };
-            Some(told(store, caller, line.client, message, port))
+            Some(told(store, caller, message, port))
         }
         Reach::Missing { .. } | Reach::Bad => None,
     }
 }
 
 /// The words that a native server is told at once.
-fn told(store: &Store, caller: Caller, client: Who, message: Message, port: Who) -> Telling
+fn told(store: &Store, caller: Caller, message: Message, port: Who) -> Telling
     requires user { caller.is_porter ≡ false }
     requires calling { IsSender (world store.now) (place (path store.now) caller.who) turns.Client message.address message.count }
     requires address { message.address < 16384 }
     requires from { IsPage store.now message.page }
     requires port { IsLive store.now port }
-    ensures outcome { (words : List ℕ) → outcome_by (world store.now) (path store.now) (caller_by (path store.now) caller words) (telling_of result)
-        ≡ rows.sends_to_service (caller_by (path store.now) caller words) (place (path store.now) client) (At (place (path store.now) port))
+    ensures outcome { (words : List ℕ) → outcome_by (world store.now) (path store.now) (caller_by (path store.now) caller words) (telling_of caller.who result)
+        ≡ rows.sends_to_service (caller_by (path store.now) caller words) (place (path store.now) caller.who) (At (place (path store.now) port))
         message.address message.count (words_at (world store.now) (path store.now message.page.0) message.page.1) }
-    ensures fits { IsVerdict store.now caller (telling_of result) }
+    ensures fits { IsVerdict store.now caller (telling_of caller.who result) }
 {
-    let sender = caller.who;
     let count = moved(message.address, message.count, 0, 64);
     let words = Words {
         port,
@@ -460,8 +457,6 @@ fn told(store: &Store, caller: Caller, client: Who, message: Message, port: Who)
         count,
     };
     Telling {
-        client,
-        sender,
         words,
         last: u64::from(count) == message.count,
     }

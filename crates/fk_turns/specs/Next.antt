@@ -7,5 +7,6 @@ pub use Rattle.fk_turns.specs.Picks.Judgements
 pub use Rattle.fk_turns.specs.Picks.Doings
 pub use Rattle.fk_turns.specs.Picks.Goings
 pub use Rattle.fk_turns.specs.Picks.Signals
+pub use Rattle.fk_turns.specs.Picks.Speaking
 pub use Rattle.fk_turns.specs.Picks.Acted
 pub mod Waiting

@@ -6,6 +6,7 @@ pub use Rattle.fk_calls.specs.Calls.Doings
 pub use Rattle.fk_calls.specs.Calls.Judgements
 pub use Rattle.fk_calls.specs.Calls.Goings
 pub use Rattle.fk_calls.specs.Calls.Signals
+pub use Rattle.fk_calls.specs.Calls.Speaking
 pub use Rattle.fk_calls.specs.Calls.Acted
 pub mod Stands
 pub mod Tellings

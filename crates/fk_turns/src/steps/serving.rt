@@ -12,7 +12,6 @@ ghost use Rattle.fk_turns.specs.Next.Waiting.{standing, ComesAfter};
 ghost use Rattle.fk_plans.specs.declared.wakes.touching.Touched.TheVariants.{Few};
 
 use crate::steps::plain::after_plain;
-use crate::steps::talking::{hears_still, serves_nobody};
 use fk_calls::acts;
 use fk_model::Who;
 use fk_plans::wakes::Touched;
@@ -38,7 +37,7 @@ pub fn give(store: &mut Store, turns: &mut Turns, port: Who, words: &[u64]) -> O
     store.names();
     match gave {
         Some(gave) => {
-            after_given(turns, store, port, gave.client);
+            after_act(turns, store, port, gave.client);
             Some(gave.count)
         }
         None => None,
@@ -62,7 +61,7 @@ pub fn pass(store: &mut Store, turns: &mut Turns, port: Who) -> bool
     store.names();
     match passed {
         Some(client) => {
-            after_passed(turns, store, port, client);
+            after_act(turns, store, port, client);
             true
         }
         None => false,
@@ -81,27 +80,4 @@ fn after_act(turns: &mut Turns, store: &Store, port: Who, client: Who)
         third: None,
     };
     after_plain(turns, store, port, &touched, false);
-}
-
-/// The lists after words that a client got. Nobody else may move by them, and the client waits where it stood, or may move.
-#[inline(always)]
-fn after_given(turns: &mut Turns, store: &Store, port: Who, client: Who) {
-    if !turns.marks_nobody() {
-        after_act(turns, store, port, client);
-        return;
-    }
-    if hears_still(store, client) {
-        return;
-    }
-    turns.rise(client);
-}
-
-/// The lists after a turn that a client got. Where nobody waits for it as its server, nobody else may move by that.
-#[inline(always)]
-fn after_passed(turns: &mut Turns, store: &Store, port: Who, client: Who) {
-    if !turns.marks_nobody() || !serves_nobody(store, client) {
-        after_act(turns, store, port, client);
-        return;
-    }
-    turns.rise(client);
 }

@@ -5,7 +5,7 @@ use Rattle.fk_store.specs.Store.World.{world}
 use Rattle.fk_plans.specs.Plans.Plans.{caller_by}
 use Rattle.fk_transfer.specs.Lines.{line_by}
 use Rattle.fk_transfer.proofs.SendLaws.{send_tells, some_words}
-use Rattle.fk_transfer.proofs.sending.telling.Goals as goal
+use Rattle.fk_transfer.proofs.sending.speaking.Goals as goal
 
 pub returns-in-Home-clause-outcome : goal.returns-in-Home-clause-outcome
 returns-in-Home-clause-outcome c words =
