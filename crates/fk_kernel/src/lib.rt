@@ -17,6 +17,6 @@ mod kernel;
 mod replace;
 mod stretches;
 
-pub use fk_turns::steps::{Gone, Sent, Spoken, Told};
+pub use fk_turns::steps::{Gone, Spoken, Told};
 pub use kernel::Kernel;
 pub use replace::BurstPage;

@@ -3,7 +3,6 @@ pub use Rattle.fk_turns.specs.Moved.Moved
 pub use Rattle.fk_turns.specs.Moved.Told
 pub use Rattle.fk_turns.specs.Next.Judgements
 pub use Rattle.fk_turns.specs.Next.Rows
-pub use Rattle.fk_turns.specs.Next.Sayings
 pub use Rattle.fk_turns.specs.Next.Signals
 pub use Rattle.fk_turns.specs.Next.Speaking
 pub use Rattle.fk_turns.specs.Next.Acted
