@@ -1,14 +1,13 @@
 //! A client's Send or Over to a native server by one look: words stay in their page, where the server reads them.
-ghost use Rattle.std.specs.Prelude.{◌≡◌, [], None, Some, IfNone, IfSome, IsSome};
+ghost use Rattle.std.specs.Prelude.{◌≡◌, true, None, IfNone, IfSome, IsSome};
 ghost use Rattle.fk_model.specs.declared.moves.Ask.TheVariants as asks;
 ghost use Rattle.fk_model.specs.Holds.{decider};
 ghost use Rattle.fk_model.specs.Places.{Path};
 ghost use Rattle.fk_model.specs.Valid.{IsValid};
-ghost use Rattle.fk_model.specs.World.{apply_all};
-ghost use Rattle.fk_changes.specs.Threads.Shifted.{IsLow};
-ghost use Rattle.fk_model.specs.World.{apply};
+ghost use Rattle.fk_model.specs.World.{apply, apply_all};
 ghost use Rattle.fk_model.specs.World.Change.{Alter};
 ghost use Rattle.fk_model.specs.World.Edit.{CountMoved};
+ghost use Rattle.fk_changes.specs.Threads.Shifted.{IsLow};
 ghost use Rattle.fk_store.specs.Store.Paths.{path, place};
 ghost use Rattle.fk_store.specs.Store.Threads.{is_free_at};
 ghost use Rattle.fk_store.specs.Store.World.{world};

@@ -8,12 +8,11 @@ returns-then-told c = record {
   world = rw (
       c.if-told.true,
       c.finish.ensures.world,
-      c.finish.ensures.paths,
+      c.advance.ensures.paths,
       c.advance.ensures.world,
       c.from.ensures,
-      c.advance.ensures.paths,
-      c.count_moved.ensures.world,
       c.count_moved.ensures.paths,
+      c.count_moved.ensures.world,
     ) refl;
   paths = c.finish.ensures.paths ∙ c.advance.ensures.paths ∙ c.count_moved.ensures.paths;
 }
@@ -25,9 +24,8 @@ returns-else-told c = record {
       c.if-told.false,
       c.advance.ensures.world,
       c.from.ensures,
-      c.advance.ensures.paths,
-      c.count_moved.ensures.world,
       c.count_moved.ensures.paths,
+      c.count_moved.ensures.world,
     ) refl;
   paths = c.advance.ensures.paths ∙ c.count_moved.ensures.paths;
 }
