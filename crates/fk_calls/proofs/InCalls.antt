@@ -16,5 +16,6 @@ pub mod Locking
 pub mod Talking
 pub mod Sleeping
 pub mod Signalling
+pub mod Speaking
 pub mod Acted
 pub mod Went

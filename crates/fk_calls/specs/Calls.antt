@@ -3,9 +3,9 @@ pub mod Doings
 pub mod Judgements
 pub mod Runs
 pub mod Choices
-pub mod Sayings
 pub mod Tried
 pub mod Quiet
 pub mod Goings
 pub mod Signals
+pub mod Speaking
 pub mod Acted

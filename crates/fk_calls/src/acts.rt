@@ -12,7 +12,7 @@ mod allowing;
 mod direct;
 mod judging;
 mod making;
-mod moves;
+pub(crate) mod moves;
 
 pub use direct::{Gave, give, pass};
 pub use moves::{attempt, foretell, ready};

@@ -8,7 +8,7 @@
 //! makes of it, that `attempt` does both, judging once, and tells which native server lost its client,
 //! that `run` makes an instruction and tells whether the thread runs on, `go` a stage that has an arm of its own, and what the thread is at then,
 //! `signal` one that wakes whom the caller has found, `stage` any other that tells nothing,
-//! that `say` does the same of words for a native server, which it lays into the caller's room, and `call` of a porter's answer,
+//! that `speak` does so of what a client tells a native server, whose words stay in their page, and `call` of a porter's answer,
 //! that each of them tells which objects the move touched, that `foretell` tells what a move would tell native servers,
 //! that `is_fit` tells which moves may be made at all, that `may_move` tells cheaply of whom no move is ready, and that
 //! `may_pick` tells whom a user may pick.
@@ -23,9 +23,9 @@ mod judging;
 mod moves;
 mod picking;
 mod rows;
-mod sayings;
 mod signalling;
 mod silent;
+mod speaking;
 mod straight;
 mod taking;
 
@@ -37,7 +37,7 @@ pub use going::{Talked, Then, Went, What, go, may_lock, may_talk};
 pub use judging::{is_user, may_move};
 pub use moves::{Ran, Told, attempt, ready, run, take};
 pub use picking::{Picks, may_pick};
-pub use sayings::{Saying, Sent, say};
 pub use signalling::{signal, signal_of};
 pub use silent::stage;
+pub use speaking::{Spoken, speak};
 pub use taking::take_up;

@@ -2,6 +2,7 @@ pub use Rattle.fk_served.specs.Acted
 pub use Rattle.fk_served.specs.Events
 pub use Rattle.fk_served.specs.Kernels
 pub use Rattle.fk_served.specs.Served
+pub use Rattle.fk_served.specs.Speaking
 pub mod Moments
 pub mod Ends
 pub use Rattle.fk_served.specs.Rooms

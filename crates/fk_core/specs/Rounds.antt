@@ -1,6 +1,7 @@
 pub use Rattle.fk_core.specs.Moment.Tried
 pub use Rattle.fk_core.specs.Moment.Tolds
 pub use Rattle.fk_core.specs.Moment.Served
+pub use Rattle.fk_core.specs.Moment.Speaking
 pub use Rattle.fk_core.specs.Moment.Rooms
 pub use Rattle.fk_core.specs.Moment.Moments
 pub use Rattle.fk_core.specs.Moment.Kernels

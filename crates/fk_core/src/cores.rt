@@ -23,6 +23,7 @@ mod room;
 mod serving;
 mod settling;
 mod several;
+mod speaking;
 mod turns;
 
 pub use fk_served::Kernel;

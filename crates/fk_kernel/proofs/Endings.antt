@@ -25,9 +25,9 @@ use Rattle.fk_plans.specs.Endings.Clients.{HasClient, LosesClient}
 use Rattle.fk_plans.proofs.InEndings.Changes.{client-found, found-client}
 use Rattle.fk_turns.specs.Steps.Acted.{HasActed, HasGiven}
 use Rattle.fk_turns.specs.Steps.Tellings.{Told}
-use Rattle.fk_turns.specs.Steps.Tellings.{Sent}
+use Rattle.fk_turns.specs.Steps.Tellings.{Spoken}
 use Rattle.fk_turns.specs.Steps.Judgements.{IsEnded, IsHeardBy, IsReadyMove, IsStepTo}
-use Rattle.fk_turns.specs.Steps.Sayings.{told_by}
+use Rattle.fk_turns.specs.Steps.Speaking.{said_of}
 use Rattle.fk_turns.specs.Steps.Waiting.{Standing}
 use Rattle.fk_kernel.specs.Acted.{IsActed, IsGiven}
 use Rattle.fk_kernel.specs.Events.{is_who, step_of, IsReadyEvent}
@@ -88,10 +88,10 @@ module _ (m n : Contents) (valid : IsValid (world m)) (few : (world m).next ≤ 
   pub ended-acted : path m ≡ space_born (world m) → IsEnded m n None → (port : Who) → has_ended (world m) (world n) (named (world m) port) ≡ is_who None port
   ended-acted born ended = λ port. rw (← born) (ended-exact None ended port)
 
-  -- of words for a native server
-  pub ended-said : {A : Type 0} (born : path m ≡ space_born (world m)) (o : Option A) → (IsSome o → IsEnded m n None) →
+  -- of a move that may not have been made
+  pub ended-some : {A : Type 0} (born : path m ≡ space_born (world m)) (o : Option A) → (IsSome o → IsEnded m n None) →
       IsSome o → (port : Who) → has_ended (world m) (world n) (named (world m) port) ≡ false
-  ended-said born o ended some = λ port. rw (← born) (ended-exact None (ended some) port)
+  ended-some born o ended some = λ port. rw (← born) (ended-exact None (ended some) port)
 
 -- ---- who hears what a move tells
 
@@ -125,25 +125,25 @@ pub made-picked : (m n : Contents) (who : Who) (born : path m ≡ space_born (wo
 made-picked m n who born (Some other) made = rw (← born) made
 made-picked m n who born None made = tt
 
--- ---- words for a native server, as an event
+-- ---- what a native server is told, as an event
 
-module _ (m n : Contents) (who : Who) (words : List ℕ) (born : path m ≡ space_born (world m)) where
+module _ (m n : Contents) (who : Who) (born : path m ≡ space_born (world m)) where
   abbrev runs : Move
   runs = record { who = who; pick = None }
 
-  pub made-said : (o : Option Sent) → IfSome o (λ sent. IsReadyMove m runs asks.Run × IsStepTo m runs asks.Run n (told_by sent words)) →
-      IfSome o (λ sent. IsReadyEvent (world m) (event_of (world m) asks.Run runs)
-      × (step_of (world m) (event_of (world m) asks.Run runs) ≡ record { world = world n; said = said_by (path n) (told_by sent words) }))
-  made-said (Some sent) made = rw (← born) made
-  made-said None made = tt
+  pub made-spoken : (o : Option Spoken) → IfSome o (λ spoken. IsReadyMove m runs asks.Run × IsStepTo m runs asks.Run n (said_of n spoken)) →
+      IfSome o (λ spoken. IsReadyEvent (world m) (event_of (world m) asks.Run runs)
+      × (step_of (world m) (event_of (world m) asks.Run runs) ≡ record { world = world n; said = said_by (path n) (said_of n spoken) }))
+  made-spoken (Some spoken) made = rw (← born) made
+  made-spoken None made = tt
 
-  pub heard-said : (o : Option Sent) → IfSome o (λ sent. IsReadyMove m runs asks.Run × IsStepTo m runs asks.Run n (told_by sent words)) →
-      IfSome o (λ sent. IsHeardBy m n (told_by sent words)) → IfSome o (λ sent. (port : Who) →
-      says_to (step_of (world m) (event_of (world m) asks.Run runs)).said (named (world m) port) ≡ says_to_who (told_by sent words) port)
-  heard-said (Some sent) made heard = λ port.
-      subst (λ p. says_to (step (world m) (place p who) (picked_by p None) asks.Run).said (place p port) ≡ says_to_who (told_by sent words) port) born
+  pub heard-spoken : (o : Option Spoken) → IfSome o (λ spoken. IsReadyMove m runs asks.Run × IsStepTo m runs asks.Run n (said_of n spoken)) →
+      IfSome o (λ spoken. IsHeardBy m n (said_of n spoken)) → IfSome o (λ spoken. (port : Who) →
+      says_to (step_of (world m) (event_of (world m) asks.Run runs)).said (named (world m) port) ≡ says_to_who (said_of n spoken) port)
+  heard-spoken (Some spoken) made heard = λ port.
+      subst (λ p. says_to (step (world m) (place p who) (picked_by p None) asks.Run).said (place p port) ≡ says_to_who (said_of n spoken) port) born
       (ap (λ (s : Step). says_to s.said (place (path m) port)) made.1 ∙ heard port)
-  heard-said None made heard = tt
+  heard-spoken None made heard = tt
 
 -- ---- an act of a native server, as an event
 

@@ -2,6 +2,7 @@ pub mod Events
 pub mod Kernels
 pub mod Acted
 pub use Rattle.fk_plans.specs.Answers.Rooms
+pub use Rattle.fk_turns.specs.Steps.Speaking
 pub use Rattle.fk_turns.specs.Steps.Tried
 pub use Rattle.fk_turns.specs.Steps.Classes
 pub mod Tolds

@@ -14,7 +14,7 @@ ghost use Rattle.fk_store.specs.Store.World.{world};
 ghost use Rattle.fk_plans.specs.Plans.Hearers.{says_to, says_to_who, IsPadded};
 ghost use Rattle.fk_plans.specs.Answers.Rooms.{IsRoom};
 ghost use Rattle.fk_turns.specs.Steps.Judgements.{IsReadyMove};
-ghost use Rattle.fk_turns.specs.Steps.Sayings.{told_by};
+ghost use Rattle.fk_turns.specs.Steps.Speaking.{said_of, HasSpokenWords};
 ghost use Rattle.fk_turns.specs.Steps.Tried.{tried_of};
 ghost use Rattle.laws_moves.specs.Prompt.Correct.{HasShapes};
 ghost use Rattle.laws_moves.specs.Prompt.Events.{IsPrompt, IsCorrect};
@@ -33,7 +33,7 @@ ghost use Rattle.fk_kernel.specs.Events.{IsReadyBesides, IsReadyEvent, may_lack,
 use fk_model::{Ask, Move, NoMemory, Said, Stage, Who};
 use fk_store::Store;
 use fk_turns::next::ready_move;
-use fk_turns::steps::{Gone, Sent, Told};
+use fk_turns::steps::{Gone, Spoken, Told};
 use fk_waits::Waits;
 use fk_waits::turns::Turns;
 use std::alloc::Global;
@@ -313,27 +313,25 @@ impl Kernel {
         other
     }
 
-    /// Makes the next stage of the user in a slot, where that sends words to a native server and is ready: lays the words into the room, with
-    /// zeros behind them, and gives whom they are for. Else, and wherever it declines, it gives none and all stays as it is: whether the move is
-    /// ready then `attempt` tells. No native server loses its client by it.
-    pub fn say(&mut self, who: Who, room: &mut [u64; 64]) -> Option<Sent>
-        ensures made { IfSome result (λ sent.
+    /// Makes the next stage of the user in a slot, where that is a Send or an Over to a native server and is ready, and tells what its server hears: words stay
+    /// in their page. Else all stays as it is, and whether the move is ready the general way tells. No native server loses its client by it.
+    pub fn speak(&mut self, who: Who) -> Option<Spoken>
+        ensures made { IfSome result (λ spoken.
             IsReadyEvent (world_of self.old) (event_of (world_of self.old) Ask.Run (record { who = who; pick = None }))
             × (step_of (world_of self.old) (event_of (world_of self.old) Ask.Run (record { who = who; pick = None }))
-            ≡ record { world = world_of self.new; said = said_by (path_of self.new) (told_by sent room.new) })) }
+            ≡ record { world = world_of self.new; said = said_by (path_of self.new) (said_of (store_of self.new) spoken) })) }
         ensures ended { IsSome result → (port : Who) → has_ended (world_of self.old) (world_of self.new) (named (world_of self.old) port) ≡ false }
-        ensures told { IfSome result (λ sent. (port : Who) →
+        ensures told { IfSome result (λ spoken. (port : Who) →
             says_to (step_of (world_of self.old) (event_of (world_of self.old) Ask.Run (record { who = who; pick = None }))).said
-            (named (world_of self.old) port) ≡ says_to_who (told_by sent room.new) port) }
-        ensures padded { IfSome result (λ sent. IsPadded (told_by sent room.new)) }
-        ensures placed { IsSome result → IsPut (store_of self.old) (record { who = who; pick = None }) Ask.Run (store_of self.new) (standing_of self.new) }
+            (named (world_of self.old) port) ≡ says_to_who (said_of (store_of self.new) spoken) port) }
+        ensures there { IfSome result (HasSpokenWords (store_of self.new)) }
         ensures same { IfNone result (self.new ≡ self.old) }
     {
         self.store.names();
-        let sent = fk_turns::steps::say(&mut self.store, &mut self.turns, who, room);
+        let spoken = fk_turns::steps::speak(&mut self.store, &mut self.turns, who);
         // And so they do in the world that the stage leaves.
         self.store.names();
-        sent
+        spoken
     }
 
     /// The move of the first of the ready threads that can move. Those before it are queued, each at its cause. There is none exactly where no user's move is

@@ -6,5 +6,6 @@ pub mod Acts
 pub mod Coding
 pub mod Foretold
 pub use Rattle.fk_kernel.specs.Rooms
+pub use Rattle.fk_kernel.specs.Speaking
 pub use Rattle.fk_kernel.specs.Tried
 pub use Rattle.fk_kernel.specs.Tolds

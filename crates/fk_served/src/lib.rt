@@ -16,7 +16,7 @@ mod foretelling;
 mod services;
 mod told;
 
-pub use fk_kernel::{Gone, Kernel, Told};
+pub use fk_kernel::{Gone, Kernel, Spoken, Told};
 pub use foretelling::foretell;
 pub use services::Services;
 

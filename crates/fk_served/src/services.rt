@@ -5,14 +5,15 @@ ghost use Rattle.fk_model.specs.Whole.{are_words};
 ghost use Rattle.laws_moves.specs.Whole.Runnable.{has_all_words};
 ghost use Rattle.fk_served.specs.Served.{asked_of, serving, told, said_to, news_to, after_news, gives_words, news_at_port, told_at_port, AllFit, shown};
 ghost use Rattle.fk_served.specs.Served.{grows_by, grows_told, some_told, HaveRoom, HaveRoomFor};
+ghost use Rattle.fk_natives.specs.Natives as natives;
 ghost use Rattle.fk_natives.specs.Natives.{gives_left, news_of, AreFew, DoesFit};
 ghost use Rattle.fk_model.specs.declared.moves.Said.TheVariants as says;
 
 use crate::told::{heard_by, is_telling, said_to};
 use fk_kernel::Told;
-use fk_model::{Ask, NoMemory, Reply, Said, Who};
+use fk_model::{Ask, NoMemory, Said, Who};
 use fk_natives::{Heard, Service, Side, ask};
-use fk_responders::{Table, words_of};
+use fk_responders::Table;
 use std::marker::Model;
 
 /// The native servers of a machine, each by its port. What one is told needs room, which is made before a
@@ -259,14 +260,15 @@ impl<S: Service + Drop> Services<S> {
         }
     }
 
-    /// Tells the server of a port that its client has sent the first words of these.
-    pub fn hear_words(&mut self, table: &Table, port: Who, sent: &Reply)
+    /// Tells the server of a port that its client has sent these words.
+    pub fn hear_slice(&mut self, table: &Table, port: Who, words: &[u64])
         requires fits { AllFit (map (λ r. r.rule) table.now.list.items) self.old.list }
         requires ready { self.old.ready ≡ true }
-        ensures { self.new.list ≡ map (told (says.Words port sent.now.words sent.now.len) None) self.old.list }
+        requires few { length words.now ≤ 64 }
+        ensures { self.new.list ≡ map (told_at_port port (natives.Words words.now)) self.old.list }
     {
         self.used = true;
-        tell_port(&mut self.list, table, port, Heard::Words(words_of(sent)));
+        tell_port(&mut self.list, table, port, Heard::Words(words));
     }
 
     /// Tells the server of a port that its client has taken so many words.

@@ -8,7 +8,7 @@ use Rattle.fk_model.specs.declared.thread.Turn.TheVariants as turns
 use Rattle.fk_model.specs.Objects.{Mode, Thread, Body, thread_of, and_then}
 use Rattle.fk_model.specs.Objects.Body.{Mutex, Cond, Mapping, Region, Port, Portset, Space, Thread_of, Reference}
 use Rattle.fk_model.specs.Objects.Mode.{Running, Calling, Halted, Native}
-use Rattle.fk_model.specs.Objects.Peer.{Server}
+use Rattle.fk_model.specs.Objects.Peer.{Server, Service}
 use Rattle.fk_model.specs.Outcomes.{Caller, Outcome, path_of}
 use Rattle.fk_model.specs.Places.{Path, same_path, parent}
 use Rattle.fk_model.specs.Places.Ptr.{At}
@@ -16,8 +16,8 @@ use Rattle.fk_model.specs.Reach.{reach_word, words_at}
 use Rattle.fk_model.specs.Reach.Reach.{Home}
 use Rattle.fk_model.specs.Searches.{thread_at}
 use Rattle.fk_model.specs.Talks as talks
-use Rattle.fk_model.specs.Talks.{other_side, receive_on, receiving, first_stage, awaited, is_handled}
-use Rattle.fk_model.specs.TransferRows.{in_turn, send, sends_into, sends_to_thread}
+use Rattle.fk_model.specs.Talks.{other_side, receive_on, receiving, first_stage, awaited, is_handled, is_service_free}
+use Rattle.fk_model.specs.TransferRows.{in_turn, send, sends_into, sends_to_service, sends_to_thread}
 use Rattle.fk_model.specs.World.{World, Edit, apply, edited}
 use Rattle.fk_model.specs.World.Change.{Alter, PutPage}
 use Rattle.fk_model.specs.World.Edit.{CountMoved, Shift}
@@ -26,6 +26,7 @@ use Rattle.fk_store.proofs.InStore.finding.Walks.{same_path_true}
 use Rattle.fk_plans.specs.declared.plans.plan.Moving.{Moving}
 use Rattle.fk_changes.specs.Threads.Shifted.{address_of, IsLow}
 use Rattle.fk_transfer.specs.Lines.{sending, AreEnds, IsFirst, IsSender}
+use Rattle.fk_transfer.proofs.Passed.{own_client}
 
 -- ---- who is at a Send or a Receive has no higher address
 
@@ -116,6 +117,16 @@ pub send_goes : (w : World) (c : Caller) (side : Turn) (address count page : ℕ
     sends_to_thread w c side l.client address count (words_at w s page) (talks.thread_led_to w (At you)) ≡ send w c side address count
 unfolding send
 send_goes w c side address count page l you s line other some home = rw (← line, some, ← home, other) refl
+
+-- the row of a Send to a native server
+pub send_tells : (w : World) (c : Caller) (address count page : ℕ) (l : talks.Line) (s : Path) →
+    Ok l ≡ in_turn w (path_of c) turns.Client turns.Client → l.other ≡ Service → (count == 0) ≡ false → Home s page ≡ reach_word w c.space address false →
+    is_service_free w l.talk.port ≡ true →
+    sends_to_service c (path_of c) l.talk.port address count (words_at w s page) ≡ send w c turns.Client address count
+unfolding send
+send_tells w c address count page l s line other some home free =
+    ap (λ (client : Path). sends_to_service c client l.talk.port address count (words_at w s page)) (sym (own_client w (path_of c) l line))
+    ∙ rw (← line, some, ← home, other, free) refl
 
 pub some_words : (count : ℕ) → (count ≡ 0 → ⊥) → (count == 0) ≡ false
 some_words count some = grind (arith, nat_tests, some)

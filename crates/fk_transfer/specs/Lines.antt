@@ -1,12 +1,14 @@
 -- Lines: a talk by paths, and who is at which end of it.
-use Rattle.std.specs.Prelude.{◌≡◌, ◌≤◌, ℕ, Bool, true, false, is_some, [], ◌∷◌, Option, Ok}
+use Rattle.std.specs.Prelude.{◌≡◌, ◌≤◌, ℕ, Bool, true, false, is_some, [], ◌∷◌, Option, Some, Ok}
 use Rattle.fk_model.specs.declared.stage.Stage.{Stage}
 use Rattle.fk_model.specs.declared.stage.Stage.TheVariants.{ClientOver, ClientSend, ServerOver, ServerSend}
 use Rattle.fk_model.specs.declared.thread.Turn.{Turn}
 use Rattle.fk_model.specs.declared.thread.Turn.TheVariants as turns
-use Rattle.fk_model.specs.Objects.Peer.{Server}
+use Rattle.fk_model.specs.Objects.{Talk}
+use Rattle.fk_model.specs.Objects.Peer.{Server, Service}
 use Rattle.fk_model.specs.Places.{Path, same_path}
 use Rattle.fk_model.specs.Places.Ptr.{At}
+use Rattle.fk_model.specs.Searches.{talk_at}
 use Rattle.fk_model.specs.Talks as talks
 use Rattle.fk_model.specs.TransferRows.{in_turn}
 use Rattle.fk_model.specs.World.{World}
@@ -22,7 +24,9 @@ use Rattle.fk_plans.specs.declared.plans.plan.Plan.TheVariants as plans
 use Rattle.fk_plans.specs.declared.plans.plan.Verdict.{Verdict}
 use Rattle.fk_plans.specs.declared.plans.plan.Verdict.TheVariants as verdicts
 use Rattle.fk_transfer.specs.declared.lines.Line.{Line}
+use Rattle.fk_plans.specs.declared.plans.plan.News.TheVariants as news
 use Rattle.fk_transfer.specs.declared.passing.Passage.{Passage}
+use Rattle.fk_transfer.specs.declared.sending.Telling.{Telling}
 pub use Rattle.fk_changes.specs.Threads.Firsts.{IsFirst}
 
 -- a talk with who is at its ends, by paths
@@ -57,6 +61,14 @@ passed_by client turn peer came = verdicts.Done (plans.Two (deeds.Finishes peer 
 abbrev pub passed_of : Passage → Verdict
 passed_of h = passed_by h.client h.turn h.receiver h.came
 
+-- a client hands the turn to the native server of a port, which hears it
+abbrev pub yielded_of : Who → Who → Verdict
+yielded_of who port = verdicts.Tells (plans.One (deeds.Passes who turns.Server)) (news.Passed port) true
+
+-- words of its page go to a native server
+abbrev pub telling_of : Who → Telling → Verdict
+telling_of who t = verdicts.Tells (plans.Two (deeds.Counts who t.words.count) (deeds.Shifts who t.words.count)) (news.Words t.words) t.last
+
 -- ---- who meets whom
 
 -- in a talk of this client, at this side's turn, that thread is at the other end
@@ -65,6 +77,12 @@ pub record Meets (w : World) (me client receiver : Path) (side : Turn) : Type 0 
   pub turn : Ok line ≡ in_turn w me side side
   pub client_is : line.client ≡ client
   pub other : line.other ≡ Server (At receiver)
+
+-- a client's talk is with a native server
+pub record IsServed (w : World) (me : Path) : Type 0 where
+  pub talk : Talk
+  pub there : talk_at w me ≡ Some talk
+  pub service : talk.peer ≡ Service
 
 -- a free thread is at its Receive on a side, with a reference or without, and at nothing behind it
 pub record IsReceiver (w : World) (x : Path) (side : Turn) : Type 0 where

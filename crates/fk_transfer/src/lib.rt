@@ -10,6 +10,6 @@ mod passing;
 mod receiving;
 mod sending;
 
-pub use passing::{Passage, handing, over, over_ref};
+pub use passing::{Passage, handing, over, over_ref, yielding};
 pub use receiving::{awaits, receive, receive_ref};
-pub use sending::{moved, moving, send};
+pub use sending::{Telling, moved, moving, send, speaking};

@@ -1,7 +1,8 @@
 //! Over, on either side of a talk.
-ghost use Rattle.std.specs.Prelude.{◌≡◌, ◌≤◌, ℕ, List, false, None, option_map, IfOk, IfSome};
+ghost use Rattle.std.specs.Prelude.{◌≡◌, ◌≤◌, ℕ, List, false, None, option_map, IfOk, IfSome, IsSome};
 ghost use Rattle.fk_model.specs.declared.limits.TheConstants.{LAST_USER_SLOT};
 ghost use Rattle.fk_model.specs.Places.Ptr.{At};
+ghost use Rattle.fk_model.specs.declared.thread.Turn.TheVariants as turns;
 ghost use Rattle.fk_model.specs.Talks as talks;
 ghost use Rattle.fk_model.specs.TransferRows as rows;
 ghost use Rattle.fk_model.specs.Valid.{IsValid};
@@ -12,7 +13,7 @@ ghost use Rattle.fk_store.specs.Store.World.{world, IsLive};
 ghost use Rattle.fk_changes.specs.Threads.Answers.{came_answers};
 ghost use Rattle.fk_plans.specs.Plans.Plans.{caller_by};
 ghost use Rattle.fk_plans.specs.Plans.Verdicts.{outcome_by, IsSureVerdict, IsVerdict, Judges};
-ghost use Rattle.fk_transfer.specs.Lines.{line_by, passed_by, passed_of, IsReceiver, Meets};
+ghost use Rattle.fk_transfer.specs.Lines.{line_by, passed_by, passed_of, yielded_of, IsReceiver, IsServed, Meets};
 
 use crate::lines::{Line, in_turn, other_side};
 use fk_changes::readers::{Caller, reference_in};
@@ -275,4 +276,26 @@ fn came_without(awaited: Option<u64>) -> Option<bool>
         None => None,
         Some(_) => Some(false),
     }
+}
+
+/// The port of the native server to which an Over of a client hands the turn. It needs no verdict, which is large.
+pub fn yielding(store: &Store, caller: Caller) -> Option<Who>
+    requires user { caller.is_porter ≡ false }
+    requires valid { IsValid (world store.now) }
+    ensures outcome { (words : List ℕ) → IfSome result (λ port. outcome_by (world store.now) (path store.now) (caller_by (path store.now) caller words)
+        (yielded_of caller.who port) ≡ rows.over (world store.now) (caller_by (path store.now) caller words) turns.Client None) }
+    ensures fits { IfSome result (λ port. IsVerdict store.now caller (yielded_of caller.who port)) }
+    ensures served { IsSome result → IsServed (world store.now) (place (path store.now) caller.who) }
+{
+    let Ok(line) = in_turn(store, caller.who, Turn::Client, Turn::Client) else {
+        return None;
+    };
+    let Peer::Service = line.other else {
+        return None;
+    };
+    let port = line.talk.port;
+    if store.is_frozen(port.space) {
+        return None;
+    }
+    Some(port)
 }

@@ -2,6 +2,7 @@
 ghost use Rattle.std.specs.Prelude.{◌≡◌, ◌≤◌, ◌<◌, ◌+◌, ◌%◌, min, List, ℕ, false, IfSome, IfOk, IsSome};
 ghost use Rattle.fk_model.specs.Places.Ptr.{At};
 ghost use Rattle.fk_model.specs.Reach.{words_at};
+ghost use Rattle.fk_model.specs.declared.thread.Turn.TheVariants as turns;
 ghost use Rattle.fk_model.specs.Talks as talks;
 ghost use Rattle.fk_model.specs.TransferRows as rows;
 ghost use Rattle.fk_model.specs.Valid.{IsValid};
@@ -12,7 +13,7 @@ ghost use Rattle.fk_plans.specs.Plans.Movings.{verdict_of};
 ghost use Rattle.fk_plans.specs.Plans.Own.{IsPage};
 ghost use Rattle.fk_plans.specs.Plans.Plans.{caller_by};
 ghost use Rattle.fk_plans.specs.Plans.Verdicts.{outcome_by, IsSureVerdict, IsVerdict, Judges};
-ghost use Rattle.fk_transfer.specs.Lines.{line_by, AreEnds, IsBetween, IsReceiver, IsSender, Meets};
+ghost use Rattle.fk_transfer.specs.Lines.{line_by, telling_of, AreEnds, IsBetween, IsReceiver, IsSender, Meets};
 
 use crate::lines::{Line, in_turn, other_side};
 use fk_changes::readers::Caller;
@@ -389,5 +390,74 @@ pub fn moving(store: &Store, caller: Caller, side: Turn, address: u64, count: u6
             moves_to_thread(store, caller, side, line.client, message, peer)
         }
         Reach::Missing { .. } | Reach::Bad => None,
+    }
+}
+
+/// Words of a page that go to a native server, and whether they are the last.
+#[derive(Clone, Copy)]
+pub struct Telling {
+    pub words: Words,
+    pub last: bool,
+}
+
+/// What a Send of a client comes to where its words go to a native server. It needs no verdict, which is large.
+#[tactic(auto, using(fk_plans::proofs::InPlans::Low::home_low))]
+pub fn speaking(store: &Store, caller: Caller, address: u64, count: u64) -> Option<Telling>
+    requires user { caller.is_porter ≡ false }
+    requires valid { IsValid (world store.now) }
+    requires calling { IsSender (world store.now) (place (path store.now) caller.who) turns.Client address count }
+    ensures outcome { (words : List ℕ) → IfSome result (λ t. outcome_by (world store.now) (path store.now) (caller_by (path store.now) caller words)
+        (telling_of caller.who t) ≡ rows.send (world store.now) (caller_by (path store.now) caller words) turns.Client address count) }
+    ensures fits { IfSome result (λ t. IsVerdict store.now caller (telling_of caller.who t)) }
+{
+    if count == 0 {
+        return None;
+    }
+    let Ok(line) = in_turn(store, caller.who, Turn::Client, Turn::Client) else {
+        return None;
+    };
+    let Peer::Service = line.other else {
+        return None;
+    };
+    let port = line.talk.port;
+    if store.is_frozen(port.space) {
+        return None;
+    }
+    match store.reach_word(caller.who.space, address, false) {
+        Reach::Home { space, page } => {
+            let message = Message {
+                address,
+                count,
+                page: (space, page),
+            };
+            Some(told(store, caller, message, port))
+        }
+        Reach::Missing { .. } | Reach::Bad => None,
+    }
+}
+
+/// The words that a native server is told at once.
+fn told(store: &Store, caller: Caller, message: Message, port: Who) -> Telling
+    requires user { caller.is_porter ≡ false }
+    requires calling { IsSender (world store.now) (place (path store.now) caller.who) turns.Client message.address message.count }
+    requires address { message.address < 16384 }
+    requires from { IsPage store.now message.page }
+    requires port { IsLive store.now port }
+    ensures outcome { (words : List ℕ) → outcome_by (world store.now) (path store.now) (caller_by (path store.now) caller words) (telling_of caller.who result)
+        ≡ rows.sends_to_service (caller_by (path store.now) caller words) (place (path store.now) caller.who) (At (place (path store.now) port))
+        message.address message.count (words_at (world store.now) (path store.now message.page.0) message.page.1) }
+    ensures fits { IsVerdict store.now caller (telling_of caller.who result) }
+{
+    let count = moved(message.address, message.count, 0, 64);
+    let words = Words {
+        port,
+        space: message.page.0,
+        page: message.page.1,
+        at: (message.address % 64) as u8,
+        count,
+    };
+    Telling {
+        words,
+        last: u64::from(count) == message.count,
     }
 }

@@ -11,5 +11,6 @@ pub mod Known
 pub mod Unknown
 pub mod Locked
 pub mod Talked
+pub mod Speaking
 pub mod Risen
 pub mod Served

@@ -6,5 +6,6 @@ pub mod Mildly
 pub mod Locked
 pub mod Talking
 pub mod Passing
+pub mod Speaking
 pub mod Hearing
 pub mod Woken

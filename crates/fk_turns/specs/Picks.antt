@@ -1,11 +1,11 @@
 pub use Rattle.fk_calls.specs.Calls.Tried
-pub use Rattle.fk_calls.specs.Calls.Sayings
 pub use Rattle.fk_calls.specs.Calls.Rows
 pub use Rattle.fk_calls.specs.Calls.Runs
 pub use Rattle.fk_calls.specs.Calls.Doings
 pub use Rattle.fk_calls.specs.Calls.Judgements
 pub use Rattle.fk_calls.specs.Calls.Goings
 pub use Rattle.fk_calls.specs.Calls.Signals
+pub use Rattle.fk_calls.specs.Calls.Speaking
 pub use Rattle.fk_calls.specs.Calls.Acted
 pub mod Stands
 pub mod Tellings

@@ -3,8 +3,8 @@ pub use Rattle.fk_turns.specs.Moved.Moved
 pub use Rattle.fk_turns.specs.Moved.Told
 pub use Rattle.fk_turns.specs.Next.Judgements
 pub use Rattle.fk_turns.specs.Next.Rows
-pub use Rattle.fk_turns.specs.Next.Sayings
 pub use Rattle.fk_turns.specs.Next.Signals
+pub use Rattle.fk_turns.specs.Next.Speaking
 pub use Rattle.fk_turns.specs.Next.Acted
 pub use Rattle.fk_turns.specs.Next.Tellings
 pub use Rattle.fk_turns.specs.Next.Tried
@@ -12,4 +12,5 @@ pub use Rattle.fk_turns.specs.Next.Waiting
 pub mod Steps
 pub mod Classes
 pub mod Talks
+pub mod Speeches
 pub mod Beside

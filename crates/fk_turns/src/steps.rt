@@ -10,13 +10,15 @@ mod plain;
 mod room;
 mod serving;
 mod signalling;
+mod speaking;
 mod steps;
 mod taking;
 mod talking;
 
-pub use fk_calls::{Sent, Told, is_fit, ready};
+pub use fk_calls::{Spoken, Told, is_fit, ready};
 pub use going::Gone;
 pub use plain::{after_plain, after_still};
 pub use serving::{give, pass};
-pub use steps::{attempt, call, proceed, proceed_on, say, take};
+pub use speaking::speak;
+pub use steps::{attempt, call, proceed, proceed_on, take};
 pub use taking::pick;

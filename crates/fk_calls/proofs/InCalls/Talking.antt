@@ -145,11 +145,11 @@ module _ (m : Contents) (who : Who) (unheld : (q : Path) → decider (world m) q
   abbrev me : Path
   me = place (path m) who
 
-  unfrozen : (x : Path) → is_frozen_for w me x ≡ false
+  pub unfrozen : (x : Path) → is_frozen_for w me x ≡ false
   unfrozen x = rw (unheld x) refl
 
   -- what sets no pointers leads to nothing frozen
-  none_led : (o : Option Body) → are_unfrozen w me (option_list (λ (b : Body). []) o) ≡ true
+  pub none_led : (o : Option Body) → are_unfrozen w me (option_list (λ (b : Body). []) o) ≡ true
   none_led None = refl
   none_led (Some b) = refl
 

@@ -3,14 +3,12 @@ use fk_model::call::{
     self, CLIENT_SEND, CLIENT_SEND_OVER_RECEIVE, SERVER_SEND, SERVER_SEND_OVER_RECEIVE,
 };
 
-/// A call begins with a client's send.
-pub fn begins_with_client_send(code: u64) -> bool {
-    code == CLIENT_SEND || code == CLIENT_SEND_OVER_RECEIVE
-}
-
 /// A call begins with a send.
 pub fn begins_with_send(code: u64) -> bool {
-    begins_with_client_send(code) || code == SERVER_SEND || code == SERVER_SEND_OVER_RECEIVE
+    matches!(
+        code,
+        CLIENT_SEND | CLIENT_SEND_OVER_RECEIVE | SERVER_SEND | SERVER_SEND_OVER_RECEIVE
+    )
 }
 
 /// A call is on objects, spaces or pages, or ends a fault. Such a one waits for nobody, while nothing is held.

@@ -202,7 +202,7 @@ fn is_open(store: &Store, who: Who, m: u64) -> bool
 
 /// The stage that is made here at which the free user in a slot is, if it is at one.
 #[inline(always)]
-fn stage_here(store: &Store, who: Who) -> Option<Stage>
+pub(crate) fn stage_here(store: &Store, who: Who) -> Option<Stage>
     ensures free { IsSome result → is_free_at (world store.now) (place (path store.now) who) ≡ true }
     ensures at { IfSome result (IsAtOrderly (world store.now) (place (path store.now) who)) }
     ensures alone { IfSome result (λ stage. is_lock stage ≡ true → todo_at (world store.now) (place (path store.now) who) ≡ stage ∷ []) }

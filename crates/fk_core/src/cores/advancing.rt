@@ -34,16 +34,34 @@ fn rests(code: u64) -> bool {
 }
 
 impl<S: Service + Drop, W: JobMachine + Drop> Core<S, W> {
-    /// Makes the next move of the thread that moved last, where that is an instruction or a stage that tells nobody of anything, is
-    /// ready, and no job is left. What others' moves tell takes much room; this needs none. A thread that is seen to wait isn't tried again.
-    fn proceed(&mut self) -> Option<Move>
+    /// Makes the next move of the thread that moved last, where that is an instruction, a stage that tells nobody of anything, or a Send or an Over to a native
+    /// server, is ready, and no job is left. What others' moves tell takes much room; this needs none. A thread that is seen to wait isn't tried again.
+    fn proceed(&mut self, table: &Table) -> Option<Move>
+        requires none { current self.old.jobs ≡ None }
+        requires fits { AllFit (map (λ r. r.rule) table.now.list.items) self.old.services.list }
+        ensures advanced { IsAdvanced self.old.jobs.jobs self.old.budget (run_core self.old) result (run_core self.new) }
+        ensures fits { AllFit (map (λ r. r.rule) table.now.list.items) self.new.services.list }
+        ensures budget { self.new.budget ≡ self.old.budget }
+        ensures jobs { self.new.jobs.jobs ≡ self.old.jobs.jobs }
+    {
+        let Some(who) = self.same_thread() else {
+            return None;
+        };
+        if self.speaks_at(table, who) {
+            return Some(Move { who, pick: None });
+        }
+        self.proceed_with(who)
+    }
+
+    /// The same of this thread, where its move tells nobody of anything.
+    fn proceed_with(&mut self, who: Who) -> Option<Move>
+        requires few { self.old.events < self.old.budget }
         requires none { current self.old.jobs ≡ None }
         ensures advanced { IsAdvanced self.old.jobs.jobs self.old.budget (run_core self.old) result (run_core self.new) }
         ensures services { self.new.services.list ≡ self.old.services.list }
         ensures budget { self.new.budget ≡ self.old.budget }
         ensures jobs { self.new.jobs.jobs ≡ self.old.jobs.jobs }
     {
-        let who = self.same_thread()?;
         match self.kernel.proceed_on(who) {
             Gone::Made => {
                 self.events += 1;
@@ -324,7 +342,7 @@ impl<S: Service + Drop, W: JobMachine + Drop> Core<S, W> {
         ensures budget { self.new.budget ≡ self.old.budget }
         ensures jobs { self.new.jobs.jobs ≡ self.old.jobs.jobs }
     {
-        match self.proceed() {
+        match self.proceed(table) {
             Some(m) => Ok(Some(m)),
             None => self.go_further(table),
         }

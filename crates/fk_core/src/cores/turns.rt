@@ -1,5 +1,4 @@
 //! The core: a kernel with its native servers and its jobs.
-ghost use Rattle.fk_model.specs.declared.moves.Rule.{Rule};
 ghost use Rattle.fk_model.specs.declared.moves.Ask.TheVariants as asks;
 ghost use Rattle.fk_model.specs.Places.{Path};
 ghost use Rattle.fk_model.specs.Sound.{IsSoundStart};
@@ -20,7 +19,7 @@ use crate::cores::lacking::unmade;
 use crate::cores::room::Room;
 use crate::rounds::Rounds;
 use fk_jobs::{JobMachine, Jobs};
-use fk_model::{Answer, Ask, Move, NoMemory, Reply, Said, Who};
+use fk_model::{Answer, Ask, Move, NoMemory, Said, Who};
 use fk_natives::Service;
 use fk_responders::Table;
 use fk_served::asking::is_served;
@@ -292,7 +291,10 @@ impl<S: Service + Drop, W: JobMachine + Drop> Core<S, W> {
         ensures budget { self.new.budget ≡ self.old.budget }
         ensures jobs { self.new.jobs.jobs ≡ self.old.jobs.jobs }
     {
-        if self.go_said(table, m) {
+        if m.pick.is_some() {
+            return self.go_running(table, m);
+        }
+        if self.speak_at(table, m.who) {
             return Ok(true);
         }
         self.go_running(table, m)
@@ -313,44 +315,6 @@ impl<S: Service + Drop, W: JobMachine + Drop> Core<S, W> {
         ensures jobs { self.new.jobs.jobs ≡ self.old.jobs.jobs }
     {
         self.go_by(table, m, &Ask::Run)
-    }
-
-    /// Makes a send of words to a native server, where that is what a move is and where it is ready, and answers whether it did; else, and
-    /// for want of memory, all is as before. The words are laid where they are heard; what other moves tell is handed on, which takes more.
-    #[inline(never)]
-    fn go_said(&mut self, table: &Table, m: &Move) -> bool
-        requires other { is_porter self.old.jobs m.now.who ≡ false }
-        requires few { self.old.events < self.old.budget }
-        requires fits { AllFit (map (λ r. r.rule) table.now.list.items) self.old.services.list }
-        ensures made { OnTrue result (IsAdvanced self.old.jobs.jobs self.old.budget (run_core self.old) (Some m.now) (run_core self.new)) }
-        ensures kernel { OnFalse result (self.new.kernel ≡ self.old.kernel) }
-        ensures events { OnFalse result (self.new.events ≡ self.old.events) }
-        ensures services { OnFalse result (self.new.services.list ≡ self.old.services.list) }
-        ensures queue { OnFalse result (self.new.jobs ≡ self.old.jobs) }
-        ensures fits { (rules : List Rule) → AllFit rules self.old.services.list → AllFit rules self.new.services.list }
-        ensures budget { self.new.budget ≡ self.old.budget }
-        ensures jobs { self.new.jobs.jobs ≡ self.old.jobs.jobs }
-    {
-        if m.pick.is_some() {
-            return false;
-        }
-        let Ok(()) = self.services.reserve() else {
-            return false;
-        };
-        let mut words = Reply {
-            words: [0; 64],
-            len: 0,
-        };
-        let Some(sent) = self.kernel.say(m.who, &mut words.words) else {
-            return false;
-        };
-        words.len = sent.len;
-        self.services.hear_words(table, sent.port, &words);
-        self.events += 1;
-        self.last = Some(m.who);
-        self.rounds.hear(Some(sent.port));
-        self.settle();
-        true
     }
 
     /// The same of what a mover asks for.

@@ -5,6 +5,7 @@ use Rattle.std.proofs.lemmas.Bool.{and_parts}
 use Rattle.fk_model.specs.declared.moves.Ask.TheVariants as asks
 use Rattle.fk_model.specs.declared.names.Who.{Who}
 use Rattle.fk_model.specs.declared.thread.Turn.{Turn}
+use Rattle.fk_model.specs.declared.thread.Turn.TheVariants as turns
 use Rattle.fk_model.specs.Moves.{outcome, step, stepped}
 use Rattle.fk_model.specs.Objects.{Body, Talk, Thread, and_then, thread_of}
 use Rattle.fk_model.specs.Outcomes.{Outcome, listed}
@@ -28,17 +29,20 @@ use Rattle.fk_turns.specs.Moved.Kept.{is_user_at}
 use Rattle.fk_turns.specs.Moved.Moved.{is_put, IsMoved}
 use Rattle.fk_turns.specs.Moved.Told.{IsMadeTo, IsStored}
 use Rattle.fk_turns.specs.Next.Goings.{sending, HasPassed, HasSent}
+use Rattle.fk_turns.specs.Next.Speaking.{HasTold, HasYielded}
 use Rattle.fk_turns.specs.Steps.Talks.{IsAlone}
 use Rattle.fk_turns.specs.Whys.Whys.{IsAt, IsLoudly, IsStill, IsWhy}
 use Rattle.fk_turns.proofs.InMoved.Told.{same_name, stays, taken_off, user_there}
 use Rattle.fk_turns.proofs.InWhys.Apart.{is_barred_why, key_there}
 use Rattle.fk_turns.proofs.InWhys.Passing.{alone_before, parted, passes, why_passed}
+use Rattle.fk_turns.proofs.InWhys.Speaking.{unserved_before, why_told, why_yielded}
 use Rattle.fk_turns.proofs.InWhys.Talking.{anywhere, in_call, is_at, is_sender, is_sending, pair, why_sent, IsIn}
 use Rattle.fk_waits.proofs.InCauses.Numbers.{clash}
 use Rattle.fk_waits.specs.Causes.Names.{is_same}
 use Rattle.laws_moves.proofs.InFrozen.Edited.{same-native}
 use Rattle.laws_moves.proofs.InUsers.Stood.{same-users, users_in}
 use Rattle.laws_moves.specs.Users.Stood.{is_users_at}
+use Rattle.laws_waits.specs.Few.{is_peer_of}
 
 -- what a move comes to is done
 step_world : (w : World) (x : Path) → (step w x None asks.Run).world ≡ apply_all (listed (outcome w x None asks.Run)) w
@@ -214,3 +218,59 @@ module _ (m n : Contents) (mover : Who) (old : IsStored m) (new : IsStored n) (m
       where
         all_parted : (me y c : Path) (answers : List ℕ) (turn : Turn) → apply_all (passes me y c answers turn) (world m) ≡ parted (world m) me y c answers turn
         all_parted me y c answers turn = refl
+
+  -- ---- words that go to a native server
+
+  module _ (row : HasTold m mover) where
+    told_edits : are_talk_edits changes ≡ true
+    told_edits = ap are_talk_edits row.changes ∙ by row.last
+      where
+        by : (last : Bool) → are_talk_edits (if last then Alter (place_of m mover) (Finish []) ∷ [] else []) ≡ true
+        by true = refl
+        by false = refl
+
+    pub told_users : (touched : Touched) → IsMoved m n mover touched → ((who : Who) → is_put touched who ≡ false) → (who : Who) →
+        is_user_at n who ≡ is_user_at m who
+    told_users = users_same told_edits
+
+    teller : IsIn (world m) (place_of m mover) (sending turns.Client row.address row.count ∷ row.at.later)
+    teller = in_call (world m) (place_of m mover) (sending turns.Client row.address row.count) row.at.later row.at.todo
+
+    teller_is : is_at is_sender (thread_at (world m) (place_of m mover)) ≡ true
+    teller_is = ap (is_at is_sender) teller.there ∙ ap is_sender teller.mode
+        ∙ is_sending turns.Client row.address row.count row.at.later teller.rest row.at.orderly
+
+    pub left_told : (who : Who) (why : Why) → is_same mover who ≡ false → is_same mover who ≡ false → is_user_at m who ≡ true → is_barred_why why ≡ false →
+        IsWhy (world m) (path m) (place_of m who) why → IsWhy (world n) (path n) (place_of n who) why
+    left_told who why off again user named is =
+        let there = user_there (world m) (place_of m who) user in
+        why_then told_edits who why there named is
+        (why_told (world m) (place_of m mover) row.moved teller_is (place_of m who) (other_place told_edits who mover off there) row.last None asks.Run
+        row.changes (path m) why named is)
+
+  -- ---- a turn that goes to a native server
+
+  module _ (row : HasYielded m mover) where
+    yielded_edits : are_talk_edits changes ≡ true
+    yielded_edits = ap are_talk_edits row.changes
+
+    pub yielded_users : (touched : Touched) → IsMoved m n mover touched → ((who : Who) → is_put touched who ≡ false) → (who : Who) →
+        is_user_at n who ≡ is_user_at m who
+    yielded_users = users_same yielded_edits
+
+    pub left_yielded : is_free_at (world m) (place_of m mover) ≡ true → ((q : Path) → is_peer_of (world n) (place_of n mover) q ≡ false) → (who : Who) (why : Why) →
+        is_same mover who ≡ false → is_same mover who ≡ false → is_user_at m who ≡ true → is_barred_why why ≡ false →
+        IsWhy (world m) (path m) (place_of m who) why → IsWhy (world n) (path n) (place_of n who) why
+    unfolding apply_all
+    left_yielded free unserved who why off again user named is =
+        let there = user_there (world m) (place_of m who) user in
+        let me = place_of m mover in
+        let world_is : world n ≡ apply (Alter me (Finish [])) (apply (Alter me (PassTurn turns.Server)) (world m)) =
+        then_world ∙ ap (λ (l : List Change). apply_all l (world m)) row.changes in
+        let here : place_of n mover ≡ me = leads yielded_edits mover (talk_there (world m) me row.served.talk row.served.there) in
+        let before : is_peer_of (world m) me (place_of m who) ≡ false = sym (unserved_before (world m) me row.at free row.served (place_of m who))
+        ∙ subst (λ (u : World). is_peer_of u me (place_of m who) ≡ false) world_is
+        (subst (λ (q : Path). is_peer_of (world n) q (place_of m who) ≡ false) here (unserved (place_of m who))) in
+        why_then yielded_edits who why there named is
+        (why_yielded (world m) me row.at free row.served (place_of m who) (other_place yielded_edits who mover off there) before None asks.Run row.changes
+        (path m) why named is)

@@ -69,7 +69,7 @@ makes_nothing (talkeds.Sends client receiver sender) = refl
 makes_nothing (talkeds.Passes client receiver) = refl
 
 -- whose move is ready is free
-ready_free : (m : Contents) (who : Who) → IsReadyMove m (run_of who) asks.Run → is_free_at (world m) (place (path m) who) ≡ true
+pub ready_free : (m : Contents) (who : Who) → IsReadyMove m (run_of who) asks.Run → is_free_at (world m) (place (path m) who) ≡ true
 unfolding is_free_at
 ready_free m who ready =
     let goes = goes-on (world m) (place (path m) who) None ready in
@@ -168,7 +168,7 @@ module _ (m n : Contents) (mover other : Who) (waits marks : Lists) (kept : AreK
           subst (λ (y : Who). IsFiled n (all_marks now then_marks) y) one (other_filed (subst (λ (y : Who). is_queued y now.queued ≡ true) (sym one) here))
       of_other false e = by e was.why was.stuck was.filed
 
-  kept_by : AreKept n now then_marks
+  pub kept_by : AreKept n now then_marks
   kept_by = record { each = λ x. roused.stays x ∙ kept.each x ∙ sym (users x); sound = sound; filed = filed_now }
 
 -- who receives is a user's thread

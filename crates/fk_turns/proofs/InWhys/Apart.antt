@@ -284,6 +284,18 @@ loud_named Barred loud = absurd (cc)
 loud_named Resting loud = refl
 loud_named r loud = refl
 
+-- a move that leaves a thread stuck for each named reason leaves why it is blocked
+pub why_kept : (w v : World) (x : Path) → ((r : Reason) → IsStuck w x r → is_barred r ≡ false → IsStuck v x r) → (p : ℕ → Path) (why : Why) →
+    is_barred_why why ≡ false → IsWhy w p x why → IsWhy v p x why
+why_kept w v x after p whys.Still named is = record { reason = is.reason; stuck = after is.reason is.stuck (own_named is.reason is.own); own = is.own }
+why_kept w v x after p (whys.At key) named is = record {
+  reason = is.reason;
+  stuck = after is.reason is.stuck (read_named x (place p key) is.reason is.read);
+  read = is.read;
+}
+why_kept w v x after p whys.Loud named is = record { reason = is.reason; stuck = after is.reason is.stuck (loud_named is.reason is.loud); loud = is.loud }
+why_kept w v x after p whys.Barred named is = absurd (cc)
+
 none_some : {A X : Type 0} (a : A) → None ≡ Some a → X
 none_some a is = absurd (cc)
 

@@ -14,7 +14,7 @@ use Rattle.fk_model.specs.Moves.{outcome, step}
 use Rattle.fk_model.specs.Objects.{Body, Fault, Mode, Peer, Talk, Thread, and_then, holds, thread_of}
 use Rattle.fk_model.specs.Objects.Body.{Cond, Mapping, Mutex, Port, Portset, Reference, Region, Space, Thread_of}
 use Rattle.fk_model.specs.Objects.Mode.{Calling, Halted, Native, Running}
-use Rattle.fk_model.specs.Objects.Peer.{Server}
+use Rattle.fk_model.specs.Objects.Peer.{Server, Service}
 use Rattle.fk_model.specs.Outcomes.{listed}
 use Rattle.fk_model.specs.Places.{Path, parent, same_path}
 use Rattle.fk_model.specs.Places.Ptr.{At}
@@ -50,7 +50,7 @@ use Rattle.laws_waits.proofs.Stays.{moves_leave_stuck_lem, stuck_stays_lem}
 abbrev pub passed_in : Turn → Thread → Thread
 passed_in turn t = record t { talk = option_map (λ (talk : Talk). record talk { turn = turn; moved = 0 }) t.talk }
 
-finished_talk : (answers : List ℕ) (t : Thread) (m : Mode) → (finished_in answers t m).talk ≡ t.talk
+pub finished_talk : (answers : List ℕ) (t : Thread) (m : Mode) → (finished_in answers t m).talk ≡ t.talk
 finished_talk answers t (Calling (stage ∷ next ∷ todo) rest) = refl
 finished_talk answers t (Calling (stage ∷ []) rest) = refl
 finished_talk answers t (Calling [] rest) = refl
@@ -58,7 +58,7 @@ finished_talk answers t (Running g) = refl
 finished_talk answers t (Halted g code) = refl
 finished_talk answers t (Native g) = refl
 
-finished_fault : (answers : List ℕ) (t : Thread) (m : Mode) → (finished_in answers t m).fault ≡ t.fault
+pub finished_fault : (answers : List ℕ) (t : Thread) (m : Mode) → (finished_in answers t m).fault ≡ t.fault
 finished_fault answers t (Calling (stage ∷ next ∷ todo) rest) = refl
 finished_fault answers t (Calling (stage ∷ []) rest) = refl
 finished_fault answers t (Calling [] rest) = refl
@@ -67,12 +67,12 @@ finished_fault answers t (Halted g code) = refl
 finished_fault answers t (Native g) = refl
 
 -- a thread that is edited there
-there_finished : (w : World) (z : Path) (answers : List ℕ) (t : Thread) → thread_at w z ≡ Some t →
+pub there_finished : (w : World) (z : Path) (answers : List ℕ) (t : Thread) → thread_at w z ≡ Some t →
     thread_at (apply (Alter z (Finish answers)) w) z ≡ Some (finished_in answers t t.mode)
 unfolding apply edited
 there_finished w z answers t is = rw (same_path_refl z, thread-is (w.body z) t is) refl
 
-there_passed : (w : World) (z : Path) (turn : Turn) (t : Thread) → thread_at w z ≡ Some t → thread_at (apply (Alter z (PassTurn turn)) w) z ≡ Some (passed_in turn t)
+pub there_passed : (w : World) (z : Path) (turn : Turn) (t : Thread) → thread_at w z ≡ Some t → thread_at (apply (Alter z (PassTurn turn)) w) z ≡ Some (passed_in turn t)
 unfolding apply edited
 there_passed w z turn t is = rw (same_path_refl z, thread-is (w.body z) t is) refl
 
@@ -81,7 +81,7 @@ unfolding apply
 elsewhere w z q e off = rw off refl
 
 -- whom the talk of a thread is with, and who has taken its fault
-peer_finished : (w : World) (z q x : Path) (answers : List ℕ) → is_peer_of (apply (Alter z (Finish answers)) w) x q ≡ is_peer_of w x q
+pub peer_finished : (w : World) (z q x : Path) (answers : List ℕ) → is_peer_of (apply (Alter z (Finish answers)) w) x q ≡ is_peer_of w x q
 unfolding apply edited
 peer_finished w z q x answers = by (same_path q z) (w.body q)
   where
@@ -100,7 +100,7 @@ peer_finished w z q x answers = by (same_path q z) (w.body q)
     by true (Some (Thread_of t)) = ap (holds (λ (talk : Talk). serves x talk.peer)) (finished_talk answers t t.mode)
     by true (Some (Reference old)) = refl
 
-peer_passed : (w : World) (z q x : Path) (turn : Turn) → is_peer_of (apply (Alter z (PassTurn turn)) w) x q ≡ is_peer_of w x q
+pub peer_passed : (w : World) (z q x : Path) (turn : Turn) → is_peer_of (apply (Alter z (PassTurn turn)) w) x q ≡ is_peer_of w x q
 unfolding apply edited
 peer_passed w z q x turn = by (same_path q z) (w.body q)
   where
@@ -171,7 +171,7 @@ nobody_finished w z q x answers is = record {
   client = peer_finished w z x q answers ∙ is.client;
 }
 
-nobody_passed : (w : World) (z q x : Path) (turn : Turn) → IsNobodyTo w x q → IsNobodyTo (apply (Alter z (PassTurn turn)) w) x q
+pub nobody_passed : (w : World) (z q x : Path) (turn : Turn) → IsNobodyTo w x q → IsNobodyTo (apply (Alter z (PassTurn turn)) w) x q
 nobody_passed w z q x turn is = record {
   other = is.other;
   peer = peer_passed w z q x turn ∙ is.peer;
@@ -186,10 +186,11 @@ connects (Connect h) = true
 connects (Create s x kind) = false
 connects other = false
 
--- in no talk, and at no Connect; or in a talk with a thread
+-- in no talk, and at no Connect; or in a talk with a thread, or with a native server
 pub data IsAway (server : Path) (t : Thread) : Type 0 where
   Idle : t.talk ≡ None → holds connects (first_stage t.mode) ≡ false → IsAway server t
   Talks : (talk : Talk) → t.talk ≡ Some talk → talk.peer ≡ Server (At server) → IsAway server t
+  Served : (talk : Talk) → t.talk ≡ Some talk → talk.peer ≡ Service → IsAway server t
 
 none_of : (a d b c : Bool) → a ≡ false → b ≡ false → c ≡ false → (a || (d && (b || c))) ≡ false
 none_of a true b c x y z = rw (x, y, z) refl
@@ -214,6 +215,7 @@ module _ (w : World) (z server : Path) (t : Thread) (there : thread_at w z ≡ S
       by : IsAway server t → connecting_to w z t ≡ None
       by (Idle none stage) = rw none (named_none (first_stage t.mode) stage)
       by (Talks talk is peer) = rw is refl
+      by (Served talk is peer) = rw is refl
 
   resuming_none : (set : Path) → comes_resuming w set t ≡ false
   resuming_none set = by away
@@ -221,6 +223,7 @@ module _ (w : World) (z server : Path) (t : Thread) (there : thread_at w z ≡ S
       by : IsAway server t → comes_resuming w set t ≡ false
       by (Idle none stage) = rw none refl
       by (Talks talk is peer) = rw (is, peer) refl
+      by (Served talk is peer) = rw (is, peer) refl
 
   comes_not : (set : Path) → comes_to w set z ≡ false
   comes_not set =
@@ -237,6 +240,7 @@ module _ (w : World) (z server : Path) (t : Thread) (there : thread_at w z ≡ S
       by : IsAway server t → holds (λ (talk : Talk). serves x talk.peer) t.talk ≡ false
       by (Idle none stage) = ap (holds (λ (talk : Talk). serves x talk.peer)) none
       by (Talks talk is peer) = ap (holds (λ (talk : Talk). serves x talk.peer)) is ∙ ap (serves x) peer ∙ apart
+      by (Served talk is peer) = ap (holds (λ (talk : Talk). serves x talk.peer)) is ∙ ap (serves x) peer
 
 -- so an edit after which a thread is away spares every reason
 spared_by : (w : World) (x z : Path) (e : Edit) → ((set : Path) → DoesntCome w x z set e) → (r : Reason) → is_barred r ≡ false → IsSpared w x z e r
@@ -285,16 +289,16 @@ abbrev pub passes : Path → Path → Path → List ℕ → Turn → List Change
 passes me y client answers turn = Alter y (Finish answers) ∷ Alter client (PassTurn turn) ∷ Alter me (Finish []) ∷ []
 
 -- a thread that has no fault is edited, and comes to no wait
-record GoesAway (w : World) (z server : Path) (e : Edit) : Type 0 where
-  was : Thread
-  there : thread_at w z ≡ Some was
-  plain : IsThreadEdit e
-  thread : Thread
-  then_there : thread_at (apply (Alter z e) w) z ≡ Some thread
-  faultless : thread.fault ≡ None
-  away : IsAway server thread
+pub record GoesAway (w : World) (z server : Path) (e : Edit) : Type 0 where
+  pub was : Thread
+  pub there : thread_at w z ≡ Some was
+  pub plain : IsThreadEdit e
+  pub thread : Thread
+  pub then_there : thread_at (apply (Alter z e) w) z ≡ Some thread
+  pub faultless : thread.fault ≡ None
+  pub away : IsAway server thread
 
-goes_untouched : (w : World) (x z server : Path) (e : Edit) → GoesAway w z server e → same_path server x ≡ false → IsNobodyTo w x z → (r : Reason) →
+pub goes_untouched : (w : World) (x z server : Path) (e : Edit) → GoesAway w z server e → same_path server x ≡ false → IsNobodyTo w x z → (r : Reason) →
     IsStuck w x r → is_barred r ≡ false → IsUntouched w (Alter z e) x r
 goes_untouched w x z server e goes apart nobody r stuck named =
     thread_edits_touch_few_lem w z goes.was e x r goes.there goes.plain stuck nobody (spared_by w x z e doesnt r named)
@@ -332,7 +336,7 @@ module _ (w : World) (space : Path) (t : Thread) where
       let sound = and_parts (not (is_frozen w space) && t.stops == 0) (is_none t.fault) able.0 in
       no_fault t.fault sound.1
 
-faultless_at : (w : World) (x : Path) (t : Thread) → is_free_at w x ≡ true → thread_at w x ≡ Some t → t.fault ≡ None
+pub faultless_at : (w : World) (x : Path) (t : Thread) → is_free_at w x ≡ true → thread_at w x ≡ Some t → t.fault ≡ None
 unfolding is_free_at
 faultless_at w x t free there = free_faultless w (parent x) t (sym (ap (holds (is_free w (parent x))) there) ∙ free)
 
@@ -357,7 +361,7 @@ behind : (side : Turn) (later : List Stage) → is_orderly (over_on side ∷ lat
 behind turns.Client later is = is
 behind turns.Server later is = is
 
-talk_of : (w : World) (z : Path) (t : Thread) (o : Option Talk) → thread_at w z ≡ Some t → talk_at w z ≡ o → t.talk ≡ o
+pub talk_of : (w : World) (z : Path) (t : Thread) (o : Option Talk) → thread_at w z ≡ Some t → talk_at w z ≡ o → t.talk ≡ o
 talk_of w z t o there is = sym (ap (and_then (λ (u : Thread). u.talk)) there) ∙ is
 
 -- who was alone is so before it

@@ -190,7 +190,7 @@ abbrev pub is_sender : Mode → Bool
 is_sender (Calling (stage ∷ todo) rest) = is_send stage && is_orderly (stage ∷ todo)
 is_sender other = false
 
-sender_shifted : (k : ℕ) (m : Mode) → is_sender m ≡ true → is_sender (shifted_in k m) ≡ true
+pub sender_shifted : (k : ℕ) (m : Mode) → is_sender m ≡ true → is_sender (shifted_in k m) ≡ true
 sender_shifted k (Calling (ClientSend address count ∷ todo) rest) is = is
 sender_shifted k (Calling (ServerSend address count ∷ todo) rest) is = is
 sender_shifted k (Calling (stage ∷ todo) rest) is = absurd (cc)
@@ -237,13 +237,66 @@ unreceived side (Halted g code) is = absurd (cc)
 unreceived side (Native g) is = absurd (cc)
 
 -- an edit of a thread that is there
-quiet_at : (w : World) (z : Path) (e : Edit) → IsThreadEdit e → is_at anywhere (thread_at w z) ≡ true →
+pub quiet_at : (w : World) (z : Path) (e : Edit) → IsThreadEdit e → is_at anywhere (thread_at w z) ≡ true →
     ((t : Thread) → thread_at w z ≡ Some t → is_loud e t ≡ false) → IsMild w z (Alter z e)
 quiet_at w z e plain there quiet = by (thread_at w z) refl there
   where
     by : (o : Option Thread) → thread_at w z ≡ o → is_at anywhere o ≡ true → IsMild w z (Alter z e)
     by None is some = absurd (cc)
     by (Some t) is some = inl (record { edit = e; thread = t; is = refl; there = is; quiet = quiet t is; plain = plain })
+
+-- a sender is there, and done quietly
+pub somebody : (o : Option Thread) → is_at is_sender o ≡ true → is_at anywhere o ≡ true
+somebody None is = absurd (cc)
+somebody (Some t) is = refl
+
+pub done_quiet : (o : Option Thread) → is_at is_sender o ≡ true → (t : Thread) → o ≡ Some t → is_loud (Finish []) t ≡ false
+done_quiet None is t e = absurd (cc)
+done_quiet (Some u) is t e = let same : u ≡ t = cc in subst (λ (v : Thread). is_loud (Finish []) v ≡ false) same (sent_unreached u u.mode is)
+
+-- ---- whose reason looks elsewhere
+
+module _ (w : World) (x : Path) where
+  -- the words of whom a reason looks at
+  abbrev LooksOff : Path → Type 0
+  LooksOff at = (a : Turn) (address count : ℕ) (far : Bool) (its z : Path) (into room : ℕ) → IsStuck w x (Lacking a address count far its z into room) →
+      same_path z at ≡ false
+
+  off : (at : Path) → same_path x at ≡ false → LooksOff at → (r : Reason) → IsStuck w x r → is_barred r ≡ false → IsApart at x r
+  off at apart looks (Lacking a address count far its z into room) stuck named = (apart, looks a address count far its z into room stuck)
+  off at apart looks Barred stuck named = absurd (cc)
+  off at apart looks Resting stuck named = apart
+  off at apart looks (Beneath space) stuck named = apart
+  off at apart looks (Locking m) stuck named = apart
+  off at apart looks (Sleeping c m) stuck named = apart
+  off at apart looks (Connecting h port) stuck named = apart
+  off at apart looks (Receiving a into room reference far its) stuck named = apart
+  off at apart looks (Passing a reference its end) stuck named = apart
+  off at apart looks (Sending a address count far its end) stuck named = apart
+  off at apart looks (Ending z space) stuck named = apart
+  off at apart looks (Holding h z space) stuck named = apart
+  off at apart looks (Waiting set) stuck named = apart
+  off at apart looks (WaitingOut set) stuck named = apart
+
+module _ (w : World) (me x : Path) (mine : is_at is_sender (thread_at w me) ≡ true) (mover : same_path x me ≡ false) where
+  none_awaited : (a : Turn) (o : Option Thread) → is_at is_sender o ≡ true → and_then (λ (t : Thread). awaits_on a t.mode) o ≡ None
+  none_awaited a None is = absurd (cc)
+  none_awaited a (Some t) is = unreceived a t.mode is
+
+  none_is : (p : ℕ × ℕ) → ◌≡◌ {A = Option (ℕ × ℕ)} None (Some p) → ⊥
+  none_is p is = absurd (cc)
+
+  room_no_mover : (a : Turn) (z : Path) (into room : ℕ) → HasRoom w a z into room → same_path z me ≡ false
+  room_no_mover a z into room has = by (same_path z me) refl
+    where
+      by : (b : Bool) → same_path z me ≡ b → b ≡ false
+      by false e = refl
+      by true e =
+          absurd (none_is (into, room) (sym (none_awaited (other_side a) (thread_at w me) mine)
+          ∙ ap (λ (q : Path). and_then (λ (t : Thread). awaits_on (other_side a) t.mode) (thread_at w q)) (sym (same_path_eq z me e)) ∙ has.0))
+
+  pub off_sender : (r : Reason) → IsStuck w x r → is_barred r ≡ false → IsApart me x r
+  off_sender = off w x me mover (λ a address count far its z into room stuck. room_no_mover a z into room stuck.4)
 
 -- ---- the list of a Send
 
@@ -268,10 +321,6 @@ module _ (w : World) (me client y s : Path) (page k : ℕ) (words : List ℕ) wh
 
   module _ (there : is_some (w.page s page) ≡ true) (mine : is_at is_sender (thread_at w me) ≡ true) (theirs : is_at anywhere (thread_at w y) ≡ true)
       (side : Turn) (pair : IsPair w me y client side) where
-    somebody : (o : Option Thread) → is_at is_sender o ≡ true → is_at anywhere o ≡ true
-    somebody None is = absurd (cc)
-    somebody (Some t) is = refl
-
     clients : is_at anywhere (thread_at w client) ≡ true
     clients = by side pair.two
       where
@@ -291,10 +340,6 @@ module _ (w : World) (me client y s : Path) (page k : ℕ) (words : List ℕ) wh
 
     mine_spoken : is_at is_sender (thread_at spoken me) ≡ true
     mine_spoken = at_shifted is_sender heard me me k (sender_shifted k) mine_heard
-
-    done_quiet : (o : Option Thread) → is_at is_sender o ≡ true → (t : Thread) → o ≡ Some t → is_loud (Finish []) t ≡ false
-    done_quiet None is t e = absurd (cc)
-    done_quiet (Some u) is t e = let same : u ≡ t = cc in subst (λ (v : Thread). is_loud (Finish []) v ≡ false) same (sent_unreached u u.mode is)
 
     pub sent_mild : (last : Bool) → AreMild w (places last) (sent last)
     sent_mild last = (
@@ -354,22 +399,6 @@ module _ (w : World) (me client y s : Path) (page k : ℕ) (words : List ℕ) wh
           let both : Server (At x) ≡ Server (At me) = sym by_x ∙ ap (λ (t : Talk). t.peer) one ∙ by_me in
           cc
 
-      none_awaited : (a : Turn) (o : Option Thread) → is_at is_sender o ≡ true → and_then (λ (t : Thread). awaits_on a t.mode) o ≡ None
-      none_awaited a None is = absurd (cc)
-      none_awaited a (Some t) is = unreceived a t.mode is
-
-      none_is : (p : ℕ × ℕ) → ◌≡◌ {A = Option (ℕ × ℕ)} None (Some p) → ⊥
-      none_is p is = absurd (cc)
-
-      room_no_mover : (a : Turn) (z : Path) (into room : ℕ) → HasRoom w a z into room → same_path z me ≡ false
-      room_no_mover a z into room has = by (same_path z me) refl
-        where
-          by : (b : Bool) → same_path z me ≡ b → b ≡ false
-          by false e = refl
-          by true e =
-              absurd (none_is (into, room) (sym (none_awaited (other_side a) (thread_at w me) mine)
-              ∙ ap (λ (q : Path). and_then (λ (t : Thread). awaits_on (other_side a) t.mode) (thread_at w q)) (sym (same_path_eq z me e)) ∙ has.0))
-
       receiver : IsIn w y (receives.stage ∷ [])
       receiver = in_call w y receives.stage [] receives.alone
 
@@ -392,32 +421,11 @@ module _ (w : World) (me client y s : Path) (page k : ℕ) (words : List ℕ) wh
               (subst (λ (q : Path). IsTalkingTo w x a its (Absent q)) here talking) in
               not_mover (same_talker side client pair its talks)
 
-      -- the words of whom a reason looks at
-      abbrev LooksOff : Path → Type 0
-      LooksOff at = (a : Turn) (address count : ℕ) (far : Bool) (its z : Path) (into room : ℕ) → IsStuck w x (Lacking a address count far its z into room) →
-          same_path z at ≡ false
-
-      off : (at : Path) → same_path x at ≡ false → LooksOff at → (r : Reason) → IsStuck w x r → is_barred r ≡ false → IsApart at x r
-      off at apart looks (Lacking a address count far its z into room) stuck named = (apart, looks a address count far its z into room stuck)
-      off at apart looks Barred stuck named = absurd (cc)
-      off at apart looks Resting stuck named = apart
-      off at apart looks (Beneath space) stuck named = apart
-      off at apart looks (Locking m) stuck named = apart
-      off at apart looks (Sleeping c m) stuck named = apart
-      off at apart looks (Connecting h port) stuck named = apart
-      off at apart looks (Receiving a into room reference far its) stuck named = apart
-      off at apart looks (Passing a reference its end) stuck named = apart
-      off at apart looks (Sending a address count far its end) stuck named = apart
-      off at apart looks (Ending z space) stuck named = apart
-      off at apart looks (Holding h z space) stuck named = apart
-      off at apart looks (Waiting set) stuck named = apart
-      off at apart looks (WaitingOut set) stuck named = apart
-
       off_mover : (r : Reason) → IsStuck w x r → is_barred r ≡ false → IsApart me x r
-      off_mover = off me mover (λ a address count far its z into room stuck. room_no_mover a z into room stuck.4)
+      off_mover = off_sender w me x mine mover
 
       off_receiver : (r : Reason) → IsStuck w x r → is_barred r ≡ false → IsApart y x r
-      off_receiver = off y other (λ a address count far its z into room stuck. room_no_receiver a its z into room stuck.3 stuck.4)
+      off_receiver = off w x y other (λ a address count far its z into room stuck. room_no_receiver a its z into room stuck.3 stuck.4)
 
       off_client : (r : Reason) → IsStuck w x r → is_barred r ≡ false → IsApart client x r
       off_client r stuck named = by side pair.two

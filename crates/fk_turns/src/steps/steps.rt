@@ -8,7 +8,6 @@ ghost use Rattle.fk_plans.specs.Plans.Hearers.{IsPadded};
 ghost use Rattle.fk_store.specs.Store.World.{world, place_of};
 ghost use Rattle.fk_turns.specs.Next.Judgements.{is_fit_move, may_lack, IsEnded, IsHeardBy, IsReadyMove, IsStepTo};
 ghost use Rattle.fk_turns.specs.Next.Tellings as calls;
-ghost use Rattle.fk_turns.specs.Next.Sayings.{told_by};
 ghost use Rattle.fk_turns.specs.Next.Tried.{tried_of, IsMade, HasEnded, IsTold, IsToldPadded, IsUnready};
 ghost use Rattle.fk_turns.specs.Moved.Kept.{is_user_at, AreKept};
 ghost use Rattle.fk_turns.specs.Moved.Moved.{now_named};
@@ -19,7 +18,7 @@ ghost use Rattle.fk_turns.specs.Steps.Steps.{was_made, ComesByPorter, IsPut, May
 use crate::steps::going::{Gone, go_stage};
 use crate::steps::plain::{after_call, after_entry, after_off, after_on, after_plain, after_stay};
 use crate::steps::room::{reserve_for, reserve_for_stage, seat_for};
-use fk_calls::{Ran, Sent, Told};
+use fk_calls::{Ran, Told};
 use fk_model::{Ask, Mode, Move, NoMemory, Said, Stage, Who};
 use fk_plans::wakes::Touched;
 use fk_store::Store;
@@ -286,28 +285,4 @@ pub fn proceed_stage(store: &mut Store, turns: &mut Turns, who: Who) -> bool
     store.names();
     after_plain_if(turns, store, made, who, &touched, false);
     made
-}
-
-/// Makes the next stage of the user in a slot, where that sends words to a native server, as `next::say` does, and keeps the lists.
-pub fn say(store: &mut Store, turns: &mut Turns, who: Who, room: &mut [u64; 64]) -> Option<Sent>
-    requires valid { IsValid (world store.old) }
-    requires kept { AreKept store.old turns.old.waits turns.old.marks }
-    ensures made { IfSome result (λ sent. IsReadyMove store.old (record { who = who; pick = None }) asks.Run
-        × IsStepTo store.old (record { who = who; pick = None }) asks.Run store.new (told_by sent room.new)) }
-    ensures ended { IsSome result → IsEnded store.old store.new None }
-    ensures heard { IfSome result (λ sent. IsHeardBy store.old store.new (told_by sent room.new)) }
-    ensures padded { IfSome result (λ sent. IsPadded (told_by sent room.new)) }
-    ensures same { IfNone result (store.new ≡ store.old) }
-    ensures valid { IsValid (world store.new) }
-    ensures kept { AreKept store.new turns.new.waits turns.new.marks }
-    ensures placed { IsSome result → IsPut store.old (record { who = who; pick = None }) asks.Run store.new (standing turns.new.waits) }
-    ensures still { IfNone result (standing turns.new.waits ≡ standing turns.old.waits) }
-{
-    store.names();
-    let mut touched = Touched::Any;
-    let sent = fk_calls::say(store, who, room, &mut touched);
-    // And so they do in the world that the move leaves.
-    store.names();
-    after_plain_if(turns, store, sent.is_some(), who, &touched, false);
-    sent
 }

@@ -1,4 +1,4 @@
-use Rattle.fk_kernel.proofs.Endings.{ended-said, made-picked}
+use Rattle.fk_kernel.proofs.Endings.{ended-some, made-picked}
 use Rattle.fk_turns.specs.Steps.Waiting.{standing}
 use Rattle.fk_kernel.proofs.Kept.{same-none}
 use Rattle.fk_kernel.proofs.kernel.Kernel.pick.Goals as goal
@@ -16,7 +16,7 @@ pub returns-clause-ended : goal.returns-clause-ended
 returns-clause-ended c =
     let m = c.self.inside.store in
     let n = c.pick-other.new.store in
-    let ended = ended-said m n c.self.invariant.valid c.names.ensures.few c.pick-other.ensures.valid c.names-2.ensures.few c.names.ensures.born
+    let ended = ended-some m n c.self.invariant.valid c.names.ensures.few c.pick-other.ensures.valid c.names-2.ensures.few c.names.ensures.born
     c.pick-other.result c.pick-other.ensures.ended in
     rw (← c.self.view_is) ended
 

@@ -1,25 +1,40 @@
-use Rattle.std.proofs.Common.{IsSome, refl, sym, subst}
-use Rattle.fk_core.specs.Rounds.Kernels.{Kept}
-use Rattle.fk_core.specs.Cores.Cores.{core_at, run_core, IsAdvanced}
-use Rattle.fk_core.proofs.InCores.Proceeding.{proceeded, none-left, no-porter}
+use Rattle.std.proofs.Common.{ℕ, List, IsSome, refl, sym, subst}
+use Rattle.std.proofs.lemmas.Bool.{OnTrue_at, OnFalse_at}
+use Rattle.laws_house.specs.Houses.{Job}
+use Rattle.fk_core.specs.Rounds.Served.{AllFit}
+use Rattle.fk_core.specs.Cores.Cores.{run_core, IsAdvanced, RunCore}
+use Rattle.fk_core.proofs.InCores.Lacking.{same_core}
+use Rattle.fk_core.proofs.InCores.Proceeding.{no-porter}
 use Rattle.fk_core.proofs.cores.turns.Core.proceed.Goals as goal
 
-pub returns-in-Made-clause-advanced : goal.returns-in-Made-clause-advanced
-returns-in-Made-clause-advanced g c =
-    let self = c.args.self.now in
-    proceeded self.kernel c.proceed_on.new.self self.services.list self.jobs self.budget self.events c.in_ok-who.who _
-    (c.same_thread.ensures (subst (λ o. IsSome o) (sym c.in_ok-who.was) refl))
-    (no-porter self.jobs c.in_ok-who.who c.requires.none)
-    (rw c.in-Made.is at c.proceed_on.ensures.made)
-    (rw c.in-Made.is at c.proceed_on.ensures.ended)
-    (none-left self.jobs _ refl c.requires.none) refl
+pub speaks_at-requires-clause-other : goal.speaks_at-requires-clause-other
+speaks_at-requires-clause-other g c = no-porter c.args.self.now.jobs c.in-Some.who c.requires.none
 
-pub pick_on-requires-clause-few : goal.pick_on-requires-clause-few
-pick_on-requires-clause-few g c = c.same_thread.ensures (subst (λ o. IsSome o) (sym c.in_ok-who.was) refl)
+pub speaks_at-requires-clause-few : goal.speaks_at-requires-clause-few
+speaks_at-requires-clause-few g c = c.same_thread.ensures (subst (λ o. IsSome o) (sym c.in-Some.is) refl)
 
-pub returns-in-Not-clause-advanced : goal.returns-in-Not-clause-advanced
-returns-in-Not-clause-advanced g c =
+pub returns-then-speaks_at-clause-advanced : goal.returns-then-speaks_at-clause-advanced
+returns-then-speaks_at-clause-advanced g c = OnTrue_at c.if-speaks_at.true c.speaks_at.ensures.made
+
+pub proceed_with-requires-clause-few : goal.proceed_with-requires-clause-few
+proceed_with-requires-clause-few g c =
+    rw (OnFalse_at c.if-speaks_at.false c.speaks_at.ensures.events, c.speaks_at.ensures.budget) (speaks_at-requires-clause-few g c)
+
+pub proceed_with-requires-clause-none : goal.proceed_with-requires-clause-none
+proceed_with-requires-clause-none g c = rw (OnFalse_at c.if-speaks_at.false c.speaks_at.ensures.queue) c.requires.none
+
+pub returns-clause-advanced : goal.returns-clause-advanced
+returns-clause-advanced g c =
     let self = c.args.self.now in
-    let same = rw c.in-Not.is at c.proceed_on.ensures.same in
-    subst (λ (k : Kept). IsAdvanced self.jobs.jobs self.budget (core_at k self.services.list self.jobs self.events) c.pick_on.result
-    (run_core c.pick_on.new.self)) same c.pick_on.ensures.advanced
+    let then = c.speaks_at.new.self in
+    let nay = c.if-speaks_at.false in
+    let same = same_core self.kernel then.kernel self.services.list then.services.list self.jobs then.jobs self.events then.events
+    (OnFalse_at nay c.speaks_at.ensures.kernel) (OnFalse_at nay c.speaks_at.ensures.services) (OnFalse_at nay c.speaks_at.ensures.queue)
+    (OnFalse_at nay c.speaks_at.ensures.events) in
+    subst (λ (b : ℕ). IsAdvanced self.jobs.jobs b (run_core self) c.proceed_with.result (run_core c.proceed_with.new.self)) c.speaks_at.ensures.budget
+    (subst (λ (jobs : List Job). IsAdvanced jobs then.budget (run_core self) c.proceed_with.result (run_core c.proceed_with.new.self)) c.speaks_at.ensures.jobs
+    (subst (λ (d : RunCore). IsAdvanced then.jobs.jobs then.budget d c.proceed_with.result (run_core c.proceed_with.new.self)) same
+    c.proceed_with.ensures.advanced))
+
+pub returns-clause-fits : goal.returns-clause-fits
+returns-clause-fits g c = rw c.proceed_with.ensures.services c.speaks_at.ensures.fits
