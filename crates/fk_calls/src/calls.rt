@@ -6,7 +6,7 @@
 //! a move touches. Here is the one match from a stage to its judge. It promises that `ready` answers exactly whether the
 //! abstract machine is ready to make a move, that `take` makes of the store's world what the machine
 //! makes of it, that `attempt` does both, judging once, and tells which native server lost its client,
-//! that `run` makes an instruction and tells whether the thread runs on, `go` a stage that has an arm of its own, and what the thread is at then,
+//! that `run` makes an instruction and tells whether the thread runs on, `enter` one by which a call is entered, `go` a stage that has an arm of its own, and what the thread is at then,
 //! `signal` one that wakes whom the caller has found, `stage` any other that tells nothing,
 //! that `say` does the same of words for a native server, which it lays into the caller's room, and `call` of a porter's answer,
 //! that each of them tells which objects the move touched, that `foretell` tells what a move would tell native servers,
@@ -16,6 +16,7 @@
 mod answering;
 mod codes;
 mod doing;
+mod entering;
 mod fitting;
 mod foretelling;
 mod going;
@@ -31,6 +32,7 @@ mod taking;
 
 pub use answering::call;
 pub use doing::first_stage;
+pub use entering::enter;
 pub use fitting::is_fit;
 pub use foretelling::foretell;
 pub use going::{Talked, Then, Went, What, go, may_lock, may_talk};

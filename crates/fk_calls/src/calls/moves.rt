@@ -313,7 +313,7 @@ fn attempt_instruction(
 
 /// Makes an instruction with this effect on these registers at this counter, where it is ready, and answers whether it is.
 #[inline(always)]
-fn make_instruction(
+pub fn make_instruction(
     store: &mut Store,
     m: &Move,
     registers: [u64; 16],
