@@ -12,7 +12,7 @@ pub mod acts;
 pub mod calls;
 
 pub use calls::{
-    Picks, Ran, Saying, Sent, Talked, Then, Told, Went, What, attempt, call, first_stage, foretell,
-    go, is_fit, is_user, may_lock, may_move, may_pick, may_talk, ready, run, say, signal,
+    Picks, Ran, Saying, Sent, Talked, Then, Told, Went, What, attempt, call, enter, first_stage,
+    foretell, go, is_fit, is_user, may_lock, may_move, may_pick, may_talk, ready, run, say, signal,
     signal_of, stage, take, take_up,
 };
