@@ -2,9 +2,11 @@
 ghost use Rattle.std.specs.Prelude.{◌≡◌, true, None};
 ghost use Rattle.std.specs.Bool.{OnTrue, OnFalse};
 ghost use Rattle.fk_model.specs.declared.moves.Ask.TheVariants as asks;
+ghost use Rattle.fk_model.specs.declared.moves.Said.TheVariants as says;
 ghost use Rattle.fk_model.specs.Searches.{thread_at};
 ghost use Rattle.fk_model.specs.Valid.{IsValid};
 ghost use Rattle.fk_plans.specs.Plans.Effects.{is_running};
+ghost use Rattle.fk_plans.specs.declared.wakes.touching.Touched.TheVariants as touches;
 ghost use Rattle.fk_store.specs.Store.Paths.{path, place};
 ghost use Rattle.fk_store.specs.Store.World.{world};
 ghost use Rattle.fk_calls.specs.Calls.Judgements.{IsEnded, IsReadyMove, IsStepTo, TellsTouched};
@@ -21,9 +23,9 @@ use fk_store::Store;
 pub fn enter(store: &mut Store, who: Who) -> bool
     requires valid { IsValid (world store.old) }
     ensures made { OnTrue result (IsReadyMove store.old (record { who = who; pick = None }) asks.Run
-        × IsStepTo store.old (record { who = who; pick = None }) asks.Run store.new Said.Nothing) }
+        × IsStepTo store.old (record { who = who; pick = None }) asks.Run store.new says.Nothing) }
     ensures ended { OnTrue result (IsEnded store.old store.new None) }
-    ensures touched { OnTrue result (TellsTouched store.old (record { who = who; pick = None }) asks.Run (Touched.Few None None None)) }
+    ensures touched { OnTrue result (TellsTouched store.old (record { who = who; pick = None }) asks.Run (touches.Few None None None)) }
     ensures ran { OnTrue result (is_running (thread_at (world store.old) (place (path store.old) who)) ≡ true) }
     ensures same { OnFalse result (store.new ≡ store.old) }
 {
