@@ -18,3 +18,4 @@ pub mod Sleeping
 pub mod Signalling
 pub mod Acted
 pub mod Went
+pub mod Raising

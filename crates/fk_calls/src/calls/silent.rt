@@ -25,7 +25,6 @@ use crate::calls::codes::is_on_objects;
 use crate::calls::doing::{Doing, next_of};
 use crate::calls::judging::free_user;
 use crate::calls::rows;
-use crate::calls::taking::raise;
 use fk_changes::deaths::told_port;
 use fk_changes::readers::Caller;
 use fk_changes::threads::{Answers, finish};
@@ -35,8 +34,8 @@ use fk_plans::wakes::{Touched, touched_by_move};
 use fk_plans::{Plan, Verdict, carry_all, is_ready};
 use fk_store::Store;
 
-/// Makes the next stage of the user in a slot, where that is such a one and ready, or raises the fault of its instruction, and answers whether it did. Else, and wherever it
-/// declines, all stays as it is: whether the move is ready then `attempt` tells.
+/// Makes the next stage of the user in a slot, where that is such a one and ready, and answers whether it did. Else, and wherever it declines, all stays
+/// as it is: whether the move is ready then `attempt` tells.
 pub fn stage(store: &mut Store, who: Who, touched: &mut Touched) -> bool
     requires valid { IsValid (world store.old) }
     ensures made { OnTrue result (IsReadyMove store.old (record { who = who; pick = None }) asks.Run
@@ -48,7 +47,7 @@ pub fn stage(store: &mut Store, who: Who, touched: &mut Touched) -> bool
     // Nobody else is judged for it.
     match silent_stage(store, who) {
         Some(stage) => make_stage(store, who, &stage, touched),
-        None => raise(store, who, touched),
+        None => false,
     }
 }
 

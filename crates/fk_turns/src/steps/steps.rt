@@ -16,6 +16,7 @@ ghost use Rattle.fk_turns.specs.Next.Waiting.{standing, ComesAfter, IsMoveReady,
 ghost use Rattle.fk_turns.specs.Steps.Classes.{is_made};
 ghost use Rattle.fk_turns.specs.Steps.Steps.{was_made, ComesByPorter, IsPut, MayBeQuiet};
 
+use crate::next::after;
 use crate::steps::going::{Gone, go_stage};
 use crate::steps::plain::{after_call, after_entry, after_off, after_on, after_plain, after_stay};
 use crate::steps::room::{reserve_for, reserve_for_stage, seat_for};
@@ -185,7 +186,8 @@ fn is_done(made: &Result<bool, NoMemory>) -> bool
     }
 }
 
-/// Makes the next instruction of the user in a slot, or the next stage of its call where that is made by one look or tells nothing, and keeps the lists.
+/// Makes the next instruction of the user in a slot, or raises its fault, or makes the next stage of its call where that is made by one look or tells
+/// nothing, and keeps the lists.
 pub fn proceed(store: &mut Store, turns: &mut Turns, who: Who) -> Gone
     requires valid { IsValid (world store.old) }
     requires kept { AreKept store.old turns.old.waits turns.old.marks }
@@ -203,7 +205,8 @@ pub fn proceed(store: &mut Store, turns: &mut Turns, who: Who) -> Gone
         return go_stage(store, turns, who, false);
     }
     store.names();
-    let ran = fk_calls::run(store, who);
+    let mut touched = Touched::Any;
+    let ran = fk_calls::run(store, who, &mut touched);
     // And so they do in the world that it leaves.
     store.names();
     match ran {
@@ -213,6 +216,10 @@ pub fn proceed(store: &mut Store, turns: &mut Turns, who: Who) -> Gone
         }
         Ran::Off => {
             after_off(turns, store, who);
+            Gone::Made
+        }
+        Ran::Raised => {
+            after(turns, store, who, &touched);
             Gone::Made
         }
         Ran::Not => go_stage(store, turns, who, false),
@@ -237,7 +244,8 @@ pub fn proceed_on(store: &mut Store, turns: &mut Turns, who: Who) -> Gone
         return go_stage(store, turns, who, true);
     }
     store.names();
-    let ran = fk_calls::run(store, who);
+    let mut touched = Touched::Any;
+    let ran = fk_calls::run(store, who, &mut touched);
     // And so they do in the world that it leaves.
     store.names();
     match ran {
@@ -247,6 +255,10 @@ pub fn proceed_on(store: &mut Store, turns: &mut Turns, who: Who) -> Gone
         }
         Ran::Off => {
             after_entry(turns, store, who);
+            Gone::Made
+        }
+        Ran::Raised => {
+            after(turns, store, who, &touched);
             Gone::Made
         }
         Ran::Not => go_stage(store, turns, who, true),

@@ -95,6 +95,37 @@ returns-in-Off-clause-valid c =
     valid_true m c.run-ran.new.store run asks.Run c.requires.valid c.names.ensures.few (run_fit m run) says.Nothing (has_run c.run-ran.result)
     c.run-ran.ensures.made c.run-ran.ensures.same
 
+-- ---- a fault that it raises
+
+pub after-requires : goal.after-requires
+after-requires c =
+    let m = c.args.store.now in
+    let n = c.run-ran.new.store in
+    let run : Move = record { who = c.args.who; pick = None } in
+    let was = c.args.turns.now in
+    let made = rw c.in-Raised.is at c.run-ran.ensures.made in
+    let tells = rw c.in-Raised.is at c.run-ran.ensures.touched in
+    let few = rw c.in-Raised.is at c.run-ran.ensures.few in
+    record {
+      valid = valid_true m n run asks.Run c.requires.valid c.names.ensures.few (run_fit m run) says.Nothing (has_run c.run-ran.result) c.run-ran.ensures.made
+          c.run-ran.ensures.same;
+      comes = comes_ran m n run c.requires.valid c.names.ensures.few (run_fit m run) c.names.ensures.born c.names-2.ensures.born c.names-2.ensures.few
+          c.run-ran.new.touched was.waits was.marks says.Nothing c.requires.kept few made.0 made.1 tells;
+    }
+
+pub returns-in-Raised-clause-made : goal.returns-in-Raised-clause-made
+returns-in-Raised-clause-made c = rw c.in-Raised.is at c.run-ran.ensures.made
+
+pub returns-in-Raised-clause-ended : goal.returns-in-Raised-clause-ended
+returns-in-Raised-clause-ended c = rw c.in-Raised.is at c.run-ran.ensures.ended
+
+pub returns-in-Raised-clause-valid : goal.returns-in-Raised-clause-valid
+returns-in-Raised-clause-valid c =
+    let m = c.args.store.now in
+    let run : Move = record { who = c.args.who; pick = None } in
+    valid_true m c.run-ran.new.store run asks.Run c.requires.valid c.names.ensures.few (run_fit m run) says.Nothing (has_run c.run-ran.result)
+    c.run-ran.ensures.made c.run-ran.ensures.same
+
 -- ---- a stage, before which all is as it was
 
 pub returns-in-Not-clause-made : goal.returns-in-Not-clause-made
