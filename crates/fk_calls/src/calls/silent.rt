@@ -21,6 +21,7 @@ ghost use Rattle.fk_calls.specs.Calls.Doings.{IsAtStage};
 ghost use Rattle.fk_calls.specs.Calls.Judgements.{IsEnded, IsReadyMove, IsStepTo, TellsTouched};
 ghost use Rattle.fk_calls.specs.Calls.Rows.{takes_memory};
 
+use crate::calls::arms::{make_end, make_give, make_show, make_take};
 use crate::calls::codes::is_on_objects;
 use crate::calls::doing::{Doing, next_of};
 use crate::calls::judging::free_user;
@@ -82,8 +83,8 @@ pub fn stage_of(store: &Store, who: Who) -> Option<Stage>
     }
 }
 
-/// Makes this stage of a free user, the first of its call. What is made and destroyed has functions of its own, in which only its row stands, so that no
-/// verdict is handed on.
+/// Makes this stage of a free user, the first of its call. What is made, destroyed, shown, given and taken has functions of its own, in which only its row
+/// stands, so that no verdict is handed on.
 #[inline(always)]
 fn make_stage(store: &mut Store, who: Who, stage: &Stage, touched: &mut Touched) -> bool
     requires valid { IsValid (world store.old) }
@@ -99,6 +100,10 @@ fn make_stage(store: &mut Store, who: Who, stage: &Stage, touched: &mut Touched)
     match *stage {
         Stage::Create { s, x, kind } => make_create(store, who, s, x, kind, touched),
         Stage::Destroy { s, x } => make_destroy(store, who, s, x, touched),
+        Stage::GetState { s, x, addr } => make_show(store, who, s, x, addr, touched),
+        Stage::PageGive { s, page, addr } => make_give(store, who, s, page, addr, touched),
+        Stage::PageTake { s, page, addr } => make_take(store, who, s, page, addr, touched),
+        Stage::FaultDone => make_end(store, who, touched),
         _ => make_other(store, who, stage, touched),
     }
 }
@@ -194,7 +199,7 @@ fn make_other(store: &mut Store, who: Who, stage: &Stage, touched: &mut Touched)
 
 /// Makes this stage of a free user, the first of its call, which is judged so.
 #[inline(always)]
-fn make_verdict(
+pub fn make_verdict(
     store: &mut Store,
     who: Who,
     stage: &Stage,
