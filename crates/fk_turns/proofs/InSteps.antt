@@ -13,3 +13,4 @@ pub mod Locked
 pub mod Talked
 pub mod Risen
 pub mod Served
+pub mod Rested

@@ -8,6 +8,7 @@
 mod entering;
 mod going;
 mod plain;
+mod resting;
 mod room;
 mod serving;
 mod signalling;

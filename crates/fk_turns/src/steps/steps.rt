@@ -19,6 +19,7 @@ ghost use Rattle.fk_turns.specs.Steps.Steps.{was_made, ComesByPorter, IsPut, May
 use crate::next::after;
 use crate::steps::going::{Gone, go_stage};
 use crate::steps::plain::{after_call, after_entry, after_off, after_on, after_plain, after_stay};
+use crate::steps::resting::after_silent_if;
 use crate::steps::room::{reserve_for, reserve_for_stage, seat_for};
 use fk_calls::{Ran, Sent, Told};
 use fk_model::{Ask, Mode, Move, NoMemory, Said, Stage, Who};
@@ -274,9 +275,9 @@ fn is_calling(store: &Store, who: Who) -> bool {
     }
 }
 
-/// Makes the next stage of the user in a slot, where that tells nothing, and keeps the lists.
+/// Makes the next stage of the user in a slot, where that tells nothing, and keeps the lists. Who stays needn't go last.
 #[inline(never)]
-pub fn proceed_stage(store: &mut Store, turns: &mut Turns, who: Who) -> bool
+pub fn proceed_stage(store: &mut Store, turns: &mut Turns, who: Who, stays: bool) -> bool
     requires valid { IsValid (world store.old) }
     requires kept { AreKept store.old turns.old.waits turns.old.marks }
     ensures made { OnTrue result (IsReadyMove store.old (record { who = who; pick = None }) asks.Run
@@ -285,7 +286,7 @@ pub fn proceed_stage(store: &mut Store, turns: &mut Turns, who: Who) -> bool
     ensures same { OnFalse result (store.new ≡ store.old) }
     ensures valid { IsValid (world store.new) }
     ensures kept { AreKept store.new turns.new.waits turns.new.marks }
-    ensures placed { OnTrue result (IsPut store.old (record { who = who; pick = None }) asks.Run store.new (standing turns.new.waits)) }
+    ensures placed { OnFalse stays (OnTrue result (IsPut store.old (record { who = who; pick = None }) asks.Run store.new (standing turns.new.waits))) }
     ensures still { OnFalse result (standing turns.new.waits ≡ standing turns.old.waits) }
 {
     if !seat_for(turns, store, who) {
@@ -296,7 +297,7 @@ pub fn proceed_stage(store: &mut Store, turns: &mut Turns, who: Who) -> bool
     let made = fk_calls::stage(store, who, &mut touched);
     // And so they do in the world that the move leaves.
     store.names();
-    after_plain_if(turns, store, made, who, &touched, false);
+    after_silent_if(turns, store, made, who, &touched, stays);
     made
 }
 
