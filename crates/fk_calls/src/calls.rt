@@ -33,6 +33,7 @@ mod straight;
 mod taking;
 
 pub use answering::call;
+pub use codes::is_on_objects;
 pub use doing::first_stage;
 pub use entering::enter;
 pub use fitting::is_fit;

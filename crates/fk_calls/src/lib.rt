@@ -13,6 +13,6 @@ pub mod calls;
 
 pub use calls::{
     Picks, Ran, Saying, Sent, Talked, Then, Told, Went, What, attempt, call, enter, first_stage,
-    foretell, go, is_fit, is_user, may_lock, may_move, may_pick, may_talk, ready, run, say, signal,
-    signal_of, stage, take, take_up,
+    foretell, go, is_fit, is_on_objects, is_user, may_lock, may_move, may_pick, may_talk, ready,
+    run, say, signal, signal_of, stage, take, take_up,
 };

@@ -17,7 +17,7 @@ ghost use Rattle.fk_turns.specs.Steps.Classes.{is_made};
 ghost use Rattle.fk_turns.specs.Steps.Steps.{was_made, ComesByPorter, IsPut, MayBeQuiet};
 
 use crate::next::after;
-use crate::steps::going::{Gone, go_stage};
+use crate::steps::going::{Gone, go_call, go_stage};
 use crate::steps::plain::{after_call, after_entry, after_off, after_on, after_plain, after_stay};
 use crate::steps::resting::after_silent_if;
 use crate::steps::room::{reserve_for, reserve_for_stage, seat_for};
@@ -202,8 +202,8 @@ pub fn proceed(store: &mut Store, turns: &mut Turns, who: Who) -> Gone
     ensures placed { OnTrue (is_made result) (IsPut store.old (record { who = who; pick = None }) asks.Run store.new (standing turns.new.waits)) }
     ensures still { OnFalse (is_made result) (standing turns.new.waits ≡ standing turns.old.waits) }
 {
-    if is_calling(store, who) {
-        return go_stage(store, turns, who, false);
+    if let Some(code) = call_of(store, who) {
+        return go_call(store, turns, who, code, false);
     }
     store.names();
     let mut touched = Touched::Any;
@@ -241,8 +241,8 @@ pub fn proceed_on(store: &mut Store, turns: &mut Turns, who: Who) -> Gone
     ensures kept { AreKept store.new turns.new.waits turns.new.marks }
     ensures still { OnFalse (is_made result) (standing turns.new.waits ≡ standing turns.old.waits) }
 {
-    if is_calling(store, who) {
-        return go_stage(store, turns, who, true);
+    if let Some(code) = call_of(store, who) {
+        return go_call(store, turns, who, code, true);
     }
     store.names();
     let mut touched = Touched::Any;
@@ -266,12 +266,15 @@ pub fn proceed_on(store: &mut Store, turns: &mut Turns, who: Who) -> Gone
     }
 }
 
-/// A thread is in a call, so that it makes no instruction. It is a hint: nothing is said of it.
+/// The code of the call in which a thread is, so that it makes no instruction. It is a hint: nothing is said of it.
 #[inline(always)]
-fn is_calling(store: &Store, who: Who) -> bool {
+fn call_of(store: &Store, who: Who) -> Option<u64> {
     match store.thread(who) {
-        Some(thread) => matches!(thread.mode, Mode::Calling),
-        None => false,
+        Some(thread) => match thread.mode {
+            Mode::Calling => Some(thread.regs[0]),
+            Mode::Running | Mode::Halted(_) | Mode::Native => None,
+        },
+        None => None,
     }
 }
 

@@ -53,8 +53,8 @@ after_off-requires c =
           (Few None None None) was.waits was.marks says.Nothing c.requires.kept refl made.0 made.1 tells;
     }
 
-pub go_stage-requires-in-Not : goal.go_stage-requires-in-Not
-go_stage-requires-in-Not c =
+pub go_stage-requires : goal.go_stage-requires
+go_stage-requires c =
     let same = rw c.in-Not.is at c.run-ran.ensures.same in
     let was = c.args.turns.now in
     record {
@@ -156,29 +156,29 @@ pub returns-in-Not-clause-made : goal.returns-in-Not-clause-made
 returns-in-Not-clause-made c =
     let run : Move = record { who = c.args.who; pick = None } in
     let same = rw c.in-Not.is at c.run-ran.ensures.same in
-    let v = c.go_stage-in-Not.new.store in
-    subst (λ (d : Contents). OnTrue (is_made c.go_stage-in-Not.result) (IsReadyMove d run asks.Run × IsStepTo d run asks.Run v says.Nothing)) same
-    c.go_stage-in-Not.ensures.made
+    let v = c.go_stage.new.store in
+    subst (λ (d : Contents). OnTrue (is_made c.go_stage.result) (IsReadyMove d run asks.Run × IsStepTo d run asks.Run v says.Nothing)) same
+    c.go_stage.ensures.made
 
 pub returns-in-Not-clause-ended : goal.returns-in-Not-clause-ended
 returns-in-Not-clause-ended c =
     let same = rw c.in-Not.is at c.run-ran.ensures.same in
-    subst (λ (d : Contents). OnTrue (is_made c.go_stage-in-Not.result) (IsEnded d c.go_stage-in-Not.new.store None)) same c.go_stage-in-Not.ensures.ended
+    subst (λ (d : Contents). OnTrue (is_made c.go_stage.result) (IsEnded d c.go_stage.new.store None)) same c.go_stage.ensures.ended
 
 pub returns-in-Not-clause-same : goal.returns-in-Not-clause-same
 returns-in-Not-clause-same c =
     let same = rw c.in-Not.is at c.run-ran.ensures.same in
-    subst (λ (d : Contents). OnFalse (is_made c.go_stage-in-Not.result) (c.go_stage-in-Not.new.store ≡ d)) same c.go_stage-in-Not.ensures.same
+    subst (λ (d : Contents). OnFalse (is_made c.go_stage.result) (c.go_stage.new.store ≡ d)) same c.go_stage.ensures.same
 
 pub returns-in-Not-clause-placed : goal.returns-in-Not-clause-placed
 returns-in-Not-clause-placed c =
     let run : Move = record { who = c.args.who; pick = None } in
     let same = rw c.in-Not.is at c.run-ran.ensures.same in
-    let v = c.go_stage-in-Not.new.store in
-    let s = standing c.go_stage-in-Not.new.turns.waits in
-    subst (λ (d : Contents). OnTrue (is_made c.go_stage-in-Not.result) (IsPut d run asks.Run v s)) same c.go_stage-in-Not.ensures.placed
+    let v = c.go_stage.new.store in
+    let s = standing c.go_stage.new.turns.waits in
+    subst (λ (d : Contents). OnTrue (is_made c.go_stage.result) (IsPut d run asks.Run v s)) same c.go_stage.ensures.placed
 
 pub returns-in-Not-clause-waits : goal.returns-in-Not-clause-waits
 returns-in-Not-clause-waits c waits up =
     let same = rw c.in-Not.is at c.run-ran.ensures.same in
-    c.go_stage-in-Not.ensures.waits waits (subst (λ (d : Contents). IsMoveReady (world d) (place_of d c.args.who)) (sym same) up)
+    c.go_stage.ensures.waits waits (subst (λ (d : Contents). IsMoveReady (world d) (place_of d c.args.who)) (sym same) up)
