@@ -15,8 +15,6 @@ ghost use Rattle.fk_plans.specs.Plans.Verdicts.{hearer_of, IsVerdict};
 ghost use Rattle.fk_store.specs.Store.Named.{Each};
 ghost use Rattle.fk_calls.specs.Calls.Tried.{IsMade, HasEnded, IsTold, IsToldPadded, IsUnready, IsLacking, TellsOf};
 ghost use Rattle.fk_calls.specs.Calls.Runs.{has_run, has_run_on, is_under_way_at, leaves_running, touched_by};
-ghost use Rattle.fk_plans.specs.declared.wakes.touching.Touched.{Touched};
-ghost use Rattle.fk_plans.specs.declared.wakes.touching.Touched.TheVariants.{Few};
 ghost use Rattle.fk_plans.specs.Wakes.Touches.{is_making};
 ghost use Rattle.fk_calls.specs.Calls.Rows as stages;
 ghost use Rattle.fk_calls.specs.Calls.Rows.{are_given_for};
@@ -273,7 +271,7 @@ pub fn run(store: &mut Store, who: Who, touched: &mut Touched) -> Ran
 fn raised_by(raised: bool) -> Ran
     ensures made { has_run result ≡ raised }
     ensures on { has_run_on result ≡ false }
-    ensures touched { (touched : Touched) → touched_by result touched ≡ (if raised then touched else Few None None None) }
+    ensures touched { (touched : Touched) → touched_by result touched ≡ (if raised then touched else Touched.Few None None None) }
 {
     if raised {
         return Ran::Raised;
@@ -285,7 +283,7 @@ fn raised_by(raised: bool) -> Ran
 #[inline(always)]
 fn ran_by(made: bool, effect: Effect) -> Ran
     ensures made { has_run result ≡ made }
-    ensures touched { (touched : Touched) → touched_by result touched ≡ Few None None None }
+    ensures touched { (touched : Touched) → touched_by result touched ≡ Touched.Few None None None }
     ensures on { has_run_on result ≡ (made && leaves_running effect) }
 {
     if !made {
