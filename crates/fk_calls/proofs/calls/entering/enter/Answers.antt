@@ -18,7 +18,7 @@ make_instruction-requires c =
     let fits = rw c.if-enters.true at c.enters.ensures.fits in
     let names = rw c.if-enters.true at c.enters.ensures.instruction in
     let judged = instruction_judged m (record { who = c.args.who; pick = None }) (verdicts.Runs effects.Enters) (c.in-Some.ensures.free (cc))
-    (c.in-Some.ensures.running (cc)) (row []) fits c.in-Some.thread.now.regs names (cc) in
+    (c.in-Some.ensures.running (cc)) (row []) fits c.in-Some.thread.now.regs names tt in
     record {
       valid = c.requires.valid;
       judged = judged;
@@ -35,7 +35,7 @@ returns-clause-touched c =
     let fits = rw c.if-enters.true at c.enters.ensures.fits in
     let names = rw c.if-enters.true at c.enters.ensures.instruction in
     let judged = instruction_judged m run (verdicts.Runs effects.Enters) (c.in-Some.ensures.free (cc)) (c.in-Some.ensures.running (cc)) (row []) fits
-    c.in-Some.thread.now.regs names (cc) in
+    c.in-Some.thread.now.regs names tt in
     true_anyway c.make_instruction.result (touching m run asks.Run j judged)
 
 pub returns-clause-ran : goal.returns-clause-ran

@@ -50,12 +50,16 @@ returns-clause-valid c =
 
 -- ---- or all is as it was
 
-pub returns-then-not-entered : goal.returns-then-not-entered
-returns-then-not-entered c =
+pub returns-then-not-entered-clause-same : goal.returns-then-not-entered-clause-same
+returns-then-not-entered-clause-same c = rw c.if-not-entered.true at c.enter-entered.ensures.same
+
+pub returns-then-not-entered-clause-valid : goal.returns-then-not-entered-clause-valid
+returns-then-not-entered-clause-valid c =
+    let same = rw c.if-not-entered.true at c.enter-entered.ensures.same in
+    subst (λ (d : Contents). IsValid (world d)) (sym same) c.requires.valid
+
+pub returns-then-not-entered-clause-kept : goal.returns-then-not-entered-clause-kept
+returns-then-not-entered-clause-kept c =
     let same = rw c.if-not-entered.true at c.enter-entered.ensures.same in
     let was = c.args.turns.now in
-    record {
-      same = same;
-      valid = subst (λ (d : Contents). IsValid (world d)) (sym same) c.requires.valid;
-      kept = subst (λ (d : Contents). AreKept d was.waits was.marks) (sym same) c.requires.kept;
-    }
+    subst (λ (d : Contents). AreKept d was.waits was.marks) (sym same) c.requires.kept
