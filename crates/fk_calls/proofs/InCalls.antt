@@ -19,3 +19,4 @@ pub mod Signalling
 pub mod Speaking
 pub mod Acted
 pub mod Went
+pub mod Raising

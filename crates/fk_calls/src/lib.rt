@@ -12,7 +12,7 @@ pub mod acts;
 pub mod calls;
 
 pub use calls::{
-    Picks, Ran, Spoken, Talked, Then, Told, Went, What, attempt, call, first_stage, foretell, go,
-    is_fit, is_user, may_lock, may_move, may_pick, may_talk, ready, run, signal, signal_of, speak,
-    stage, take, take_up,
+    Picks, Ran, Spoken, Talked, Then, Told, Went, What, attempt, call, enter, first_stage,
+    foretell, go, is_fit, is_on_objects, is_user, may_lock, may_move, may_pick, may_talk, ready,
+    run, signal, signal_of, speak, stage, take, take_up,
 };

@@ -14,3 +14,4 @@ pub mod Timely
 pub mod Bursting
 pub mod Lacking
 pub mod Several
+pub mod Entering

@@ -14,3 +14,4 @@ pub mod Talked
 pub mod Speaking
 pub mod Risen
 pub mod Served
+pub mod Rested

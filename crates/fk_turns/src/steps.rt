@@ -2,11 +2,13 @@
 //!
 //! It stands on `next` for the lists after a move and by way of it on `fk_calls` for moves, and on `moved`, which says that
 //! what is told of a move is enough for the lists. It promises of a move what `fk_calls` does, that the lists are kept by it, that who moved
-//! stands last of the ready where a move of it is ready and else last of the queued, at its cause, but for `proceed_on` and a signal of who stays,
+//! stands last of the ready where a move of it is ready and else last of the queued, at its cause, but for `proceed_on`, `enter` and a signal of who stays,
 //! that of a thread of which it tells so no move is ready, and that a move which isn't made leaves the lists as they were.
 
+mod entering;
 mod going;
 mod plain;
+mod resting;
 mod room;
 mod serving;
 mod signalling;
@@ -15,6 +17,7 @@ mod steps;
 mod taking;
 mod talking;
 
+pub use entering::enter;
 pub use fk_calls::{Spoken, Told, is_fit, ready};
 pub use going::Gone;
 pub use plain::{after_plain, after_still};

@@ -1,5 +1,5 @@
 -- Runs: what came of a thread's instruction.
-use Rattle.std.specs.Prelude.{◌&&◌, ◌==◌, Bool, true, false, is_none}
+use Rattle.std.specs.Prelude.{◌&&◌, ◌==◌, Bool, true, false, None, is_none}
 use Rattle.fk_model.specs.declared.names.Who.{Who}
 use Rattle.fk_model.specs.Objects.{Thread, holds}
 use Rattle.fk_model.specs.Searches.{thread_at}
@@ -9,6 +9,8 @@ use Rattle.fk_plans.specs.Plans.Effects.{is_running_mode}
 use Rattle.fk_store.specs.Store.Contents.{Contents}
 use Rattle.fk_store.specs.Store.Paths.{path, place}
 use Rattle.fk_store.specs.Store.World.{world}
+use Rattle.fk_plans.specs.declared.wakes.touching.Touched.{Touched}
+use Rattle.fk_plans.specs.declared.wakes.touching.Touched.TheVariants.{Few}
 use Rattle.fk_calls.specs.declared.calls.moves.Ran.{Ran}
 use Rattle.fk_calls.specs.declared.calls.moves.Ran.TheVariants as rans
 
@@ -16,13 +18,22 @@ use Rattle.fk_calls.specs.declared.calls.moves.Ran.TheVariants as rans
 abbrev pub has_run : Ran → Bool
 has_run rans.On = true
 has_run rans.Off = true
+has_run rans.Raised = true
 has_run rans.Not = false
 
 -- and the thread runs on
 abbrev pub has_run_on : Ran → Bool
 has_run_on rans.On = true
 has_run_on rans.Off = false
+has_run_on rans.Raised = false
 has_run_on rans.Not = false
+
+-- what it touched besides who moved: nothing, or what a fault did
+abbrev pub touched_by : Ran → Touched → Touched
+touched_by rans.On touched = Few None None None
+touched_by rans.Off touched = Few None None None
+touched_by rans.Raised touched = touched
+touched_by rans.Not touched = Few None None None
 
 -- it neither halts the thread nor enters a call
 abbrev pub leaves_running : Effect → Bool

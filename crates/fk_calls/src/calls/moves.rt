@@ -1,5 +1,5 @@
 //! Which moves are ready, and making them.
-ghost use Rattle.std.specs.Prelude.{◌≡◌, ◌↔◌, ◌&&◌, ℕ, List, None, true, false, IsTrue, IsOk, IfOk, OnErr, option_map};
+ghost use Rattle.std.specs.Prelude.{◌≡◌, ◌↔◌, ◌&&◌, ℕ, List, None, true, false, IsTrue, IsOk, IfOk, OnErr, option_map, if◌then◌else◌};
 ghost use Rattle.std.specs.Bool.{OnTrue, OnFalse};
 ghost use Rattle.fk_model.specs.declared.moves.Ask.TheVariants as asks;
 ghost use Rattle.fk_model.specs.Valid.{IsValid};
@@ -14,12 +14,14 @@ ghost use Rattle.fk_calls.specs.Calls.Judgements.{client_by, is_fit_move, IsEnde
 ghost use Rattle.fk_plans.specs.Plans.Verdicts.{hearer_of, IsVerdict};
 ghost use Rattle.fk_store.specs.Store.Named.{Each};
 ghost use Rattle.fk_calls.specs.Calls.Tried.{IsMade, HasEnded, IsTold, IsToldPadded, IsUnready, IsLacking, TellsOf};
-ghost use Rattle.fk_calls.specs.Calls.Runs.{has_run, has_run_on, is_under_way_at, leaves_running};
+ghost use Rattle.fk_calls.specs.Calls.Runs.{has_run, has_run_on, is_under_way_at, leaves_running, touched_by};
+ghost use Rattle.fk_plans.specs.Wakes.Touches.{is_making};
 ghost use Rattle.fk_calls.specs.Calls.Rows as stages;
 ghost use Rattle.fk_calls.specs.Calls.Rows.{are_given_for};
 
 use crate::calls::judging::{given, judge, moving_of, running, running_user};
 use crate::calls::rows::restores;
+use crate::calls::taking::raise_judged;
 use fk_changes::readers::Caller;
 use fk_model::{Ask, Move, NoMemory, Said, Stage, Who};
 use fk_plans::endings::ended_by;
@@ -222,19 +224,22 @@ pub enum Ran {
     On,
     /// It was made, and the thread halts or enters a call.
     Off,
+    /// It raised a fault.
+    Raised,
     /// None was made.
     Not,
 }
 
-/// Makes the next instruction of the user in a slot, where it runs and the instruction is ready, and tells what came of it; else, and where
-/// the instruction raises a fault, all stays as it is. No server loses its client by it. So nobody needs room here for what moves tell.
-pub fn run(store: &mut Store, who: Who) -> Ran
+/// Makes the next instruction of the user in a slot, or raises the fault that it comes to, where it runs and that is ready, and tells what came of it; else
+/// all stays as it is. What a fault touches is laid into `touched`. No server loses its client by it. So nobody needs room here for what moves tell.
+pub fn run(store: &mut Store, who: Who, touched: &mut Touched) -> Ran
     requires valid { IsValid (world store.old) }
     ensures made { OnTrue (has_run result) (IsReadyMove store.old (record { who = who; pick = None }) asks.Run
         × IsStepTo store.old (record { who = who; pick = None }) asks.Run store.new Said.Nothing) }
     ensures ended { OnTrue (has_run result) (IsEnded store.old store.new None) }
     ensures touched { OnTrue (has_run result)
-        (TellsTouched store.old (record { who = who; pick = None }) asks.Run (Touched.Few None None None)) }
+        (TellsTouched store.old (record { who = who; pick = None }) asks.Run (touched_by result touched.new)) }
+    ensures few { is_making (touched_by result touched.new) ≡ false }
     ensures ran { OnTrue (has_run result) (is_running (thread_at (world store.old) (place (path store.old) who)) ≡ true) }
     ensures on { OnTrue (has_run_on result) (is_under_way_at store.new who ≡ true) }
     ensures same { OnFalse (has_run result) (store.new ≡ store.old) }
@@ -246,20 +251,39 @@ pub fn run(store: &mut Store, who: Who) -> Ran
         who,
         is_porter: false,
     };
-    let Instruction::Runs(effect) = fk_user::instruction(store, caller, thread) else {
-        return Ran::Not;
-    };
-    let registers = thread.regs;
-    let counter = thread.pc;
-    let m = Move { who, pick: None };
-    let made = make_instruction(store, &m, registers, counter, effect);
-    ran_by(made, effect)
+    match fk_user::instruction(store, caller, thread) {
+        Instruction::Runs(effect) => {
+            let registers = thread.regs;
+            let counter = thread.pc;
+            let m = Move { who, pick: None };
+            let made = make_instruction(store, &m, registers, counter, effect);
+            ran_by(made, effect)
+        }
+        Instruction::Faults { page, write, port } => {
+            let verdict = Verdict::Faults { page, write, port };
+            raised_by(raise_judged(store, who, &verdict, touched))
+        }
+    }
+}
+
+/// What came of an instruction that raises a fault.
+#[inline(always)]
+fn raised_by(raised: bool) -> Ran
+    ensures made { has_run result ≡ raised }
+    ensures on { has_run_on result ≡ false }
+    ensures touched { (touched : Touched) → touched_by result touched ≡ (if raised then touched else Touched.Few None None None) }
+{
+    if raised {
+        return Ran::Raised;
+    }
+    Ran::Not
 }
 
 /// What came of an instruction with this effect.
 #[inline(always)]
 fn ran_by(made: bool, effect: Effect) -> Ran
     ensures made { has_run result ≡ made }
+    ensures touched { (touched : Touched) → touched_by result touched ≡ Touched.Few None None None }
     ensures on { has_run_on result ≡ (made && leaves_running effect) }
 {
     if !made {
@@ -313,7 +337,7 @@ fn attempt_instruction(
 
 /// Makes an instruction with this effect on these registers at this counter, where it is ready, and answers whether it is.
 #[inline(always)]
-fn make_instruction(
+pub fn make_instruction(
     store: &mut Store,
     m: &Move,
     registers: [u64; 16],

@@ -21,11 +21,11 @@ ghost use Rattle.fk_calls.specs.Calls.Doings.{IsAtStage};
 ghost use Rattle.fk_calls.specs.Calls.Judgements.{IsEnded, IsReadyMove, IsStepTo, TellsTouched};
 ghost use Rattle.fk_calls.specs.Calls.Rows.{takes_memory};
 
+use crate::calls::arms::{make_end, make_give, make_show, make_take};
 use crate::calls::codes::is_on_objects;
 use crate::calls::doing::{Doing, next_of};
 use crate::calls::judging::free_user;
 use crate::calls::rows;
-use crate::calls::taking::raise;
 use fk_changes::deaths::told_port;
 use fk_changes::readers::Caller;
 use fk_changes::threads::{Answers, finish};
@@ -35,8 +35,8 @@ use fk_plans::wakes::{Touched, touched_by_move};
 use fk_plans::{Plan, Verdict, carry_all, is_ready};
 use fk_store::Store;
 
-/// Makes the next stage of the user in a slot, where that is such a one and ready, or raises the fault of its instruction, and answers whether it did. Else, and wherever it
-/// declines, all stays as it is: whether the move is ready then `attempt` tells.
+/// Makes the next stage of the user in a slot, where that is such a one and ready, and answers whether it did. Else, and wherever it declines, all stays
+/// as it is: whether the move is ready then `attempt` tells.
 pub fn stage(store: &mut Store, who: Who, touched: &mut Touched) -> bool
     requires valid { IsValid (world store.old) }
     ensures made { OnTrue result (IsReadyMove store.old (record { who = who; pick = None }) asks.Run
@@ -48,7 +48,7 @@ pub fn stage(store: &mut Store, who: Who, touched: &mut Touched) -> bool
     // Nobody else is judged for it.
     match silent_stage(store, who) {
         Some(stage) => make_stage(store, who, &stage, touched),
-        None => raise(store, who, touched),
+        None => false,
     }
 }
 
@@ -83,8 +83,8 @@ pub fn stage_of(store: &Store, who: Who) -> Option<Stage>
     }
 }
 
-/// Makes this stage of a free user, the first of its call. What is made and destroyed has functions of its own, in which only its row stands, so that no
-/// verdict is handed on.
+/// Makes this stage of a free user, the first of its call. What is made, destroyed, shown, given and taken has functions of its own, in which only its row
+/// stands, so that no verdict is handed on.
 #[inline(always)]
 fn make_stage(store: &mut Store, who: Who, stage: &Stage, touched: &mut Touched) -> bool
     requires valid { IsValid (world store.old) }
@@ -100,6 +100,10 @@ fn make_stage(store: &mut Store, who: Who, stage: &Stage, touched: &mut Touched)
     match *stage {
         Stage::Create { s, x, kind } => make_create(store, who, s, x, kind, touched),
         Stage::Destroy { s, x } => make_destroy(store, who, s, x, touched),
+        Stage::GetState { s, x, addr } => make_show(store, who, s, x, addr, touched),
+        Stage::PageGive { s, page, addr } => make_give(store, who, s, page, addr, touched),
+        Stage::PageTake { s, page, addr } => make_take(store, who, s, page, addr, touched),
+        Stage::FaultDone => make_end(store, who, touched),
         _ => make_other(store, who, stage, touched),
     }
 }
@@ -195,7 +199,7 @@ fn make_other(store: &mut Store, who: Who, stage: &Stage, touched: &mut Touched)
 
 /// Makes this stage of a free user, the first of its call, which is judged so.
 #[inline(always)]
-fn make_verdict(
+pub fn make_verdict(
     store: &mut Store,
     who: Who,
     stage: &Stage,

@@ -1,4 +1,4 @@
-//! Stages of users that take somebody, and instructions that raise a fault, made without room for what moves tell: by none of them is anybody told anything.
+//! Stages of users that take somebody, and faults that instructions raise, made without room for what moves tell: by none of them is anybody told anything.
 ghost use Rattle.std.specs.Prelude.{◌≡◌, [], true, false, None};
 ghost use Rattle.std.specs.Bool.{OnTrue, OnFalse};
 ghost use Rattle.fk_model.specs.declared.moves.Ask.TheVariants as asks;
@@ -10,13 +10,13 @@ ghost use Rattle.fk_store.specs.Store.Moves.{picked_by};
 ghost use Rattle.fk_store.specs.Store.Paths.{path, place};
 ghost use Rattle.fk_store.specs.Store.Threads.{is_free_at};
 ghost use Rattle.fk_store.specs.Store.World.{world, IsLive, IsSpace};
+ghost use Rattle.fk_plans.specs.Wakes.Touches.{is_making};
 ghost use Rattle.fk_plans.specs.Plans.Plans.{caller_by};
 ghost use Rattle.fk_plans.specs.Plans.Verdicts.{outcome_by, IsSureVerdict, IsVerdict};
 ghost use Rattle.fk_calls.specs.Calls.Doings.{IsAtStage};
 ghost use Rattle.fk_calls.specs.Calls.Judgements.{IsEnded, IsJudged, IsReadyMove, IsStepTo, TellsTouched};
 ghost use Rattle.fk_calls.specs.Calls.Rows.{takes_memory};
 
-use crate::calls::judging::running_user;
 use crate::calls::rows;
 use crate::calls::silent::{finish_silently, stage_of};
 use fk_changes::readers::Caller;
@@ -154,30 +154,9 @@ fn end_silently(store: &mut Store, caller: Caller, plan: &Plan, answers: Four) -
     }
 }
 
-/// Raises the fault of the user in a slot, where it runs and its instruction raises one, and answers whether it did. Else all stays as it is.
-#[inline(never)]
-pub fn raise(store: &mut Store, who: Who, touched: &mut Touched) -> bool
-    requires valid { IsValid (world store.old) }
-    ensures made { OnTrue result (IsReadyMove store.old (record { who = who; pick = None }) asks.Run
-        × IsStepTo store.old (record { who = who; pick = None }) asks.Run store.new says.Nothing) }
-    ensures ended { OnTrue result (IsEnded store.old store.new None) }
-    ensures touched { OnTrue result (TellsTouched store.old (record { who = who; pick = None }) asks.Run touched.new) }
-    ensures same { OnFalse result (store.new ≡ store.old) }
-{
-    let Some(thread) = running_user(store, who) else {
-        return false;
-    };
-    let caller = Caller {
-        who,
-        is_porter: false,
-    };
-    let verdict = fk_user::judge(store, caller, thread);
-    raise_judged(store, who, &verdict, touched)
-}
-
 /// Raises the fault of an instruction that is judged so, and answers whether it did.
 #[inline(always)]
-fn raise_judged(store: &mut Store, who: Who, verdict: &Verdict, touched: &mut Touched) -> bool
+pub fn raise_judged(store: &mut Store, who: Who, verdict: &Verdict, touched: &mut Touched) -> bool
     requires valid { IsValid (world store.old) }
     requires judged { IsJudged store.old (record { who = who; pick = None }) asks.Run
         (record { caller = record { who = who; is_porter = false }; chooses = false; verdict = verdict.now }) }
@@ -185,6 +164,7 @@ fn raise_judged(store: &mut Store, who: Who, verdict: &Verdict, touched: &mut To
         × IsStepTo store.old (record { who = who; pick = None }) asks.Run store.new says.Nothing) }
     ensures ended { OnTrue result (IsEnded store.old store.new None) }
     ensures touched { OnTrue result (TellsTouched store.old (record { who = who; pick = None }) asks.Run touched.new) }
+    ensures few { OnTrue result (is_making touched.new ≡ false) }
     ensures same { OnFalse result (store.new ≡ store.old) }
 {
     let caller = Caller {

@@ -5,7 +5,9 @@ ghost use Rattle.fk_core.specs.Cores.Bursts.{mover_of, AreMade, IsAdvancedSo};
 ghost use Rattle.fk_core.specs.Cores.Cores.{house, run_core, IsFirstDue, IsLacking, IsOver};
 ghost use Rattle.fk_core.specs.Cores.Goings.{IsReachable};
 ghost use Rattle.fk_jobs.specs.Jobs.{current};
+ghost use Rattle.fk_core.specs.Rounds.Kernels.{world_of as world};
 ghost use Rattle.laws_runs.specs.Cores.{IsRun};
+ghost use Rattle.laws_turns.specs.Quiet.{LeadRunning};
 
 use crate::cores::turns::Core;
 use crate::rounds::ROUND;
@@ -13,6 +15,25 @@ use fk_jobs::JobMachine;
 use fk_model::{Move, NoMemory, Who};
 use fk_natives::Service;
 use fk_responders::Table;
+use fk_served::Kernel;
+
+/// Makes instructions of a thread, at most so many, and enters the call to which they lead where one more may be made, and says how many moves these were.
+/// Where it makes none all is as before.
+fn run_into(kernel: &mut Kernel, thread: Who, most: u64) -> u64
+    ensures ran { LeadRunning (record { who = thread; pick = None }) result (world kernel.old) (world kernel.new) }
+    ensures none { result ≡ 0 → kernel.new ≡ kernel.old }
+    ensures few { result ≤ most }
+{
+    let made = kernel.run_on(thread, most);
+    // Who made none is mostly in a call already.
+    if made == 0 || made >= most {
+        return made;
+    }
+    if kernel.enter(thread) {
+        return made + 1;
+    }
+    made
+}
 
 impl<S: Service + Drop, W: JobMachine + Drop> Core<S, W> {
     /// So many moves are left until the look goes round or the budget is used.
@@ -24,8 +45,8 @@ impl<S: Service + Drop, W: JobMachine + Drop> Core<S, W> {
         round.min(self.budget.saturating_sub(self.events))
     }
 
-    /// Makes instructions of a thread, at most so many, where the budget has so many left, and says how many they were. Where it makes none all is
-    /// as before.
+    /// Makes instructions of a thread, the last of them maybe one by which it enters a call, at most so many, where the budget has so many left, and says how
+    /// many they were. Where it makes none all is as before.
     fn run_on(&mut self, who: Who, most: u64) -> u64
         requires few { self.old.events + most ≤ self.old.budget }
         requires come { IsReachable self.old }
@@ -39,7 +60,7 @@ impl<S: Service + Drop, W: JobMachine + Drop> Core<S, W> {
         ensures jobs { self.new.jobs.jobs ≡ self.old.jobs.jobs }
         ensures events { self.new.events ≡ self.old.events + result }
     {
-        let made = self.kernel.run_on(who, most);
+        let made = run_into(&mut self.kernel, who, most);
         if made == 0 {
             return 0;
         }

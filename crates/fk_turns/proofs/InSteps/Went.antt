@@ -309,7 +309,7 @@ abbrev nobody : Touched
 nobody = Few None None None
 
 -- a move leaves the reasons of all others that are queued, but of whom any change may free
-abbrev Leaves : Contents → Contents → Who → Lists → Type 0
+abbrev pub Leaves : Contents → Contents → Who → Lists → Type 0
 Leaves m n mover marks = (x : Who) (why : Why) → is_same mover x ≡ false → is_user_at m x ≡ true → IsFiledAs marks x why →
     IsWhy (world m) (path m) (place_of m x) why → (why ≡ whys.Barred → ⊥) → IsWhy (world n) (path n) (place_of n x) why
 
@@ -330,7 +330,7 @@ module _ (m n : Contents) (mover : Who) (touched : Touched) (alone : touches_onl
           clash (is_user_at m key) (subst (λ (w : Who). is_user_at m w ≡ true) (same_who mover key e) own)
           (ap (holds (λ (t : Thread). not (is_porter t.mode))) lone)
 
-  left_hushed : Leaves m n mover marks
+  pub left_hushed : Leaves m n mover marks
   left_hushed x whys.Still other user filed is some =
       moved.stays (narrow mover touched alone) x whys.Still (told_alone mover touched alone x other) tt user is
   left_hushed x (whys.At key) other user filed is some =

@@ -36,7 +36,7 @@ pub enum Gone {
 }
 
 /// Makes the next stage of the user in a slot, where that is made by one look or tells nothing, and keeps the lists. Who stays needn't go last: where a
-/// stage that is made by one look leaves it in its turn, it stands where it stood.
+/// stage that is made by one look leaves it in its turn, or one that tells nothing touches nobody else, it stands where it stood.
 #[inline(never)]
 pub fn go_stage(store: &mut Store, turns: &mut Turns, who: Who, stays: bool) -> Gone
     requires valid { IsValid (world store.old) }
@@ -51,14 +51,15 @@ pub fn go_stage(store: &mut Store, turns: &mut Turns, who: Who, stays: bool) -> 
     ensures still { OnFalse (is_made result) (standing turns.new.waits ≡ standing turns.old.waits) }
 {
     match go(store, turns, who, stays) {
-        Gone::Not => go_silently(store, turns, who),
+        Gone::Not => go_silently(store, turns, who, stays),
         Gone::Waits => Gone::Waits,
         Gone::Made => Gone::Made,
     }
 }
 
-/// The same of a stage that tells nothing, which is judged.
-fn go_silently(store: &mut Store, turns: &mut Turns, who: Who) -> Gone
+/// The same of a thread in the call with this code, which is a hint: nobody looks for one look's stage in a call on objects.
+#[inline(always)]
+pub fn go_call(store: &mut Store, turns: &mut Turns, who: Who, code: u64, stays: bool) -> Gone
     requires valid { IsValid (world store.old) }
     requires kept { AreKept store.old turns.old.waits turns.old.marks }
     ensures made { OnTrue (is_made result) (IsReadyMove store.old (run_of who) asks.Run × IsStepTo store.old (run_of who) asks.Run store.new Said.Nothing) }
@@ -67,10 +68,29 @@ fn go_silently(store: &mut Store, turns: &mut Turns, who: Who) -> Gone
     ensures same { OnFalse (is_made result) (store.new ≡ store.old) }
     ensures valid { IsValid (world store.new) }
     ensures kept { AreKept store.new turns.new.waits turns.new.marks }
-    ensures placed { OnTrue (is_made result) (IsPut store.old (run_of who) asks.Run store.new (standing turns.new.waits)) }
+    ensures placed { OnFalse stays (OnTrue (is_made result) (IsPut store.old (run_of who) asks.Run store.new (standing turns.new.waits))) }
     ensures still { OnFalse (is_made result) (standing turns.new.waits ≡ standing turns.old.waits) }
 {
-    if proceed_stage(store, turns, who) {
+    if fk_calls::is_on_objects(code) {
+        return go_silently(store, turns, who, stays);
+    }
+    go_stage(store, turns, who, stays)
+}
+
+/// The same of a stage that tells nothing, which is judged.
+fn go_silently(store: &mut Store, turns: &mut Turns, who: Who, stays: bool) -> Gone
+    requires valid { IsValid (world store.old) }
+    requires kept { AreKept store.old turns.old.waits turns.old.marks }
+    ensures made { OnTrue (is_made result) (IsReadyMove store.old (run_of who) asks.Run × IsStepTo store.old (run_of who) asks.Run store.new Said.Nothing) }
+    ensures ended { OnTrue (is_made result) (IsEnded store.old store.new None) }
+    ensures waits { result ≡ Gone.Waits → IsMoveReady (world store.old) (place_of store.old who) → ⊥ }
+    ensures same { OnFalse (is_made result) (store.new ≡ store.old) }
+    ensures valid { IsValid (world store.new) }
+    ensures kept { AreKept store.new turns.new.waits turns.new.marks }
+    ensures placed { OnFalse stays (OnTrue (is_made result) (IsPut store.old (run_of who) asks.Run store.new (standing turns.new.waits))) }
+    ensures still { OnFalse (is_made result) (standing turns.new.waits ≡ standing turns.old.waits) }
+{
+    if proceed_stage(store, turns, who, stays) {
         return Gone::Made;
     }
     Gone::Not

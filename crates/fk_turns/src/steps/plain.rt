@@ -517,7 +517,7 @@ fn is_gentle(turns: &Turns, mover: Who, touched: &Touched, ran: bool) -> bool
 
 /// Nobody is queued, or nobody whom any move may free.
 #[inline(always)]
-fn is_calm(turns: &Turns) -> bool
+pub fn is_calm(turns: &Turns) -> bool
     ensures { OnTrue result (IsCalm turns.now.waits turns.now.marks) }
 {
     if is_none_queued(turns) {
@@ -551,7 +551,7 @@ fn touches_nobody(touched: &Touched) -> bool
 }
 
 /// A move touched nobody but who moved, by whatever name.
-fn touches_only(mover: Who, touched: &Touched) -> bool
+pub fn touches_only(mover: Who, touched: &Touched) -> bool
     ensures { result ≡ steps_of.touches_only mover touched.now }
 {
     match *touched {

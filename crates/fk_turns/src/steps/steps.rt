@@ -15,8 +15,10 @@ ghost use Rattle.fk_turns.specs.Next.Waiting.{standing, ComesAfter, IsMoveReady,
 ghost use Rattle.fk_turns.specs.Steps.Classes.{is_made};
 ghost use Rattle.fk_turns.specs.Steps.Steps.{was_made, ComesByPorter, IsPut, MayBeQuiet};
 
-use crate::steps::going::{Gone, go_stage};
+use crate::next::after;
+use crate::steps::going::{Gone, go_call, go_stage};
 use crate::steps::plain::{after_call, after_entry, after_off, after_on, after_plain, after_stay};
+use crate::steps::resting::after_silent_if;
 use crate::steps::room::{reserve_for, reserve_for_stage, seat_for};
 use fk_calls::{Ran, Told};
 use fk_model::{Ask, Mode, Move, NoMemory, Said, Stage, Who};
@@ -184,7 +186,8 @@ fn is_done(made: &Result<bool, NoMemory>) -> bool
     }
 }
 
-/// Makes the next instruction of the user in a slot, or the next stage of its call where that is made by one look or tells nothing, and keeps the lists.
+/// Makes the next instruction of the user in a slot, or raises its fault, or makes the next stage of its call where that is made by one look or tells
+/// nothing, and keeps the lists.
 pub fn proceed(store: &mut Store, turns: &mut Turns, who: Who) -> Gone
     requires valid { IsValid (world store.old) }
     requires kept { AreKept store.old turns.old.waits turns.old.marks }
@@ -198,11 +201,12 @@ pub fn proceed(store: &mut Store, turns: &mut Turns, who: Who) -> Gone
     ensures placed { OnTrue (is_made result) (IsPut store.old (record { who = who; pick = None }) asks.Run store.new (standing turns.new.waits)) }
     ensures still { OnFalse (is_made result) (standing turns.new.waits ≡ standing turns.old.waits) }
 {
-    if is_calling(store, who) {
-        return go_stage(store, turns, who, false);
+    if let Some(code) = call_of(store, who) {
+        return go_call(store, turns, who, code, false);
     }
     store.names();
-    let ran = fk_calls::run(store, who);
+    let mut touched = Touched::Any;
+    let ran = fk_calls::run(store, who, &mut touched);
     // And so they do in the world that it leaves.
     store.names();
     match ran {
@@ -212,6 +216,10 @@ pub fn proceed(store: &mut Store, turns: &mut Turns, who: Who) -> Gone
         }
         Ran::Off => {
             after_off(turns, store, who);
+            Gone::Made
+        }
+        Ran::Raised => {
+            after(turns, store, who, &touched);
             Gone::Made
         }
         Ran::Not => go_stage(store, turns, who, false),
@@ -232,11 +240,12 @@ pub fn proceed_on(store: &mut Store, turns: &mut Turns, who: Who) -> Gone
     ensures kept { AreKept store.new turns.new.waits turns.new.marks }
     ensures still { OnFalse (is_made result) (standing turns.new.waits ≡ standing turns.old.waits) }
 {
-    if is_calling(store, who) {
-        return go_stage(store, turns, who, true);
+    if let Some(code) = call_of(store, who) {
+        return go_call(store, turns, who, code, true);
     }
     store.names();
-    let ran = fk_calls::run(store, who);
+    let mut touched = Touched::Any;
+    let ran = fk_calls::run(store, who, &mut touched);
     // And so they do in the world that it leaves.
     store.names();
     match ran {
@@ -248,22 +257,29 @@ pub fn proceed_on(store: &mut Store, turns: &mut Turns, who: Who) -> Gone
             after_entry(turns, store, who);
             Gone::Made
         }
+        Ran::Raised => {
+            after(turns, store, who, &touched);
+            Gone::Made
+        }
         Ran::Not => go_stage(store, turns, who, true),
     }
 }
 
-/// A thread is in a call, so that it makes no instruction. It is a hint: nothing is said of it.
+/// The code of the call in which a thread is, so that it makes no instruction. It is a hint: nothing is said of it.
 #[inline(always)]
-fn is_calling(store: &Store, who: Who) -> bool {
+fn call_of(store: &Store, who: Who) -> Option<u64> {
     match store.thread(who) {
-        Some(thread) => matches!(thread.mode, Mode::Calling),
-        None => false,
+        Some(thread) => match thread.mode {
+            Mode::Calling => Some(thread.regs[0]),
+            Mode::Running | Mode::Halted(_) | Mode::Native => None,
+        },
+        None => None,
     }
 }
 
-/// Makes the next stage of the user in a slot, where that tells nothing, and keeps the lists.
+/// Makes the next stage of the user in a slot, where that tells nothing, and keeps the lists. Who stays needn't go last.
 #[inline(never)]
-pub fn proceed_stage(store: &mut Store, turns: &mut Turns, who: Who) -> bool
+pub fn proceed_stage(store: &mut Store, turns: &mut Turns, who: Who, stays: bool) -> bool
     requires valid { IsValid (world store.old) }
     requires kept { AreKept store.old turns.old.waits turns.old.marks }
     ensures made { OnTrue result (IsReadyMove store.old (record { who = who; pick = None }) asks.Run
@@ -272,7 +288,7 @@ pub fn proceed_stage(store: &mut Store, turns: &mut Turns, who: Who) -> bool
     ensures same { OnFalse result (store.new ≡ store.old) }
     ensures valid { IsValid (world store.new) }
     ensures kept { AreKept store.new turns.new.waits turns.new.marks }
-    ensures placed { OnTrue result (IsPut store.old (record { who = who; pick = None }) asks.Run store.new (standing turns.new.waits)) }
+    ensures placed { OnFalse stays (OnTrue result (IsPut store.old (record { who = who; pick = None }) asks.Run store.new (standing turns.new.waits))) }
     ensures still { OnFalse result (standing turns.new.waits ≡ standing turns.old.waits) }
 {
     if !seat_for(turns, store, who) {
@@ -283,6 +299,6 @@ pub fn proceed_stage(store: &mut Store, turns: &mut Turns, who: Who) -> bool
     let made = fk_calls::stage(store, who, &mut touched);
     // And so they do in the world that the move leaves.
     store.names();
-    after_plain_if(turns, store, made, who, &touched, false);
+    after_silent_if(turns, store, made, who, &touched, stays);
     made
 }

@@ -44,3 +44,6 @@ returns-in-Faults-clause-touched c =
     let run : Move = record { who = c.args.who; pick = None } in
     let j : Judgement = record { caller = user c.args.who; chooses = false; verdict = c.args.verdict.now } in
     touching_by c.args.store.now run asks.Run j c.touched_by_move.result c.touched_by_move.ensures.by c.requires.judged
+
+pub returns-in-Faults-clause-few : goal.returns-in-Faults-clause-few
+returns-in-Faults-clause-few c = rw (c.touched_by_move.ensures.by, c.in-Faults.is) refl

@@ -53,8 +53,8 @@ after_off-requires c =
           (Few None None None) was.waits was.marks says.Nothing c.requires.kept refl made.0 made.1 tells;
     }
 
-pub go_stage-requires-in-Not : goal.go_stage-requires-in-Not
-go_stage-requires-in-Not c =
+pub go_stage-requires : goal.go_stage-requires
+go_stage-requires c =
     let same = rw c.in-Not.is at c.run-ran.ensures.same in
     let was = c.args.turns.now in
     record {
@@ -110,35 +110,75 @@ returns-in-Off-clause-placed c =
     put_true m c.run-ran.new.store run asks.Run c.requires.valid c.names.ensures.few (run_fit m run) c.names.ensures.born c.names-2.ensures.born
     c.names-2.ensures.few (Few None None None) c.after_off.new.turns.waits says.Nothing true made tells c.after_off.ensures.placed
 
+-- ---- a fault that it raises
+
+pub after-requires : goal.after-requires
+after-requires c =
+    let m = c.args.store.now in
+    let n = c.run-ran.new.store in
+    let run : Move = record { who = c.args.who; pick = None } in
+    let was = c.args.turns.now in
+    let made = rw c.in-Raised.is at c.run-ran.ensures.made in
+    let tells = rw c.in-Raised.is at c.run-ran.ensures.touched in
+    let few = rw c.in-Raised.is at c.run-ran.ensures.few in
+    record {
+      valid = valid_true m n run asks.Run c.requires.valid c.names.ensures.few (run_fit m run) says.Nothing (has_run c.run-ran.result) c.run-ran.ensures.made
+          c.run-ran.ensures.same;
+      comes = comes_ran m n run c.requires.valid c.names.ensures.few (run_fit m run) c.names.ensures.born c.names-2.ensures.born c.names-2.ensures.few
+          c.run-ran.new.touched was.waits was.marks says.Nothing c.requires.kept few made.0 made.1 tells;
+    }
+
+pub returns-in-Raised-clause-made : goal.returns-in-Raised-clause-made
+returns-in-Raised-clause-made c = rw c.in-Raised.is at c.run-ran.ensures.made
+
+pub returns-in-Raised-clause-ended : goal.returns-in-Raised-clause-ended
+returns-in-Raised-clause-ended c = rw c.in-Raised.is at c.run-ran.ensures.ended
+
+pub returns-in-Raised-clause-valid : goal.returns-in-Raised-clause-valid
+returns-in-Raised-clause-valid c =
+    let m = c.args.store.now in
+    let run : Move = record { who = c.args.who; pick = None } in
+    valid_true m c.run-ran.new.store run asks.Run c.requires.valid c.names.ensures.few (run_fit m run) says.Nothing (has_run c.run-ran.result)
+    c.run-ran.ensures.made c.run-ran.ensures.same
+
+pub returns-in-Raised-clause-placed : goal.returns-in-Raised-clause-placed
+returns-in-Raised-clause-placed c =
+    let m = c.args.store.now in
+    let run : Move = record { who = c.args.who; pick = None } in
+    let made = rw c.in-Raised.is at c.run-ran.ensures.made in
+    let tells = rw c.in-Raised.is at c.run-ran.ensures.touched in
+    put_true m c.run-ran.new.store run asks.Run c.requires.valid c.names.ensures.few (run_fit m run) c.names.ensures.born c.names-2.ensures.born
+    c.names-2.ensures.few c.run-ran.new.touched c.after.new.turns.waits says.Nothing true made tells c.after.ensures.placed
+
 -- ---- a stage, before which all is as it was
 
 pub returns-in-Not-clause-made : goal.returns-in-Not-clause-made
 returns-in-Not-clause-made c =
     let run : Move = record { who = c.args.who; pick = None } in
     let same = rw c.in-Not.is at c.run-ran.ensures.same in
-    let v = c.go_stage-in-Not.new.store in
-    subst (λ (d : Contents). OnTrue (is_made c.go_stage-in-Not.result) (IsReadyMove d run asks.Run × IsStepTo d run asks.Run v says.Nothing)) same
-    c.go_stage-in-Not.ensures.made
+    let v = c.go_stage.new.store in
+    subst (λ (d : Contents). OnTrue (is_made c.go_stage.result) (IsReadyMove d run asks.Run × IsStepTo d run asks.Run v says.Nothing)) same
+    c.go_stage.ensures.made
 
 pub returns-in-Not-clause-ended : goal.returns-in-Not-clause-ended
 returns-in-Not-clause-ended c =
     let same = rw c.in-Not.is at c.run-ran.ensures.same in
-    subst (λ (d : Contents). OnTrue (is_made c.go_stage-in-Not.result) (IsEnded d c.go_stage-in-Not.new.store None)) same c.go_stage-in-Not.ensures.ended
+    subst (λ (d : Contents). OnTrue (is_made c.go_stage.result) (IsEnded d c.go_stage.new.store None)) same c.go_stage.ensures.ended
 
 pub returns-in-Not-clause-same : goal.returns-in-Not-clause-same
 returns-in-Not-clause-same c =
     let same = rw c.in-Not.is at c.run-ran.ensures.same in
-    subst (λ (d : Contents). OnFalse (is_made c.go_stage-in-Not.result) (c.go_stage-in-Not.new.store ≡ d)) same c.go_stage-in-Not.ensures.same
+    subst (λ (d : Contents). OnFalse (is_made c.go_stage.result) (c.go_stage.new.store ≡ d)) same c.go_stage.ensures.same
 
 pub returns-in-Not-clause-placed : goal.returns-in-Not-clause-placed
 returns-in-Not-clause-placed c =
     let run : Move = record { who = c.args.who; pick = None } in
     let same = rw c.in-Not.is at c.run-ran.ensures.same in
-    let v = c.go_stage-in-Not.new.store in
-    let s = standing c.go_stage-in-Not.new.turns.waits in
-    subst (λ (d : Contents). OnTrue (is_made c.go_stage-in-Not.result) (IsPut d run asks.Run v s)) same c.go_stage-in-Not.ensures.placed
+    let v = c.go_stage.new.store in
+    let s = standing c.go_stage.new.turns.waits in
+    subst (λ (d : Contents). OnTrue (is_made c.go_stage.result) (IsPut d run asks.Run v s)) same c.go_stage.ensures.placed
 
 pub returns-in-Not-clause-waits : goal.returns-in-Not-clause-waits
 returns-in-Not-clause-waits c waits up =
     let same = rw c.in-Not.is at c.run-ran.ensures.same in
-    c.go_stage-in-Not.ensures.waits waits (subst (λ (d : Contents). IsMoveReady (world d) (place_of d c.args.who)) (sym same) up)
+    c.go_stage.ensures.waits waits (subst (λ (d : Contents). IsMoveReady (world d) (place_of d c.args.who)) (sym same) up)

@@ -2,11 +2,13 @@ use Rattle.std.proofs.Common.{None}
 use Rattle.fk_model.specs.declared.moves.Ask.TheVariants as asks
 use Rattle.fk_model.specs.declared.moves.Move.{Move}
 use Rattle.fk_model.specs.declared.moves.Said.TheVariants as says
-use Rattle.fk_turns.proofs.InSteps.Stepped.{comes_true, kept_wider, never_quiet, put_true, run_fit, same_wider, still_then, still_true, valid_true}
+use Rattle.fk_turns.proofs.InSteps.Stepped.{comes_true, kept_wider, put_true, run_fit, same_wider, still_then, still_true, valid_true}
+use Rattle.fk_turns.proofs.InSteps.Locked.{if_false}
+use Rattle.fk_turns.proofs.InSteps.Rested.{free_made}
 use Rattle.fk_turns.proofs.steps.steps.proceed_stage.Goals as goal
 
-pub after_plain_if-requires : goal.after_plain_if-requires
-after_plain_if-requires c =
+pub after_silent_if-requires : goal.after_silent_if-requires
+after_silent_if-requires c =
     let m = c.args.store.now in
     let n = c.stage-made.new.store in
     let run : Move = record { who = c.args.who; pick = None } in
@@ -20,7 +22,7 @@ after_plain_if-requires c =
       comes = comes_true m n run asks.Run c.requires.valid c.names.ensures.few (run_fit m run) c.names.ensures.born c.names-2.ensures.born
           c.names-2.ensures.few c.stage-made.new.touched now.waits now.marks says.Nothing c.stage-made.result kept room c.stage-made.ensures.made
           c.stage-made.ensures.touched;
-      quiet = never_quiet n c.args.who c.stage-made.result c.stage-made.new.touched now.waits now.marks;
+      free = free_made m c.args.who now.waits now.marks c.stage-made.result c.requires.valid c.names.ensures.few kept c.stage-made.ensures.made;
       kept = still_true m n run asks.Run c.requires.valid c.names.ensures.few (run_fit m run) now.waits now.marks c.stage-made.result kept
           c.stage-made.ensures.same;
     }
@@ -29,16 +31,16 @@ pub returns-clause-placed : goal.returns-clause-placed
 returns-clause-placed c =
     let m = c.args.store.now in
     let run : Move = record { who = c.args.who; pick = None } in
-    put_true m c.stage-made.new.store run asks.Run c.requires.valid c.names.ensures.few (run_fit m run) c.names.ensures.born c.names-2.ensures.born
-    c.names-2.ensures.few c.stage-made.new.touched c.after_plain_if.new.turns.waits says.Nothing c.stage-made.result c.stage-made.ensures.made
-    c.stage-made.ensures.touched c.after_plain_if.ensures.placed
+    if_false c.args.stays (put_true m c.stage-made.new.store run asks.Run c.requires.valid c.names.ensures.few (run_fit m run) c.names.ensures.born
+    c.names-2.ensures.born c.names-2.ensures.few c.stage-made.new.touched c.after_silent_if.new.turns.waits says.Nothing c.stage-made.result
+    c.stage-made.ensures.made c.stage-made.ensures.touched) c.after_silent_if.ensures.placed
 
 pub returns-clause-still : goal.returns-clause-still
 returns-clause-still c =
     let was = c.args.turns.now in
     let now = c.seat_for.new.turns in
-    still_then was.waits now.waits c.after_plain_if.new.turns.waits _ (same_wider was.waits was.marks now.waits now.marks c.seat_for.ensures.wider)
-    c.after_plain_if.ensures.still
+    still_then was.waits now.waits c.after_silent_if.new.turns.waits _ (same_wider was.waits was.marks now.waits now.marks c.seat_for.ensures.wider)
+    c.after_silent_if.ensures.still
 
 pub returns-then-not-seat_for-clause-kept : goal.returns-then-not-seat_for-clause-kept
 returns-then-not-seat_for-clause-kept c =
