@@ -11,6 +11,7 @@ use Rattle.fk_words.specs.Commands.{Command, Show, Soak, Files, NoFiles, RunFile
 use Rattle.fk_commands.specs.Outcomes.{without_report}
 use Rattle.fk_commands.specs.declared.outcome.Outcome.{Outcome}
 use Rattle.fk_commands.specs.declared.outcome.Report.{Report}
+use Rattle.fk_extras.specs.declared.extra.Extra.{Extra}
 use Rattle.fk_commands.specs.Prepared.{ComesTo, IsRefusal, IsRefusedAt, IsCaused, outcome_of}
 use Rattle.fk_commands.specs.Status.{row_of, progress_of, Progress, Words, Reading, Refusing, Writing, Finished, was_cut_short}
 use Rattle.fk_commands.specs.Status.{Failed, Nothing, Source, Sink, Shelf, Memory}
@@ -98,31 +99,34 @@ module _ (rules : Rules) (command : Option Command) (left : Option (List ℕ)) (
         written = written;
       }
 
-  but-for-status : IsDue rules command left files (outcome_of run) (string_bytes run.output) → outcome.report ≡ run.report
+  but-for-status : IsDue rules command left files (outcome_of run) (string_bytes run.output) → outcome.report ≡ run.report → outcome.extra ≡ run.extra
       → IsDue rules command left files (record outcome { status = run.status }) (string_bytes run.output)
-  but-for-status due same =
-      subst (λ (r : Option Report). IsDue rules command left files (record { status = run.status; report = r }) (string_bytes run.output)) (sym same) due
+  but-for-status due same alike =
+      subst (λ (x : Option Extra). IsDue rules command left files (record { status = run.status; report = outcome.report; extra = x }) (string_bytes run.output))
+      (sym alike)
+      (subst (λ (r : Option Report). IsDue rules command left files (record { status = run.status; report = r; extra = run.extra }) (string_bytes run.output))
+      (sym same) due)
 
   -- or up to the writing
   pub done-front : (old new : Option (List ℕ)) → IsDue rules command left files (outcome_of run) (string_bytes run.output) → progress_of run.status ≡ Finished
-      → outcome.report ≡ run.report → AppendsPrefix old new (string_bytes run.output) → IsCutOff rules command left files old new outcome
-  done-front old new due finished same written = record {
+      → outcome.report ≡ run.report → outcome.extra ≡ run.extra → AppendsPrefix old new (string_bytes run.output) → IsCutOff rules command left files old new outcome
+  done-front old new due finished same alike written = record {
     status = run.status;
     finished = finished;
     text = string_bytes run.output;
-    due = but-for-status due same;
+    due = but-for-status due same alike;
     written = written;
   }
 
   -- or up to a put
   pub unput : (gets_before gets_now puts_before puts_now : ℕ) → IsDue rules command left files (outcome_of run) (string_bytes run.output)
-      → progress_of run.status ≡ Finished → outcome.report ≡ run.report → IsSome outcome.report → Rose puts_before puts_now
+      → progress_of run.status ≡ Finished → outcome.report ≡ run.report → outcome.extra ≡ run.extra → IsSome outcome.report → Rose puts_before puts_now
       → HasFailed gets_before gets_now puts_before puts_now rules command left files outcome outcome.report
-  unput gb gn pb pn due finished same some rose = by outcome.report some
+  unput gb gn pb pn due finished same alike some rose = by outcome.report some
     where
       by : (report : Option Report) → IsSome report → HasFailed gb gn pb pn rules command left files outcome report
       by None some = absurd (cc)
       by (Some report) some = (
         rose,
-        record { status = run.status; finished = finished; text = string_bytes run.output; due = but-for-status due same },
+        record { status = run.status; finished = finished; text = string_bytes run.output; due = but-for-status due same alike },
       )

@@ -18,10 +18,13 @@ pub use Rattle.fk_plays.specs.Images
 pub use Rattle.fk_commands.specs.Check
 pub use Rattle.fk_commands.specs.Show
 pub use Rattle.fk_commands.specs.Prepared
+pub use Rattle.fk_pages.specs.Pages
+pub use Rattle.fk_pages.specs.Command
 pub use Rattle.fk_words.specs.Commands
 pub use Rattle.fk_puts.specs.Puts
 pub use Rattle.fk_puts.specs.Small
 pub mod Top
+pub mod Made
 pub mod Again
 pub mod Jobs
 pub mod Complete

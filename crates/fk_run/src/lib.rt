@@ -11,10 +11,12 @@
 //! saved and restored. `fluke_alone` does so for all words that workers don't share, and always returns.
 #![tactic(auto)]
 
+mod made;
 mod source_text;
 mod top;
 
 pub use fk_commands::{Outcome, Report, Status, fault_line};
+pub use fk_extras::{Extra, Migration, Paged};
 pub use fk_lone::a_lone_move_is_an_instruction;
 pub use fk_report::{End, JobEnd};
 pub use top::{fluke_alone, fluke_top};
