@@ -1090,9 +1090,9 @@ def made_by_user(world, thread, pick):
     return doing
 
 
-def asked_by_porter(world, porter, code, arguments, given=()):
-    """What a porter's call does: a doing that gives its status and its words; nothing where it isn't ready. It picks nobody."""
-    asked = Asked(world, porter, arguments, given)
+def asked_by_porter(world, porter, code, arguments, given=(), pick=None):
+    """What a porter's call does, with this pick: a doing that gives its status and its words; nothing where it isn't ready."""
+    asked = Asked(world, porter, arguments, given, pick)
     try:
         if code in USERS_ALONE:
             raise Refused(DENIED)
