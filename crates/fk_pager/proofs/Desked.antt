@@ -12,14 +12,14 @@ use Rattle.fk_model.specs.Objects.Body.{Mutex, Mapping, Region, Port, Space, Thr
 use Rattle.fk_model.specs.World.{World, Change, Edit, serves, edited, apply, apply_all, ended_in, finished_in}
 use Rattle.fk_model.specs.World.Change.{Alter, Make, MakeSpace, Kill, Move, PutPage, DropPage}
 use Rattle.fk_model.specs.World.Edit.{SetLocked, SetWindow, SetExtent, SetMember, SetPointer, SetHolder, Finish, End, SetTalk, CountMoved, PassTurn, SetPeer}
-use Rattle.fk_model.specs.World.Edit.{SetFault}
+use Rattle.fk_model.specs.World.Edit.{SetFault, SetTaker}
 use Rattle.fk_model.specs.Outcomes.{Outcome, Caller, path_of, listed}
 use Rattle.fk_model.specs.Records.{set_edits}
 use Rattle.fk_model.specs.LinkRows.{portset_of, user_at}
 use Rattle.fk_model.specs.Moves.{stepped, step, outcome, is_for_porters}
 use Rattle.fk_model.proofs.walks.PlaceLaws.{same_path_eq, same_path_sym}
 use Rattle.laws_moves.specs.Rows.Stages.{Sets, Work, Step}
-use Rattle.laws_moves.specs.Rows.Stages.Sets.{Locks, Resumes, Restores_talk, Parks_talk}
+use Rattle.laws_moves.specs.Rows.Stages.Sets.{Locks, Resumes, Takes_fault, Restores_talk, Parks_talk}
 use Rattle.laws_moves.specs.Rows.Stages.Work.{Looks, Edits, Makes, Kills, Sets_record, Copies, Sleeps, Wakes_all}
 use Rattle.laws_moves.specs.Rows.Stages.Work.{Takes_client, Hangs_up, Sends, Sends_service, Passes, Hands_over}
 use Rattle.laws_moves.specs.Rows.Stages.Step.{Is_refused, Is_waiting, Raises, Answers, Stays, Finishes, Ends}
@@ -36,11 +36,12 @@ use Rattle.laws_filled.proofs.Moves.{outcome-seen}
 use Rattle.laws_filled.proofs.Rows.{Seen}
 use Rattle.laws_filled.proofs.Rows.Seen.{Waiting, Refusing, Raising, Going}
 
--- ---- what a change gives a thread to serve
+-- ---- what a change gives a thread to serve, and which fault to take
 
 abbrev pub IsApartEdit : Path → Edit → Type 0
 IsApartEdit me (SetTalk (Some talk)) = serves me talk.peer ≡ false
 IsApartEdit me (SetPeer peer) = serves me peer ≡ false
+IsApartEdit me (SetTaker taker) = holds (serves me) taker ≡ false
 IsApartEdit me other = Unit {0}
 
 abbrev pub IsApart : Path → Change → Type 0
@@ -69,6 +70,7 @@ module _ (me : Path) where
         IsApartEdit me edit
     sets off (Locks stage m was locked read) = tt
     sets off (Resumes set slot x talk idle at) = other
+    sets off (Takes_fault set slot x fault idle at) = other
     sets off (Restores_talk s x port server space t at thread read there led named free) = cc
     sets off (Parks_talk s x port space t was read there its free) = cc
     sets off rest = tt
@@ -115,7 +117,7 @@ module _ (me : Path) where
   acts w port pick _ _ (Gives_words words len x t receive s page there is home) = (tt, (tt, (tt, tt)))
   acts w port pick _ _ (Passes_client x to at awaits) = (tt, (tt, tt))
 
-  lists : (w : World) (x : Path) (pick : Option Path) (ask : Ask) (o : Outcome) → is_others ask ≡ true → same_path (slot_of x ∷ parent x) me ≡ false →
+  pub lists : (w : World) (x : Path) (pick : Option Path) (ask : Ask) (o : Outcome) → is_others ask ≡ true → same_path (slot_of x ∷ parent x) me ≡ false →
       Lists w x pick ask o → AreApart me (listed o)
   lists w x pick _ _ is off (Moves_not ask) = tt
   lists w x pick _ _ is off (Runs t g o there free at by) = instructs w _ _ g t.counter o by

@@ -42,7 +42,7 @@ use Rattle.laws_filled.specs.Filled.{is_paged}
 use Rattle.laws_filled.specs.Pager.{Desk, Phase, State, paging, is_opening, stage_of, words_of, call_of, said_of, hears, IsPick, IsOwn}
 use Rattle.laws_filled.specs.Pager.Phase.{Seeking, Taking, Waiting, Looking, Evicting, Giving, Ending}
 use Rattle.fk_pager.specs.Desks.{root}
-use Rattle.fk_pager.specs.Driven.{moment, desk, is_waiting, HearsWell, Drives}
+use Rattle.fk_pager.specs.Driven.{moment, desk, is_waiting, HearsWell, IsTurnReady, Drives}
 use Rattle.fk_pager.specs.Faults.{is_fault_of}
 use Rattle.fk_pager.specs.declared.driver.PagedRun as driver
 use Rattle.fk_pager.proofs.Searching.{root-place}
@@ -50,7 +50,10 @@ use Rattle.fk_pager.proofs.Phases.{stays-done}
 use Rattle.fk_pager.proofs.Rows.{opening-ready, opening-keeps, good-answers}
 use Rattle.fk_pager.specs.Runs.{Moment, heard_by, IsOthersMove, by_others, IsPagersMove, pagers_event, by_pager, IsRun, GoesOn}
 use Rattle.fk_pager.specs.Runs.IsRun.{Begins, Others, Own}
-use Rattle.fk_pager.specs.Ends.{IsEnd}
+use Rattle.fk_pager.specs.Ends.{IsAnyReady, IsAtRest, IsEnd}
+use Rattle.fk_report.specs.declared.end.End.TheVariants as ends
+use Rattle.fk_pager.specs.declared.driver.Turn.{Turn}
+use Rattle.fk_pager.specs.declared.driver.Turn.TheVariants as turns
 use Rattle.fk_pager.specs.Paged.{opened_by, IsPaged}
 use Rattle.fk_report.specs.declared.end.End.{End}
 
@@ -411,6 +414,38 @@ drives-alike a b at pager port history = record {
       subst (λ (x : Moment). IsRun (desk a) first b.history.items x) (sym at)
       (subst (λ (ms : List Move). IsRun (desk a) first ms (moment a)) (sym items) run);
 }
+
+-- ---- how it ends
+
+rest-ends : (d : Desk) (budget made : ℕ) (at : Moment) (e : End) → (IsAnyReady d at → ⊥) → IsAtRest at.world e → IsEnd d budget made at e
+rest-ends d budget made at ends.Halted none rest = (none, rest)
+rest-ends d budget made at ends.Quiet none rest = (none, rest)
+rest-ends d budget made at ends.Budget none rest = rest
+rest-ends d budget made at ends.Listed none rest = rest
+
+-- where nothing was ready once it was looked for
+pub rest-of : {S : Type 0} (start old chosen : driver.PagedRun S) (budget : ℕ) (e : End) → Drives start old → moment chosen ≡ moment old →
+    (IsAnyReady (desk old) (moment old) → ⊥) → IsAtRest (moment chosen).world e →
+    IsEnd (desk start) budget (length chosen.history.items) (moment chosen) e
+rest-of start old chosen budget e drives at none rest =
+    rest-ends (desk start) budget (length chosen.history.items) (moment chosen) e
+    (subst (λ (d : Desk). IsAnyReady d (moment chosen) → ⊥) drives.same (subst (λ (x : Moment). IsAnyReady (desk old) x → ⊥) (sym at) none)) rest
+
+-- where the budget is used
+pub used-of : {S : Type 0} (start old new : driver.PagedRun S) (budget : ℕ) (e : End) → Drives start old → moment new ≡ moment old →
+    new.history ≡ old.history → IsEnd (desk old) budget (length old.history.items) (moment old) e →
+    IsEnd (desk start) budget (length new.history.items) (moment new) e
+used-of start old new budget e drives at history ended =
+    let count : length new.history.items ≡ length old.history.items = λ i. length (history i).items in
+    subst (λ (d : Desk). IsEnd d budget (length new.history.items) (moment new) e) drives.same
+    (subst (λ (x : Moment). IsEnd (desk old) budget (length new.history.items) x e) (sym at)
+    (subst (λ (n : ℕ). IsEnd (desk old) budget n (moment old) e) (sym count) ended))
+
+-- what a turn is ready for
+pub turn-any : (d : Desk) (at : Moment) (turn : Turn) → IsTurnReady d at turn → IsAnyReady d at
+turn-any d at (turns.Pager m) ready = inl (option_map (named at.world) m.pick, ready.own)
+turn-any d at (turns.Other m) ready =
+    inr (inl (m, subst (IsReadyFor at.world m) (sym ready.1.asks) ready.1.ready))
 
 -- ---- a whole run
 

@@ -10,6 +10,7 @@ pub mod Counted
 pub mod Desked
 pub mod Left
 pub mod Alike
+pub mod Bounds
 pub mod Hearing
 pub mod Phases
 pub mod Rooted

@@ -4,23 +4,23 @@ use Rattle.fk_model.specs.declared.limits.TheConstants.{LAST_PORTER_SLOT, OWN_SP
 use Rattle.fk_model.specs.declared.moves.Ask.TheVariants as asks
 use Rattle.fk_model.specs.declared.names.Kind.TheVariants as kinds
 use Rattle.fk_model.specs.declared.stage.Stage.{Stage}
-use Rattle.fk_model.specs.declared.stage.Stage.TheVariants.{PageNext, PageTake}
+use Rattle.fk_model.specs.declared.stage.Stage.TheVariants.{PageNext, PageTake, PageGive}
 use Rattle.fk_model.specs.declared.statuses.status.TheConstants as status
 use Rattle.fk_model.specs.declared.statuses.status.TheConstants.{OK, BADHANDLE, WRONGKIND}
 use Rattle.fk_model.specs.Places.{Path, Ptr}
 use Rattle.fk_model.specs.Places.Ptr.{Null, Dead, At, Out, Outside, Far}
 use Rattle.fk_model.specs.Objects.{Body, Fault, kind_of, same_kind, flag_of, thread_of, and_then, holds}
 use Rattle.fk_model.specs.Objects.Body.{Mutex, Cond, Mapping, Region, Port, Portset, Space, Thread_of, Reference}
-use Rattle.fk_model.specs.World.{World, apply, apply_all}
-use Rattle.fk_model.specs.World.Change.{DropPage}
+use Rattle.fk_model.specs.World.{World, Change, apply, apply_all}
+use Rattle.fk_model.specs.World.Change.{PutPage, DropPage}
 use Rattle.fk_model.specs.Searches.{fault_at}
 use Rattle.fk_model.specs.Holds.{is_frozen_for, is_porter, is_unheld}
 use Rattle.fk_model.specs.StateRows.{is_native}
-use Rattle.fk_model.specs.Outcomes.{Said, Outcome, ◌>>=◌, refuse, or_refuse, when, Caller, last_slot}
+use Rattle.fk_model.specs.Outcomes.{Said, Outcome, ◌>>=◌, refuse, or_refuse, when, Caller, last_slot, listed}
 use Rattle.fk_model.specs.Outcomes.Said.{Answered}
 use Rattle.fk_model.specs.Outcomes.Outcome.{Refused, Waits, Goes}
 use Rattle.fk_model.specs.Readers.{and_read, is_kind, kind_at, led_to, handled, handle, path_at, space_argument}
-use Rattle.fk_model.specs.SpaceRows.{next_page, page_next, page_take}
+use Rattle.fk_model.specs.SpaceRows.{next_page, page_next, page_take, page_give}
 use Rattle.fk_model.specs.Moves.{with_pick, closed, call_row, porter_at, porter_move, outcome, GoesAllowed, IsReady, stepped, step}
 
 use Rattle.fk_model.specs.Whole.{HasFullPages}
@@ -153,6 +153,60 @@ module _ (w : World) (words : List ℕ) where
   take-told full page _ (TakeRefuses refused no) status its said ok = let same : refused ≡ status = cc in absurd (no (same ∙ ok))
   take-told full page _ (Drops space words home at) status its said ok =
       let same : words ≡ its = cc in subst (λ xs. length xs ≡ 64) same (full space page words at)
+
+  -- ---- what they change
+
+  -- nothing, or a page is taken or put
+  pub data IsOfPages : List Change → Type 0 where
+    Changes_nothing : IsOfPages []
+    Drops_page : (space : Path) (page : ℕ) → IsOfPages (DropPage space page ∷ [])
+    Puts_page : (space : Path) (page : ℕ) (its : List ℕ) → IsOfPages (PutPage space page its ∷ [])
+
+  next-pages : (from : ℕ) (o : Outcome) → NextRow from o → IsOfPages (listed (ends o))
+  next-pages from _ (NextRefuses status) = Changes_nothing
+  next-pages from _ (Tells space page e) = Changes_nothing
+
+  take-pages : (page : ℕ) (o : Outcome) → TakeRow page o → IsOfPages (listed (ends o))
+  take-pages page _ (TakeRefuses status no) = Changes_nothing
+  take-pages page _ (Drops space its off home) = Drops_page space page
+
+  data GiveRow (page : ℕ) : Outcome → Type 0 where
+    GiveRefuses : (status : ℕ) → GiveRow page (Refused status)
+    Puts : (space : Path) → GiveRow page (Goes (PutPage space page words ∷ []) (Answered OK []))
+
+  give-row : (s page address : ℕ) → GiveRow page (page_give w c s page address)
+  unfolding page_give
+  give-row s page address = by (space_argument w c s)
+    where
+      given : (space : Path) (frozen bad taken : Bool) →
+          GiveRow page (refuse status.HELD frozen >>= λ u. (refuse status.BADADDRESS bad >>= λ v.
+          (refuse status.OCCUPIED taken >>= λ x. Goes (PutPage space page words ∷ []) (Answered OK []))))
+      given space true bad taken = GiveRefuses status.HELD
+      given space false true taken = GiveRefuses status.BADADDRESS
+      given space false false true = GiveRefuses status.OCCUPIED
+      given space false false false = Puts space
+
+      by : (r : Result Path ℕ) →
+          GiveRow page (r >>= λ space. (refuse status.HELD (is_frozen_for w me space) >>= λ u. (refuse status.BADADDRESS (not (nat_lt page PAGES) || false) >>= λ v.
+          (refuse status.OCCUPIED (is_some (w.page space page)) >>= λ x. Goes (PutPage space page words ∷ []) (Answered OK [])))))
+      by (Err status) = GiveRefuses status
+      by (Ok space) = given space (is_frozen_for w me space) (not (nat_lt page PAGES) || false) (is_some (w.page space page))
+
+  give-pages : (page : ℕ) (o : Outcome) → GiveRow page o → IsOfPages (listed (ends o))
+  give-pages page _ (GiveRefuses status) = Changes_nothing
+  give-pages page _ (Puts space) = Puts_page space page words
+
+  pub next-changes : (s from : ℕ) → IsOfPages (listed (call_row w c None (PageNext s from)))
+  unfolding call_row
+  next-changes s from = next-pages from _ (next-row s from)
+
+  pub take-changes : (s page address : ℕ) → IsOfPages (listed (call_row w c None (PageTake s page address)))
+  unfolding call_row
+  take-changes s page address = take-pages page _ (take-row s page address)
+
+  pub give-changes : (s page address : ℕ) → IsOfPages (listed (call_row w c None (PageGive s page address)))
+  unfolding call_row
+  give-changes s page address = give-pages page _ (give-row s page address)
 
   -- ---- a porter's call is its row
 

@@ -85,7 +85,7 @@ rests w x pick native ready = by (w.body x) refl native
     by (Some (Space birth holder)) e is = cc
     by (Some (Reference to)) e is = cc
 
-not-porter : (services : Services) (w : World) (who : Who) (pick : Option Path) (ask : Ask) → HasPorter w → asked services w who ≡ Some ask →
+pub not-porter : (services : Services) (w : World) (who : Who) (pick : Option Path) (ask : Ask) → HasPorter w → asked services w who ≡ Some ask →
     IsReady w (named w who) pick ask → same_path me (named w who) ≡ false
 not-porter services w who pick ask native asks ready = same_path_ne me (named w who) (λ e.
     let here : holds is_native (w.body (named w who)) ≡ true = subst (λ y. holds is_native (w.body y) ≡ true) e native in
@@ -93,7 +93,7 @@ not-porter services w who pick ask native asks ready = same_path_ne me (named w 
     let same : asks.Run ≡ ask = same_Some asks.Run ask (sym runs ∙ asks) in
     rests w (named w who) pick here (subst (λ a. IsReady w (named w who) pick a) (sym same) ready))
 
-users-others : (ask : Ask) → is_users ask ≡ true → is_others ask ≡ true
+pub users-others : (ask : Ask) → is_users ask ≡ true → is_others ask ≡ true
 users-others asks.Run is = refl
 users-others (asks.Call stage words) is = cc
 users-others asks.Accept is = refl

@@ -10,3 +10,4 @@ pub mod Unseen
 pub mod Counted
 pub mod Left
 pub mod Alike
+pub mod Bounds

@@ -9,6 +9,7 @@
 #![tactic(auto)]
 
 ghost use Rattle.fk_pager.specs.Alike.{RunsEndAlike};
+ghost use Rattle.fk_pager.specs.Bounds.{CallsAreBounded};
 ghost use Rattle.fk_pager.specs.Counted.{FaultsAreCounted};
 ghost use Rattle.fk_pager.specs.Unseen.{DesksAreFirst, OpeningsTakeAll, PagersAreHidden};
 ghost use Rattle.fk_pager.specs.Left.{RunsLeaveNone};
@@ -50,4 +51,10 @@ pub fn runs_leave_none()
 /// Where no move is ready at its end, none of a user and a native server is in the filled world, in which the same threads have halted.
 pub fn runs_end_alike()
     ensures { RunsEndAlike }
+{}
+
+/// Whatever peeks: as long as its port is neither destroyed nor renamed the pager makes at most ten calls, besides those refused HELD, for each page that was home,
+/// for each fault that is raised at its port, and for the run.
+pub fn calls_are_bounded()
+    ensures { CallsAreBounded }
 {}

@@ -44,13 +44,13 @@ use Rattle.laws_migrate.specs.Porters.{RootKeepsPorter}
 
 -- ---- what a user destroys is the first leaf of an object in a user's slot, so never of the root as a whole
 
-record IsLeafOfLow (w : World) (x : Path) : Type 0 where
+pub record IsLeafOfLow (w : World) (x : Path) : Type 0 where
   pub slot : ℕ
   pub space : Path
   pub low : is_low (slot ∷ space) ≡ true
   pub leaf : leaf w (slot ∷ space) ≡ x
 
-abbrev KillLow : World → List Change → Type 0
+abbrev pub KillLow : World → List Change → Type 0
 KillLow w [] = Unit {0}
 KillLow w (Kill x ∷ cs) = IsLeafOfLow w x × KillLow w cs
 KillLow w (c ∷ cs) = KillLow w cs
@@ -126,7 +126,7 @@ serves (Finds_no_room words len x t receive there is full) = tt
 serves (Gives_words words len x t receive s page there is home) = tt
 serves (Passes_client x to at awaits) = tt
 
-lists : (w : World) (x : Path) (pick : Option Path) (ask : Ask) (o : Outcome) → is_users ask ≡ true → Lists w x pick ask o → KillLow w (listed o)
+pub lists : (w : World) (x : Path) (pick : Option Path) (ask : Ask) (o : Outcome) → is_users ask ≡ true → Lists w x pick ask o → KillLow w (listed o)
 lists w x pick _ _ is (Moves_not ask) = tt
 lists w x pick _ _ is (Is_told_no t stage todo rest status there free at) = tt
 lists w x pick _ _ is (Is_answered_no t stage words status there) = tt
@@ -157,10 +157,10 @@ leaf-beneath (suc n) w y z h = by (first_resident w y) h (λ k. leaf-beneath n w
 abbrev me : Path
 me = LAST_PORTER_SLOT ∷ top
 
-not-low : (y : Path) → is_low y ≡ true → same_path me y ≡ false
+pub not-low : (y : Path) → is_low y ≡ true → same_path me y ≡ false
 not-low y low = same_path_ne me y (λ e. let here : nat_le LAST_PORTER_SLOT LAST_USER_SLOT ≡ true = subst (λ (y : Path). is_low y ≡ true) (sym e) low in cc)
 
-not-leaf : (w : World) (z : Path) → IsLeafOfLow w z → same_path me z ≡ false
+pub not-leaf : (w : World) (z : Path) → IsLeafOfLow w z → same_path me z ≡ false
 unfolding leaf
 not-leaf w z its = same_path_ne me z (λ e. let beneath = leaf-beneath depth w (its.slot ∷ its.space) z its.leaf in by beneath.0 (e ∙ beneath.1))
   where
