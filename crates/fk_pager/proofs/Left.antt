@@ -59,7 +59,7 @@ talk-blind p (Some b) = refl
 
 -- ---- a port's set is there
 
-set-there : (w : World) (port set : ℕ) → IsValid w → is_member set (w.body (port ∷ root)) ≡ true → is_some (and_then portset_of (w.body (set ∷ root))) ≡ true
+pub set-there : (w : World) (port set : ℕ) → IsValid w → is_member set (w.body (port ∷ root)) ≡ true → is_some (and_then portset_of (w.body (set ∷ root))) ≡ true
 unfolding kind_there
 set-there w port set valid member = by (w.body (port ∷ root)) refl member (valid.consistent.good (port ∷ root))
   where

@@ -1,11 +1,20 @@
 -- What a scenario begins with is a moment at which a pager may begin.
-use Rattle.std.proofs.Common.{◌≡◌, ℕ, suc, List, [], ◌∷◌, map, length, reverse, refl, sym, ap, subst, ◌∙◌}
+use Rattle.std.proofs.Common.{◌≡◌, ℕ, ◌≤◌, Bool, true, false, ◌&&◌, ◌==◌, nat_le, is_some, if◌then◌else◌, List, [], ◌∷◌, map, length, reverse, Option, Some, None, refl, sym, ap, subst, ◌∙◌}
+use Rattle.std.proofs.lemmas.Bool.{leb-true}
 use Rattle.std.proofs.lemmas.List.Elements.{All-head, All-tail}
 use Rattle.std.specs.List.{All}
 use Rattle.fk_boot.specs.FirstWorld.{booted}
 use Rattle.fk_boot.specs.Services.{first_state, first_services, by_paths}
 use Rattle.fk_host.specs.Served.{Services, AllFit, shown}
 use Rattle.fk_model.specs.declared.job.JobSpec.{JobSpec}
+use Rattle.fk_model.specs.declared.limits.TheConstants.{LAST_USER_SLOT, LAST_SCRATCH_SLOT, LAST_PORTER_SLOT}
+use Rattle.fk_model.specs.LinkRows.{is_member, portset_of}
+use Rattle.fk_model.specs.Objects.{Body, and_then}
+use Rattle.fk_model.specs.Objects.Body.{Mutex, Cond, Mapping, Region, Port, Portset, Space, Thread_of, Reference}
+use Rattle.fk_model.specs.Valid.{IsValid}
+use Rattle.fk_model.specs.Whole.{stands_in, KeepsSlots}
+use Rattle.fk_pager.specs.Desks.{root}
+use Rattle.fk_pager.proofs.Left.{set-there}
 use Rattle.fk_model.specs.declared.moves.Rule.{Rule}
 use Rattle.fk_model.specs.declared.names.Who.{Who}
 use Rattle.fk_model.specs.Places.{Path}
@@ -60,6 +69,36 @@ states-shown xs list is = by xs ∙ ap (map (λ (e : Who × State). e.1)) is
     by : (xs : List (Who × Native)) → states meaning xs ≡ map (λ (e : Who × State). e.1) (shown meaning xs)
     by [] = refl
     by (x ∷ xs) = ap (λ (ss : List State). meaning x.1 ∷ ss) (by xs)
+
+-- ---- a set is in a user's slot
+
+low-set : (set : ℕ) → stands_in set Portset ≡ true → set ≤ LAST_USER_SLOT
+low-set set stands = by (nat_le set LAST_USER_SLOT) refl stands
+  where
+    beyond : (scratch last : Bool) → (if scratch then false else (last && false)) ≡ true → ⊥
+    beyond true last e = cc
+    beyond false true e = cc
+    beyond false false e = cc
+
+    by : (b : Bool) → nat_le set LAST_USER_SLOT ≡ b → (if b then true else (if nat_le set LAST_SCRATCH_SLOT then false else (set == LAST_PORTER_SLOT && false))) ≡ true →
+        set ≤ LAST_USER_SLOT
+    by true e h = leb-true set LAST_USER_SLOT e
+    by false e h = absurd (beyond (nat_le set LAST_SCRATCH_SLOT) (set == LAST_PORTER_SLOT) h)
+
+pub set-low : (w : World) (port set : ℕ) → IsValid w → KeepsSlots w → is_member set (w.body (port ∷ root)) ≡ true → set ≤ LAST_USER_SLOT
+set-low w port set valid kept member = by (w.body (set ∷ root)) refl (set-there w port set valid member)
+  where
+    by : (o : Option Body) → w.body (set ∷ root) ≡ o → is_some (and_then portset_of o) ≡ true → set ≤ LAST_USER_SLOT
+    by (Some Portset) e is = low-set set (kept set root Portset e)
+    by None e is = absurd (cc)
+    by (Some (Mutex locked)) e is = absurd (cc)
+    by (Some Cond) e is = absurd (cc)
+    by (Some (Mapping m)) e is = absurd (cc)
+    by (Some (Region r)) e is = absurd (cc)
+    by (Some (Port its served)) e is = absurd (cc)
+    by (Some (Space birth holder)) e is = absurd (cc)
+    by (Some (Thread_of t)) e is = absurd (cc)
+    by (Some (Reference to)) e is = absurd (cc)
 
 -- ---- who may not be paged
 

@@ -8,6 +8,7 @@ use Rattle.fk_host.specs.Kernels.{world_of as world}
 use Rattle.fk_host.specs.Served.{Services}
 use Rattle.fk_model.specs.Who.{named}
 use Rattle.fk_pager.specs.Desks.{desk_of_root, IsPageable}
+use Rattle.fk_pager.specs.Left.{IsQuiet}
 use Rattle.fk_pager.specs.Paged.{IsPaged}
 use Rattle.fk_pager.specs.Runs.{Moment}
 use Rattle.fk_pager.specs.Unseen.{IsBeginning}
@@ -49,6 +50,7 @@ pub record IsPageOf (slot room : ℕ) (s : Scenario) (p : Paged) (text : List �
   pub boots : first.world ≡ booted s
   pub serves : map (λ e. (named first.world e.0, e.1)) first.services ≡ first_services s.servers
   pub begins : IsBeginning slot port set first
+  pub quiet : IsQuiet set first.world
   pub written : IsWritten slot port set room first s.budget p text
 
 -- a scenario without jobs whose subtree in this slot of the root may be paged in its first world

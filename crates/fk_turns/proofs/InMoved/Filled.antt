@@ -10,7 +10,7 @@ use Rattle.fk_store.specs.Store.World.{IsLive}
 use Rattle.fk_waits.specs.Turns.Turns.{IsSound}
 use Rattle.fk_waits.proofs.InTurns.Woken.{stands_woken}
 use Rattle.fk_waits.specs.Waits.Lists.{is_in, is_queued, stands, woken, Lists}
-use Rattle.fk_waits.proofs.InCauses.Placed.{same_self}
+use Rattle.fk_waits.proofs.InCauses.Order.{same_self}
 use Rattle.fk_waits.specs.Causes.Names.{is_same}
 use Rattle.fk_waits.proofs.InCauses.Order.{same_who}
 use Rattle.fk_turns.specs.Moved.Kept.{is_user_at, AreKept}

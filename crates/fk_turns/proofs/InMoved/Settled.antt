@@ -17,7 +17,7 @@ use Rattle.fk_waits.specs.declared.turns.turns.Mark.TheVariants as marks_of
 use Rattle.fk_waits.specs.Turns.Turns.{all_marks, free_cause, loud_cause, marked_by, waits_at, IsSound}
 use Rattle.fk_waits.proofs.InTurns.Woken.{in_last, in_other, queued_last, queued_less, stands_parked, waits_behind, waits_more, waits_other, waits_split}
 use Rattle.fk_waits.specs.Waits.Lists.{is_in, is_queued, parked, stands, without, without_queued, woken, Lists}
-use Rattle.fk_waits.proofs.InCauses.Placed.{same_self}
+use Rattle.fk_waits.proofs.InCauses.Order.{same_self}
 use Rattle.fk_waits.specs.Causes.Names.{is_same}
 use Rattle.fk_waits.proofs.InCauses.Order.{same_who}
 use Rattle.fk_turns.specs.declared.whys.whys.Why.{Why}

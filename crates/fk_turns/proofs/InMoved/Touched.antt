@@ -9,7 +9,7 @@ use Rattle.fk_waits.proofs.InTurns.Roused.{less_none, less_then, met_nobody, met
 use Rattle.fk_waits.proofs.InTurns.Woken.{stands_left, stands_woken}
 use Rattle.fk_waits.specs.Waits.Lists.{is_queued, left, stands, woken, Lists}
 use Rattle.fk_waits.proofs.InCauses.Numbers.{clash}
-use Rattle.fk_waits.proofs.InCauses.Placed.{same_self}
+use Rattle.fk_waits.proofs.InCauses.Order.{same_self}
 use Rattle.fk_waits.specs.Causes.Names.{is_same}
 use Rattle.fk_waits.proofs.InCauses.Order.{same_who}
 use Rattle.fk_plans.specs.declared.wakes.touching.Touched.{Touched}

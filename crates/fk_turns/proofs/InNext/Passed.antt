@@ -13,7 +13,7 @@ use Rattle.fk_store.specs.Store.Paths.{path}
 use Rattle.fk_store.specs.Store.World.{world, place_of}
 use Rattle.fk_waits.specs.Waits.Lists.{first_ready, is_in, is_queued, parked, without, Lists, StandOnce}
 use Rattle.fk_waits.proofs.InWaits.Listed.{without_none, without_none_queued}
-use Rattle.fk_waits.proofs.InCauses.Placed.{same_self}
+use Rattle.fk_waits.proofs.InCauses.Order.{same_self}
 use Rattle.fk_turns.proofs.InWhys.Apart.{why_unready}
 use Rattle.fk_turns.specs.Moved.Kept.{AreKept}
 use Rattle.fk_turns.specs.Moved.Settled.{IsSettled}

@@ -30,7 +30,7 @@ use Rattle.fk_turns.specs.Moved.Kept.{is_user_at, AreKept, IsFiled, IsFiledAs}
 use Rattle.fk_turns.specs.Moved.Moved.{is_it, is_named, is_put, is_told, is_wide, now_named, IsMoved}
 use Rattle.fk_waits.specs.Waits.Lists.{is_in, is_queued, stands, Lists}
 use Rattle.fk_waits.proofs.InCauses.Numbers.{clash}
-use Rattle.fk_waits.proofs.InCauses.Placed.{same_self}
+use Rattle.fk_waits.proofs.InCauses.Order.{same_self}
 use Rattle.fk_waits.specs.Causes.Names.{is_same}
 use Rattle.fk_waits.proofs.InCauses.Order.{same_who}
 use Rattle.fk_plans.specs.declared.wakes.touching.Touched.{Touched}

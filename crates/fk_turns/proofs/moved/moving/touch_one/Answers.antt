@@ -1,7 +1,7 @@
 use Rattle.std.proofs.Common.{Option, sym, ap, subst, ◌∙◌}
 use Rattle.fk_model.specs.declared.names.Who.{Who}
 use Rattle.fk_waits.specs.Turns.Turns.{all_marks}
-use Rattle.fk_waits.proofs.InCauses.Placed.{same_self}
+use Rattle.fk_waits.proofs.InCauses.Order.{same_self}
 use Rattle.fk_turns.specs.Moved.Moved.{is_it, AreFreed, IsTouched}
 use Rattle.fk_turns.proofs.InMoved.Touched.{freed_none, place_known, touched_none}
 use Rattle.fk_turns.proofs.moved.moving.touch_one.Goals as goal

@@ -1,6 +1,6 @@
 use Rattle.std.proofs.Common.{refl, sym, ap, subst}
 use Rattle.fk_waits.specs.Turns.Turns.{all_marks}
-use Rattle.fk_waits.proofs.InCauses.Placed.{same_self}
+use Rattle.fk_waits.proofs.InCauses.Order.{same_self}
 use Rattle.fk_plans.specs.declared.wakes.touching.Touched.{Touched}
 use Rattle.fk_turns.specs.Moved.Moved.{is_named, is_wide, AreFreed, HasRoomFor, IsTouched}
 use Rattle.fk_turns.proofs.InMoved.Touched.{freed_none, place_known, touched_none}
