@@ -731,14 +731,16 @@ def wait(asked):
 
         def doing():
             fault.taker, me.faulting = me, pick
-            finish(me, answers)
+            if not asked.porter:
+                finish(me, answers)
     else:
         talk = pick.talk
         answers = (talk.port.slot, 2, talk.turn, talk.moved)
 
         def doing():
             talk.peer, me.client = me, pick
-            finish(me, answers)
+            if not asked.porter:
+                finish(me, answers)
     return Deed((), doing, answers if asked.porter else None)
 
 
