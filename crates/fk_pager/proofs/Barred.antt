@@ -51,7 +51,8 @@ module _ (w : World) (slot port set : ℕ) where
         other false b c d e f = cc
 
         by : (o : Option Body) → is_member set o ≡ true → is_hindrance P port set root k o ≡ false → k ≡ port
-        by (Some (Port its served)) e f = eqb-true k port (other (same_path root root) (is_set set its) (k == port) (same_path_refl root) (sym (in-set set its) ∙ e) f)
+        by (Some (Port its served)) e f = eqb-true k port
+            (other (same_path root root) (is_set set its) (k == port) (same_path_refl root) (sym (in-set set its) ∙ e) f)
         by None e f = cc
         by (Some (Mutex locked)) e f = cc
         by (Some Cond) e f = cc

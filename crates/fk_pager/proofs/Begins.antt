@@ -49,7 +49,7 @@ module _ (w : World) (slot port set : ℕ) (desk : HasDesk w slot port set) wher
   -- ---- its first region has every page
 
   covers-all : (first count page : ℕ) → (first == 0) ≡ true → (count == PAGES) ≡ true → page < 256 → covers first count page ≡ true
-  covers-all first count page none all less = rw (eqb-true first 0 none, eqb-true count 256 all, lt-ltb page 256 less) refl
+  covers-all first count page none all less = rw (eqb-true first 0 none, eqb-true count 256 all, le-leb 0 page (omega arith), lt-ltb page 256 less) refl
 
   kept-by : (page : ℕ) → page < 256 → (o : Option Extent) → first_region w space ≡ o → holds (keeps_all (port ∷ root)) o ≡ true →
       keeper w space page ≡ Some (At (port ∷ root))

@@ -139,7 +139,7 @@ module _ (at : Moment) (m : Move) (ask : Ask) (move : IsOthersMove at m ask) (na
 
 -- ---- what calls of the pager spare, and that they leave its porter
 
-record IsSpared (port : Path) (w : World) (cs : List Change) : Type 0 where
+pub record IsSpared (port : Path) (w : World) (cs : List Change) : Type 0 where
   pub sparing : AreSparing port me w cs
   pub keeps : HasPorter w → HasPorter (apply_all cs w)
 
@@ -243,18 +243,24 @@ module _ (slot port set room : ℕ) (low : slot ≤ LAST_USER_SLOT) (first : Mom
   keeps _ _ (Others past at m ask run move) = others-keep at m ask move (keeps past at run)
   keeps _ _ (Own past at m run move) = own-keeps slot port set room low at.world at.state (option_map (named at.world) m.pick) move.own (keeps past at run)
 
+  none-more : (n : ℕ) → n ≡ 0 + n
+  none-more n = omega arith
+
   same-count : (a b c : ℕ) → a + (b + c) ≡ (a + b) + c
   same-count a b c = omega arith
 
   driven : (moves : List Move) (at : Moment) (run : IsRun desk first moves at) → spares_port run ≡ true → (v : World) (t : State) (calls raised : ℕ) →
       IsDriven desk at.world at.state v t calls raised → IsDriven desk first.world first.state v t (calls_in run + calls) (raised_along run + raised)
   unfolding spares_port calls_in raised_along
-  driven _ _ Begins spared v t calls raised rest = rest
+  driven _ _ Begins spared v t calls raised rest =
+      subst (λ (n : ℕ). IsDriven desk first.world first.state v t (0 + calls) n) (none-more raised)
+      (subst (λ (n : ℕ). IsDriven desk first.world first.state v t n raised) (none-more calls) rest)
   driven _ _ (Others past at m ask run move) spared v t calls raised rest =
       let both = and_parts (spares_port run) _ spared in
       let porter = keeps past at run in
       let e = event_of at.world ask m in
-      let one = Another at.world at.state e v t calls raised move.opened (is-other at m ask move porter) (others-spare at m ask move porter (port ∷ root) both.1) rest in
+      let one = Another at.world at.state e v t calls raised move.opened (is-other at m ask move porter)
+      (others-spare at m ask move porter (port ∷ root) both.1) rest in
       let all = driven past at run both.0 v t calls (raised_in (port_at desk) (changes_of at.world e) + raised) one in
       subst (λ (n : ℕ). IsDriven desk first.world first.state v t (calls_in run + calls) n)
       (same-count (raised_along run) (raised_in (port_at desk) (changes_of at.world e)) raised) all
@@ -284,6 +290,6 @@ calls_are_bounded slot port set room first moves at low some begins run spared =
     let all = driven slot port set room low first begins.desk.nester moves at run spared at.world at.state 0 0 (Here at.world at.state) in
     let whole = subst (λ (s : State). IsDriven d first.world s at.world at.state (calls_in run + 0) (raised_along run + 0)) begins.state all in
     let bound = calls_are_bounded_lem d first.world at.world at.state (calls_in run + 0) (raised_along run + 0) (le-leb slot LAST_USER_SLOT low) some
-        (desks_are_first_lem slot port set room first.world begins.desk begins.valid begins.clear) (a-port set (first.world.body (port ∷ root)) begins.desk.member)
-        (a-body (first.world.body me) begins.desk.nester) whole in
+    (desks_are_first_lem slot port set room first.world begins.desk begins.valid begins.clear) (a-port set (first.world.body (port ∷ root)) begins.desk.member)
+    (a-body (first.world.body me) begins.desk.nester) whole in
     omega (arith, bound)

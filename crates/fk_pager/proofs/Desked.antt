@@ -176,7 +176,7 @@ module _ (me : Path) where
   talkless-edited edit (Thread_of t) apart none = none
   talkless-edited edit b apart none = none
 
-  sets_member : Edit → Bool
+  abbrev sets_member : Edit → Bool
   sets_member (SetMember set) = true
   sets_member rest = false
 

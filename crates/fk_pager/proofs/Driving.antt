@@ -1,5 +1,5 @@
 -- A driver's turns are those of a run.
-use Rattle.std.proofs.Common.{◌≡◌, ◌⊎◌, inl, inr, IfNone, ℕ, ◌+◌, ◌≤◌, Bool, true, false, not, is_some, if◌then◌else◌, List, [], ◌∷◌, ◌++◌, length, length-append, Option, Some, None, option_map, refl, sym, ap, subst, ◌∙◌, arith}
+use Rattle.std.proofs.Common.{◌≡◌, ◌⊎◌, inl, inr, IfNone, ℕ, ◌+◌, ◌<◌, ◌≤◌, Bool, true, false, not, is_some, if◌then◌else◌, List, [], ◌∷◌, ◌++◌, length, length-append, Option, Some, None, option_map, refl, sym, ap, subst, ◌∙◌, arith}
 use Rattle.std.proofs.lemmas.Bool.{le-leb}
 use Rattle.std.proofs.lemmas.Option.{slice_get_within}
 use Rattle.std.specs.List.{slice_get}
@@ -150,7 +150,8 @@ module _ (d : Desk) (k : Kept) (s : State) (who port : Who) (nester : d.nester �
   abbrev place : Path
   place = worlds.place_of k.store who
 
-  same-fault : holds (is_fault_of (worlds.place_of k.store port) s.backing) (fault_at (world k) place) ≡ holds (is_paged (paging d s)) (fault_at (world k) place)
+  same-fault : holds (is_fault_of (worlds.place_of k.store port) s.backing) (fault_at (world k) place)
+      ≡ holds (is_paged (paging d s)) (fault_at (world k) place)
   same-fault =
       ap (λ (x : Path). holds (is_fault_of x s.backing) (fault_at (world k) place))
       (ap (worlds.place_of k.store) is_port ∙ root-place k.store d.port ∙ ap (λ (x : Path). d.port ∷ x) (sym nester))
@@ -164,7 +165,8 @@ module _ (d : Desk) (k : Kept) (s : State) (who port : Who) (nester : d.nester �
   pub takes-none : holds (is_fault_of (worlds.place_of k.store port) s.backing) (fault_at (world k) place) ≡ false →
       IsOwn d (world k) s (Some place) → ⊥
   takes-none none own =
-      let is : holds (is_paged (paging d s)) (fault_at (world k) place) ≡ true = subst (λ (phase : Phase). IsPick d s (world k) phase (Some place)) waits own.picks in
+      let is : holds (is_paged (paging d s)) (fault_at (world k) place) ≡ true =
+      subst (λ (phase : Phase). IsPick d s (world k) phase (Some place)) waits own.picks in
       let other : holds (is_paged (paging d s)) (fault_at (world k) place) ≡ false = sym same-fault ∙ none in
       cc
 
@@ -279,10 +281,10 @@ own-stepped d m n services new s move ask said is turn = subst (λ (a : Ask). Is
 
 -- a move of the opening counts, any other doesn't
 pub counts-one : (opened : ℕ) (phase : Phase) → is_opening phase ≡ true → opened + 1 ≡ opened + (if is_opening phase then 1 else 0)
-counts-one opened phase is = let count : (if is_opening phase then 1 else 0) ≡ 1 = ap (λ (b : Bool). if b then 1 else 0) is in omega (arith, count)
+counts-one opened phase is = let count : ◌≡◌ {A = ℕ} (if is_opening phase then 1 else 0) 1 = ap (λ (b : Bool). if b then 1 else 0) is in omega (arith, count)
 
 pub counts-none : (opened : ℕ) (phase : Phase) → is_opening phase ≡ false → opened ≡ opened + (if is_opening phase then 1 else 0)
-counts-none opened phase is = let count : (if is_opening phase then 1 else 0) ≡ 0 = ap (λ (b : Bool). if b then 1 else 0) is in omega (arith, count)
+counts-none opened phase is = let count : ◌≡◌ {A = ℕ} (if is_opening phase then 1 else 0) 0 = ap (λ (b : Bool). if b then 1 else 0) is in omega (arith, count)
 
 pub few-more : (opened later : ℕ) (past moves : List Move) (move : Move) → moves ≡ past ++ move ∷ [] → opened ≤ length past → later ≤ opened + 1 →
     later ≤ length moves
@@ -294,12 +296,12 @@ few-more opened later past moves move longer few more =
 pub others-ready : (services : Services) (w : World) (s : State) (opened : ℕ) (move : Move) → is_opening s.phase ≡ false → IsValid w → w.next ≤ depth →
     IsReadyAsked services w move →
     (ask : Ask) × IsOthersMove (record { world = w; services = services; state = s; opened = opened }) move ask
-others-ready services w s opened move open valid few ready = by (asked services w move.who) refl ready
+others-ready services w s opened move closed valid few ready = by (asked services w move.who) refl ready
   where
     by : (o : Option Ask) → asked services w move.who ≡ o → IsReadyFor w move o →
         (ask : Ask) × IsOthersMove (record { world = w; services = services; state = s; opened = opened }) move ask
     by None e r = absurd r
-    by (Some ask) e r = (ask, record { opened = open; asks = e; valid = valid; few = few; ready = r })
+    by (Some ask) e r = (ask, record { opened = closed; asks = e; valid = valid; few = few; ready = r })
 
 -- and its turn is its event's
 pub others-turn : (m n : Kept) (services new : Services) (move : Move) (ask : Ask) (said : says_of.Said) → asked services (world m) move.who ≡ Some ask →
@@ -340,9 +342,9 @@ porter-stands d k n s t pick said nester stood own same heard opening = by (is_o
     by : (b : Bool) → is_opening s.phase ≡ b → HasPorter (world n)
     by true e =
         let native = stood e in
-        let no : pick ≡ None = none s.phase e own.picks in
+        let nobody : pick ≡ None = none s.phase e own.picks in
         let event : call_of d s pick ≡ record { mover = LAST_PORTER_SLOT ∷ root; pick = None; ask = asks.Call (stage_of d s.phase) (words_of s s.phase) } =
-        λ i. record { mover = LAST_PORTER_SLOT ∷ nester i; pick = no i; ask = asks.Call (stage_of d s.phase) (words_of s s.phase) } in
+        λ i. record { mover = LAST_PORTER_SLOT ∷ nester i; pick = nobody i; ask = asks.Call (stage_of d s.phase) (words_of s s.phase) } in
         ap (λ (w : World). holds is_native (w.body (LAST_PORTER_SLOT ∷ root))) (sym same ∙ ap (after (world k)) event)
         ∙ ap (holds is_native) (opening-keeps d nester (world k) s native (root-unheld k) s.phase e (LAST_PORTER_SLOT ∷ root)) ∙ native
     by false e =
@@ -355,14 +357,16 @@ porter-stands d k n s t pick said nester stood own same heard opening = by (is_o
 -- its opening's call is ready
 pub opens-ready : (d : Desk) (k : Kept) (s : State) → d.nester ≡ root → IsValid (world k) → (world k).next ≤ depth → HasPorter (world k) →
     is_opening s.phase ≡ true → (pick : Option Path) × IsOwn d (world k) s pick
-opens-ready d k s nester valid few native opening =
-    (None, record {
-      valid = valid;
-      few = few;
-      picks = picks s.phase opening;
-      ready = subst (λ x. IsReady (world k) (LAST_PORTER_SLOT ∷ x) None (asks.Call (stage_of d s.phase) (words_of s s.phase))) (sym nester)
-          (opening-ready d nester (world k) s native (root-unheld k) s.phase opening);
-    })
+opens-ready d k s nester valid few native opening = (
+  None,
+  record {
+    valid = valid;
+    few = few;
+    picks = picks s.phase opening;
+    ready = subst (λ x. IsReady (world k) (LAST_PORTER_SLOT ∷ x) None (asks.Call (stage_of d s.phase) (words_of s s.phase))) (sym nester)
+        (opening-ready d nester (world k) s native (root-unheld k) s.phase opening);
+  },
+)
   where
     picks : (phase : Phase) → is_opening phase ≡ true → IsPick d s (world k) phase None
     picks (Seeking from) is = refl
@@ -418,10 +422,10 @@ drives-alike a b at pager port history = record {
 -- ---- how it ends
 
 rest-ends : (d : Desk) (budget made : ℕ) (at : Moment) (e : End) → (IsAnyReady d at → ⊥) → IsAtRest at.world e → IsEnd d budget made at e
-rest-ends d budget made at ends.Halted none rest = (none, rest)
-rest-ends d budget made at ends.Quiet none rest = (none, rest)
-rest-ends d budget made at ends.Budget none rest = rest
-rest-ends d budget made at ends.Listed none rest = rest
+rest-ends d budget made here ends.Halted none rest = (none, rest)
+rest-ends d budget made here ends.Quiet none rest = (none, rest)
+rest-ends d budget made here ends.Budget none rest = absurd rest
+rest-ends d budget made here ends.Listed none rest = rest
 
 -- where nothing was ready once it was looked for
 pub rest-of : {S : Type 0} (start old chosen : driver.PagedRun S) (budget : ℕ) (e : End) → Drives start old → moment chosen ≡ moment old →

@@ -22,7 +22,7 @@ use Rattle.fk_model.specs.Who.{named, event_of}
 use Rattle.laws_filled.specs.Filled.{Paging, filled, unfaulted}
 use Rattle.laws_filled.specs.Pager as pagers
 use Rattle.laws_filled.specs.Pager.{Desk, Phase, State, paging, hears, said_of, HasTaken, IsClear, first}
-use Rattle.laws_filled.specs.Pager.IsPaged as paged
+use Rattle.laws_filled.specs.Pager.IsPaged.{Here as Nobody_moves, Another as Another_moves, Own as Pager_moves}
 use Rattle.laws_filled.proofs.Own.{own}
 use Rattle.laws_filled.proofs.Taken.{pagers_take_one_lem, no_fault_is_left_lem}
 use Rattle.laws_migrate.specs.Porters.{HasPorter}
@@ -59,7 +59,8 @@ talk-blind p (Some b) = refl
 
 -- ---- a port's set is there
 
-pub set-there : (w : World) (port set : ℕ) → IsValid w → is_member set (w.body (port ∷ root)) ≡ true → is_some (and_then portset_of (w.body (set ∷ root))) ≡ true
+pub set-there : (w : World) (port set : ℕ) → IsValid w → is_member set (w.body (port ∷ root)) ≡ true →
+    is_some (and_then portset_of (w.body (set ∷ root))) ≡ true
 unfolding kind_there
 set-there w port set valid member = by (w.body (port ∷ root)) refl member (valid.consistent.good (port ∷ root))
   where
@@ -80,7 +81,8 @@ set-there w port set valid member = by (w.body (port ∷ root)) refl member (val
     its-set None served is good = cc
     its-set (Some k) served is good =
         let same : k ≡ set = eqb-true k set is in
-        a-set (w.body (set ∷ root)) (ap (λ j. is_one_of (kinds.Portset ∷ []) (option_map kind_of (w.body (j ∷ root)))) (sym same) ∙ (and_parts (not served) _ good).1)
+        a-set (w.body (set ∷ root))
+        (ap (λ j. is_one_of (kinds.Portset ∷ []) (option_map kind_of (w.body (j ∷ root)))) (sym same) ∙ (and_parts (not served) _ good).1)
 
     by : (o : Option Body) → w.body (port ∷ root) ≡ o → is_member set o ≡ true → all_in (is_good (kind_there w) (port ∷ root)) o ≡ true →
         is_some (and_then portset_of (w.body (set ∷ root))) ≡ true
@@ -163,7 +165,7 @@ module _ (slot port set room : ℕ) (low : slot ≤ LAST_USER_SLOT) (some : 1 �
       let kept = by-leaving w (after w e) leaves rest.there rest.member in
       record {
         taken = pagers_take_one_lem d w at.state (e ∷ []) (after w e) at.state (is_low slot port set room low some) some so.good rest.taken
-            (paged.Another w at.state e [] (after w e) at.state is (paged.Here (after w e) at.state));
+            (Another_moves w at.state e [] (after w e) at.state is (Nobody_moves (after w e) at.state));
         there = kept.0;
         member = kept.1;
         talkless = leaves.talkless rest.talkless;
@@ -180,7 +182,7 @@ module _ (slot port set room : ℕ) (low : slot ≤ LAST_USER_SLOT) (some : 1 �
       let kept = by-leaving w (after w e) leaves rest.there rest.member in
       record {
         taken = pagers_take_one_lem d w at.state (e ∷ []) (after w e) t (is_low slot port set room low some) some so.good rest.taken
-            (paged.Own w at.state pick [] (after w e) t move.own (paged.Here (after w e) t));
+            (Pager_moves w at.state pick [] (after w e) t move.own (Nobody_moves (after w e) t));
         there = kept.0;
         member = kept.1;
         talkless = leaves.talkless rest.talkless;
@@ -192,14 +194,14 @@ runs_leave_none slot port set room begun moves at low some begins quiet r dark u
     let so = stands slot port set room low some begun begins moves at r dark in
     let rest = desked slot port set room low some begun begins quiet moves at r dark in
     let ends = no_fault_is_left_lem (desk_of_root slot port set room) at.world at.state (le-leb slot LAST_USER_SLOT low) so.good rest.taken
-        (record {
-          valid = unheld.valid;
-          few = unheld.few;
-          unheld = unheld.none;
-          porter = a-porter (at.world.body me) so.porter;
-          talkless = find-none _ (objects at.world) rest.talkless;
-          low = le-leb set LAST_USER_SLOT quiet.low;
-          set = rest.there;
-          port = rest.member;
-        }) (λ pick own. idle (pick, own)) in
+    (record {
+      valid = unheld.valid;
+      few = unheld.few;
+      unheld = unheld.none;
+      porter = a-porter (at.world.body me) so.porter;
+      talkless = find-none _ (objects at.world) rest.talkless;
+      low = le-leb set LAST_USER_SLOT quiet.low;
+      set = rest.there;
+      port = rest.member;
+    }) (λ pick own. idle (pick, own)) in
     record { waits = ends.0; none = ends.1 }

@@ -44,10 +44,10 @@ module _ (d : Desk) (first : Moment) (none : first.opened ≡ 0) where
       by : (b : Bool) → is_opening at.state.phase ≡ b →
           (length past ≡ at.opened → IsOpening d at.world at.state v t → IsOpening d first.world first.state v t) → IsOpening d first.world first.state v t
       by true e more =
-          let count : (if is_opening at.state.phase then 1 else 0) ≡ 1 = ap (λ (b : Bool). if b then 1 else 0) e in
+          let count : ◌≡◌ {A = ℕ} (if is_opening at.state.phase then 1 else 0) 1 = ap (λ (b : Bool). if b then 1 else 0) e in
           more (omega (arith, all, count, longer past m)) (Opens at.world at.state (option_map (named at.world) m.pick) v t e move.own rest)
       by false e more =
-          let count : (if is_opening at.state.phase then 1 else 0) ≡ 0 = ap (λ (b : Bool). if b then 1 else 0) e in
+          let count : ◌≡◌ {A = ℕ} (if is_opening at.state.phase then 1 else 0) 0 = ap (λ (b : Bool). if b then 1 else 0) e in
           let bound = few past at run in
           absurd (omega (arith, all, count, bound, longer past m))
 

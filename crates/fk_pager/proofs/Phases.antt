@@ -20,33 +20,33 @@ module _ (d : Desk) (s : State) (done : is_opening s.phase ≡ false) where
 
   by_phase : (phase : Phase) → is_opening phase ≡ false → (status : ℕ) (words : List ℕ) → IsDone (next d s phase status words)
   unfolding next
-  by_phase (Seeking from) no status words = cc
-  by_phase (Taking page) no status words = cc
-  by_phase Waiting no status words = by (status == OK)
+  by_phase (Seeking from) off status words = absurd (cc)
+  by_phase (Taking page) off status words = absurd (cc)
+  by_phase Waiting off status words = by (status == OK)
     where
       by : (b : Bool) → IsDone (if b then at_phase s (Looking (slice_index words 2)) else s)
       by true = refl
       by false = done
-  by_phase (Looking page) no status words = by (status == OK && slice_index words 0 == page)
+  by_phase (Looking page) off status words = by (status == OK && slice_index words 0 == page)
     where
       by : (b : Bool) → IsDone (if b then at_phase s (Ending page) else looked d s page)
       by true = refl
       by false = room-made page s.inside
-  by_phase (Evicting old page) no status words = by (status == OK) (status == HELD)
+  by_phase (Evicting old page) off status words = by (status == OK) (status == HELD)
     where
       by : (a b : Bool) → IsDone (if a then record { backing = put old words s.backing; inside = drop 1 s.inside; faults = s.faults; phase = Giving page }
           else (if b then s else record { backing = s.backing; inside = drop 1 s.inside; faults = s.faults; phase = Giving page }))
       by true b = refl
       by false true = done
       by false false = refl
-  by_phase (Giving page) no status words = by (status == OK) (status == HELD)
+  by_phase (Giving page) off status words = by (status == OK) (status == HELD)
     where
       by : (a b : Bool) → IsDone (if a then record { backing = s.backing; inside = s.inside ++ page ∷ []; faults = s.faults; phase = Ending page }
           else (if b then s else at_phase s (Ending page)))
       by true b = refl
       by false true = done
       by false false = refl
-  by_phase (Ending page) no status words = by (status == OK)
+  by_phase (Ending page) off status words = by (status == OK)
     where
       by : (b : Bool) → IsDone (if b then record { backing = s.backing; inside = s.inside; faults = counted s.faults; phase = Waiting } else at_phase s Waiting)
       by true = refl

@@ -22,7 +22,6 @@ use Rattle.fk_model.specs.Outcomes.Outcome.{Refused, Waits, Goes}
 use Rattle.fk_model.specs.Readers.{and_read, is_kind, kind_at, led_to, handled, handle, path_at, space_argument}
 use Rattle.fk_model.specs.SpaceRows.{next_page, page_next, page_take, page_give}
 use Rattle.fk_model.specs.Moves.{with_pick, closed, call_row, porter_at, porter_move, outcome, GoesAllowed, IsReady, stepped, step}
-
 use Rattle.fk_model.specs.Whole.{HasFullPages}
 use Rattle.std.proofs.lemmas.Bool.{and_parts, le-leb}
 use Rattle.laws_filled.specs.Filled.{is_paged}
@@ -119,7 +118,8 @@ module _ (w : World) (words : List ℕ) where
       taken space false e false (Some its) f = Drops space its e f
 
       by : (r : Result Path ℕ) → space_argument w c s ≡ r →
-          TakeRow page (r >>= λ space. (refuse status.HELD (is_frozen_for w me space) >>= λ u. (refuse status.BADADDRESS (not (nat_lt page PAGES) || false) >>= λ v.
+          TakeRow page (r >>= λ space. (refuse status.HELD (is_frozen_for w me space) >>= λ u.
+          (refuse status.BADADDRESS (not (nat_lt page PAGES) || false) >>= λ v.
           (or_refuse status.NONE (w.page space page) >>= λ its. Goes (DropPage space page ∷ []) (Answered OK its)))))
       by (Err status) e = TakeRefuses status (not-ok w c s status e)
       by (Ok space) e = taken space (is_frozen_for w me space) refl (not (nat_lt page PAGES) || false) (w.page space page) refl
@@ -137,10 +137,11 @@ module _ (w : World) (words : List ℕ) where
 
   take-keeps : (page : ℕ) (o : Outcome) → TakeRow page o → GoesAllowed w me (ends o) × KeepsBodies (ends o)
   unfolding apply_all apply
-  take-keeps page _ (TakeRefuses status no) = (tt, λ x. refl)
+  take-keeps page _ (TakeRefuses status why) = (tt, λ x. refl)
   take-keeps page _ (Drops space its off home) = ((off, tt), λ x. refl)
 
-  next-told : (from : ℕ) (o : Outcome) → NextRow from o → (status : ℕ) (its : List ℕ) → (stepped w (ends o)).said ≡ Answered status its → slice_index its 0 < 256
+  next-told : (from : ℕ) (o : Outcome) → NextRow from o → (status : ℕ) (its : List ℕ) →
+      (stepped w (ends o)).said ≡ Answered status its → slice_index its 0 < 256
   next-told from _ (NextRefuses refused) status its said =
       let same : [] ≡ its = cc in subst (λ xs. slice_index xs 0 < 256) same (omega arith)
   next-told from _ (Tells space page e) status its said =
@@ -150,7 +151,7 @@ module _ (w : World) (words : List ℕ) where
 
   take-told : HasFullPages w → (page : ℕ) (o : Outcome) → TakeRow page o → (status : ℕ) (its : List ℕ) → (stepped w (ends o)).said ≡ Answered status its →
       status ≡ OK → length its ≡ 64
-  take-told full page _ (TakeRefuses refused no) status its said ok = let same : refused ≡ status = cc in absurd (no (same ∙ ok))
+  take-told full page _ (TakeRefuses refused why) status its said ok = let same : refused ≡ status = cc in absurd (why (same ∙ ok))
   take-told full page _ (Drops space words home at) status its said ok =
       let same : words ≡ its = cc in subst (λ xs. length xs ≡ 64) same (full space page words at)
 
@@ -167,7 +168,7 @@ module _ (w : World) (words : List ℕ) where
   next-pages from _ (Tells space page e) = Changes_nothing
 
   take-pages : (page : ℕ) (o : Outcome) → TakeRow page o → IsOfPages (listed (ends o))
-  take-pages page _ (TakeRefuses status no) = Changes_nothing
+  take-pages page _ (TakeRefuses status why) = Changes_nothing
   take-pages page _ (Drops space its off home) = Drops_page space page
 
   data GiveRow (page : ℕ) : Outcome → Type 0 where
@@ -187,7 +188,8 @@ module _ (w : World) (words : List ℕ) where
       given space false false false = Puts space
 
       by : (r : Result Path ℕ) →
-          GiveRow page (r >>= λ space. (refuse status.HELD (is_frozen_for w me space) >>= λ u. (refuse status.BADADDRESS (not (nat_lt page PAGES) || false) >>= λ v.
+          GiveRow page (r >>= λ space. (refuse status.HELD (is_frozen_for w me space) >>= λ u.
+          (refuse status.BADADDRESS (not (nat_lt page PAGES) || false) >>= λ v.
           (refuse status.OCCUPIED (is_some (w.page space page)) >>= λ x. Goes (PutPage space page words ∷ []) (Answered OK [])))))
       by (Err status) = GiveRefuses status
       by (Ok space) = given space (is_frozen_for w me space) (not (nat_lt page PAGES) || false) (is_some (w.page space page))
@@ -262,9 +264,11 @@ module _ (d : Desk) (nester : d.nester ≡ root) (w : World) (s : State) (native
       (step w porter None (asks.Call (stage_of d phase) (words_of s phase))).world.body x ≡ w.body x
   unfolding step
   opening-keeps (Seeking from) is x =
-      ap (λ (o : Outcome). (stepped w o).world.body x) (row-of w no_words (stage_of d (Seeking from)) None native unheld) ∙ (next-call w no_words d.slot from).1 x
+      ap (λ (o : Outcome). (stepped w o).world.body x) (row-of w no_words (stage_of d (Seeking from)) None native unheld)
+      ∙ (next-call w no_words d.slot from).1 x
   opening-keeps (Taking page) is x =
-      ap (λ (o : Outcome). (stepped w o).world.body x) (row-of w no_words (stage_of d (Taking page)) None native unheld) ∙ (take-call w no_words d.slot page 0).1 x
+      ap (λ (o : Outcome). (stepped w o).world.body x) (row-of w no_words (stage_of d (Taking page)) None native unheld)
+      ∙ (take-call w no_words d.slot page 0).1 x
   opening-keeps Waiting is x = cc
   opening-keeps (Looking page) is x = cc
   opening-keeps (Evicting old page) is x = cc
@@ -293,19 +297,32 @@ module _ (d : Desk) (w : World) (s : State) (pick : Option Path) (nester : d.nes
       sym (ap (λ (o : Outcome). (stepped w o).said)
       (is_call d.nester d.slot (le-leb d.slot LAST_USER_SLOT low) w (its_words phase) pick (stage_of d phase) ready)) ∙ said
 
+  abbrev Heard : Path → Option Path → Stage → List ℕ → ℕ → List ℕ → Type 0
+  Heard x o stage given status words = (stepped w (call_row w (porter_at (LAST_PORTER_SLOT ∷ x) given) o stage)).said ≡ Answered status words
+
+  -- at the root, with what is asked and given known by equations
+  rooted : (phase : Phase) (stage : Stage) (given : List ℕ) (o : Option Path) → stage_of d phase ≡ stage → its_words phase ≡ given → pick ≡ o →
+      IsReady w mine pick (asks.Call (stage_of d phase) (its_words phase)) → (status : ℕ) (words : List ℕ) →
+      (step w mine pick (asks.Call (stage_of d phase) (its_words phase))).said ≡ Answered status words → Heard root o stage given status words
+  rooted phase stage given o is gives picks ready status words said =
+      subst (λ (x : Path). Heard x o stage given status words) nester
+      (subst (λ (q : Option Path). Heard d.nester q stage given status words) picks
+      (subst (λ (ws : List ℕ). Heard d.nester pick stage ws status words) gives
+      (subst (λ (st : Stage). Heard d.nester pick st (its_words phase) status words) is (called phase ready status words said))))
+
   seeks : (from : ℕ) → pick ≡ None → IsReady w mine pick (asks.Call (stage_of d (Seeking from)) (its_words (Seeking from))) → Told (Seeking from)
   unfolding call_row
   seeks from none ready status words said =
-      let heard = rw (none, nester) at called (Seeking from) ready status words said in
-      λ ok. next-told w no_words from _ (next-row w no_words d.slot from) status words heard
+      λ ok. next-told w no_words from _ (next-row w no_words d.slot from) status words
+      (rooted (Seeking from) (PageNext d.slot from) no_words None refl refl none ready status words said)
 
   takes : (phase : Phase) (page : ℕ) → stage_of d phase ≡ PageTake d.slot page 0 → its_words phase ≡ no_words → pick ≡ None →
       IsReady w mine pick (asks.Call (stage_of d phase) (its_words phase)) → (status : ℕ) (words : List ℕ) →
       (step w mine pick (asks.Call (stage_of d phase) (its_words phase))).said ≡ Answered status words → status ≡ OK → length words ≡ 64
   unfolding call_row
   takes phase page is nothing none ready status words said ok =
-      let heard = rw (none, nester, is, nothing) at called phase ready status words said in
-      take-told w no_words full page _ (take-row w no_words d.slot page 0) status words heard ok
+      take-told w no_words full page _ (take-row w no_words d.slot page 0) status words
+      (rooted phase (PageTake d.slot page 0) no_words None is nothing none ready status words said) ok
 
   waited : (y : Path) (fault : Fault) → fault.page < 256 → (o : Outcome) → WaitResult d.nester d.slot (le-leb d.slot LAST_USER_SLOT low) w no_words y fault o →
       (status : ℕ) (words : List ℕ) → (stepped w o).said ≡ Answered status words → slice_index words 2 < 256

@@ -35,7 +35,8 @@ module _ (d : Desk) (s : State) (some : 1 ≤ d.room) (sane : IsSaneState d.room
   taking page false true = sane
   taking page false false = turned (Seeking (page + 1)) tt
 
-  waiting : IsGoodAnswer Waiting status words → (b : Bool) → (status == OK) ≡ b → IsSaneState d.room (if b then at_phase s (Looking (slice_index words 2)) else s)
+  waiting : IsGoodAnswer Waiting status words → (b : Bool) → (status == OK) ≡ b →
+      IsSaneState d.room (if b then at_phase s (Looking (slice_index words 2)) else s)
   waiting good true e = turned (Looking (slice_index words 2)) (good (eqb-true status OK e))
   waiting good false e = sane
 

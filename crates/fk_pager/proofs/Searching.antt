@@ -111,7 +111,8 @@ pub paged-there : (d : Desk) (s : State) (w : World) (y : Path) → holds (is_pa
 unfolding kind_there
 paged-there d s w y paged = by (w.body y) paged
   where
-    by : (o : Option Body) → holds (is_paged (paging d s)) (and_then (λ (t : Thread). t.fault) (and_then thread_of o)) ≡ true → is_some (option_map kind_of o) ≡ true
+    by : (o : Option Body) → holds (is_paged (paging d s)) (and_then (λ (t : Thread). t.fault) (and_then thread_of o)) ≡ true →
+        is_some (option_map kind_of o) ≡ true
     by None is = cc
     by (Some b) is = refl
 

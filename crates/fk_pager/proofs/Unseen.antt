@@ -36,7 +36,7 @@ use Rattle.laws_filled.specs.Pager as pagers
 use Rattle.laws_filled.specs.Pager.{Desk, Phase, State, paging, is_opening, call_of, said_of, hears, IsOthers, IsOwn, IsAt, IsGood, IsFirst, AreWithin}
 use Rattle.laws_filled.specs.Pager.{struck as struck_events}
 use Rattle.laws_filled.specs.Pager.Phase.{Seeking, Taking, Waiting, Looking, Evicting, Giving, Ending}
-use Rattle.laws_filled.specs.Pager.IsPaged as paged
+use Rattle.laws_filled.specs.Pager.IsPaged.{Here as Nobody_moves, Own as Pager_moves}
 use Rattle.laws_filled.proofs.Moves.{filled_moves_alike_lem, raises_are_unseen_lem}
 use Rattle.laws_filled.proofs.Servers.{names_lead_alike_lem, ports_are_served_alike_lem, talks_end_alike_lem, unseen_ends_no_talk_lem}
 use Rattle.laws_filled.proofs.Own.{own, others-good}
@@ -87,10 +87,10 @@ rests w x pick native ready = by (w.body x) refl native
 
 pub not-porter : (services : Services) (w : World) (who : Who) (pick : Option Path) (ask : Ask) → HasPorter w → asked services w who ≡ Some ask →
     IsReady w (named w who) pick ask → same_path me (named w who) ≡ false
-not-porter services w who pick ask native asks ready = same_path_ne me (named w who) (λ e.
+not-porter services w who pick ask native asks_it ready = same_path_ne me (named w who) (λ e.
     let here : holds is_native (w.body (named w who)) ≡ true = subst (λ y. holds is_native (w.body y) ≡ true) e native in
     let runs : asked services w who ≡ Some asks.Run = ap (λ (b : Bool). asked_at b services who) (no-port (w.body (named w who)) here) in
-    let same : asks.Run ≡ ask = same_Some asks.Run ask (sym runs ∙ asks) in
+    let same : asks.Run ≡ ask = same_Some asks.Run ask (sym runs ∙ asks_it) in
     rests w (named w who) pick here (subst (λ a. IsReady w (named w who) pick a) (sym same) ready))
 
 pub users-others : (ask : Ask) → is_users ask ≡ true → is_others ask ≡ true
@@ -264,7 +264,8 @@ module _ (slot port set room : ℕ) (low : slot ≤ LAST_USER_SLOT) (some : 1 �
       let e = pagers_event d at m in
       let t = hears d at.state (said_of w e) in
       let comes = own d is_low some w at.state at.state.phase pick so.good move.own.picks move.own.ready in
-      let alike = servers_hear_alike_lem d w at.state (e ∷ []) (after w e) t is_low some so.good (paged.Own w at.state pick [] (after w e) t move.own (paged.Here (after w e) t)) in
+      let alike = servers_hear_alike_lem d w at.state (e ∷ []) (after w e) t is_low some so.good
+      (Pager_moves w at.state pick [] (after w e) t move.own (Nobody_moves (after w e) t)) in
       let silent : IsSilent (heard_of w e) = alone (heard_of w e) alike in
       record {
         good = comes.1;
@@ -283,7 +284,7 @@ module _ (slot port set room : ℕ) (low : slot ≤ LAST_USER_SLOT) (some : 1 �
 
     same-world : filled (paging d pagers.first) first.world ≡ first.world
     unfolding run struck_events
-    same-world = sym (pagers_are_hidden_lem d first.world [] first.world pagers.first is_low some is_first (paged.Here first.world pagers.first)).world
+    same-world = sym (pagers_are_hidden_lem d first.world [] first.world pagers.first is_low some is_first (Nobody_moves first.world pagers.first)).world
 
     same-first : filled (paging d first.state) first.world ≡ first.world
     same-first = ap (λ (s : State). filled (paging d s) first.world) begins.state ∙ same-world

@@ -38,7 +38,8 @@ is_waiting other = false
 
 -- a pager hears what a move tells, wherever its nester and its port are, and spaces are
 abbrev pub Heard : Pager → says_of.Said → Pager → Type 0
-Heard before said after = (nester : Path) (port : ℕ) (paths : ℕ → Path) → state_of after ≡ hears (desk_of nester port before) (state_of before) (said_by paths said)
+Heard before said after = (nester : Path) (port : ℕ) (paths : ℕ → Path) →
+    state_of after ≡ hears (desk_of nester port before) (state_of before) (said_by paths said)
 
 -- and counts on it
 abbrev pub HearsWell : Pager → says_of.Said → Type 0

@@ -191,7 +191,8 @@ fn is_in_root(who: Who, slot: u8) -> bool
 /// An object bars a pager: a mapping in its space, another port in its set, a region of another space that its port keeps.
 fn hinders(store: &Store, space: u32, desk: Desk, who: Who) -> bool
     requires { IsSpace store.now space }
-    ensures { result ≡ is_hindrance (path store.now space) desk.port desk.set (path store.now who.space) who.slot ((world store.now).body (place_of store.now who)) }
+    ensures { result ≡ is_hindrance (path store.now space) desk.port desk.set (path store.now who.space) who.slot
+        ((world store.now).body (place_of store.now who)) }
 {
     match store.at(who) {
         Some(Body::Mapping { .. }) => who.space == space,

@@ -129,7 +129,10 @@ impl<S: Service + Drop> PagedRun<S> {
     fn is_opening(&self) -> bool
         ensures { result ≡ is_opening (moment self.now).state.phase }
     {
-        matches!(self.pager.phase, Phase::Seeking { .. } | Phase::Taking { .. })
+        matches!(
+            self.pager.phase,
+            Phase::Seeking { .. } | Phase::Taking { .. }
+        )
     }
 
     // ---- whose move comes next
@@ -139,7 +142,8 @@ impl<S: Service + Drop> PagedRun<S> {
         requires picks { IsPick (desk self.now) (moment self.now).state (moment self.now).world (moment self.now).state.phase
             (option_map (named (moment self.now).world) pick) }
         ensures ready { IfSome result (λ m. IsPagersMove (desk self.now) (moment self.now) m) }
-        ensures none { IfNone result (IsOwn (desk self.now) (moment self.now).world (moment self.now).state (option_map (named (moment self.now).world) pick) → ⊥) }
+        ensures none { IfNone result (IsOwn (desk self.now) (moment self.now).world (moment self.now).state
+            (option_map (named (moment self.now).world) pick) → ⊥) }
     {
         self.host.kernel().names();
         let m = Move {
@@ -157,7 +161,8 @@ impl<S: Service + Drop> PagedRun<S> {
     fn take(&self, who: Who) -> Option<Move>
         requires waits { (moment self.now).state.phase ≡ pagers.Waiting }
         ensures ready { IfSome result (λ m. IsPagersMove (desk self.now) (moment self.now) m) }
-        ensures none { IfNone result (IsOwn (desk self.now) (moment self.now).world (moment self.now).state (Some (place_of self.now.host.kernel.store who)) → ⊥) }
+        ensures none { IfNone result (IsOwn (desk self.now) (moment self.now).world (moment self.now).state
+            (Some (place_of self.now.host.kernel.store who)) → ⊥) }
     {
         let kernel = self.host.kernel();
         kernel.names();
@@ -358,7 +363,8 @@ impl<S: Service + Drop> PagedRun<S> {
     /// How it ends where the budget is used.
     fn end_used(&mut self) -> End
         requires driven { IsDriven self.old }
-        ensures end { (budget : _) → budget ≤ length self.old.history.items → IsEnd (desk self.old) budget (length self.old.history.items) (moment self.old) result }
+        ensures end { (budget : _) → budget ≤ length self.old.history.items → IsEnd (desk self.old)
+            budget (length self.old.history.items) (moment self.old) result }
         ensures driven { IsDriven self.new }
         ensures moment { moment self.new ≡ moment self.old }
         ensures pager { self.new.pager ≡ self.old.pager }
@@ -393,10 +399,10 @@ impl<S: Service + Drop> PagedRun<S> {
     pub fn into_parts(self, end: End) -> (Host<S>, Paged)
         ensures host { result.0 ≡ self.host }
         ensures paged { result.1 ≡ record {
-            history = self.history.items;
-            opened = opened_by (length self.history.items) (moment self);
-            faults = (moment self).state.faults;
-            end = end
+          history = self.history.items;
+          opened = opened_by (length self.history.items) (moment self);
+          faults = (moment self).state.faults;
+          end = end;
         } }
     {
         // There is room for another, so a number past the last can be told.

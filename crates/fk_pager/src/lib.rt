@@ -53,8 +53,8 @@ pub fn runs_end_alike()
     ensures { RunsEndAlike }
 {}
 
-/// Whatever peeks: as long as its port is neither destroyed nor renamed the pager makes at most ten calls, besides those refused HELD, for each page that was home,
-/// for each fault that is raised at its port, and for the run.
+/// Whatever peeks: as long as its port is neither destroyed nor renamed the pager makes at most ten calls, besides those refused HELD, for each page that was
+/// home, for each fault that is raised at its port, and for the run.
 pub fn calls_are_bounded()
     ensures { CallsAreBounded }
 {}

@@ -80,7 +80,8 @@ low-set set stands = by (nat_le set LAST_USER_SLOT) refl stands
     beyond false true e = cc
     beyond false false e = cc
 
-    by : (b : Bool) → nat_le set LAST_USER_SLOT ≡ b → (if b then true else (if nat_le set LAST_SCRATCH_SLOT then false else (set == LAST_PORTER_SLOT && false))) ≡ true →
+    by : (b : Bool) → nat_le set LAST_USER_SLOT ≡ b →
+        (if b then true else (if nat_le set LAST_SCRATCH_SLOT then false else (set == LAST_PORTER_SLOT && false))) ≡ true →
         set ≤ LAST_USER_SLOT
     by true e h = leb-true set LAST_USER_SLOT e
     by false e h = absurd (beyond (nat_le set LAST_SCRATCH_SLOT) (set == LAST_PORTER_SLOT) h)

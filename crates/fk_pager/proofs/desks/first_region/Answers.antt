@@ -11,7 +11,8 @@ loop-slot-init c = lowest-zero _
 
 pub returns-then-is_some : goal.returns-then-is_some
 unfolding first_region
-returns-then-is_some c = sym (lowest-first 256 c.loop-slot.slot (region_in (world c.args.store.now) (path c.args.store.now c.args.space)) _ c.loop-slot.invariant
+returns-then-is_some c = sym (lowest-first 256 c.loop-slot.slot (region_in (world c.args.store.now) (path c.args.store.now c.args.space)) _
+    c.loop-slot.invariant
     (sym c.region_in-found.ensures) (some_mapped _ _ (sym c.is_some.ensures ∙ c.if-is_some.true)) (omega (arith, c.loop-slot-test.true)))
 
 pub loop-slot-preserved : goal.loop-slot-preserved

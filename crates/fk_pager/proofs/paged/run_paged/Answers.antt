@@ -11,5 +11,5 @@ returns g c =
     let made = c.in_ok-run.ensures in
     let ended = c.in_ok-end.ensures in
     let new = c.drive.new.self in
-    let out = paged-out c.in_ok-run.run new d first c.args.budget c.in_ok-end.end made.here made.moment made.history ended.drives ended.within ended.end in
+    let out = paged-out c.in_ok-run.run' new d first c.args.budget c.in_ok-end.end made.here made.moment made.history ended.drives ended.within ended.end in
     rw (c.into_parts.ensures.host, c.into_parts.ensures.paged) out

@@ -41,7 +41,8 @@ returns-in-Some c =
       };
       quiet = record {
         low = set-low (world first.kernel) c.in-Some.desk.port c.in-Some.desk.set c.in_ok-first.ensures.valid c.in_ok-first.ensures.savable.slots_kept
-            (subst (λ (m : Contents). HasDesk (worlds.world m) c.args.slot c.in-Some.desk.port c.in-Some.desk.set) c.store.ensures c.in-Some.ensures.some).member;
+            (subst (λ (m : Contents). HasDesk (worlds.world m) c.args.slot c.in-Some.desk.port c.in-Some.desk.set)
+            c.store.ensures c.in-Some.ensures.some).member;
         untalked = c.in_ok-first.ensures.sound.idle.untalked;
       };
       written = rw c.in_ok-first.ensures.budget at c.in_ok-made.ensures;

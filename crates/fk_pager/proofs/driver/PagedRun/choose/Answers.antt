@@ -11,5 +11,8 @@ use Rattle.fk_pager.proofs.driver.PagedRun.choose.Goals as goal
 pub others_move-requires : goal.others_move-requires
 others_move-requires g c =
     let self = c.args.self.now in
-    not-opening (desk self) self.host.kernel (state_of self.pager) refl (subst (λ (k : Kept). IsValid (world k)) c.kernel.ensures c.names.ensures.valid)
-    (subst (λ (k : Kept). (world k).next ≤ depth) c.kernel.ensures c.names.ensures.few) c.requires.driven.porter c.in-None.ensures.none
+    record {
+      opened = not-opening (desk self) self.host.kernel (state_of self.pager) refl
+          (subst (λ (k : Kept). IsValid (world k)) c.kernel.ensures c.names.ensures.valid)
+          (subst (λ (k : Kept). (world k).next ≤ depth) c.kernel.ensures c.names.ensures.few) c.requires.driven.porter c.in-None.ensures.none;
+    }

@@ -1,4 +1,4 @@
-use Rattle.std.proofs.Common.{refl, arith}
+use Rattle.std.proofs.Common.{rules}
 use Rattle.fk_pager.proofs.Driving.{drives-none, drives-then, drives-alike, rest-of, used-of}
 use Rattle.fk_pager.proofs.driver.PagedRun.drive.Goals as goal
 
@@ -23,3 +23,9 @@ loop-self-preserved g c =
       fits = made.fits;
       within = search rules;
     }
+
+pub returns-clause-end : goal.returns-clause-end
+returns-clause-end g c =
+    let used = c.end_used.ensures in
+    used-of c.args.self.now c.loop-self.self c.end_used.new.self c.args.budget c.end_used.result c.loop-self.invariant.drives used.moment used.history
+    (used.end c.args.budget (search rules))

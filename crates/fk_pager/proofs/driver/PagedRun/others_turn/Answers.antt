@@ -15,7 +15,8 @@ returns-clause-drives g c =
     let ready = c.requires.ready in
     let said = c.in_ok-turn.field-0 in
     let s = state_of self.pager in
-    let stepped = others-turn self.host.kernel new.kernel self.host.services.list new.services.list c.args.m ready.0 said ready.1.asks c.in_ok-turn.ensures.turn in
+    let stepped = others-turn self.host.kernel new.kernel self.host.services.list new.services.list c.args.m
+    ready.0 said ready.1.asks c.in_ok-turn.ensures.turn in
     record {
       same = refl;
       run = others-drive (desk self) self.host.kernel new.kernel self.host.services.list new.services.list s s self.opened c.args.m ready.0 ready.1 said stepped

@@ -13,7 +13,7 @@ use Rattle.fk_pager.proofs.driver.PagedRun.wait_for_any.Goals as goal
 pub returns-clause-none : goal.returns-clause-none
 returns-clause-none g c =
     let self = c.args.self.now in
-    let same = c.store.ensures ∙ ap (λ (k : Kept). k.store) c.kernel.ensures in
+    let same = c.store-store.ensures ∙ ap (λ (k : Kept). k.store) c.kernel.ensures in
     none-any (desk self) self.host.kernel.store (state_of self.pager) c.requires.waits
     (subst (λ (m : Contents). (k : ℕ) (x : Path) → IsSome (kind_there (world m) (k ∷ x)) → (other : Who) × (place_of m other ≡ k ∷ x)) same
     c.after-at.ensures.named)
