@@ -1,5 +1,5 @@
 -- Where no move is ready at the end of a run without peeks, none is in the filled world.
-use Rattle.std.proofs.Common.{◌≡◌, ℕ, ◌≤◌, inl, inr, true, List, Option, Some, None, option_map, refl, sym, ap, subst, ◌∙◌}
+use Rattle.std.proofs.Common.{◌≡◌, ℕ, ◌≤◌, inl, inr, true, List, Option, Some, None, option_map, refl, sym, subst, ◌∙◌}
 use Rattle.fk_host.specs.Acts.{IsReadyFor}
 use Rattle.fk_host.specs.Served.{asked}
 use Rattle.fk_model.specs.declared.limits.TheConstants.{LAST_USER_SLOT}
@@ -13,10 +13,9 @@ use Rattle.fk_model.specs.Outcomes.{Outcome}
 use Rattle.fk_model.specs.Outcomes.Outcome.{Refused, Waits, Goes}
 use Rattle.fk_model.specs.Places.{Path}
 use Rattle.fk_model.specs.Runs.{Event}
-use Rattle.fk_model.specs.Who.{named, event_of}
+use Rattle.fk_model.specs.Who.{named}
 use Rattle.fk_model.specs.World.{World}
 use Rattle.fk_report.specs.Threads.{state_at, HaveHalted}
-use Rattle.fk_report.specs.declared.threads.ThreadState.{ThreadState}
 use Rattle.laws_filled.specs.Filled.{Paging, filled}
 use Rattle.laws_filled.specs.Pager.{paging}
 use Rattle.laws_filled_ends.specs.Ends.{is_act, IsIdle, IsSettled}

@@ -1,15 +1,13 @@
 -- What bars a pager, and why there is a desk where nothing does.
-use Rattle.std.proofs.Common.{◌≡◌, ℕ, Bool, true, false, not, ◌&&◌, ◌==◌, is_some, ◌∷◌, [], Option, Some, None, option_map, refl, sym, ap, subst, ◌∙◌, eqb-true, eq-eqb}
+use Rattle.std.proofs.Common.{◌≡◌, ℕ, Bool, true, false, not, ◌&&◌, ◌==◌, is_some, ◌∷◌, Option, Some, None, refl, sym, ap, ◌∙◌, eqb-true, eq-eqb}
 use Rattle.std.proofs.lemmas.Bool.{and_parts}
-use Rattle.fk_model.specs.declared.names.Who.{Who}
-use Rattle.fk_model.specs.Places.{Path, same_path, slot_of, parent, leads_to}
-use Rattle.fk_model.specs.Objects.{Extent, Body, mapping_of, region_of, space_of, port_of, and_then, holds}
+use Rattle.fk_model.specs.Places.{Path, same_path, leads_to}
+use Rattle.fk_model.specs.Objects.{Body, mapping_of, and_then, holds}
 use Rattle.fk_model.specs.Objects.Body.{Mutex, Cond, Mapping, Region, Port, Portset, Space, Thread_of, Reference}
 use Rattle.fk_model.specs.World.{World}
-use Rattle.fk_model.specs.StateRows.{is_native}
 use Rattle.fk_model.specs.LinkRows.{is_member}
 use Rattle.fk_model.proofs.walks.PlaceLaws.{same_path_eq, same_path_refl}
-use Rattle.fk_pager.specs.Desks.{root, keeps_all, first_region, is_kept_by, HasDesk, IsPageable}
+use Rattle.fk_pager.specs.Desks.{root, keeps_all, first_region, is_kept_by, HasDesk}
 use Rattle.fk_pager.specs.Seen.{is_set, leads_some, is_hindrance}
 
 both : (b : Bool) → b ≡ true → b ≡ false → ⊥

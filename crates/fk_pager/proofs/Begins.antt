@@ -1,20 +1,19 @@
 -- A subtree that may be paged is one in which a pager may begin.
-use Rattle.std.proofs.Common.{◌≡◌, ℕ, zero, suc, ◌+◌, ◌<◌, Bool, true, false, ◌&&◌, ◌==◌, nat_le, nat_lt, is_some, if◌then◌else◌, ◌∷◌, Option, Some, None, option_map, refl, sym, ap, subst, ◌∙◌, arith, eqb-true}
+use Rattle.std.proofs.Common.{◌≡◌, ℕ, zero, suc, ◌<◌, Bool, true, ◌==◌, if◌then◌else◌, ◌∷◌, Option, Some, None, option_map, refl, ap, ◌∙◌, arith, eqb-true}
 use Rattle.std.proofs.lemmas.Bool.{and_parts, ltb-true, lt-ltb, le-leb}
 use Rattle.fk_model.specs.declared.limits.TheConstants.{SLOTS, PAGES}
 use Rattle.fk_model.specs.declared.names.Kind.TheVariants as kinds
-use Rattle.fk_model.specs.Places.{Path, leads_to}
+use Rattle.fk_model.specs.Places.{Path}
 use Rattle.fk_model.specs.Places.Ptr.{At}
-use Rattle.fk_model.specs.Objects.{Window, Extent, Body, mapping_of, region_of, thread_of, kind_of, covers, and_then, or_else, holds}
-use Rattle.fk_model.specs.Objects.Body.{Mutex, Cond, Mapping, Region, Port, Portset, Space, Thread_of, Reference}
+use Rattle.fk_model.specs.Objects.{Window, Extent, Body, region_of, thread_of, kind_of, covers, and_then, or_else, holds}
+use Rattle.fk_model.specs.Objects.Body.{Thread_of}
 use Rattle.fk_model.specs.World.{World}
 use Rattle.fk_model.specs.Searches.{lowest, thread_at}
-use Rattle.fk_model.specs.Reach.{mapping_at, region_at, live_keeper, keeper}
-use Rattle.fk_model.specs.Valid.{kind_there, IsValid}
+use Rattle.fk_model.specs.Reach.{mapping_at, region_at, keeper}
+use Rattle.fk_model.specs.Valid.{kind_there}
 use Rattle.fk_model.proofs.walks.Lowest.{lowest_none}
 use Rattle.fk_model.proofs.walks.PlaceLaws.{leads_to_at}
-use Rattle.laws_filled.specs.Pager.{Desk, IsClear, IsFirst}
-use Rattle.fk_pager.specs.Desks.{root, desk_of_root, first_region, keeps_all, HasDesk}
+use Rattle.fk_pager.specs.Desks.{root, first_region, keeps_all, HasDesk}
 use Rattle.fk_pager.specs.Unseen.{DesksAreFirst}
 
 -- ---- the lowest that answers

@@ -1,8 +1,8 @@
 -- A pager's calls along a run are few, whatever peeks.
-use Rattle.std.proofs.Common.{◌≡◌, ℕ, ◌+◌, ◌*◌, ◌≤◌, Bool, true, false, not, cond, ◌&&◌, nat_le, is_some, List, [], ◌∷◌, Option, Some, None, option_map, refl, sym, ap, subst, ◌∙◌, arith}
+use Rattle.std.proofs.Common.{◌≡◌, ℕ, ◌+◌, ◌≤◌, Bool, true, false, not, cond, nat_le, is_some, List, [], ◌∷◌, Option, Some, None, option_map, refl, sym, ap, subst, ◌∙◌, arith}
 use Rattle.std.specs.List.{list_all}
 use Rattle.std.proofs.lemmas.Bool.{and_parts, le-leb}
-use Rattle.fk_model.specs.declared.limits.TheConstants.{LAST_PORTER_SLOT, LAST_USER_SLOT, PAGES}
+use Rattle.fk_model.specs.declared.limits.TheConstants.{LAST_PORTER_SLOT, LAST_USER_SLOT}
 use Rattle.fk_model.specs.declared.moves.Ask.{Ask}
 use Rattle.fk_model.specs.declared.moves.Ask.TheVariants as asks
 use Rattle.fk_model.specs.declared.moves.Move.{Move}
@@ -45,7 +45,6 @@ use Rattle.fk_pager.specs.Bounds.{is_spared, spares_port, calls_in, raised_along
 use Rattle.fk_pager.specs.Desks.{root, desk_of_root}
 use Rattle.fk_pager.specs.Runs.{Moment, IsOthersMove, pagers_event, IsRun}
 use Rattle.fk_pager.specs.Runs.IsRun.{Begins, Others, Own}
-use Rattle.fk_pager.specs.Unseen.{IsBeginning}
 use Rattle.fk_pager.proofs.Begins.{desks_are_first_lem}
 use Rattle.fk_pager.proofs.Desked.{IsApartEdit, IsApart, AreApart}
 use Rattle.fk_pager.proofs.Desked.{lists as apart-lists}

@@ -1,10 +1,9 @@
 -- A pager counts the faults that it ends.
-use Rattle.std.proofs.Common.{◌≡◌, ℕ, ◌+◌, ◌≤◌, Bool, true, false, ◌&&◌, ◌==◌, nat_le, min, if◌then◌else◌, List, [], ◌∷◌, ◌++◌, drop, length, slice_index, refl, sym, ap, subst, ◌∙◌, arith}
+use Rattle.std.proofs.Common.{◌≡◌, ℕ, ◌+◌, Bool, true, false, ◌&&◌, ◌==◌, nat_le, min, if◌then◌else◌, List, [], ◌∷◌, ◌++◌, drop, length, slice_index, refl, sym, ap, subst, arith}
 use Rattle.fk_model.specs.declared.moves.Move.{Move}
 use Rattle.fk_model.specs.declared.statuses.status.TheConstants.{OK, HELD}
 use Rattle.fk_model.specs.Outcomes.{Said}
 use Rattle.fk_model.specs.Outcomes.Said.{Nothing, Answered, Taken, Words, Given, Full, Passed, Ended}
-use Rattle.laws_filled.specs.Pager as pagers
 use Rattle.laws_filled.specs.Pager.{Desk, Phase, State, MOST_FAULTS, at_phase, put, makes_room, looked, counted, next, first, hears, said_of}
 use Rattle.laws_filled.specs.Pager.Phase.{Seeking, Taking, Waiting, Looking, Evicting, Giving, Ending}
 use Rattle.fk_pager.specs.Counted.{done_by, ended_by, ended_in, FaultsAreCounted}

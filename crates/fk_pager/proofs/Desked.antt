@@ -1,23 +1,20 @@
 -- Moves that don't peek leave a pager its porter, its set and its port, and give its porter no talk.
-use Rattle.std.proofs.Common.{◌≡◌, ℕ, ◌≤◌, Bool, true, false, cond, ◌&&◌, ◌==◌, is_some, List, [], ◌∷◌, ◌++◌, map, Option, Some, None, option_map, refl, sym, ap, subst, ◌∙◌}
-use Rattle.std.proofs.lemmas.Bool.{and_parts}
+use Rattle.std.proofs.Common.{◌≡◌, ℕ, Bool, true, false, cond, List, [], ◌∷◌, ◌++◌, map, Option, Some, None, option_map, refl, sym, ap, subst, ◌∙◌}
 use Rattle.fk_model.specs.declared.moves.Ask.{Ask}
 use Rattle.fk_model.specs.declared.stage.Stage.{Stage}
-use Rattle.fk_model.specs.Places.{Path, same_path, parent, slot_of, leads_to}
-use Rattle.fk_model.specs.Places.Ptr.{At}
-use Rattle.fk_model.specs.Objects.{Mode, Peer, Talk, Thread, Body, port_of, thread_of, and_then, holds}
+use Rattle.fk_model.specs.Places.{Path, same_path, parent, slot_of}
+use Rattle.fk_model.specs.Objects.{Mode, Talk, Thread, Body, port_of, thread_of, and_then, holds}
 use Rattle.fk_model.specs.Objects.Mode.{Calling}
-use Rattle.fk_model.specs.Objects.Peer.{Server, Service, Parked}
 use Rattle.fk_model.specs.Objects.Body.{Mutex, Mapping, Region, Port, Space, Thread_of, Reference}
 use Rattle.fk_model.specs.World.{World, Change, Edit, serves, edited, apply, apply_all, ended_in, finished_in}
 use Rattle.fk_model.specs.World.Change.{Alter, Make, MakeSpace, Kill, Move, PutPage, DropPage}
 use Rattle.fk_model.specs.World.Edit.{SetLocked, SetWindow, SetExtent, SetMember, SetPointer, SetHolder, Finish, End, SetTalk, CountMoved, PassTurn, SetPeer}
-use Rattle.fk_model.specs.World.Edit.{SetFault, SetTaker}
+use Rattle.fk_model.specs.World.Edit.{SetTaker}
 use Rattle.fk_model.specs.Outcomes.{Outcome, Caller, path_of, listed}
 use Rattle.fk_model.specs.Records.{set_edits}
 use Rattle.fk_model.specs.LinkRows.{portset_of, user_at}
 use Rattle.fk_model.specs.Moves.{stepped, step, outcome, is_for_porters}
-use Rattle.fk_model.proofs.walks.PlaceLaws.{same_path_eq, same_path_sym}
+use Rattle.fk_model.proofs.walks.PlaceLaws.{same_path_sym}
 use Rattle.laws_moves.specs.Rows.Stages.{Sets, Work, Step}
 use Rattle.laws_moves.specs.Rows.Stages.Sets.{Locks, Resumes, Takes_fault, Restores_talk, Parks_talk}
 use Rattle.laws_moves.specs.Rows.Stages.Work.{Looks, Edits, Makes, Kills, Sets_record, Copies, Sleeps, Wakes_all}

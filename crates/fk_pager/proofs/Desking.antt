@@ -1,9 +1,9 @@
 -- Where the desk of a pager is, and why there is none.
-use Rattle.std.proofs.Common.{◌≡◌, ℕ, Bool, true, false, is_some, ◌∷◌, [], Option, Some, None, refl, sym, ap, subst, ◌∙◌, eq-eqb}
+use Rattle.std.proofs.Common.{◌≡◌, ℕ, Bool, true, false, is_some, ◌∷◌, [], Some, None, refl, sym, ap, subst, ◌∙◌, eq-eqb}
 use Rattle.fk_model.specs.declared.limits.TheConstants.{LAST_PORTER_SLOT}
 use Rattle.fk_model.specs.declared.names.Who.{Who}
 use Rattle.fk_model.specs.LinkRows.{is_member}
-use Rattle.fk_model.specs.Objects.{space_of, and_then, holds}
+use Rattle.fk_model.specs.Objects.{and_then, holds}
 use Rattle.fk_model.specs.Places.{Path, same_path, slot_of, parent}
 use Rattle.fk_model.specs.StateRows.{is_native}
 use Rattle.fk_model.specs.Valid.{birth_of, birth_at}

@@ -1,6 +1,5 @@
 -- A driver's turns are those of a run.
-use Rattle.std.proofs.Common.{◌≡◌, ◌⊎◌, inl, inr, IfNone, ℕ, ◌+◌, ◌<◌, ◌≤◌, Bool, true, false, not, is_some, if◌then◌else◌, List, [], ◌∷◌, ◌++◌, length, length-append, Option, Some, None, option_map, refl, sym, ap, subst, ◌∙◌, arith}
-use Rattle.std.proofs.lemmas.Bool.{le-leb}
+use Rattle.std.proofs.Common.{◌≡◌, ◌⊎◌, inl, inr, IfNone, ℕ, ◌+◌, ◌<◌, ◌≤◌, Bool, true, false, is_some, if◌then◌else◌, List, [], ◌∷◌, ◌++◌, length, length-append, Option, Some, None, option_map, refl, sym, ap, subst, ◌∙◌, arith}
 use Rattle.std.proofs.lemmas.Option.{slice_get_within}
 use Rattle.std.specs.List.{slice_get}
 use Rattle.fk_model.specs.declared.limits.TheConstants.{LAST_PORTER_SLOT, LAST_USER_SLOT}
@@ -20,7 +19,6 @@ use Rattle.fk_model.specs.Valid.{IsValid, is_fit}
 use Rattle.fk_model.specs.Who.{named, event_of, space_born}
 use Rattle.fk_store.specs.Store.Contents.{Contents}
 use Rattle.fk_store.specs.Store.Moves.{said_by}
-use Rattle.fk_store.specs.Store.Paths.{path}
 use Rattle.fk_store.specs.Store.World as worlds
 use Rattle.fk_store.proofs.InStore.finding.Walks.{path-root}
 use Rattle.fk_host.specs.Kernels.{Kept, path_of}
@@ -48,7 +46,7 @@ use Rattle.fk_pager.specs.declared.driver.PagedRun as driver
 use Rattle.fk_pager.proofs.Searching.{root-place}
 use Rattle.fk_pager.proofs.Phases.{stays-done}
 use Rattle.fk_pager.proofs.Rows.{opening-ready, opening-keeps, good-answers}
-use Rattle.fk_pager.specs.Runs.{Moment, heard_by, IsOthersMove, by_others, IsPagersMove, pagers_event, by_pager, IsRun, GoesOn}
+use Rattle.fk_pager.specs.Runs.{Moment, heard_by, IsOthersMove, IsPagersMove, pagers_event, IsRun, GoesOn}
 use Rattle.fk_pager.specs.Runs.IsRun.{Begins, Others, Own}
 use Rattle.fk_pager.specs.Ends.{IsAnyReady, IsAtRest, IsEnd}
 use Rattle.fk_report.specs.declared.end.End.TheVariants as ends

@@ -1,7 +1,7 @@
 -- A pager hears what its call was answered.
-use Rattle.std.proofs.Common.{◌≡◌, ℕ, ◌+◌, ◌≤◌, ◌<◌, List, length, vec_capacity, sym, ap, subst, ◌∙◌, arith}
+use Rattle.std.proofs.Common.{◌≡◌, ℕ, ◌≤◌, List, length, vec_capacity, sym, subst, ◌∙◌, arith}
 use Rattle.fk_model.specs.declared.moves.Answer.{Answer}
-use Rattle.laws_filled.specs.Pager.{Desk, State, next, first}
+use Rattle.laws_filled.specs.Pager.{next, first}
 use Rattle.fk_paging.specs.declared.pager.Pager.{Pager}
 use Rattle.fk_paging.specs.declared.pager.Phase.{Phase}
 use Rattle.fk_paging.specs.declared.pager.Phase.TheVariants as phases

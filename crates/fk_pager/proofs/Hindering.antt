@@ -1,19 +1,17 @@
 -- Objects that bar a pager, by their names; and objects of the root.
-use Rattle.std.proofs.Common.{◌≡◌, ℕ, Bool, true, false, not, ◌&&◌, ◌==◌, nat_eq, is_some, IsSome, IfSome, IfNone, ◌∷◌, [], Option, Some, None, option_map, refl, sym, ap, subst, ◌∙◌, eqb-true, eq-eqb, Bor}
+use Rattle.std.proofs.Common.{◌≡◌, ℕ, Bool, true, false, not, ◌&&◌, ◌==◌, nat_eq, is_some, IsSome, IfSome, IfNone, ◌∷◌, Option, Some, None, option_map, refl, sym, ap, subst, ◌∙◌, eqb-true, eq-eqb, Bor}
 use Rattle.std.specs.Option.{option_copied}
 use Rattle.fk_model.specs.declared.body.Body as bodies_of
 use Rattle.fk_model.specs.declared.body.Body.TheVariants as bodies
 use Rattle.fk_model.specs.declared.names.Ptr.{Ptr as StoredPtr}
 use Rattle.fk_model.specs.declared.names.Ptr.TheVariants as pointers
 use Rattle.fk_model.specs.declared.names.Who.{Who}
-use Rattle.fk_model.specs.Objects.{Body, kind_of, space_of, and_then}
-use Rattle.fk_model.specs.Objects.Body.{Mutex, Cond, Mapping, Region, Port, Portset, Space, Thread_of, Reference}
-use Rattle.fk_model.specs.Places.{Path, same_path, leads_to}
-use Rattle.fk_model.specs.Valid.{kind_there, birth_of, birth_at}
-use Rattle.fk_store.specs.Store.Bodies.{body_by}
+use Rattle.fk_model.specs.Objects.{Body, space_of, and_then}
+use Rattle.fk_model.specs.Objects.Body.{Space}
+use Rattle.fk_model.specs.Places.{same_path}
+use Rattle.fk_model.specs.Valid.{birth_of, birth_at}
 use Rattle.fk_store.specs.Store.Contents.{Contents}
 use Rattle.fk_store.specs.Store.Named.{OnNamed}
-use Rattle.fk_store.specs.Store.Names.{same_who}
 use Rattle.fk_store.specs.Store.Paths.{path, place, path_by, HasOwnPath}
 use Rattle.fk_store.specs.Store.World.{world, body_of, place_of, IsLive, IsSpace}
 use Rattle.fk_store.proofs.InStore.finding.Walks.{path-root, same_path_refl, same_path_true}

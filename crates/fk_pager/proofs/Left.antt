@@ -1,38 +1,34 @@
 -- Where a pager has no call to make at the end of a run without peeks, no fault of its own is left.
-use Rattle.std.proofs.Common.{◌≡◌, ℕ, ◌≤◌, Bool, true, false, not, ◌&&◌, ◌==◌, is_some, List, [], ◌∷◌, Option, Some, None, option_map, refl, sym, ap, subst, ◌∙◌, eqb-true}
+use Rattle.std.proofs.Common.{◌≡◌, ℕ, ◌≤◌, Bool, true, false, not, ◌==◌, is_some, List, [], ◌∷◌, Option, Some, None, option_map, refl, sym, ap, subst, ◌∙◌, eqb-true}
 use Rattle.std.specs.Prelude.{find}
 use Rattle.std.proofs.lemmas.Bool.{and_parts, le-leb}
 use Rattle.fk_model.specs.declared.limits.TheConstants.{LAST_PORTER_SLOT, LAST_USER_SLOT}
-use Rattle.fk_model.specs.declared.moves.Ask.{Ask}
 use Rattle.fk_model.specs.declared.moves.Move.{Move}
-use Rattle.fk_model.specs.declared.names.Kind.{Kind}
 use Rattle.fk_model.specs.declared.names.Kind.TheVariants as kinds
-use Rattle.fk_model.specs.Places.{Path, same_path}
-use Rattle.fk_model.specs.Objects.{Talk, Fault, Thread, Body, kind_of, port_of, thread_of, and_then, holds}
+use Rattle.fk_model.specs.Places.{Path}
+use Rattle.fk_model.specs.Objects.{Talk, Thread, Body, kind_of, port_of, thread_of, and_then, holds}
 use Rattle.fk_model.specs.Objects.Body.{Mutex, Cond, Mapping, Region, Port, Portset, Space, Thread_of, Reference}
 use Rattle.fk_model.specs.World.{World, serves}
-use Rattle.fk_model.specs.Searches.{thread_at, talk_at, fault_at, client_of, objects}
+use Rattle.fk_model.specs.Searches.{client_of, objects}
 use Rattle.fk_model.specs.Holds.{is_porter}
 use Rattle.fk_model.specs.StateRows.{is_native}
 use Rattle.fk_model.specs.LinkRows.{is_member, portset_of}
 use Rattle.fk_model.specs.Moves.{step}
-use Rattle.fk_model.specs.Runs.{Event, after}
+use Rattle.fk_model.specs.Runs.{after}
 use Rattle.fk_model.specs.Valid.{kind_there, all_in, is_good, is_one_of, IsValid}
 use Rattle.fk_model.specs.Who.{named, event_of}
 use Rattle.laws_filled.specs.Filled.{Paging, filled, unfaulted}
-use Rattle.laws_filled.specs.Pager as pagers
-use Rattle.laws_filled.specs.Pager.{Desk, Phase, State, paging, hears, said_of, HasTaken, IsClear, first}
+use Rattle.laws_filled.specs.Pager.{Desk, State, paging, hears, said_of, HasTaken, first}
 use Rattle.laws_filled.specs.Pager.IsPaged.{Here as Nobody_moves, Another as Another_moves, Own as Pager_moves}
 use Rattle.laws_filled.proofs.Own.{own}
 use Rattle.laws_filled.proofs.Taken.{pagers_take_one_lem, no_fault_is_left_lem}
-use Rattle.laws_migrate.specs.Porters.{HasPorter}
 use Rattle.fk_pager.specs.Desks.{root, desk_of_root}
 use Rattle.fk_pager.specs.Unseen.{IsBeginning}
-use Rattle.fk_pager.specs.Left.{IsQuiet, IsUnheld, LeavesNone, RunsLeaveNone}
-use Rattle.fk_pager.specs.Runs.{Moment, IsOthersMove, by_others, IsPagersMove, pagers_event, by_pager, IsRun, peeks_now, is_dark, struck}
+use Rattle.fk_pager.specs.Left.{IsQuiet, RunsLeaveNone}
+use Rattle.fk_pager.specs.Runs.{Moment, pagers_event, IsRun, is_dark, struck}
 use Rattle.fk_pager.specs.Runs.IsRun.{Begins, Others, Own}
 use Rattle.fk_pager.proofs.Desked.{Leaves, others-leave}
-use Rattle.fk_pager.proofs.Unseen.{IsStanding, is-others, stands, not-true, is_low}
+use Rattle.fk_pager.proofs.Unseen.{is-others, stands, not-true, is_low}
 
 abbrev me : Path
 me = LAST_PORTER_SLOT ∷ root

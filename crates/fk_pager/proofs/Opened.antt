@@ -1,18 +1,17 @@
 -- When the opening is done every page is taken.
-use Rattle.std.proofs.Common.{◌≡◌, ℕ, suc, ◌+◌, ◌≤◌, Bool, true, false, nat_le, if◌then◌else◌, List, [], ◌∷◌, ◌++◌, length, length-append, option_map, refl, sym, ap, subst, ◌∙◌, arith}
+use Rattle.std.proofs.Common.{◌≡◌, ℕ, ◌+◌, ◌≤◌, Bool, true, false, if◌then◌else◌, List, [], ◌∷◌, ◌++◌, length, length-append, option_map, refl, ap, subst, arith}
 use Rattle.std.proofs.lemmas.Bool.{le-leb}
 use Rattle.fk_model.specs.declared.limits.TheConstants.{LAST_USER_SLOT}
 use Rattle.fk_model.specs.declared.moves.Move.{Move}
 use Rattle.fk_model.specs.Who.{named}
 use Rattle.fk_model.specs.World.{World}
-use Rattle.laws_filled.specs.Pager as pagers
 use Rattle.laws_filled.specs.Pager.{Desk, State, is_opening, IsOpening}
 use Rattle.laws_filled.specs.Pager.IsOpening.{Opened, Opens}
 use Rattle.laws_filled.proofs.First.{opening_takes_all_lem}
 use Rattle.fk_pager.specs.Desks.{desk_of_root}
 use Rattle.fk_pager.specs.Runs.{Moment, IsRun}
 use Rattle.fk_pager.specs.Runs.IsRun.{Begins, Others, Own}
-use Rattle.fk_pager.specs.Unseen.{IsBeginning, OpeningsTakeAll}
+use Rattle.fk_pager.specs.Unseen.{OpeningsTakeAll}
 use Rattle.fk_pager.proofs.Begins.{desks_are_first_lem}
 
 longer : (past : List Move) (m : Move) → length (past ++ m ∷ []) ≡ length past + 1

@@ -1,5 +1,5 @@
 -- An opening that is done stays done.
-use Rattle.std.proofs.Common.{◌≡◌, ℕ, ◌+◌, Bool, true, false, ◌&&◌, ◌==◌, nat_le, if◌then◌else◌, List, [], ◌∷◌, ◌++◌, drop, length, slice_index, refl, ap, ◌∙◌}
+use Rattle.std.proofs.Common.{◌≡◌, ℕ, Bool, true, false, ◌&&◌, ◌==◌, nat_le, if◌then◌else◌, List, [], ◌∷◌, ◌++◌, drop, length, slice_index, refl}
 use Rattle.fk_model.specs.declared.statuses.status.TheConstants.{OK, HELD}
 use Rattle.fk_model.specs.Outcomes.{Said}
 use Rattle.fk_model.specs.Outcomes.Said.{Answered}

@@ -16,9 +16,9 @@ use Rattle.fk_model.specs.World.Change.{PutPage, DropPage}
 use Rattle.fk_model.specs.Searches.{fault_at}
 use Rattle.fk_model.specs.Holds.{is_frozen_for, is_porter, is_unheld}
 use Rattle.fk_model.specs.StateRows.{is_native}
-use Rattle.fk_model.specs.Outcomes.{Said, Outcome, ◌>>=◌, refuse, or_refuse, when, Caller, last_slot, listed}
+use Rattle.fk_model.specs.Outcomes.{Outcome, ◌>>=◌, refuse, or_refuse, when, Caller, last_slot, listed}
 use Rattle.fk_model.specs.Outcomes.Said.{Answered}
-use Rattle.fk_model.specs.Outcomes.Outcome.{Refused, Waits, Goes}
+use Rattle.fk_model.specs.Outcomes.Outcome.{Refused, Goes}
 use Rattle.fk_model.specs.Readers.{and_read, is_kind, kind_at, led_to, handled, handle, path_at, space_argument}
 use Rattle.fk_model.specs.SpaceRows.{next_page, page_next, page_take, page_give}
 use Rattle.fk_model.specs.Moves.{with_pick, closed, call_row, porter_at, porter_move, outcome, GoesAllowed, IsReady, stepped, step}

@@ -1,5 +1,5 @@
 -- A pager's numbers stay in range by each answer on which it counts.
-use Rattle.std.proofs.Common.{◌≡◌, ℕ, ◌+◌, ◌<◌, ◌≤◌, Bool, true, false, ◌&&◌, ◌==◌, nat_le, if◌then◌else◌, List, [], ◌∷◌, ◌++◌, drop, length, length-append, slice_index, refl, sym, ap, subst, ◌∙◌, arith, eqb-true}
+use Rattle.std.proofs.Common.{◌≡◌, ℕ, ◌+◌, ◌<◌, ◌≤◌, Bool, true, false, ◌&&◌, ◌==◌, nat_le, if◌then◌else◌, List, [], ◌∷◌, ◌++◌, drop, length, length-append, slice_index, refl, ap, subst, arith, eqb-true}
 use Rattle.std.proofs.lemmas.Bool.{leb-false}
 use Rattle.fk_model.specs.declared.statuses.status.TheConstants.{OK, HELD}
 use Rattle.laws_filled.specs.Pager.{Desk, Phase, State, at_phase, makes_room, looked, put, counted, next, first}

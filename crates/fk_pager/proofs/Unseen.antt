@@ -1,5 +1,5 @@
 -- Up to the first move that peeks, what others do beside a pager is a run of the first world.
-use Rattle.std.proofs.Common.{◌≡◌, ℕ, ◌≤◌, Bool, true, false, not, ◌&&◌, nat_le, is_some, List, [], ◌∷◌, ◌++◌, length, Option, Some, None, option_map, refl, sym, ap, subst, ◌∙◌, arith}
+use Rattle.std.proofs.Common.{◌≡◌, ℕ, ◌≤◌, Bool, true, false, not, nat_le, List, [], ◌∷◌, ◌++◌, length, Option, Some, None, option_map, refl, sym, ap, subst, ◌∙◌, arith}
 use Rattle.std.proofs.lemmas.Bool.{and_parts, le-leb}
 use Rattle.std.proofs.lemmas.Option.{same_Some}
 use Rattle.fk_model.specs.declared.limits.TheConstants.{LAST_PORTER_SLOT, LAST_USER_SLOT}
@@ -21,14 +21,14 @@ use Rattle.fk_model.specs.Outcomes.Said.{Nothing, Answered, Taken, Words, Given,
 use Rattle.fk_model.specs.Outcomes.{when}
 use Rattle.fk_model.specs.Moves.{Step, IsReady, GoesAllowed, outcome, goes_on, step}
 use Rattle.fk_model.specs.Runs.{Event, after, run}
-use Rattle.fk_model.specs.Valid.{is_fit, is_served_port, IsValid}
+use Rattle.fk_model.specs.Valid.{is_served_port, IsValid}
 use Rattle.fk_model.specs.Who.{named, event_of}
 use Rattle.fk_model.proofs.walks.PlaceLaws.{same_path_ne}
 use Rattle.laws_moves.specs.Frozen.Users.{is_users}
 use Rattle.laws_moves.proofs.InMachine.validity.Steps.{step_keeps_valid_lem}
 use Rattle.laws_migrate.specs.Porters.{HasPorter}
 use Rattle.laws_migrate.proofs.Porters.{root_keeps_porter}
-use Rattle.laws_filled.specs.Filled.{Paging, filled, unfaulted, raises}
+use Rattle.laws_filled.specs.Filled.{Paging, filled, unfaulted}
 use Rattle.laws_filled.specs.Laws.{is_others}
 use Rattle.laws_filled.specs.Heard.{Heard, heard_of, is_for_nobody, IsSilent, HearAlike}
 use Rattle.laws_filled.specs.Heard.HearAlike.{First_alone}
@@ -42,13 +42,13 @@ use Rattle.laws_filled.proofs.Servers.{names_lead_alike_lem, ports_are_served_al
 use Rattle.laws_filled.proofs.Own.{own, others-good}
 use Rattle.laws_filled.proofs.First.{first-good, pagers_are_hidden_lem}
 use Rattle.laws_filled.proofs.Heard.{servers_hear_alike_lem}
-use Rattle.fk_host.specs.Served.{Services, asked, asked_at, hears_of, news_at, said_at, after_news}
+use Rattle.fk_host.specs.Served.{Services, asked, asked_at, news_at, said_at, after_news}
 use Rattle.fk_host.proofs.Acts.{fit-asked, servers_ask_as_users}
 use Rattle.fk_pager.specs.Desks.{root, desk_of_root}
-use Rattle.fk_pager.specs.Runs.{Moment, heard_by, IsOthersMove, by_others, IsPagersMove, by_pager, pagers_event, IsRun, peeks_now, raises_now, is_dark, unless_raised, struck, Scene, IsPlainRun}
+use Rattle.fk_pager.specs.Runs.{Moment, heard_by, IsOthersMove, by_others, IsPagersMove, by_pager, pagers_event, IsRun, peeks_now, raises_now, is_dark, unless_raised, struck, IsPlainRun}
 use Rattle.fk_pager.specs.Runs.IsRun.{Begins, Others, Own}
 use Rattle.fk_pager.specs.Runs.IsPlainRun.{Starts, Goes}
-use Rattle.fk_pager.specs.Unseen.{IsBeginning, scene_of, filled_scene, IsHidden, PagersAreHidden}
+use Rattle.fk_pager.specs.Unseen.{IsBeginning, scene_of, filled_scene, PagersAreHidden}
 use Rattle.fk_pager.proofs.Begins.{desks_are_first_lem}
 
 abbrev me : Path

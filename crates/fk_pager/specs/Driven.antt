@@ -1,7 +1,6 @@
 -- What a driver in code shows: the moment at which its host and its pager are, and what it keeps.
 use Rattle.std.specs.Prelude.{◌≡◌, ◌≤◌, ℕ, Bool, true, false, length}
 use Rattle.fk_model.specs.declared.moves.Ask.{Ask}
-use Rattle.fk_model.specs.declared.moves.Move.{Move}
 use Rattle.fk_host.specs.Kernels.{world_of as world}
 use Rattle.laws_filled.specs.Pager.{Desk, Phase, is_opening, hears}
 use Rattle.laws_filled.specs.Pager.Phase.{Waiting}

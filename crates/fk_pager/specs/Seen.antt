@@ -1,5 +1,5 @@
 -- What the code sees of the objects that make a subtree pageable.
-use Rattle.std.specs.Prelude.{ℕ, Bool, true, false, not, ◌&&◌, ◌==◌, ◌∷◌, Option, Some, None}
+use Rattle.std.specs.Prelude.{ℕ, Bool, false, not, ◌&&◌, ◌==◌, ◌∷◌, Option, Some, None}
 use Rattle.fk_model.specs.Places.{Path, same_path, leads_to}
 use Rattle.fk_model.specs.Objects as objects
 use Rattle.fk_model.specs.Objects.{Body}

@@ -6,7 +6,7 @@ ghost use Rattle.fk_pages.specs.Command.{IsDone};
 ghost use Rattle.fk_pages.specs.Command as words;
 ghost use Rattle.fk_scenario.specs.Scenario.Reading.{scenario_reading};
 
-use crate::page::page;
+use crate::page::page_scenario;
 use fk_commands::{Prepared, Status, scenario_in};
 use fk_extras::Extra;
 use fk_report::End;
@@ -42,7 +42,7 @@ pub fn page_command(
     ensures refusal { IfErr result (IsRefusal ⊥ ⊥) }
 {
     let scenario = scenario_in(alloc, table, text)?;
-    let Some(made) = page(alloc, table, slot, room, &scenario)? else {
+    let Some(made) = page_scenario(alloc, table, slot, room, &scenario)? else {
         return Err(Status::NotPaged);
     };
     let status = status_of(made.paged.end, scenario.budget);

@@ -13,4 +13,4 @@ mod page;
 mod text;
 
 pub use command::page_command;
-pub use page::{Page, page};
+pub use page::{Page, page_scenario};

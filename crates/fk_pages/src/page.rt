@@ -61,7 +61,7 @@ fn page_at(
 /// # Errors
 ///
 /// There is no memory for the run or its text.
-pub fn page(
+pub fn page_scenario(
     alloc: Global,
     table: &Table,
     slot: u8,

@@ -1,4 +1,4 @@
-use Rattle.std.proofs.Common.{◌≡◌, true, None}
+use Rattle.std.proofs.Common.{◌≡◌, true}
 use Rattle.fk_store.specs.Store.Paths.{path}
 use Rattle.fk_store.specs.Store.World.{world, place_of}
 use Rattle.fk_pager.specs.Seen.{is_hindrance}

@@ -1,6 +1,5 @@
-use Rattle.std.proofs.Common.{sym, subst}
 use Rattle.fk_pager.specs.Desks.{desk_of_root}
-use Rattle.fk_pager.specs.Paged.{first_of, IsPaged}
+use Rattle.fk_pager.specs.Paged.{first_of}
 use Rattle.fk_pager.proofs.Driving.{paged-out}
 use Rattle.fk_pager.proofs.paged.run_paged.Goals as goal
 

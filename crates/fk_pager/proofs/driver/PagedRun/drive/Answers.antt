@@ -1,5 +1,5 @@
 use Rattle.std.proofs.Common.{rules}
-use Rattle.fk_pager.proofs.Driving.{drives-none, drives-then, drives-alike, rest-of, used-of}
+use Rattle.fk_pager.proofs.Driving.{drives-none, drives-then, drives-alike, used-of}
 use Rattle.fk_pager.proofs.driver.PagedRun.drive.Goals as goal
 
 pub loop-self-init : goal.loop-self-init
