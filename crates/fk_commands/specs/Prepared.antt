@@ -18,9 +18,9 @@ use Rattle.fk_commands.specs.Status.{Failed, Nothing, Source, Sink, Shelf, Memor
 
 -- ---- for all commands
 
--- the outcome once the output is written
+-- the outcome once the output is written, of a command that comes to nothing besides a report
 abbrev pub outcome_of : Prepared → Outcome
-outcome_of run = record { status = run.status; report = run.report }
+outcome_of run = record { status = run.status; report = run.report; extra = None }
 
 -- what is prepared has the outcome and the output that are due, and so has a refusal, unless the call was cut short
 abbrev pub ComesTo : (Outcome → List ℕ → Type 0) → Result Prepared Status → Type 0

@@ -61,7 +61,7 @@ module _ (these those : Option FileMap) (same : (image : List ℕ) → HasSame t
 module _ (name : List ℕ) (before later : Option FileMap) (same : (image : List ℕ) → HasSame before later (image_name image)) (status : Status)
     (text : List ℕ) where
   by_itself : (report : Option Report) (s : Scenario) (given : Images) → HasTrace name report later → IfSome report (λ r. All IsMove r.history)
-      → IsRunFrom s given (record { status = status; report = report }) text → IsPlayedBy name later s given (record { status = status; report = report }) text
+      → IsRunFrom s given (record { status = status; report = report; extra = None }) text → IsPlayedBy name later s given (record { status = status; report = report; extra = None }) text
   by_itself None s given has small is = absurd is.ran
   by_itself (Some report) s given has small is = (
     Some (trace_text report.history),
@@ -70,14 +70,14 @@ module _ (name : List ℕ) (before later : Option FileMap) (same : (image : List
   )
 
   with_ : (report : Option Report) (s : Scenario) (found : Result Images Status) → HasTrace name report later → IfSome report (λ r. All IsMove r.history)
-      → IsWith (IsRunFrom s) found (record { status = status; report = report }) text
-      → IsWith (IsPlayedBy name later s) found (record { status = status; report = report }) text
+      → IsWith (IsRunFrom s) found (record { status = status; report = report; extra = None }) text
+      → IsWith (IsPlayedBy name later s) found (record { status = status; report = report; extra = None }) text
   with_ report s (Err refusal) has small is = is
   with_ report s (Ok given) has small is = by_itself report s given has small is
 
   read : (report : Option Report) → HasTrace name report later → IfSome report (λ r. All IsMove r.history) → (reading : Result Scenario ScenarioError)
-      → IsWholeRun before reading (record { status = status; report = report }) text
-      → IsPlay name later reading (record { status = status; report = report }) text
+      → IsWholeRun before reading (record { status = status; report = report; extra = None }) text
+      → IsPlay name later reading (record { status = status; report = report; extra = None }) text
   read report has small (Err e) is = is
   read report has small (Ok s) is = record {
     found = is.found;
@@ -86,10 +86,10 @@ module _ (name : List ℕ) (before later : Option FileMap) (same : (image : List
   }
 
   unless_long : (report : Option Report) → HasTrace name report later → IfSome report (λ r. All IsMove r.history) → (reading : Result Scenario ScenarioError)
-      → (b : Bool) → MatchBool b (IsRefused TooLong (record { status = status; report = report }) text)
-      (IsWholeRun before reading (record { status = status; report = report }) text)
-      → MatchBool b (IsRefused TooLong (record { status = status; report = report }) text)
-      (IsPlay name later reading (record { status = status; report = report }) text)
+      → (b : Bool) → MatchBool b (IsRefused TooLong (record { status = status; report = report; extra = None }) text)
+      (IsWholeRun before reading (record { status = status; report = report; extra = None }) text)
+      → MatchBool b (IsRefused TooLong (record { status = status; report = report; extra = None }) text)
+      (IsPlay name later reading (record { status = status; report = report; extra = None }) text)
   unless_long report has small reading true is = is
   unless_long report has small reading false is = read report has small reading is
 
@@ -118,10 +118,10 @@ module _ (rules : Rules) (name : List ℕ) (watch : ℕ) (sees : (watch ≡ 0) �
     (recorded : report.recorded ≡ Some told) (has_trace : HasAt later (trace_name name) (Some (trace_text report.history)))
     (has_record : HasAt later (record_name name) (Some told)) (small : All IsMove report.history) where
   abbrev before-it : Outcome
-  before-it = record { status = status; report = Some report }
+  before-it = record { status = status; report = Some report; extra = None }
 
   abbrev behind-it : Outcome
-  behind-it = record { status = status; report = Some (without_record report) }
+  behind-it = record { status = status; report = Some (without_record report); extra = None }
 
   -- a run is no refusal
   no-refusal : (refusal : Status) → IsRefused refusal before-it text → ⊥

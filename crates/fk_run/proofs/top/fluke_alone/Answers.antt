@@ -35,6 +35,7 @@ returns-in_default g c =
           all_read = search rules;
           nothing = search rules;
           no_report = search rules;
+          no_extra = search rules;
         };
         files = record {
           put = search rules;
@@ -76,6 +77,7 @@ returns-in-Ok g c = record {
       all_read = search rules;
       nothing = search rules;
       no_report = search rules;
+      no_extra = search rules;
     };
     files = record {
       put = search rules;
@@ -120,6 +122,7 @@ returns-in-Err g c = record {
       all_read = search rules;
       nothing = search rules;
       no_report = search rules;
+      no_extra = search rules;
     };
     files = record {
       put = search rules;

@@ -32,6 +32,7 @@ returns-in-Ok g c = record {
       all_read = search rules;
       nothing = search rules;
       no_report = search rules;
+      no_extra = search rules;
     };
     files = record {
       put = search rules;
@@ -76,6 +77,7 @@ returns-in-Err g c = record {
       all_read = search rules;
       nothing = search rules;
       no_report = search rules;
+      no_extra = search rules;
     };
     files = record {
       put = search rules;
