@@ -6,9 +6,9 @@ ghost use Rattle.fk_pages.specs.Command.{IsDone};
 ghost use Rattle.fk_pages.specs.Command as words;
 ghost use Rattle.fk_scenario.specs.Scenario.Reading.{scenario_reading};
 
-use crate::page::page_scenario;
 use fk_commands::{Prepared, Status, scenario_in};
 use fk_extras::Extra;
+use fk_pager::page_scenario;
 use fk_report::End;
 use fk_responders::Table;
 use std::alloc::Global;

@@ -47,7 +47,7 @@ use Rattle.fk_report.specs.declared.job_end.JobEnd.{JobEnd}
 use Rattle.fk_report.specs.Jobs.{refused_from}
 use Rattle.fk_pages.specs.Command.{IsPageCommand}
 use Rattle.fk_pages.specs.Command as pages
-use Rattle.fk_pages.specs.Pages.{MayBePaged}
+use Rattle.fk_pager.specs.Pages.{MayBePaged}
 use Rattle.fk_run.proofs.Due.{done-whole, held}
 use Rattle.fk_run.proofs.Headline.{read-keeps}
 use Rattle.fk_run.specs.Complete.{AreRight, HasImage, HasImages, HasReplay, HasTrace, IsComplete, IsImageFile, IsProgram, IsRight}

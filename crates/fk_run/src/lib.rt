@@ -20,7 +20,6 @@ mod top;
 mod two_calls;
 
 pub use fk_commands::{Outcome, Report, Status, fault_line};
-pub use fk_extras::{Extra, Migration, Paged};
 pub use fk_lone::a_lone_move_is_an_instruction;
 pub use fk_report::{End, JobEnd};
 pub use top::{fluke_alone, fluke_top};

@@ -3,9 +3,9 @@ use Rattle.fk_host.specs.Kernels.{Kept}
 use Rattle.fk_host.specs.Kernels.{world_of as world}
 use Rattle.fk_report.specs.Report.{outs_text}
 use Rattle.fk_report.specs.Threads.{AreThreads}
-use Rattle.fk_pages.specs.Pages.{page_text}
-use Rattle.fk_pages.proofs.Begun.{states-shown}
-use Rattle.fk_pages.proofs.text.text_of.Goals as goal
+use Rattle.fk_pager.specs.Pages.{page_text}
+use Rattle.fk_pager.proofs.Booted.{states-shown}
+use Rattle.fk_pager.proofs.text.text_of.Goals as goal
 
 pub returns : goal.returns
 returns c =

@@ -5,15 +5,16 @@ ghost use Rattle.fk_host.specs.Served.{AllFit, shown};
 ghost use Rattle.fk_natives.specs.Both.{meaning};
 ghost use Rattle.fk_pager.specs.Desks.{HasDesk};
 ghost use Rattle.fk_pager.specs.Paged.{first_of};
-ghost use Rattle.fk_pages.specs.Pages.{IsPage, IsWritten};
+ghost use Rattle.fk_pager.specs.Pages.{IsPage, IsWritten};
 ghost use Rattle.fk_scenario.specs.Scenario.Kept.{KeepsScenario, HasRules};
 
+use crate::desks::{Desk, desk_at};
+use crate::paged::run_paged;
 use crate::text::text_of;
 use fk_boot::{First, boot};
 use fk_extras::Paged;
 use fk_host::Host;
 use fk_model::NoMemory;
-use fk_pager::{Desk, desk_at, run_paged};
 use fk_responders::Table;
 use fk_scenario::Scenario;
 use std::alloc::Global;

@@ -30,7 +30,7 @@ use Rattle.fk_scenario.specs.declared.entries.types.ServiceSpec.{ServiceSpec}
 use Rattle.fk_scenario.specs.declared.entries.types.ServiceSpec.TheVariants.{Console, Listed}
 use Rattle.fk_scenario.specs.declared.scenario.scenario.Scenario.{Scenario}
 use Rattle.fk_pager.specs.Desks.{IsPageable}
-use Rattle.fk_pages.specs.Pages.{MayBePaged}
+use Rattle.fk_pager.specs.Pages.{MayBePaged}
 
 -- ---- servers
 

@@ -1,7 +1,7 @@
 //! What is told of a run with a pager.
 ghost use Rattle.std.specs.Prelude.{◌≡◌, IfOk, string_bytes};
-ghost use Rattle.fk_pages.specs.Pages as pages;
-ghost use Rattle.fk_pages.specs.Pages.{IsTold};
+ghost use Rattle.fk_pager.specs.Pages as pages;
+ghost use Rattle.fk_pager.specs.Pages.{IsTold};
 
 use fk_extras::Paged;
 use fk_host::Host;

@@ -4,8 +4,8 @@ use Rattle.fk_model.specs.World.{World}
 use Rattle.fk_store.specs.Store.Contents.{Contents}
 use Rattle.fk_store.specs.Store.World as worlds
 use Rattle.fk_pager.specs.Desks.{HasDesk}
-use Rattle.fk_pages.proofs.Begun.{all-fit, placed-first, with-jobs, not-pageable, set-low}
-use Rattle.fk_pages.proofs.page.page_scenario.Goals as goal
+use Rattle.fk_pager.proofs.Booted.{all-fit, placed-first, with-jobs, not-pageable, set-low}
+use Rattle.fk_pager.proofs.page.page_scenario.Goals as goal
 
 pub returns-then-len-ne0 : goal.returns-then-len-ne0
 returns-then-len-ne0 c = with-jobs c.args.slot c.args.scenario.now c.if-len-ne0.true

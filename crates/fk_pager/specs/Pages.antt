@@ -12,7 +12,7 @@ use Rattle.fk_pager.specs.Left.{IsQuiet}
 use Rattle.fk_pager.specs.Paged.{IsPaged}
 use Rattle.fk_pager.specs.Runs.{Moment}
 use Rattle.fk_pager.specs.Unseen.{IsBeginning}
-use Rattle.fk_pages.specs.declared.page.Page.{Page}
+use Rattle.fk_pager.specs.declared.page.Page.{Page}
 use Rattle.fk_report.specs.declared.end.End.{End}
 use Rattle.fk_report.specs.declared.threads.ThreadState.{ThreadState}
 use Rattle.fk_report.specs.Report.{end_word, outs_text}

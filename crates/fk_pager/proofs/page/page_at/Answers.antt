@@ -1,4 +1,4 @@
-use Rattle.fk_pages.proofs.page.page_at.Goals as goal
+use Rattle.fk_pager.proofs.page.page_at.Goals as goal
 
 pub returns : goal.returns
 returns c =
