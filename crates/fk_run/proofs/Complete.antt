@@ -18,7 +18,8 @@ use Rattle.fk_commands.specs.declared.status.Status.TheVariants.{Ok as Done, Usa
 use Rattle.fk_commands.specs.declared.status.Status.TheVariants.{BadTrace, JobRefused, Budget, ReadFault, WriteFault, ShelfFault, NoMemory}
 use Rattle.fk_commands.specs.Exec.{IsExec, status_of_run, state_after}
 use Rattle.fk_commands.specs.Outcomes.{IsRefused, without_report}
-use Rattle.fk_commands.specs.Prepared.{IsRefusal, IsRefusedAt}
+use Rattle.fk_commands.specs.declared.prepared.Prepared.{Prepared}
+use Rattle.fk_commands.specs.Prepared.{ComesTo, IsRefusal, IsRefusedAt}
 use Rattle.fk_commands.specs.Show.{IsFileShown, IsShown}
 use Rattle.fk_commands.specs.Status.{row_of, progress_of, Progress, Words, Reading, Refusing, Writing, Finished, Failed, was_cut_short}
 use Rattle.fk_commands.specs.Status.{has_put_all, has_put_none}
@@ -378,6 +379,18 @@ no-words rules command none left files now old new outcome = λ right.
 -- what didn't rise didn't rise since
 pub not-since : (before between now : ℕ) → between ≡ before → (Rose before now → ⊥) → Rose between now → ⊥
 not-since before between now same never rose = never (subst (λ (count : ℕ). Rose count now) same rose)
+
+-- what is prepared of a command that comes to nothing besides a report
+pub plain-Ok : (rules : Rules) (own : Command) (left : Option (List ℕ)) (files : Option FileMap) (r : Result Prepared Status) (run : Prepared) → r ≡ Ok run
+    → ComesTo (IsDue rules (Some own) left files) r → MadeComesTo (IsDue rules (Some own) left files) (Ok (record { prepared = run; extra = None }))
+plain-Ok rules own left files r run ok comes = subst (λ (r : Result Prepared Status). ComesTo (IsDue rules (Some own) left files) r) ok comes
+
+pub plain-Err : (rules : Rules) (own : Command) (left : Option (List ℕ)) (files : Option FileMap) (r : Result Prepared Status) (status : Status) → r ≡ Err status
+    → ComesTo (IsDue rules (Some own) left files) r → MadeComesTo (IsDue rules (Some own) left files) (Err status)
+plain-Err rules own left files r status err comes = subst (λ (r : Result Prepared Status). ComesTo (IsDue rules (Some own) left files) r) err comes
+
+pub plain-refusal : (Why : Status → Type 0) (r : Result Prepared Status) (status : Status) → r ≡ Err status → IfErr r Why → Why status
+plain-refusal Why r status err why = subst (λ (r : Result Prepared Status). IfErr r Why) err why
 
 -- a call of a command that was prepared
 pub complete-Ok : (rules : Rules) (command : Option Command) (own : Command) (left : Option (List ℕ)) (files between now : Option FileMap)

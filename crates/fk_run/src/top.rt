@@ -5,18 +5,18 @@ ghost use Rattle.std.specs.Io.KnownBytes.{Appends, IsAtEnd, Keeps};
 ghost use Rattle.fk_causes.specs.Causes.{AppendsPrefix, Rose, StandsUnless};
 ghost use Rattle.fk_causes.specs.Shelf.{is_failed};
 ghost use Rattle.fk_causes.specs.declared.shelf.ShelfFail.TheVariants as fails;
-ghost use Rattle.fk_commands.specs.Prepared.{IsRefusal};
+ghost use Rattle.fk_commands.specs.Prepared.{ComesTo, IsRefusal};
 ghost use Rattle.fk_commands.specs.Status.{progress_of, Finished, was_cut_short, has_written_nothing, may_report, has_put_all, has_put_none};
 ghost use Rattle.fk_commands.specs.Status.{is_read_fault, is_write_fault, is_shelf_fault};
 ghost use Rattle.fk_commands.specs.Tables.{Rules, rules_of};
 ghost use Rattle.fk_puts.specs.Puts.{HasPut, HasPutSome, KeepsFiles};
 ghost use Rattle.fk_run.specs.Again.{PlaysAgain};
-ghost use Rattle.fk_run.specs.Made.{MadeComesTo, outcome_of};
+ghost use Rattle.fk_run.specs.Made.{MadeComesTo, has_extra, outcome_of};
 ghost use Rattle.fk_run.specs.Theorem.{Theorem, outside};
 ghost use Rattle.fk_run.specs.Top.{IsDue, GetsToShelf, has_read_all};
 ghost use Rattle.fk_words.specs.Commands.{command_of, leaves, reads_source, uses_shelf, is_shared, seen, HasCount};
 
-use crate::made::{Made, plain};
+use crate::made::Made;
 use crate::source_text::source_text;
 use fk_causes::{Failed, Gate, Shelf, ShelfFail, Sink, Source, write_all};
 use fk_commands::check::check;
@@ -36,12 +36,56 @@ use std::alloc::Global;
 use std::sync::Wait;
 use std::thread::Threads;
 
-/// Does all of a command that no workers share but the puts and the writing.
+/// Does all of a command that no workers share, and that comes to nothing besides a report, but the puts and the writing.
 ///
 /// # Errors
 ///
 /// Why there is nothing to write.
 fn prepare_alone<R: Source, H: Shelf>(
+    alloc: Global,
+    command: Command<'_>,
+    table: &Table,
+    source: &mut R,
+    shelf: &mut H,
+) -> Result<Prepared, Status>
+    requires alone { is_shared (Some (seen command)) ≡ false }
+    requires plain { has_extra (seen command) ≡ false }
+    ensures comes { ComesTo (IsDue (rules_of table.now) (Some (seen command.entry)) (R.left source.old) (H.files shelf.old)) result }
+    ensures refusal { IfErr result (IsRefusal (Rose (R.faults source.old) (R.faults source.new))
+        (Rose (H.failed_gets shelf.old) (H.failed_gets shelf.new)
+        × GetsToShelf (rules_of table.now) (Some (seen command.entry)) (R.left source.old))) }
+    ensures kept_reads { StandsUnless is_read_fault (R.faults source.old) (R.faults source.new) result }
+    ensures kept_gets { StandsUnless is_shelf_fault (H.failed_gets shelf.old) (H.failed_gets shelf.new) result }
+    ensures all_read { OnOk result (OnTrue (reads_source (Some (seen command.entry))) (IsAtEnd (R.left source.new))) }
+    ensures all_read_before { IfErr result (λ status. OnTrue (has_read_all (Some (seen command.entry)) status) (IsAtEnd (R.left source.new))) }
+    ensures source { OnFalse (reads_source (Some (seen command.entry))) (source.new ≡ source.old) }
+    ensures shelf { OnFalse (uses_shelf (Some (seen command.entry))) (shelf.new ≡ shelf.old) }
+    ensures same_files { H.files shelf.new ≡ H.files shelf.old }
+    ensures same_puts { H.failed_puts shelf.new ≡ H.failed_puts shelf.old }
+{
+    match command {
+        Command::Exec => exec(alloc, &source_text(alloc, source)?),
+        Command::Check => check(alloc, table, &source_text(alloc, source)?),
+        Command::Play(name) => play(alloc, table, name, &source_text(alloc, source)?, shelf),
+        Command::Show(name) => show(alloc, name, shelf),
+        Command::Record(_, watch) => {
+            record_command(alloc, table, watch, &source_text(alloc, source)?, shelf)
+        }
+        Command::Replay(name) => {
+            replay_command(alloc, table, name, &source_text(alloc, source)?, shelf)
+        }
+        Command::Page(..) => unreachable!(),
+        Command::Run(_) => unreachable!(),
+        Command::Soak(_) => unreachable!(),
+    }
+}
+
+/// Does all of a command that no workers share but the puts and the writing.
+///
+/// # Errors
+///
+/// Why there is nothing to write.
+fn make_alone<R: Source, H: Shelf>(
     alloc: Global,
     command: Command<'_>,
     table: &Table,
@@ -64,40 +108,26 @@ fn prepare_alone<R: Source, H: Shelf>(
     ensures same_puts { H.failed_puts shelf.new ≡ H.failed_puts shelf.old }
 {
     match command {
-        Command::Exec => Ok(plain(exec(alloc, &source_text(alloc, source)?)?)),
-        Command::Check => Ok(plain(check(alloc, table, &source_text(alloc, source)?)?)),
-        Command::Play(name) => Ok(plain(play(
-            alloc,
-            table,
-            name,
-            &source_text(alloc, source)?,
-            shelf,
-        )?)),
-        Command::Show(name) => Ok(plain(show(alloc, name, shelf)?)),
-        Command::Record(_, watch) => Ok(plain(record_command(
-            alloc,
-            table,
-            watch,
-            &source_text(alloc, source)?,
-            shelf,
-        )?)),
-        Command::Replay(name) => Ok(plain(replay_command(
-            alloc,
-            table,
-            name,
-            &source_text(alloc, source)?,
-            shelf,
-        )?)),
         Command::Page(slot, room) => {
-            let (prepared, extra) =
-                page_command(alloc, table, slot, room, &source_text(alloc, source)?)?;
+            let (prepared, extra) = page_command(
+                alloc,
+                table,
+                slot,
+                room,
+                &source_text(alloc, source)?,
+            )?;
             Ok(Made {
                 prepared,
                 extra: Some(extra),
             })
         }
-        Command::Run(_) => unreachable!(),
-        Command::Soak(_) => unreachable!(),
+        _ => {
+            let prepared = prepare_alone(alloc, command, table, source, shelf)?;
+            Ok(Made {
+                prepared,
+                extra: None,
+            })
+        }
     }
 }
 
@@ -114,10 +144,10 @@ fn prepare_shared<T: Threads + Wait + Sync, R: Source, H: Shelf, G: Gate + Sync>
     source: &mut R,
     shelf: &mut H,
     gate: &G,
-) -> Result<Made, Status>
+) -> Result<Prepared, Status>
     requires shared { is_shared (Some (seen command)) ≡ true }
     requires count { HasCount (seen command) }
-    ensures comes { MadeComesTo (IsDue (rules_of table.now) (Some (seen command.entry)) (R.left source.old) (H.files shelf.old)) result }
+    ensures comes { ComesTo (IsDue (rules_of table.now) (Some (seen command.entry)) (R.left source.old) (H.files shelf.old)) result }
     ensures refusal { IfErr result (IsRefusal (Rose (R.faults source.old) (R.faults source.new))
         (Rose (H.failed_gets shelf.old) (H.failed_gets shelf.new)
         × GetsToShelf (rules_of table.now) (Some (seen command.entry)) (R.left source.old))) }
@@ -131,15 +161,8 @@ fn prepare_shared<T: Threads + Wait + Sync, R: Source, H: Shelf, G: Gate + Sync>
     ensures same_puts { H.failed_puts shelf.new ≡ H.failed_puts shelf.old }
 {
     match command {
-        Command::Run(_) => Ok(plain(run(
-            rt,
-            alloc,
-            table,
-            &source_text(alloc, source)?,
-            shelf,
-            gate,
-        )?)),
-        Command::Soak(count) => Ok(plain(soak(rt, alloc, table, count, gate)?)),
+        Command::Run(_) => run(rt, alloc, table, &source_text(alloc, source)?, shelf, gate),
+        Command::Soak(count) => soak(rt, alloc, table, count, gate),
         Command::Exec => unreachable!(),
         Command::Check => unreachable!(),
         Command::Play(_) => unreachable!(),
@@ -185,10 +208,10 @@ fn finish<W: Sink, H: Shelf>(
     ensures done { OnFalse (was_cut_short result.status) (result ≡ outcome_of made) }
     ensures written { OnFalse (was_cut_short result.status) (Appends (W.written sink.old) (W.written sink.new) (string_bytes made.prepared.output)) }
     ensures status { OnTrue (has_put_none result.status) ⊥ }
-    ensures shelf_fault { result.status ≡ Status.ShelfFault → (result.report ≡ made.prepared.report) × (result.extra ≡ made.extra) × IsSome result.report
-        × Rose (H.failed_puts shelf.old) (H.failed_puts shelf.new) }
-    ensures write_fault { result.status ≡ Status.WriteFault → (result.report ≡ made.prepared.report) × (result.extra ≡ made.extra) × Rose (W.faults sink.old) (W.faults sink.new)
-        × AppendsPrefix (W.written sink.old) (W.written sink.new) (string_bytes made.prepared.output) }
+    ensures shelf_fault { result.status ≡ Status.ShelfFault → (result.report ≡ made.prepared.report) × IsSome result.report
+        × Rose (H.failed_puts shelf.old) (H.failed_puts shelf.new) × (result.extra ≡ made.extra) }
+    ensures write_fault { result.status ≡ Status.WriteFault → (result.report ≡ made.prepared.report) × Rose (W.faults sink.old) (W.faults sink.new)
+        × AppendsPrefix (W.written sink.old) (W.written sink.new) (string_bytes made.prepared.output) × (result.extra ≡ made.extra) }
     ensures kept_writes { OnFalse (is_write_fault result.status) (W.faults sink.new ≡ W.faults sink.old) }
     ensures kept_puts { OnFalse (is_shelf_fault result.status) (H.failed_puts shelf.new ≡ H.failed_puts shelf.old) }
     ensures puts_of_none { result.report ≡ None → H.failed_puts shelf.new ≡ H.failed_puts shelf.old }
@@ -261,7 +284,7 @@ pub fn fluke_alone<R: Source, W: Sink, H: Shelf>(
             extra: None,
         };
     };
-    match prepare_alone(alloc, command, table, source, shelf) {
+    match make_alone(alloc, command, table, source, shelf) {
         Ok(made) => finish(alloc, command, made, sink, shelf),
         Err(status) => Outcome {
             status,
@@ -327,7 +350,13 @@ pub fn fluke_top<T: Threads + Wait + Sync, R: Source, W: Sink, H: Shelf, G: Gate
         return fluke_alone(alloc, words, table, source, sink, shelf);
     };
     match prepare_shared(rt, alloc, command, table, source, shelf, gate) {
-        Ok(made) => finish(alloc, command, made, sink, shelf),
+        Ok(prepared) => {
+            let made = Made {
+                prepared,
+                extra: None,
+            };
+            finish(alloc, command, made, sink, shelf)
+        }
         Err(status) => Outcome {
             status,
             report: None,
