@@ -255,6 +255,7 @@ module _ (outcome : Outcome) (text : List ℕ) where
       → progress_of outcome.status ≡ Finished
   paged slot room (Err error) right is = let same : Err error ≡ Ok right.0 = right.1 in absurd (cc)
   paged slot room (Ok s) right (inl refused) =
+      let read : Ok s ≡ Ok right.0 = right.1 in
       let same : s ≡ right.0 = cc in
       absurd (refused.0 (subst (MayBePaged slot) (sym same) right.2))
   paged slot room (Ok s) right (inr (p, same, is)) = rw same (page-ends p.end s.budget)
