@@ -64,6 +64,11 @@ def scenario_of(source):
     return scenarios.read(source)
 
 
+def is_number(word, least, most):
+    """Whether a word is one of these numbers, without a leading zero."""
+    return PLAIN.fullmatch(word) is not None and least <= int(word) <= most
+
+
 def form_of(words):
     """Which command the words are."""
     named = len(words) > 1 and NAME.fullmatch(words[-1])
@@ -71,7 +76,7 @@ def form_of(words):
         return words[0]
     if len(words) == 3 and words[0] == "record" and NAME.fullmatch(words[1]) and words[2] in ("all", "replies", "said"):
         return "record"
-    if len(words) == 3 and words[0] == "page" and PLAIN.fullmatch(words[1]) and PLAIN.fullmatch(words[2]) and int(words[1]) <= 239 and 2 <= int(words[2]) <= 256:
+    if len(words) == 3 and words[0] == "page" and is_number(words[1], 0, 239) and is_number(words[2], 2, 256):
         return "page"
     if len(words) == 3 and words[:2] == ["run", "--trace"] and named:
         return "run"

@@ -5,7 +5,7 @@ use Rattle.fk_commands.specs.declared.outcome.Outcome.{Outcome}
 use Rattle.fk_commands.specs.declared.prepared.Prepared.{Prepared}
 use Rattle.fk_commands.specs.declared.status.Status.{Status}
 use Rattle.fk_commands.specs.declared.status.Status.TheVariants.{Ok as Done, BadScenario, Budget, NotPaged}
-use Rattle.fk_commands.specs.Outcomes.{IsRefused}
+use Rattle.fk_commands.specs.Outcomes.{without_report, IsRefused}
 use Rattle.fk_commands.specs.Status.{was_cut_short}
 use Rattle.fk_extras.specs.declared.extra.Extra.{Extra}
 use Rattle.fk_extras.specs.declared.extra.Extra.TheVariants.{Paged as WasPaged}
@@ -41,4 +41,4 @@ abbrev pub IsDone : (slot room : ℕ) → Result Scenario ScenarioError → Resu
 IsDone slot room reading (Ok made) =
     IsPageCommand slot room reading (record { status = made.0.status; report = made.0.report; extra = Some made.1 }) (string_bytes made.0.output)
 IsDone slot room reading (Err status) =
-    OnFalse (was_cut_short status) (IsPageCommand slot room reading (record { status = status; report = None; extra = None }) [])
+    OnFalse (was_cut_short status) (IsPageCommand slot room reading (without_report status) [])

@@ -329,7 +329,8 @@ module _ (rules : Rules) (command : Option Command) (left : Option (List ℕ)) (
   -- the same of one that came to its end
   pub complete-finished : (run : Made) (outcome : Outcome) (AtSink AtPuts : Type 0)
       → IsDue rules command left files (outcome_of run) (string_bytes run.prepared.output)
-      → OnFalse (was_cut_short outcome.status) (outcome ≡ outcome_of run) → OnFalse (was_cut_short outcome.status) (Appends old new (string_bytes run.prepared.output))
+      → OnFalse (was_cut_short outcome.status) (outcome ≡ outcome_of run)
+      → OnFalse (was_cut_short outcome.status) (Appends old new (string_bytes run.prepared.output))
       → OnTrue (has_put_all outcome.status) (HasPut (leaves command) outcome.report files now) → OnTrue (has_put_none outcome.status) ⊥
       → (outcome.status ≡ WriteFault → AtSink) → (outcome.status ≡ ShelfFault → AtPuts) → (AtSink → ⊥) → (AtPuts → ⊥)
       → IsComplete rules command left files now old new outcome
@@ -386,8 +387,8 @@ pub plain-Ok : (rules : Rules) (own : Command) (left : Option (List ℕ)) (files
     → ComesTo (IsDue rules (Some own) left files) r → MadeComesTo (IsDue rules (Some own) left files) (Ok (record { prepared = run; extra = None }))
 plain-Ok rules own left files r run ok comes = subst (λ (r : Result Prepared Status). ComesTo (IsDue rules (Some own) left files) r) ok comes
 
-pub plain-Err : (rules : Rules) (own : Command) (left : Option (List ℕ)) (files : Option FileMap) (r : Result Prepared Status) (status : Status) → r ≡ Err status
-    → ComesTo (IsDue rules (Some own) left files) r → MadeComesTo (IsDue rules (Some own) left files) (Err status)
+pub plain-Err : (rules : Rules) (own : Command) (left : Option (List ℕ)) (files : Option FileMap) (r : Result Prepared Status) (status : Status)
+    → r ≡ Err status → ComesTo (IsDue rules (Some own) left files) r → MadeComesTo (IsDue rules (Some own) left files) (Err status)
 plain-Err rules own left files r status err comes = subst (λ (r : Result Prepared Status). ComesTo (IsDue rules (Some own) left files) r) err comes
 
 pub plain-refusal : (Why : Status → Type 0) (r : Result Prepared Status) (status : Status) → r ≡ Err status → IfErr r Why → Why status

@@ -87,49 +87,56 @@ puts_nothing (RunFiles trace) old new same = same
 puts_nothing (RecordFiles name) old new same = same
 
 module _ (rules : Rules) (command : Option Command) (left : Option (List ℕ)) (files : Option FileMap) (run : Made) (outcome : Outcome) where
+  abbrev output : List ℕ
+  output = string_bytes run.prepared.output
+
   -- what is prepared is due, and was done whole
-  pub done-whole : (old new : Option (List ℕ)) → IsDue rules command left files (outcome_of run) (string_bytes run.prepared.output)
-      → OnFalse (was_cut_short outcome.status) (outcome ≡ outcome_of run) → OnFalse (was_cut_short outcome.status) (Appends old new (string_bytes run.prepared.output))
+  pub done-whole : (old new : Option (List ℕ)) → IsDue rules command left files (outcome_of run) output
+      → OnFalse (was_cut_short outcome.status) (outcome ≡ outcome_of run) → OnFalse (was_cut_short outcome.status) (Appends old new output)
       → OnFalse (was_cut_short outcome.status) (IsDone rules command left files old new outcome)
   done-whole old new due same written = by (was_cut_short outcome.status) same written
     where
-      by : (b : Bool) → OnFalse b (outcome ≡ outcome_of run) → OnFalse b (Appends old new (string_bytes run.prepared.output))
-          → OnFalse b (IsDone rules command left files old new outcome)
+      by : (b : Bool) → OnFalse b (outcome ≡ outcome_of run) → OnFalse b (Appends old new output) → OnFalse b (IsDone rules command left files old new outcome)
       by true same written = tt
       by false same written = record {
-        text = string_bytes run.prepared.output;
-        due = subst (λ (o : Outcome). IsDue rules command left files o (string_bytes run.prepared.output)) (sym same) due;
+        text = output;
+        due = subst (λ (o : Outcome). IsDue rules command left files o output) (sym same) due;
         written = written;
       }
 
-  but-for-status : IsDue rules command left files (outcome_of run) (string_bytes run.prepared.output) → outcome.report ≡ run.prepared.report → outcome.extra ≡ run.extra
-      → IsDue rules command left files (record outcome { status = run.prepared.status }) (string_bytes run.prepared.output)
-  but-for-status due same alike =
-      subst (λ (x : Option Extra). IsDue rules command left files (record { status = run.prepared.status; report = outcome.report; extra = x }) (string_bytes run.prepared.output))
-      (sym alike)
-      (subst (λ (r : Option Report). IsDue rules command left files (record { status = run.prepared.status; report = r; extra = run.extra }) (string_bytes run.prepared.output))
-      (sym same) due)
+  -- the outcome is that but for its status
+  abbrev IsAlike : Type 0
+  IsAlike = (outcome.report ≡ run.prepared.report) × (outcome.extra ≡ run.extra)
+
+  abbrev so-far : Option Report → Option Extra → Outcome
+  so-far report extra = record { status = run.prepared.status; report = report; extra = extra }
+
+  but-for-status : IsDue rules command left files (outcome_of run) output → IsAlike
+      → IsDue rules command left files (record outcome { status = run.prepared.status }) output
+  but-for-status due same =
+      subst (λ (extra : Option Extra). IsDue rules command left files (so-far outcome.report extra) output) (sym same.1)
+      (subst (λ (report : Option Report). IsDue rules command left files (so-far report run.extra) output) (sym same.0) due)
 
   -- or up to the writing
-  pub done-front : (old new : Option (List ℕ)) → IsDue rules command left files (outcome_of run) (string_bytes run.prepared.output) → progress_of run.prepared.status ≡ Finished
-      → outcome.report ≡ run.prepared.report → outcome.extra ≡ run.extra → AppendsPrefix old new (string_bytes run.prepared.output) → IsCutOff rules command left files old new outcome
-  done-front old new due finished same alike written = record {
+  pub done-front : (old new : Option (List ℕ)) → IsDue rules command left files (outcome_of run) output → progress_of run.prepared.status ≡ Finished → IsAlike
+      → AppendsPrefix old new output → IsCutOff rules command left files old new outcome
+  done-front old new due finished same written = record {
     status = run.prepared.status;
     finished = finished;
-    text = string_bytes run.prepared.output;
-    due = but-for-status due same alike;
+    text = output;
+    due = but-for-status due same;
     written = written;
   }
 
   -- or up to a put
-  pub unput : (gets_before gets_now puts_before puts_now : ℕ) → IsDue rules command left files (outcome_of run) (string_bytes run.prepared.output)
-      → progress_of run.prepared.status ≡ Finished → outcome.report ≡ run.prepared.report → outcome.extra ≡ run.extra → IsSome outcome.report → Rose puts_before puts_now
+  pub unput : (gets_before gets_now puts_before puts_now : ℕ) → IsDue rules command left files (outcome_of run) output
+      → progress_of run.prepared.status ≡ Finished → IsAlike → IsSome outcome.report → Rose puts_before puts_now
       → HasFailed gets_before gets_now puts_before puts_now rules command left files outcome outcome.report
-  unput gb gn pb pn due finished same alike some rose = by outcome.report some
+  unput gb gn pb pn due finished same some rose = by outcome.report some
     where
       by : (report : Option Report) → IsSome report → HasFailed gb gn pb pn rules command left files outcome report
       by None some = absurd (cc)
       by (Some report) some = (
         rose,
-        record { status = run.prepared.status; finished = finished; text = string_bytes run.prepared.output; due = but-for-status due same alike },
+        record { status = run.prepared.status; finished = finished; text = output; due = but-for-status due same },
       )
