@@ -44,7 +44,8 @@ returns-in-Ok g c = record {
     headline = holds _ c.finish.result.report;
     complete = λ no_read no_write no_get no_put.
         complete-Ok _ _ _ _ _ _ _ _ _ _ _ _ _ _ refl (plain-Ok _ _ _ _ _ _ c.in-Ok.is c.prepare_shared.ensures.comes) c.finish.ensures.done
-        c.finish.ensures.written c.prepare_shared.ensures.same_files c.finish.ensures.put c.finish.ensures.status c.finish.ensures.write_fault c.finish.ensures.shelf_fault
+        c.finish.ensures.written c.prepare_shared.ensures.same_files c.finish.ensures.put c.finish.ensures.status c.finish.ensures.write_fault
+        c.finish.ensures.shelf_fault
         (λ fault. no_write fault.1) (λ fault. not-since _ _ _ c.prepare_shared.ensures.same_puts no_put fault.2) (search rules);
   };
 }
