@@ -104,7 +104,7 @@ page_with (Some slot) None = None
 page_with (Some slot) (Some room) = Some (Page slot room)
 
 -- of three words
-abbrev pub command_of_three : List ℕ → List ℕ → List ℕ → Option Command
+unfoldable pub command_of_three : List ℕ → List ℕ → List ℕ → Option Command
 command_of_three word second third =
     if pointwise nat_eq word (codes "record") then record_with second (watch_of third)
     else if pointwise nat_eq word (codes "page") then page_with (slot_of second) (room_of third)

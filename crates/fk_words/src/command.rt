@@ -169,6 +169,7 @@ fn page_with<'a>(slot: Option<u8>, room: Option<u16>) -> Option<Command<'a>>
 }
 
 /// The command of three words.
+#[tactic(auto, unfolding(crate::specs::Commands::command_of_three))]
 fn command_of_three<'a>(word: &str, second: &'a str, third: &'a str) -> Option<Command<'a>>
     ensures value { option_map commands.seen result ≡ commands.command_of_three word.now second.now third.now }
     ensures count { IfSome result (λ command. commands.HasCount (commands.seen command)) }
@@ -188,12 +189,13 @@ pub fn command_of(words: &[String]) -> Option<Command<'_>>
     ensures count { IfSome result (λ command. commands.HasCount (commands.seen command)) }
 {
     match words {
+        [] => None,
         [word] => command_alone(word.as_str()),
         [word, given] => command_with(word.as_str(), given.as_str()),
         [word, second, third] => {
             command_of_three(word.as_str(), second.as_str(), third.as_str())
         }
-        _ => None,
+        [_, _, _, _, ..] => None,
     }
 }
 
