@@ -6,7 +6,7 @@ use Rattle.fk_commands.specs.declared.prepared.Prepared.{Prepared}
 use Rattle.fk_commands.specs.declared.status.Status.{Status}
 use Rattle.fk_commands.specs.declared.status.Status.TheVariants.{Ok as Done, BadScenario, Budget, NotPaged}
 use Rattle.fk_commands.specs.Outcomes.{without_report, IsRefused}
-use Rattle.fk_commands.specs.Status.{was_cut_short}
+use Rattle.fk_commands.specs.Status.{progress_of, Finished, was_cut_short}
 use Rattle.fk_extras.specs.declared.extra.Extra.{Extra}
 use Rattle.fk_extras.specs.declared.extra.Extra.TheVariants.{Paged as WasPaged}
 use Rattle.fk_extras.specs.declared.paged.Paged.{Paged}
@@ -36,9 +36,13 @@ abbrev pub IsPageCommand : (slot room : ℕ) → Result Scenario ScenarioError �
 IsPageCommand slot room (Err e) outcome text = IsRefused (BadScenario e.rule e.section e.index) outcome text
 IsPageCommand slot room (Ok s) outcome text = IsScenarioPaged slot room s outcome text
 
+-- what is prepared, with what it comes to besides, as an outcome
+abbrev pub outcome_with : Prepared → Extra → Outcome
+outcome_with run extra = record { status = run.status; report = run.report; extra = Some extra }
+
 -- what is prepared has the outcome and the output that are due, and so has a refusal, unless the call was cut short
 abbrev pub IsDone : (slot room : ℕ) → Result Scenario ScenarioError → Result (Prepared × Extra) Status → Type 0
 IsDone slot room reading (Ok made) =
-    IsPageCommand slot room reading (record { status = made.0.status; report = made.0.report; extra = Some made.1 }) (string_bytes made.0.output)
+    IsPageCommand slot room reading (outcome_with made.0 made.1) (string_bytes made.0.output) × (progress_of made.0.status ≡ Finished)
 IsDone slot room reading (Err status) =
     OnFalse (was_cut_short status) (IsPageCommand slot room reading (without_report status) [])

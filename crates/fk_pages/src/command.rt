@@ -1,6 +1,7 @@
 //! The command `page`: from a text to its status, its run and its output.
-ghost use Rattle.std.specs.Prelude.{◌≤◌, IfErr};
+ghost use Rattle.std.specs.Prelude.{◌≡◌, ◌≤◌, IfErr};
 ghost use Rattle.fk_commands.specs.Prepared.{IsRefusal};
+ghost use Rattle.fk_commands.specs.Status.{progress_of, Finished};
 ghost use Rattle.fk_commands.specs.Tables.{rules_of};
 ghost use Rattle.fk_pages.specs.Command.{IsDone};
 ghost use Rattle.fk_pages.specs.Command as words;
@@ -15,7 +16,8 @@ use std::alloc::Global;
 
 /// How a run with a pager ends the call.
 fn status_of(end: End, budget: u64) -> Status
-    ensures { result ≡ words.status_of end budget }
+    ensures status { result ≡ words.status_of end budget }
+    ensures finished { progress_of result ≡ Finished }
 {
     match end {
         End::Budget => Status::Budget { budget },
@@ -42,16 +44,15 @@ pub fn page_command(
     ensures refusal { IfErr result (IsRefusal ⊥ ⊥) }
 {
     let scenario = scenario_in(alloc, table, text)?;
-    let Some(made) = page_scenario(alloc, table, slot, room, &scenario)? else {
-        return Err(Status::NotPaged);
-    };
-    let status = status_of(made.paged.end, scenario.budget);
-    Ok((
-        Prepared {
-            status,
-            report: None,
-            output: made.text,
-        },
-        Extra::Paged(made.paged),
-    ))
+    match page_scenario(alloc, table, slot, room, &scenario)? {
+        None => Err(Status::NotPaged),
+        Some(made) => {
+            let prepared = Prepared {
+                status: status_of(made.paged.end, scenario.budget),
+                report: None,
+                output: made.text,
+            };
+            Ok((prepared, Extra::Paged(made.paged)))
+        }
+    }
 }
