@@ -64,12 +64,13 @@ placed-first w [] = refl
 placed-first w (s ∷ ss) = ap (λ rest. (named w s.0, meaning s.1) ∷ rest) (placed-first w ss)
 
 -- what they are
-pub states-shown : (xs : List (Who × Native)) (list : Services) → shown meaning xs ≡ list → states meaning xs ≡ map (λ (e : Who × State). e.1) list
-states-shown xs list is = by xs ∙ ap (map (λ (e : Who × State). e.1)) is
+pub states-shown : (means : Native → State) (xs : List (Who × Native)) (list : Services) → shown means xs ≡ list
+    → states means xs ≡ map (λ (e : Who × State). e.1) list
+states-shown means xs list is = by xs ∙ ap (map (λ (e : Who × State). e.1)) is
   where
-    by : (xs : List (Who × Native)) → states meaning xs ≡ map (λ (e : Who × State). e.1) (shown meaning xs)
+    by : (xs : List (Who × Native)) → states means xs ≡ map (λ (e : Who × State). e.1) (shown means xs)
     by [] = refl
-    by (x ∷ xs) = ap (λ (ss : List State). meaning x.1 ∷ ss) (by xs)
+    by (x ∷ xs) = ap (λ (ss : List State). means x.1 ∷ ss) (by xs)
 
 -- ---- a set is in a user's slot
 
