@@ -40,7 +40,8 @@ pub spoken_by : (m n : Kept) (services new : Services) (q : Queue) (budget event
     IsAdvanced q.jobs budget (core_at m services q events) (Some (record { who = who; pick = pick })) d
 spoken_by m n services new q budget events who pick said d few other made ends tells heard settles count =
     let mv : Move = record { who = who; pick = pick } in
-    let as_others = asks_other q (world m) services events who asks.Run other (runs services (world m) who pick made.0) refl in (
+    let as_others = asks_other q (world m) services events who asks.Run other
+    (runs services (world m) who (option_map (named (world m)) pick) made.0) refl in (
       few,
       others_ready q (world m) services events mv (asks.Run, as_others, made.0),
       turned m n services new q events mv asks.Run said None d as_others made.1 ends tells heard settles,

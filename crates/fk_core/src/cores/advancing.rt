@@ -68,9 +68,7 @@ impl<S: Service + Drop, W: Worker + Drop> Core<S, W> {
         ensures jobs { self.new.jobs.jobs ≡ self.old.jobs.jobs }
     {
         let code = self.code_of(who);
-        if rests(code) {
-            self.rounds.park();
-        }
+        self.rounds.park_if(rests(code));
         if !picks(code) {
             return None;
         }

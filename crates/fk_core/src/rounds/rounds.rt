@@ -130,6 +130,15 @@ impl Rounds {
         self.stuck = true;
     }
 
+    /// The same where this holds.
+    pub fn park_if(&mut self, waits: bool)
+        ensures { self.new.heard ≡ self.old.heard }
+    {
+        if waits {
+            self.stuck = true;
+        }
+    }
+
     /// A ready act that comes before the threads: of the server that heard of the last move, but where the look goes round; and in every second round of
     /// 64 moves of one server, each in its turn. It is meant so that nobody who is ready waits for ever behind others; nothing is proved of that.
     pub fn choose_act<S: Service + Drop, W: Worker + Drop>(

@@ -31,7 +31,6 @@ use Rattle.fk_turns.specs.Moved.Moved.{is_it, is_named, IsMoved}
 use Rattle.fk_turns.specs.Moved.Told.{IsMadeTo, IsStored, IsToldOf}
 use Rattle.fk_turns.specs.Next.Goings.{mutex_by, run_of, touched_by, was_locked, was_made, HasRow, IfMade, IsThen}
 use Rattle.fk_turns.specs.Next.Judgements.{IsReadyMove, IsStepTo, TellsTouched}
-use Rattle.fk_turns.specs.Next.Runs.{is_under_way_at}
 use Rattle.fk_turns.specs.Next.Waiting.{standing, IsPlaced}
 use Rattle.fk_turns.specs.Steps.Classes.{ComesMildly}
 use Rattle.fk_turns.specs.Steps.Steps.{IsPut, IsTurned}
@@ -210,10 +209,6 @@ kept_last n mover waits marks now then_marks kept turned user sound =
       stays = λ few x why off aside was is. is;
     }
 
--- it runs
-pub then_runs : (n : Contents) (who : Who) (at : Then) → IsThen n who at → is_under_way_at n who ≡ true
-then_runs n who thens.Runs is = is
-
 -- a thread that is somewhere is a user's
 pub then_user : (n : Contents) (who : Who) (at : Then) → IsThen n who at → is_user_at n who ≡ true
 then_user n who thens.Runs is = under_way_user n who is
@@ -228,10 +223,6 @@ then_user n who thens.Asleep is = by (thread_at (world n) (place_of n who)) is.u
     by : (o : Option Thread) → holds (λ (t : Thread). is_user t.mode) o ≡ true → holds (λ (t : Thread). not (is_porter t.mode)) o ≡ true
     by None is = absurd (cc)
     by (Some t) is = no_porter t.mode is
-
--- who runs is under way
-pub then_runs : (n : Contents) (who : Who) (at : Then) → IsThen n who at → is_under_way_at n who ≡ true
-then_runs n who thens.Runs is = is
 
 -- ---- where its thread stands
 

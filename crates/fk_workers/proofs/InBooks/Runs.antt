@@ -109,16 +109,13 @@ module _ {C : Type 0} (shown : C → Shown) where
   begins_due b d e takes goes = λ even due its may. let taken = takes even due its may in
       (taken.0, goes.more, goes.history ∙ (ap (λ h. h ++ goes.more) taken.1 ∙ append_assoc b.history (taken.0 ∷ []) goes.more), taken.2)
 
--- nearer to its budget with each move
-pub closer : {C : Type 0} (shown : C → Shown) (b d : Told C) → IsKept shown d → HasOneMore shown b d
+-- nearer to its budget with all moves that it gets
+pub closer : {C : Type 0} (shown : C → Shown) (b d : Told C) → IsKept shown d → GoesOn b d → length b.history < length d.history
     → (shown d.boot).budget - length d.history < (shown b.boot).budget - length b.history
-closer shown b d kept more =
-    let one = more.1 in
-    let boot : (shown d.boot).budget ≡ (shown b.boot).budget = ap (λ c. (shown c).budget) one.boot in
-    let long = length-append b.history (more.0 ∷ []) in
-    let same = ap length one.history in
+closer shown b d kept goes longer =
+    let boot : (shown d.boot).budget ≡ (shown b.boot).budget = ap (λ c. (shown c).budget) goes.boot in
     let within = kept.within in
-    omega (arith, boot, long, same, within)
+    omega (arith, boot, longer, within)
 
 -- ---- a book that is opened
 

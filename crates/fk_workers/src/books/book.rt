@@ -335,7 +335,7 @@ impl<C: Playable + Drop> Book<C> {
         Ok(true)
     }
 
-    /// Makes moves until none is left.
+    /// Makes moves until none is left, by turns as `go_on` makes them.
     ///
     /// # Errors
     ///
@@ -346,8 +346,9 @@ impl<C: Playable + Drop> Book<C> {
         ensures goes { GoesOn self.old self.new }
         ensures ended { OnOk result (HasEnded (C.shown self.new.core)) }
     {
-        self.keeps();
-        while self.one(table)? {}
+        while self.go_on(table)? {
+            self.keeps();
+        }
         Ok(())
     }
 }

@@ -1,4 +1,4 @@
-use Rattle.fk_turns.proofs.InSteps.Locked.{then_runs, then_user}
+use Rattle.fk_turns.proofs.InSteps.Locked.{then_user}
 use Rattle.fk_turns.proofs.steps.going.after_class.Goals as goal
 
 pub rouse_by-requires : goal.rouse_by-requires

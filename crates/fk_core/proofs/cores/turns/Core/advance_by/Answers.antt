@@ -1,4 +1,4 @@
-use Rattle.std.proofs.Common.{◌≡◌, IfOk, IfNone, OnErr, refl}
+use Rattle.std.proofs.Common.{◌≡◌, Some, IfOk, IfNone, OnErr, refl}
 use Rattle.fk_core.specs.Cores.Bursts.{mover_of, IsAdvancedSo}
 use Rattle.fk_core.specs.Cores.Cores.{core_at, run_core, IsFirstDue, IsLacking, IsOver}
 use Rattle.fk_core.proofs.InCores.Bursting.{comes_along}
@@ -12,7 +12,7 @@ returns-in-Some-clause-advanced g c = c.in-Some.ensures.made
 
 pub returns-in-Some-clause-first : goal.returns-in-Some-clause-first
 returns-in-Some-clause-first g c =
-    let self = c.args.self.now in none_first self.jobs self.budget (run_core self) _ (c.in-Some.ensures.none refl)
+    let self = c.args.self.now in none_first self.jobs self.budget (run_core self) (mover_of (Some c.in-Some.made)) (c.in-Some.ensures.none refl)
 
 pub returns-in-Some-clause-come : goal.returns-in-Some-clause-come
 returns-in-Some-clause-come g c =

@@ -1,4 +1,4 @@
-use Rattle.std.proofs.Common.{◌≡◌, Some, None, refl, sym, ap}
+use Rattle.std.proofs.Common.{Some, refl, ap}
 use Rattle.fk_core.specs.Rounds.Kernels.{Kept}
 use Rattle.fk_core.specs.Cores.Cores.{core_at}
 use Rattle.fk_core.proofs.InCores.Proceeding.{proceeded_by, none-left, no-porter}

@@ -1,4 +1,4 @@
-use Rattle.std.proofs.Common.{◌≡◌, ◌+◌, ◌≤◌, length}
+use Rattle.std.proofs.Common.{◌≡◌, ◌+◌, length}
 use Rattle.fk_workers.specs.Books.Told.{GoesOn}
 use Rattle.fk_workers.proofs.books.book.Book.several.Given as goal
 

@@ -1,7 +1,0 @@
-use Rattle.std.proofs.Common.{map}
-use Rattle.fk_migrate.specs.Pairs.{shown, Drives}
-use Rattle.fk_migrate.proofs.driver.Pair.run_near.Given as goal
-
--- it was driven so far
-abbrev pub invariant-loop : goal.invariant-loop
-invariant-loop g l = Drives (map (λ r. r.rule) l.table.list.items) (shown l.fn.self) (shown l.self)

@@ -1,5 +1,0 @@
-pub mod Turns
-pub mod Runs
-pub mod Parts
-pub mod Pairs
-pub mod Promises
