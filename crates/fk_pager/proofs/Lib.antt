@@ -1,4 +1,5 @@
 pub mod Begins
+pub mod Booted
 pub mod Unseen
 pub mod Opened
 pub mod Sane

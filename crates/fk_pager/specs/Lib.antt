@@ -11,3 +11,4 @@ pub mod Counted
 pub mod Left
 pub mod Alike
 pub mod Bounds
+pub mod Pages

@@ -1,4 +1,5 @@
 pub mod Top
+pub mod Made
 pub mod Again
 pub mod Jobs
 pub mod Complete

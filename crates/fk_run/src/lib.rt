@@ -14,6 +14,7 @@
 //! stands on `laws_two_runs`.
 #![tactic(auto)]
 
+mod made;
 mod source_text;
 mod top;
 mod two_calls;
