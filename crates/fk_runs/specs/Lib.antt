@@ -1,3 +1,4 @@
 pub mod RunReports
 pub mod Runs
 pub mod Recordings
+pub mod Commands
