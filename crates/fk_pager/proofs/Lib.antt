@@ -12,6 +12,7 @@ pub mod Desked
 pub mod Left
 pub mod Alike
 pub mod Bounds
+pub mod Hides
 pub mod Hearing
 pub mod Phases
 pub mod Rooted

@@ -8,6 +8,7 @@ use Rattle.fk_host.specs.Kernels.{world_of as world}
 use Rattle.fk_host.specs.Served.{Services}
 use Rattle.fk_model.specs.Who.{named}
 use Rattle.fk_pager.specs.Desks.{desk_of_root, IsPageable}
+use Rattle.fk_pager.specs.Hides.{HidesPager}
 use Rattle.fk_pager.specs.Left.{IsQuiet}
 use Rattle.fk_pager.specs.Paged.{IsPaged}
 use Rattle.fk_pager.specs.Runs.{Moment}
@@ -42,7 +43,7 @@ pub record IsWritten (slot port set room : ℕ) (first : Moment) (budget : ℕ) 
   pub paged : IsPaged (desk_of_root slot port set room) first budget kernel services p
   pub told : IsTold slot room p kernel services text
 
--- it is one of a scenario: from its first world, with its servers and its budget
+-- it is one of a scenario: from its first world, with its servers and its budget; and from there on its pager is hidden
 pub record IsPageOf (slot room : ℕ) (s : Scenario) (p : Paged) (text : List ℕ) : Type 0 where
   pub port : ℕ
   pub set : ℕ
@@ -51,6 +52,7 @@ pub record IsPageOf (slot room : ℕ) (s : Scenario) (p : Paged) (text : List �
   pub serves : map (λ e. (named first.world e.0, e.1)) first.services ≡ first_services s.servers
   pub begins : IsBeginning slot port set first
   pub quiet : IsQuiet set first.world
+  pub hides : HidesPager (desk_of_root slot port set room) first
   pub written : IsWritten slot port set room first s.budget p text
 
 -- a scenario without jobs whose subtree in this slot of the root may be paged in its first world

@@ -1,10 +1,16 @@
 use Rattle.std.proofs.Common.{refl, ap, subst, ◌∙◌}
 use Rattle.fk_host.specs.Kernels.{world_of as world}
+use Rattle.fk_host.specs.Served.{shown}
 use Rattle.fk_model.specs.World.{World}
+use Rattle.fk_natives.specs.Both.{meaning}
 use Rattle.fk_store.specs.Store.Contents.{Contents}
 use Rattle.fk_store.specs.Store.World as worlds
 use Rattle.fk_pager.specs.Desks.{HasDesk}
+use Rattle.fk_pager.specs.Left.{IsQuiet}
+use Rattle.fk_pager.specs.Paged.{first_of}
+use Rattle.fk_pager.specs.Unseen.{IsBeginning}
 use Rattle.fk_pager.proofs.Booted.{all-fit, placed-first, with-jobs, not-pageable, set-low}
+use Rattle.fk_pager.proofs.Hides.{hides}
 use Rattle.fk_pager.proofs.page.page_scenario.Goals as goal
 
 pub returns-then-len-ne0 : goal.returns-then-len-ne0
@@ -26,24 +32,29 @@ page_at-made-requires-clause-fits c =
 pub returns-in-Some : goal.returns-in-Some
 returns-in-Some c =
     let first = c.in_ok-first.first in
+    let desk = c.in-Some.desk in
+    let moment = first_of first.kernel (shown meaning first.services.items) in
+    let there : HasDesk (world first.kernel) c.args.slot desk.port desk.set =
+    subst (λ (m : Contents). HasDesk (worlds.world m) c.args.slot desk.port desk.set) c.store.ensures c.in-Some.ensures.some in
+    let begins : IsBeginning c.args.slot desk.port desk.set moment = record {
+      desk = there;
+      valid = c.in_ok-first.ensures.valid;
+      clear = c.in_ok-first.ensures.sound.idle.unfaulted;
+      state = refl;
+      opened = refl;
+    } in
+    let quiet : IsQuiet desk.set moment.world = record {
+      low = set-low (world first.kernel) desk.port desk.set c.in_ok-first.ensures.valid c.in_ok-first.ensures.savable.slots_kept there.member;
+      untalked = c.in_ok-first.ensures.sound.idle.untalked;
+    } in
     record {
-      port = c.in-Some.desk.port;
-      set = c.in-Some.desk.set;
-      first = _;
+      port = desk.port;
+      set = desk.set;
+      first = moment;
       boots = c.in_ok-first.ensures.world;
       serves = placed-first (world first.kernel) first.services.items ∙ c.in_ok-first.ensures.services;
-      begins = record {
-        desk = subst (λ (m : Contents). HasDesk (worlds.world m) c.args.slot c.in-Some.desk.port c.in-Some.desk.set) c.store.ensures c.in-Some.ensures.some;
-        valid = c.in_ok-first.ensures.valid;
-        clear = c.in_ok-first.ensures.sound.idle.unfaulted;
-        state = refl;
-        opened = refl;
-      };
-      quiet = record {
-        low = set-low (world first.kernel) c.in-Some.desk.port c.in-Some.desk.set c.in_ok-first.ensures.valid c.in_ok-first.ensures.savable.slots_kept
-            (subst (λ (m : Contents). HasDesk (worlds.world m) c.args.slot c.in-Some.desk.port c.in-Some.desk.set)
-            c.store.ensures c.in-Some.ensures.some).member;
-        untalked = c.in_ok-first.ensures.sound.idle.untalked;
-      };
+      begins = begins;
+      quiet = quiet;
+      hides = hides c.args.slot desk.port desk.set c.args.room moment c.requires.low c.requires.some begins quiet;
       written = rw c.in_ok-first.ensures.budget at c.in_ok-made.ensures;
     }
