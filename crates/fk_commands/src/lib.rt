@@ -2,7 +2,7 @@
 //!
 //! A command prepares a run (`prepared`): the status and the report of its outcome, and what is to be
 //! written; or it answers the status of a refusal. `exec` assembles a text and lets `fk_lone` run it;
-//! `check` and `show` prepare the counts of a scenario and of an image. `play` stands in `fk_runs`. Who only looks at a scenario or an image
+//! `check` and `show` prepare the counts of a scenario and of an image. `play` stands in `fk_plays`. Who only looks at a scenario or an image
 //! is lent it (`lend`), and owns neither.
 //!
 //! It stands on `fk_asm` for programs, on `fk_lone` for the machine of `exec`, on `fk_scenario`, on

@@ -13,27 +13,27 @@ use Rattle.fk_commands.specs.declared.status.Status.TheVariants.{BadScenario, To
 use Rattle.fk_commands.specs.Outcomes.{reported, IsRefused}
 use Rattle.fk_image.specs.declared.image.image.Image.{Image}
 use Rattle.fk_model.specs.declared.job.JobSpec.{JobSpec}
-use Rattle.fk_runs.specs.Commands.Images.{needed, Finds, FindsImages}
-use Rattle.fk_runs.specs.Commands.Images.FindsImages.{NoJob, Found, Refused, Later}
-use Rattle.fk_runs.specs.Commands.Play.{IsPlay, IsPlayedBy, IsWith, IsWholeRun}
+use Rattle.fk_plays.specs.Images.{needed, Finds, FindsImages}
+use Rattle.fk_plays.specs.Images.FindsImages.{NoJob, Found, Refused, Later}
+use Rattle.fk_plays.specs.Play.{IsPlay, IsPlayedBy, IsWith, IsWholeRun}
 use Rattle.fk_run.specs.Again.{HasSame, PlaysAgain}
 use Rattle.fk_puts.specs.Small.{AreSmall}
 use Rattle.fk_commands.specs.declared.outcome.Outcome.{Outcome}
 use Rattle.fk_model.specs.declared.moves.Move.{Move}
-use Rattle.fk_runs.proofs.InRecordings.Again.{record_plays_again, replays_play_again}
-use Rattle.fk_runs.specs.Recordings.Again.{without_record}
-use Rattle.fk_runs.specs.Commands.Recorded.{IsWholeRecord}
-use Rattle.fk_runs.specs.Recordings.Recording.{watch_place, IsRecordedFrom}
-use Rattle.fk_runs.specs.Commands.Recorded.{IsReplay, IsReplayedWith}
+use Rattle.fk_plays.proofs.Again.{record_plays_again, replays_play_again}
+use Rattle.fk_plays.specs.Again.{without_record}
+use Rattle.fk_plays.specs.Recorded.{IsWholeRecord}
+use Rattle.fk_plays.specs.Recording.{watch_place, IsRecordedFrom}
+use Rattle.fk_plays.specs.Recorded.{IsReplay, IsReplayedWith}
 use Rattle.fk_responders.specs.declared.note.Watch.{Watch}
 use Rattle.fk_run.proofs.Transparency.{read-keeps}
 use Rattle.fk_scenario.specs.Scenario.Kept.{KeepsScenario}
 use Rattle.fk_words.specs.Commands.{Command, Run, Play, Record, Replay, leaves}
 use Rattle.fk_puts.specs.Puts.{HasPut}
 use Rattle.fk_commands.specs.Tables.{Rules}
-use Rattle.fk_runs.proofs.InRuns.Replayed.{plays-again}
-use Rattle.fk_runs.specs.Runs.Made.{Images}
-use Rattle.fk_runs.specs.Runs.Runs.{IsRunFrom}
+use Rattle.fk_plays.proofs.Replayed.{plays-again}
+use Rattle.fk_plays.specs.Made.{Images}
+use Rattle.fk_plays.specs.Runs.{IsRunFrom}
 use Rattle.fk_scenario.specs.declared.scenario.scenario.Scenario.{Scenario}
 use Rattle.fk_scenario.specs.Scenario.Reading.{scenario_reading}
 use Rattle.fk_scenario.specs.declared.fields.fail.ScenarioError.{ScenarioError}

@@ -6,7 +6,7 @@ use Rattle.std.specs.Prelude.{⊤}
 use Rattle.std.specs.Io.KnownBytes.{Appends}
 use Rattle.fk_asm.specs.Assembler.{assembled}
 use Rattle.fk_asm.specs.declared.fail.AsmError.{AsmError}
-use Rattle.fk_runs.specs.Runs.Plays.{MayPlay}
+use Rattle.fk_plays.specs.Plays.{MayPlay}
 use Rattle.fk_causes.specs.Causes.{Rose}
 use Rattle.fk_causes.specs.declared.whole.TheConstants.{LIMIT}
 use Rattle.fk_causes.specs.Shelf.{FileMap}
@@ -23,25 +23,25 @@ use Rattle.fk_commands.specs.Prepared.{ComesTo, IsRefusal, IsRefusedAt}
 use Rattle.fk_commands.specs.Show.{IsFileShown, IsShown}
 use Rattle.fk_commands.specs.Status.{row_of, progress_of, Progress, Words, Reading, Refusing, Writing, Finished, Failed, was_cut_short}
 use Rattle.fk_commands.specs.Status.{has_put_all, has_put_none}
-use Rattle.fk_runs.specs.Runs.Cores.{RunCore}
+use Rattle.fk_plays.specs.Cores.{RunCore}
 use Rattle.fk_gen.specs.Soak.{scenario}
 use Rattle.fk_image.specs.declared.image.image.Image.{Image}
 use Rattle.fk_image.specs.Format.Reading.{image_reading}
 use Rattle.fk_model.specs.declared.job.JobSpec.{JobSpec}
 use Rattle.fk_model.specs.declared.moves.Move.{Move}
-use Rattle.fk_runs.specs.Commands.Images.{needed, read_bytes, read_file, Finds, FindsImages}
-use Rattle.fk_runs.specs.Commands.Images.FindsImages.{NoJob, Found, Refused, Later}
-use Rattle.fk_runs.specs.Commands.Play.{IsPlay, IsPlayedBy, IsScenario, IsSoak, IsTraced, IsWholeRun, IsWith, IsWithImages}
+use Rattle.fk_plays.specs.Images.{needed, read_bytes, read_file, Finds, FindsImages}
+use Rattle.fk_plays.specs.Images.FindsImages.{NoJob, Found, Refused, Later}
+use Rattle.fk_plays.specs.Play.{IsPlay, IsPlayedBy, IsScenario, IsSoak, IsTraced, IsWholeRun, IsWith, IsWithImages}
 use Rattle.fk_puts.specs.Puts.{HasPut}
-use Rattle.fk_runs.specs.Recordings.Record.{Entry}
-use Rattle.fk_runs.proofs.InRecordings.Records.{spells_not_bad, spells_same}
-use Rattle.fk_runs.proofs.InRecordings.Apart.{are-ports}
-use Rattle.fk_runs.specs.Recordings.Ports.{ports_of}
-use Rattle.fk_runs.specs.Commands.Recorded.{IsWholeRecord}
-use Rattle.fk_runs.specs.Recordings.Recording.{watch_place, IsRecorded, IsRecordedFrom}
-use Rattle.fk_runs.specs.Commands.Recorded as replays
-use Rattle.fk_runs.specs.Commands.Recorded.{IsReplay, IsReplayedWith}
-use Rattle.fk_runs.specs.Recordings.Replaying.{replies_by, IsReplayedBy}
+use Rattle.fk_plays.specs.Record.{Entry}
+use Rattle.fk_plays.proofs.Records.{spells_not_bad, spells_same}
+use Rattle.fk_plays.proofs.Apart.{are-ports}
+use Rattle.fk_plays.specs.Ports.{ports_of}
+use Rattle.fk_plays.specs.Recorded.{IsWholeRecord}
+use Rattle.fk_plays.specs.Recording.{watch_place, IsRecorded, IsRecordedFrom}
+use Rattle.fk_plays.specs.Recorded as replays
+use Rattle.fk_plays.specs.Recorded.{IsReplay, IsReplayedWith}
+use Rattle.fk_plays.specs.Replaying.{replies_by, IsReplayedBy}
 use Rattle.fk_report.specs.declared.end.End.{End}
 use Rattle.fk_report.specs.declared.end.End.TheVariants as ends
 use Rattle.fk_report.specs.declared.job_end.JobEnd.{JobEnd}
@@ -56,16 +56,16 @@ use Rattle.fk_commands.specs.Tables.{Rules}
 use Rattle.fk_run.specs.declared.made.Made.{Made}
 use Rattle.fk_run.specs.Made.{MadeComesTo, outcome_of}
 use Rattle.fk_run.specs.Top.{IsUnlessTooLong, IsCalledFor, IsDue, IsDone}
-use Rattle.fk_runs.specs.Runs.Made.{Images, status_of_refused, status_of_end}
-use Rattle.fk_runs.specs.Runs.Runs.{begun, IsAlone, IsPlayed, IsRunFrom}
+use Rattle.fk_plays.specs.Made.{Images, status_of_refused, status_of_end}
+use Rattle.fk_plays.specs.Runs.{begun, IsAlone, IsPlayed, IsRunFrom}
 use Rattle.fk_scenario.specs.declared.scenario.scenario.Scenario.{Scenario}
 use Rattle.fk_scenario.specs.Scenario.Kept.{KeepsScenario}
 use Rattle.fk_scenario.specs.Scenario.Reading.{scenario_reading}
 use Rattle.fk_scenario.specs.declared.fields.fail.ScenarioError.{ScenarioError}
 use Rattle.fk_trace_text.proofs.Traces.{Spells-not_bad}
-use Rattle.fk_runs.specs.Recordings.Posts.{all_replaying}
+use Rattle.fk_plays.specs.Posts.{all_replaying}
 use Rattle.fk_trace_text.specs.Trace.{Spells}
-use Rattle.fk_runs.specs.Recordings.Following.{core_with}
+use Rattle.fk_plays.specs.Following.{core_with}
 use Rattle.fk_words.specs.Commands.{Command, Exec, Check, Run, Play, Show, Soak, Record, Replay, Page, leaves}
 
 -- ---- how what is done ends

@@ -20,7 +20,7 @@ use Rattle.fk_commands.specs.Tables.{Rules}
 use Rattle.fk_commands.proofs.Comes.{comes-also}
 use Rattle.fk_commands.specs.Show.{IsShow}
 use Rattle.fk_gen.specs.Soak.{scenario}
-use Rattle.fk_runs.specs.Commands.Play.{IsSoak}
+use Rattle.fk_plays.specs.Play.{IsSoak}
 use Rattle.fk_scenario.specs.Scenario.Reading.{scenario_reading}
 use Rattle.fk_puts.specs.Puts.{HasPutSome}
 use Rattle.fk_run.specs.declared.made.Made.{Made}

@@ -3,7 +3,7 @@ use Rattle.std.proofs.Common.{◌≡◌, ℕ, List, Option, Some, None, Ok}
 use Rattle.fk_commands.specs.declared.outcome.Report.{Report}
 use Rattle.fk_run.specs.Jobs.{ReportIsTransparent, MadeReportIsTransparent}
 use Rattle.fk_commands.specs.Tables.{Rules}
-use Rattle.fk_runs.proofs.InRuns.Transparencies.{reports_are_transparent}
+use Rattle.fk_plays.proofs.Transparencies.{reports_are_transparent}
 use Rattle.fk_scenario.proofs.InScenario.Kept.{scenario_kept}
 use Rattle.fk_scenario.specs.declared.scenario.scenario.Scenario.{Scenario}
 use Rattle.fk_scenario.specs.Scenario.Kept.{KeepsScenario}

@@ -5,13 +5,13 @@ use Rattle.fk_commands.specs.Files.{image_name, record_name, trace_name}
 use Rattle.fk_commands.specs.Outcomes.{reported}
 use Rattle.fk_commands.specs.declared.outcome.Report.{Report}
 use Rattle.fk_commands.specs.declared.status.Status.{Status}
-use Rattle.fk_runs.specs.Runs.Cores.{RunCore}
-use Rattle.fk_runs.specs.Runs.First.{IsFirst}
-use Rattle.fk_runs.specs.Runs.Made.{Images}
-use Rattle.fk_runs.specs.Runs.Runs.{IsPlayed}
-use Rattle.fk_runs.specs.Recordings.Again.{noted_replies, without_record}
-use Rattle.fk_runs.specs.Recordings.Recording.{watch_place}
-use Rattle.fk_runs.specs.Recordings.Replaying.{IsReplayedFrom}
+use Rattle.fk_plays.specs.Cores.{RunCore}
+use Rattle.fk_plays.specs.First.{IsFirst}
+use Rattle.fk_plays.specs.Made.{Images}
+use Rattle.fk_plays.specs.Runs.{IsPlayed}
+use Rattle.fk_plays.specs.Again.{noted_replies, without_record}
+use Rattle.fk_plays.specs.Recording.{watch_place}
+use Rattle.fk_plays.specs.Replaying.{IsReplayedFrom}
 use Rattle.fk_responders.specs.declared.note.Watch.{Watch}
 use Rattle.fk_scenario.specs.declared.scenario.scenario.Scenario.{Scenario}
 use Rattle.fk_trace_text.specs.Trace.{trace_text}

@@ -2,7 +2,7 @@
 use Rattle.std.specs.Prelude.{◌≡◌, ◌≤◌, ⊤, ◌⊎◌, ℕ, List, [], ◌∷◌, ◌++◌, length, Option, Some, None, IfSome, Result, Ok}
 use Rattle.fk_asm.specs.Assembler.{assembled}
 use Rattle.fk_asm.specs.declared.fail.AsmError.{AsmError}
-use Rattle.fk_runs.specs.Runs.Plays.{MayPlay}
+use Rattle.fk_plays.specs.Plays.{MayPlay}
 use Rattle.fk_causes.specs.Causes.{MayHold}
 use Rattle.fk_causes.specs.declared.whole.TheConstants.{LIMIT}
 use Rattle.fk_causes.specs.Shelf.{FileMap, HasAt}
@@ -10,26 +10,26 @@ use Rattle.fk_commands.specs.declared.outcome.Outcome.{Outcome}
 use Rattle.fk_commands.specs.declared.status.Status.TheVariants.{NoMemory}
 use Rattle.fk_commands.specs.Files.{image_name, record_name, trace_name}
 use Rattle.fk_commands.specs.Status.{progress_of, Finished}
-use Rattle.fk_runs.specs.Runs.Cores.{RunCore}
-use Rattle.fk_runs.specs.Runs.First.{IsFirst}
+use Rattle.fk_plays.specs.Cores.{RunCore}
+use Rattle.fk_plays.specs.First.{IsFirst}
 use Rattle.fk_gen.specs.Soak.{scenario}
 use Rattle.fk_image.specs.declared.image.image.Image.{Image}
 use Rattle.fk_image.specs.Format.Reading.{image_reading}
 use Rattle.fk_model.specs.declared.job.JobSpec.{JobSpec}
 use Rattle.fk_model.specs.declared.moves.Move.{Move}
 use Rattle.fk_pages.specs.Command.{MayBePaged}
-use Rattle.fk_runs.specs.Commands.Images.{needed, FindsImages}
-use Rattle.fk_runs.specs.Commands.Play.{IsScenario}
+use Rattle.fk_plays.specs.Images.{needed, FindsImages}
+use Rattle.fk_plays.specs.Play.{IsScenario}
 use Rattle.fk_puts.specs.Puts.{HasPut}
-use Rattle.fk_runs.specs.Recordings.Record.{Entry, Spells as IsRecord}
-use Rattle.fk_runs.specs.Recordings.Ports.{ports_of}
-use Rattle.fk_runs.specs.Recordings.Replaying.{replies_by}
-use Rattle.fk_runs.specs.Recordings.Posts.{all_replaying}
-use Rattle.fk_runs.specs.Recordings.Following.{core_with}
+use Rattle.fk_plays.specs.Record.{Entry, Spells as IsRecord}
+use Rattle.fk_plays.specs.Ports.{ports_of}
+use Rattle.fk_plays.specs.Replaying.{replies_by}
+use Rattle.fk_plays.specs.Posts.{all_replaying}
+use Rattle.fk_plays.specs.Following.{core_with}
 use Rattle.fk_commands.specs.Tables.{Rules}
 use Rattle.fk_run.specs.Top.{IsDone}
-use Rattle.fk_runs.specs.Runs.Made.{Images}
-use Rattle.fk_runs.specs.Runs.Runs.{begun}
+use Rattle.fk_plays.specs.Made.{Images}
+use Rattle.fk_plays.specs.Runs.{begun}
 use Rattle.fk_scenario.specs.declared.scenario.scenario.Scenario.{Scenario}
 use Rattle.fk_scenario.specs.Scenario.Reading.{scenario_reading}
 use Rattle.fk_scenario.specs.declared.fields.fail.ScenarioError.{ScenarioError}

@@ -1,12 +1,12 @@
 -- What a report says of the subtrees that the jobs of its run have saved and made again.
 use Rattle.std.specs.Prelude.{◌≡◌, ℕ, List, Option, Ok, IfSome}
 use Rattle.fk_commands.specs.declared.outcome.Report.{Report}
-use Rattle.fk_runs.specs.Runs.Cores.{RunCore}
-use Rattle.fk_runs.specs.Runs.First.{IsBegun}
+use Rattle.fk_plays.specs.Cores.{RunCore}
+use Rattle.fk_plays.specs.First.{IsBegun}
 use Rattle.fk_commands.specs.Tables.{Rules}
-use Rattle.fk_runs.specs.Runs.Transparency.{IsTransparentReport}
-use Rattle.fk_runs.specs.Runs.Made.{Images}
-use Rattle.fk_runs.specs.Runs.Runs.{IsReported}
+use Rattle.fk_plays.specs.Transparency.{IsTransparentReport}
+use Rattle.fk_plays.specs.Made.{Images}
+use Rattle.fk_plays.specs.Runs.{IsReported}
 use Rattle.fk_scenario.specs.declared.scenario.scenario.Scenario.{Scenario}
 use Rattle.fk_scenario.specs.Scenario.Reading.{scenario_reading}
 

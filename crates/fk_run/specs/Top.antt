@@ -17,10 +17,10 @@ use Rattle.fk_words.specs.Commands.{Command, Exec, Check, Run, Play, Show, Soak,
 use Rattle.fk_commands.specs.Exec.{IsExec}
 use Rattle.fk_commands.specs.Outcomes.{IsRefused}
 use Rattle.fk_pages.specs.Command.{IsPageCommand}
-use Rattle.fk_runs.specs.Commands.Play.{IsPlay, IsWholeRun, IsSoak, IsScenario, IsScenarioWithImages}
-use Rattle.fk_runs.specs.Commands.Recorded.{IsWholeRecord}
-use Rattle.fk_runs.specs.Recordings.Recording.{watch_place}
-use Rattle.fk_runs.specs.Commands.Recorded.{IsReplay}
+use Rattle.fk_plays.specs.Play.{IsPlay, IsWholeRun, IsSoak, IsScenario, IsScenarioWithImages}
+use Rattle.fk_plays.specs.Recorded.{IsWholeRecord}
+use Rattle.fk_plays.specs.Recording.{watch_place}
+use Rattle.fk_plays.specs.Recorded.{IsReplay}
 use Rattle.fk_commands.specs.Show.{IsShow}
 use Rattle.fk_commands.specs.Status.{progress_of, is_past_reading, Finished}
 use Rattle.fk_commands.specs.Tables.{Rules}

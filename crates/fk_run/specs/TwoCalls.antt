@@ -9,14 +9,14 @@ use Rattle.fk_model.specs.declared.job.JobSpec.TheVariants.{Checkpoint, Restore}
 use Rattle.fk_model.specs.declared.moves.Rule.{Rule}
 use Rattle.fk_report.specs.declared.job_end.JobEnd.TheVariants as told
 use Rattle.fk_words.specs.Commands.{Command, Run, Play}
-use Rattle.fk_runs.specs.Runs.Cores.{RunCore}
+use Rattle.fk_plays.specs.Cores.{RunCore}
 use Rattle.fk_commands.specs.Files.{image_name}
-use Rattle.fk_runs.specs.Runs.Transparency.{IsTransparentReport}
-use Rattle.fk_runs.specs.Commands.Images.{FindsImages}
+use Rattle.fk_plays.specs.Transparency.{IsTransparentReport}
+use Rattle.fk_plays.specs.Images.{FindsImages}
 use Rattle.fk_run.specs.Jobs.{MadeReportIsTransparent}
-use Rattle.fk_runs.specs.Runs.Made.{Images}
+use Rattle.fk_plays.specs.Made.{Images}
 use Rattle.fk_puts.specs.Puts.{PutsRun}
-use Rattle.fk_runs.specs.Runs.Runs.{IsReported}
+use Rattle.fk_plays.specs.Runs.{IsReported}
 use Rattle.fk_commands.specs.Status.{was_cut_short, has_put_all}
 use Rattle.fk_run.specs.Theorem.{Outside, Theorem}
 use Rattle.fk_run.specs.Top.{IsDue}

@@ -2,7 +2,7 @@
 //! text and an outcome out.
 //!
 //! `top` finds the command in the words (`fk_words`), reads the source where the command reads it (`source_text`), lets `fk_commands` or
-//! `fk_runs` prepare its outcome and its output, has what a run leaves put on the shelf (`fk_puts`), and alone writes and answers.
+//! `fk_plays` prepare its outcome and its output, has what a run leaves put on the shelf (`fk_puts`), and alone writes and answers.
 //!
 //! It stands on these for all that a command does, and on `fk_causes` for the source, the sink and the shelf.
 //!

@@ -3,4 +3,3 @@ pub use Rattle.fk_first.proofs.Places
 pub mod InRunReports
 pub mod InRuns
 pub mod InRecordings
-pub mod InCommands

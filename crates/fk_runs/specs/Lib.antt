@@ -1,4 +1,3 @@
 pub mod RunReports
 pub mod Runs
 pub mod Recordings
-pub mod Commands

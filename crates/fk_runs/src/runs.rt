@@ -15,5 +15,6 @@ mod whole;
 
 pub use again::a_run_plays_again;
 pub use begun::{play_first, run_first, soak_first};
+pub use fk_first::maker_of;
 pub use transparency::reports_are_transparent;
 pub use whole::play_core;

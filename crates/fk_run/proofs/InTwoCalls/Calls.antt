@@ -14,8 +14,8 @@ use Rattle.fk_puts.specs.Puts.{HasPut, PutsRun}
 use Rattle.fk_commands.specs.Status.{has_put_all}
 use Rattle.fk_run.specs.Theorem.{Outside}
 use Rattle.fk_run.specs.Top.{IsDue}
-use Rattle.fk_runs.specs.Runs.Entries.{given_at, IsFrom}
-use Rattle.fk_runs.specs.Runs.Entries.IsFrom.{Made, Given}
+use Rattle.fk_plays.specs.Entries.{given_at, IsFrom}
+use Rattle.fk_plays.specs.Entries.IsFrom.{Made, Given}
 use Rattle.laws_restore.specs.Rooms.Restoring.{bound_by}
 use Rattle.laws_runs.specs.Transparency.{Restored}
 use Rattle.laws_two_runs.proofs.Between.{copies_go_on}

@@ -8,10 +8,10 @@ use Rattle.fk_image.specs.declared.image.image.Image.{Image}
 use Rattle.fk_image.specs.Format.Reading.{image_reading}
 use Rattle.fk_model.specs.declared.job.JobSpec.{JobSpec}
 use Rattle.fk_model.specs.declared.job.JobSpec.TheVariants.{Restore}
-use Rattle.fk_runs.specs.Commands.Images.{unmade, needed, read_bytes, read_file, Finds, FindsImages}
-use Rattle.fk_runs.specs.Commands.Images.FindsImages.{NoJob, Found, Refused, Later}
-use Rattle.fk_runs.specs.Runs.Made.{Images}
-use Rattle.fk_runs.specs.Runs.Entries.{given_at}
+use Rattle.fk_plays.specs.Images.{unmade, needed, read_bytes, read_file, Finds, FindsImages}
+use Rattle.fk_plays.specs.Images.FindsImages.{NoJob, Found, Refused, Later}
+use Rattle.fk_plays.specs.Made.{Images}
+use Rattle.fk_plays.specs.Entries.{given_at}
 use Rattle.fk_puts.specs.Puts.{SavesImage}
 use Rattle.laws_house.specs.Houses.{maker_from}
 

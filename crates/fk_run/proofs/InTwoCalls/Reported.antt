@@ -8,13 +8,13 @@ use Rattle.fk_commands.specs.declared.outcome.Report.{Report}
 use Rattle.fk_commands.specs.declared.status.Status.{Status}
 use Rattle.fk_model.specs.declared.moves.Rule.{Rule}
 use Rattle.fk_words.specs.Commands.{Exec, Check, Run, Play, Show, Soak, Record, Replay, Page}
-use Rattle.fk_runs.proofs.Grounds.{first-begun}
-use Rattle.fk_runs.specs.Commands.Images.{FindsImages}
+use Rattle.fk_plays.proofs.Grounds.{first-begun}
+use Rattle.fk_plays.specs.Images.{FindsImages}
 use Rattle.fk_run.specs.Jobs.{MadeReportIsTransparent}
-use Rattle.fk_runs.specs.Runs.Made.{Images, IsText}
+use Rattle.fk_plays.specs.Made.{Images, IsText}
 use Rattle.fk_commands.specs.Outcomes.{IsRefused}
-use Rattle.fk_runs.specs.Commands.Play.{IsWith, IsTraced, IsPlayedBy, IsPlay, IsWholeRun}
-use Rattle.fk_runs.specs.Runs.Runs.{IsAlone, IsPlayed, IsRunFrom, IsPlayedFrom}
+use Rattle.fk_plays.specs.Play.{IsWith, IsTraced, IsPlayedBy, IsPlay, IsWholeRun}
+use Rattle.fk_plays.specs.Runs.{IsAlone, IsPlayed, IsRunFrom, IsPlayedFrom}
 use Rattle.fk_scenario.specs.declared.fields.fail.ScenarioError.{ScenarioError}
 use Rattle.fk_scenario.specs.declared.scenario.scenario.Scenario.{Scenario}
 use Rattle.fk_scenario.specs.Scenario.Reading.{scenario_reading}

@@ -1,0 +1,17 @@
+pub use Rattle.fk_runs.specs.Recordings.Again
+pub use Rattle.fk_runs.specs.Recordings.Replaying
+pub use Rattle.fk_runs.specs.Recordings.Recording
+pub use Rattle.fk_runs.specs.Recordings.Ports
+pub use Rattle.fk_runs.specs.Recordings.Posts
+pub use Rattle.fk_runs.specs.Recordings.Record
+pub use Rattle.fk_runs.specs.Recordings.Following
+pub use Rattle.fk_runs.specs.Runs.Runs
+pub use Rattle.fk_runs.specs.Runs.Entries
+pub use Rattle.fk_runs.specs.Runs.Transparency
+pub use Rattle.fk_runs.specs.Runs.Made
+pub use Rattle.fk_runs.specs.Runs.First
+pub use Rattle.fk_runs.specs.Runs.Plays
+pub use Rattle.fk_runs.specs.Runs.Cores
+pub mod Images
+pub mod Play
+pub mod Recorded
