@@ -46,8 +46,9 @@ use Rattle.fk_report.specs.declared.end.End.{End}
 use Rattle.fk_report.specs.declared.end.End.TheVariants as ends
 use Rattle.fk_report.specs.declared.job_end.JobEnd.{JobEnd}
 use Rattle.fk_report.specs.Jobs.{refused_from}
-use Rattle.fk_pages.specs.Command.{IsPageCommand, MayBePaged}
-use Rattle.fk_pages.specs.Command as pages
+use Rattle.fk_pager.specs.Pages.{MayBePaged}
+use Rattle.fk_run.specs.PageCommand.{IsPageCommand}
+use Rattle.fk_run.specs.PageCommand as pages
 use Rattle.fk_run.proofs.Due.{done-whole, held}
 use Rattle.fk_run.proofs.Transparency.{read-keeps}
 use Rattle.fk_run.specs.Complete.{AreRight, HasImage, HasImages, HasReplay, HasTrace, IsComplete, IsImageFile, IsProgram, IsRight}

@@ -17,7 +17,7 @@ use Rattle.fk_image.specs.declared.image.image.Image.{Image}
 use Rattle.fk_image.specs.Format.Reading.{image_reading}
 use Rattle.fk_model.specs.declared.job.JobSpec.{JobSpec}
 use Rattle.fk_model.specs.declared.moves.Move.{Move}
-use Rattle.fk_pages.specs.Command.{MayBePaged}
+use Rattle.fk_pager.specs.Pages.{MayBePaged}
 use Rattle.fk_plays.specs.Images.{needed, FindsImages}
 use Rattle.fk_plays.specs.Play.{IsScenario}
 use Rattle.fk_puts.specs.Puts.{HasPut}

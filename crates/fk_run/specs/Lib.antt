@@ -1,3 +1,4 @@
+pub mod PageCommand
 pub mod Top
 pub mod Made
 pub mod Again

@@ -16,7 +16,7 @@ use Rattle.fk_gen.specs.Soak.{scenario}
 use Rattle.fk_words.specs.Commands.{Command, Exec, Check, Run, Play, Show, Soak, Record, Replay, Page, reads_source}
 use Rattle.fk_commands.specs.Exec.{IsExec}
 use Rattle.fk_commands.specs.Outcomes.{IsRefused}
-use Rattle.fk_pages.specs.Command.{IsPageCommand}
+use Rattle.fk_run.specs.PageCommand.{IsPageCommand}
 use Rattle.fk_plays.specs.Play.{IsPlay, IsWholeRun, IsSoak, IsScenario, IsScenarioWithImages}
 use Rattle.fk_plays.specs.Recorded.{IsWholeRecord}
 use Rattle.fk_plays.specs.Recording.{watch_place}

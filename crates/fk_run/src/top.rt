@@ -17,13 +17,13 @@ ghost use Rattle.fk_run.specs.Top.{IsDue, GetsToShelf, has_read_all};
 ghost use Rattle.fk_words.specs.Commands.{command_of, leaves, reads_source, uses_shelf, is_shared, seen, HasCount};
 
 use crate::made::Made;
+use crate::page_command::page_command;
 use crate::source_text::source_text;
 use fk_causes::{Failed, Gate, Shelf, ShelfFail, Sink, Source, write_all};
 use fk_commands::check::check;
 use fk_commands::exec::exec;
 use fk_commands::show::show;
 use fk_commands::{Outcome, Prepared, Report, Status};
-use fk_pages::page_command;
 use fk_plays::play::play;
 use fk_plays::record_command::record_command;
 use fk_plays::replay_command::replay_command;

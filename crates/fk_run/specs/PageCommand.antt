@@ -10,8 +10,7 @@ use Rattle.fk_commands.specs.Status.{progress_of, Finished, was_cut_short}
 use Rattle.fk_extras.specs.declared.extra.Extra.{Extra}
 use Rattle.fk_extras.specs.declared.extra.Extra.TheVariants.{Paged as WasPaged}
 use Rattle.fk_extras.specs.declared.paged.Paged.{Paged}
-pub use Rattle.fk_pager.specs.Pages.{MayBePaged}
-use Rattle.fk_pager.specs.Pages.{IsPageOf}
+use Rattle.fk_pager.specs.Pages.{MayBePaged, IsPageOf}
 use Rattle.fk_report.specs.declared.end.End.{End}
 use Rattle.fk_report.specs.declared.end.End.TheVariants as ends
 use Rattle.fk_scenario.specs.declared.fields.fail.ScenarioError.{ScenarioError}

@@ -3,8 +3,8 @@ ghost use Rattle.std.specs.Prelude.{◌≡◌, ◌≤◌, IfErr};
 ghost use Rattle.fk_commands.specs.Prepared.{IsRefusal};
 ghost use Rattle.fk_commands.specs.Status.{progress_of, Finished};
 ghost use Rattle.fk_commands.specs.Tables.{rules_of};
-ghost use Rattle.fk_pages.specs.Command.{IsDone};
-ghost use Rattle.fk_pages.specs.Command as words;
+ghost use Rattle.fk_run.specs.PageCommand.{IsDone};
+ghost use Rattle.fk_run.specs.PageCommand as words;
 ghost use Rattle.fk_scenario.specs.Scenario.Reading.{scenario_reading};
 
 use fk_commands::{Prepared, Status, scenario_in};
