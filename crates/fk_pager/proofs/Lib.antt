@@ -12,7 +12,7 @@ pub mod Desked
 pub mod Left
 pub mod Alike
 pub mod Bounds
-pub mod Hides
+pub mod HiddenAlong
 pub mod Hearing
 pub mod Phases
 pub mod Rooted

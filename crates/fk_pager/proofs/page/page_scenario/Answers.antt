@@ -10,7 +10,7 @@ use Rattle.fk_pager.specs.Left.{IsQuiet}
 use Rattle.fk_pager.specs.Paged.{first_of}
 use Rattle.fk_pager.specs.Unseen.{IsBeginning}
 use Rattle.fk_pager.proofs.Booted.{all-fit, placed-first, with-jobs, not-pageable, set-low}
-use Rattle.fk_pager.proofs.Hides.{hides}
+use Rattle.fk_pager.proofs.HiddenAlong.{hides}
 use Rattle.fk_pager.proofs.page.page_scenario.Goals as goal
 
 pub returns-then-len-ne0 : goal.returns-then-len-ne0
