@@ -731,14 +731,16 @@ def wait(asked):
 
         def doing():
             fault.taker, me.faulting = me, pick
-            finish(me, answers)
+            if not asked.porter:
+                finish(me, answers)
     else:
         talk = pick.talk
         answers = (talk.port.slot, 2, talk.turn, talk.moved)
 
         def doing():
             talk.peer, me.client = me, pick
-            finish(me, answers)
+            if not asked.porter:
+                finish(me, answers)
     return Deed((), doing, answers if asked.porter else None)
 
 
@@ -1090,9 +1092,9 @@ def made_by_user(world, thread, pick):
     return doing
 
 
-def asked_by_porter(world, porter, code, arguments, given=()):
-    """What a porter's call does: a doing that gives its status and its words; nothing where it isn't ready. It picks nobody."""
-    asked = Asked(world, porter, arguments, given)
+def asked_by_porter(world, porter, code, arguments, given=(), pick=None):
+    """What a porter's call does, with this pick: a doing that gives its status and its words; nothing where it isn't ready."""
+    asked = Asked(world, porter, arguments, given, pick)
     try:
         if code in USERS_ALONE:
             raise Refused(DENIED)

@@ -5,11 +5,12 @@ A run may make its moves in any order, so what `run` writes isn't told here, but
 import functools
 import re
 
-from . import assembler, images, records, runs, scenarios, texts
+from . import assembler, images, pager, records, runs, scenarios, texts
 from .cases import Answer
 
 LENGTH = 1048576
 NAME = re.compile(r"[a-z0-9_]{1,32}")
+PLAIN = re.compile(r"0|[1-9][0-9]*")
 
 
 def answer(words, source, files):
@@ -45,6 +46,8 @@ def done(words, source, files):
         raise texts.bad_scenario(refusal) from None
     if form == "check":
         return texts.checked(scenario)
+    if form == "page":
+        return pager.paged(runs.Run(scenario), int(words[1]), int(words[2]))
     images_needed = needed(scenario, files)
     if form == "run":
         raise Runs(words[2] if len(words) > 1 else None)
@@ -61,6 +64,11 @@ def scenario_of(source):
     return scenarios.read(source)
 
 
+def is_number(word, least, most):
+    """Whether a word is one of these numbers, without a leading zero."""
+    return PLAIN.fullmatch(word) is not None and least <= int(word) <= most
+
+
 def form_of(words):
     """Which command the words are."""
     named = len(words) > 1 and NAME.fullmatch(words[-1])
@@ -68,6 +76,8 @@ def form_of(words):
         return words[0]
     if len(words) == 3 and words[0] == "record" and NAME.fullmatch(words[1]) and words[2] in ("all", "replies", "said"):
         return "record"
+    if len(words) == 3 and words[0] == "page" and is_number(words[1], 0, 239) and is_number(words[2], 2, 256):
+        return "page"
     if len(words) == 3 and words[:2] == ["run", "--trace"] and named:
         return "run"
     raise texts.usage()

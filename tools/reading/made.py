@@ -217,7 +217,7 @@ WHOLE = {
     "records-cut": records_cut,
 }
 ANSWERED = (
-    "plays", "plays-objects", "plays-memory", "plays-messages", "plays-references", "plays-states", "plays-servers", "check", "texts",
+    "page", "pagers", "plays", "plays-objects", "plays-memory", "plays-messages", "plays-references", "plays-states", "plays-servers", "check", "texts",
     "images", "images-versions", "bytes", "promises", "sends", "replays", "workers-all", "records",
 )
 NAMES = ("pieces", *ANSWERED, *WHOLE, *families.FILES)

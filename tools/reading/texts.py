@@ -13,6 +13,12 @@ def report(events, end, jobs, servers, world):
     """What `run` and `play` write."""
     lines = [f"events {events}", f"end {end}"]
     lines += [f"job {index} {job.line()}" for index, job in enumerate(jobs)]
+    return ended(lines) + outs(servers, world)
+
+
+def outs(servers, world):
+    """The lines of consoles and of user threads."""
+    lines = []
     for server in servers:
         if server.alias is not None:
             lines.append(" ".join(["out", server.alias, *map(str, server.printed)]))
@@ -96,6 +102,11 @@ def job_refused(index, output):
 def budget(number, output):
     """The budget is used."""
     return Fault(10, f"budget {number}", output)
+
+
+def not_paged():
+    """A scenario may not be paged."""
+    return Fault(15, "not paged")
 
 
 def bad_record(line):

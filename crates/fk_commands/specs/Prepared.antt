@@ -12,15 +12,15 @@ use Rattle.fk_commands.specs.declared.prepared.Prepared.{Prepared}
 use Rattle.fk_commands.specs.declared.status.Status.{Status}
 use Rattle.fk_commands.specs.declared.status.Status.TheVariants.{TooLong, BadText, BadScenario, Absent, BadImage, ReadFault, ShelfFault, NoMemory}
 use Rattle.fk_commands.specs.declared.outcome.Outcome.{Outcome}
-use Rattle.fk_commands.specs.Outcomes.{without_report}
+use Rattle.fk_commands.specs.Outcomes.{reported, without_report}
 use Rattle.fk_commands.specs.Status.{row_of, was_cut_short, progress_of, Progress, Words, Reading, Refusing, Writing, Finished}
 use Rattle.fk_commands.specs.Status.{Failed, Nothing, Source, Sink, Shelf, Memory}
 
 -- ---- for all commands
 
--- the outcome once the output is written
+-- the outcome once the output is written, of a command that comes to nothing besides a report
 abbrev pub outcome_of : Prepared → Outcome
-outcome_of run = record { status = run.status; report = run.report }
+outcome_of run = reported run.status run.report
 
 -- what is prepared has the outcome and the output that are due, and so has a refusal, unless the call was cut short
 abbrev pub ComesTo : (Outcome → List ℕ → Type 0) → Result Prepared Status → Type 0

@@ -2,7 +2,7 @@
 use Rattle.std.specs.Prelude.{ℕ, Bool, true, false, List, [], ◌++◌, codes, decimal}
 use Rattle.fk_commands.specs.declared.status.Status.{Status}
 use Rattle.fk_commands.specs.declared.status.Status.TheVariants.{Ok, Usage, TooLong, BadText, BadScenario, Absent, BadImage, BadTrace, JobRefused, Budget}
-use Rattle.fk_commands.specs.declared.status.Status.TheVariants.{ReadFault, WriteFault, ShelfFault, NoMemory, BadRecord}
+use Rattle.fk_commands.specs.declared.status.Status.TheVariants.{ReadFault, WriteFault, ShelfFault, NoMemory, NotPaged, BadRecord}
 
 -- ---- what a row says
 
@@ -73,6 +73,7 @@ row_of ReadFault = row 11 Reading Source false NoPut (codes "fluke: read fault")
 row_of WriteFault = row 12 Writing Sink true AllPuts (codes "fluke: write fault")
 row_of ShelfFault = row 13 Refusing Shelf true SomePuts (codes "fluke: shelf fault")
 row_of NoMemory = row 14 Reading Memory false SomePuts (codes "fluke: no memory")
+row_of NotPaged = row 15 Refusing Nothing false NoPut (codes "fluke: not paged")
 row_of (BadRecord line) = row 16 Refusing Nothing false NoPut (codes "fluke: bad record line " ++ decimal line)
 
 -- ---- what is read of it

@@ -1,5 +1,6 @@
 //! What a call comes to.
 use crate::status::Status;
+use fk_extras::Extra;
 use fk_history::Moves;
 use fk_model::{List as Items, Text};
 use fk_report::{End, JobEnd};
@@ -23,4 +24,6 @@ pub struct Outcome {
     /// The run, where one was made: of `run`, `play` and `soak` with the statuses `Ok`, `JobRefused`, `Budget` and `WriteFault`, and
     /// of `run` with `ShelfFault` where a put failed.
     pub report: Option<Report>,
+    /// What `page` and `migrate` come to, which have no report: with the statuses `Ok`, `JobRefused`, `Budget` and `WriteFault`.
+    pub extra: Option<Extra>,
 }

@@ -39,6 +39,8 @@ pub enum Status {
     ShelfFault,
     /// There is no memory for what was asked.
     NoMemory,
+    /// The scenario has jobs, or its subtree may not be paged.
+    NotPaged,
     /// This line of the record, counted from 1, is the first that is misspelled, names no port of a server that is no console, or
     /// names one that comes before that of an earlier line.
     BadRecord { line: u64 },
@@ -64,6 +66,7 @@ impl Status {
             Status::WriteFault => 12,
             Status::ShelfFault => 13,
             Status::NoMemory => 14,
+            Status::NotPaged => 15,
             Status::BadRecord { .. } => 16,
         }
     }
@@ -124,6 +127,7 @@ pub fn fault_line(alloc: Global, status: &Status) -> Result<String, NoMemory>
         Status::WriteFault => String::from_str(alloc, "fluke: write fault")?,
         Status::ShelfFault => String::from_str(alloc, "fluke: shelf fault")?,
         Status::NoMemory => String::from_str(alloc, "fluke: no memory")?,
+        Status::NotPaged => String::from_str(alloc, "fluke: not paged")?,
         Status::BadRecord { line } => format!(in alloc; "fluke: bad record line {line}")?,
     };
     Ok(line)

@@ -1,6 +1,8 @@
 pub use Rattle.fk_core.specs.Cores.Served
 pub use Rattle.fk_core.specs.Cores.Goings
 pub use Rattle.fk_core.specs.Cores.Cores
+pub use Rattle.fk_core.specs.Cores.Ends
+pub use Rattle.fk_core.specs.declared.cores.turns.Core
 pub use Rattle.laws_first.specs.Entries
 pub use Rattle.fk_boot.specs.Services
 pub mod First

@@ -18,6 +18,7 @@ mod seen;
 mod watching;
 
 pub use first::{first_core, first_jobs};
+pub use fk_core::Core;
 pub use lending::lend_cores;
 pub use plans::maker_of;
 pub use posts::{replaying_core, tapped_core};

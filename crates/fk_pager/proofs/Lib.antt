@@ -1,4 +1,5 @@
 pub mod Begins
+pub mod Booted
 pub mod Unseen
 pub mod Opened
 pub mod Sane
@@ -11,6 +12,7 @@ pub mod Desked
 pub mod Left
 pub mod Alike
 pub mod Bounds
+pub mod HiddenAlong
 pub mod Hearing
 pub mod Phases
 pub mod Rooted

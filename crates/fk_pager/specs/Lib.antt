@@ -11,3 +11,5 @@ pub mod Counted
 pub mod Left
 pub mod Alike
 pub mod Bounds
+pub mod Hides
+pub mod Pages

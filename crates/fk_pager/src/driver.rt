@@ -44,6 +44,8 @@ pub struct PagedRun<S: Service + Drop> {
     port: u8,
     /// Its last call was refused, since the space is held: others go first.
     held: bool,
+    /// Whose fault it took last, where nobody else has moved since: that thread goes before others, and so two pages suffice for each instruction.
+    resumed: Option<Who>,
     /// How many moves its opening has made.
     opened: u64,
     history: Vec<Move>,
@@ -69,6 +71,14 @@ fn hear(pager: &mut Pager, said: &Said) -> bool
         | Said::Full { .. }
         | Said::Over { .. }
         | Said::Ended { .. } => false,
+    }
+}
+
+/// Whose fault the pager took last, when its call had this pick.
+fn taken_last(before: Option<Who>, pick: Option<Who>) -> Option<Who> {
+    match pick {
+        Some(who) => Some(who),
+        None => before,
     }
 }
 
@@ -103,6 +113,7 @@ impl<S: Service + Drop> PagedRun<S> {
             pager,
             port,
             held: false,
+            resumed: None,
             opened: 0,
             history: Vec::new(alloc),
         })
@@ -232,8 +243,40 @@ impl<S: Service + Drop> PagedRun<S> {
         }
     }
 
-    /// A user's or a native server's move, if one is ready.
+    /// The move of the thread whose fault was taken last, if it is ready.
+    fn resumed_move(&self) -> Option<Move>
+        requires opened { is_opening (moment self.now).state.phase ≡ false }
+        ensures ready { IfSome result (λ m. IsTurnReady (desk self.now) (moment self.now) (Turn.Other m)) }
+    {
+        let who = self.resumed?;
+        self.host.kernel().names();
+        let m = Move { who, pick: None };
+        if self.host.ready(&m, &Ask::Run) {
+            Some(m)
+        } else {
+            None
+        }
+    }
+
+    /// A user's or a native server's move, if one is ready: that of the thread whose fault was taken last before others.
     fn others_move(&mut self) -> Option<Move>
+        requires opened { is_opening (moment self.old).state.phase ≡ false }
+        ensures ready { IfSome result (λ m. IsTurnReady (desk self.old) (moment self.old) (Turn.Other m)) }
+        ensures none { IfNone result (IsOtherReady (moment self.old) → ⊥) }
+        ensures moment { moment self.new ≡ moment self.old }
+        ensures pager { self.new.pager ≡ self.old.pager }
+        ensures port { self.new.port ≡ self.old.port }
+        ensures history { self.new.history ≡ self.old.history }
+        ensures opened { self.new.opened ≡ self.old.opened }
+    {
+        match self.resumed_move() {
+            Some(m) => Some(m),
+            None => self.any_others_move(),
+        }
+    }
+
+    /// A user's or a native server's move, whoever it is, if one is ready.
+    fn any_others_move(&mut self) -> Option<Move>
         requires opened { is_opening (moment self.old).state.phase ≡ false }
         ensures ready { IfSome result (λ m. IsTurnReady (desk self.old) (moment self.old) (Turn.Other m)) }
         ensures none { IfNone result (IsOtherReady (moment self.old) → ⊥) }
@@ -312,6 +355,7 @@ impl<S: Service + Drop> PagedRun<S> {
         let said = self.host.turn(table, &m, &self.pager.next())?;
         self.history.push_reserved(m);
         self.held = hear(&mut self.pager, &said);
+        self.resumed = taken_last(self.resumed, m.pick);
         if opening {
             self.opened += 1;
         }
@@ -332,6 +376,7 @@ impl<S: Service + Drop> PagedRun<S> {
         self.host.turn(table, &m, &Ask::Run)?;
         self.history.push_reserved(m);
         self.held = false;
+        self.resumed = None;
         Ok(())
     }
 

@@ -1,11 +1,12 @@
 //! A pager at work: a host whose root porter keeps pages of a subtree back, and gives each where a thread misses it.
 //!
-//! It stands on `fk_paging` for what a pager asks and becomes, on `fk_host` for a kernel with its native servers, and on `laws_filled` for why nobody sees it.
-//! It is generic in its servers.
+//! It stands on `fk_paging` for what a pager asks and becomes, on `fk_host` for a kernel with its native servers, on `laws_filled` for why nobody sees it, on
+//! `fk_boot` for what a scenario begins with, and on `fk_report` for the lines of consoles and threads. But for scenarios it is generic in its servers.
 //!
 //! It promises that a run of it is one of `specs/Runs.antt`, in which the pager picks faults of its own alone, how the run ends (`specs/Ends.antt`), and that
 //! what users and native servers do up to the first move that peeks is a run of the world in which every page is home (`specs/Unseen.antt`). `run_paged` is
-//! the whole of it in one call (`specs/Paged.antt`).
+//! the whole of it in one call (`specs/Paged.antt`). `page_scenario` is that of a scenario: nothing exactly where it has jobs or the subtree may not be paged,
+//! else a run from its first world, with its servers and its budget, and the text that tells it (`specs/Pages.antt`).
 #![tactic(auto)]
 
 ghost use Rattle.fk_pager.specs.Alike.{RunsEndAlike};
@@ -17,10 +18,13 @@ ghost use Rattle.fk_pager.specs.Left.{RunsLeaveNone};
 mod desks;
 mod driver;
 mod faults;
+mod page;
 mod paged;
+mod text;
 
 pub use desks::{Desk, desk_at, is_pageable};
 pub use driver::{PagedRun, Turn};
+pub use page::{Page, page_scenario};
 pub use paged::run_paged;
 
 /// Where a subtree may be paged and nobody has a fault, its pager may begin.

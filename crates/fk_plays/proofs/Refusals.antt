@@ -6,7 +6,7 @@ use Rattle.fk_causes.specs.Shelf.{FileMap, HasAt}
 use Rattle.fk_commands.specs.declared.prepared.Prepared.{Prepared}
 use Rattle.fk_commands.specs.declared.status.Status.{Status}
 use Rattle.fk_commands.specs.declared.status.Status.TheVariants.{Ok as Done, Usage, TooLong, BadText, BadScenario, Absent, BadImage, BadTrace, JobRefused}
-use Rattle.fk_commands.specs.declared.status.Status.TheVariants.{Budget, ReadFault, WriteFault, ShelfFault, NoMemory, BadRecord}
+use Rattle.fk_commands.specs.declared.status.Status.TheVariants.{Budget, ReadFault, WriteFault, ShelfFault, NoMemory, NotPaged, BadRecord}
 use Rattle.fk_commands.specs.Files.{record_name, trace_name}
 use Rattle.fk_commands.specs.Outcomes.{without_report, IsRefused}
 use Rattle.fk_commands.specs.Prepared.{ComesTo, IsFileFail, IsRefusal}
@@ -39,6 +39,7 @@ module _ (name : List ℕ) (files : Option FileMap) (before now : ℕ) (s : Scen
   no-trace WriteFault fail = absurd fail
   no-trace ShelfFault fail = tt
   no-trace NoMemory fail = tt
+  no-trace NotPaged fail = absurd fail
   no-trace (BadRecord line) fail = absurd fail
 
   pub trace-refusal : (status : Status) → IsTraceFail name files before now status → IsRefusal ⊥ (Rose before now) status
@@ -56,6 +57,7 @@ module _ (name : List ℕ) (files : Option FileMap) (before now : ℕ) (s : Scen
   trace-refusal WriteFault fail = fail
   trace-refusal ShelfFault fail = fail
   trace-refusal NoMemory fail = tt
+  trace-refusal NotPaged fail = tt
   trace-refusal (BadRecord line) fail = tt
 
   module _ (trace : List ℕ) (moves : List Move) (there : HasAt files (trace_name name) (Some trace)) (spells : traces.Spells (λ _ _. ⊤) trace moves) where
@@ -75,6 +77,7 @@ module _ (name : List ℕ) (files : Option FileMap) (before now : ℕ) (s : Scen
     no-record WriteFault fail = absurd fail
     no-record ShelfFault fail = tt
     no-record NoMemory fail = tt
+    no-record NotPaged fail = absurd fail
     no-record (BadRecord line) fail = absurd fail
 
     pub with-record : (bytes : List ℕ) (r : Result Prepared Status) → HasAt files (record_name name) (Some bytes)

@@ -271,6 +271,7 @@ fn put_of<H: Shelf>(
             None => Ok(()),
         },
         Command::Replay(_) => Ok(()),
+        Command::Page(..) => Ok(()),
     }
 }
 

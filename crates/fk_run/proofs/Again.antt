@@ -10,7 +10,7 @@ use Rattle.fk_commands.specs.Files.{image_name, record_name, trace_name}
 use Rattle.fk_commands.specs.declared.outcome.Report.{Report}
 use Rattle.fk_commands.specs.declared.status.Status.{Status}
 use Rattle.fk_commands.specs.declared.status.Status.TheVariants.{BadScenario, TooLong}
-use Rattle.fk_commands.specs.Outcomes.{IsRefused}
+use Rattle.fk_commands.specs.Outcomes.{reported, IsRefused}
 use Rattle.fk_image.specs.declared.image.image.Image.{Image}
 use Rattle.fk_model.specs.declared.job.JobSpec.{JobSpec}
 use Rattle.fk_plays.specs.Images.{needed, Finds, FindsImages}
@@ -61,7 +61,7 @@ module _ (these those : Option FileMap) (same : (image : List ℕ) → HasSame t
 module _ (name : List ℕ) (before later : Option FileMap) (same : (image : List ℕ) → HasSame before later (image_name image)) (status : Status)
     (text : List ℕ) where
   by_itself : (report : Option Report) (s : Scenario) (given : Images) → HasTrace name report later → IfSome report (λ r. All IsMove r.history)
-      → IsRunFrom s given (record { status = status; report = report }) text → IsPlayedBy name later s given (record { status = status; report = report }) text
+      → IsRunFrom s given (reported status report) text → IsPlayedBy name later s given (reported status report) text
   by_itself None s given has small is = absurd is.ran
   by_itself (Some report) s given has small is = (
     Some (trace_text report.history),
@@ -70,14 +70,14 @@ module _ (name : List ℕ) (before later : Option FileMap) (same : (image : List
   )
 
   with_ : (report : Option Report) (s : Scenario) (found : Result Images Status) → HasTrace name report later → IfSome report (λ r. All IsMove r.history)
-      → IsWith (IsRunFrom s) found (record { status = status; report = report }) text
-      → IsWith (IsPlayedBy name later s) found (record { status = status; report = report }) text
+      → IsWith (IsRunFrom s) found (reported status report) text
+      → IsWith (IsPlayedBy name later s) found (reported status report) text
   with_ report s (Err refusal) has small is = is
   with_ report s (Ok given) has small is = by_itself report s given has small is
 
   read : (report : Option Report) → HasTrace name report later → IfSome report (λ r. All IsMove r.history) → (reading : Result Scenario ScenarioError)
-      → IsWholeRun before reading (record { status = status; report = report }) text
-      → IsPlay name later reading (record { status = status; report = report }) text
+      → IsWholeRun before reading (reported status report) text
+      → IsPlay name later reading (reported status report) text
   read report has small (Err e) is = is
   read report has small (Ok s) is = record {
     found = is.found;
@@ -86,10 +86,10 @@ module _ (name : List ℕ) (before later : Option FileMap) (same : (image : List
   }
 
   unless_long : (report : Option Report) → HasTrace name report later → IfSome report (λ r. All IsMove r.history) → (reading : Result Scenario ScenarioError)
-      → (b : Bool) → MatchBool b (IsRefused TooLong (record { status = status; report = report }) text)
-      (IsWholeRun before reading (record { status = status; report = report }) text)
-      → MatchBool b (IsRefused TooLong (record { status = status; report = report }) text)
-      (IsPlay name later reading (record { status = status; report = report }) text)
+      → (b : Bool) → MatchBool b (IsRefused TooLong (reported status report) text)
+      (IsWholeRun before reading (reported status report) text)
+      → MatchBool b (IsRefused TooLong (reported status report) text)
+      (IsPlay name later reading (reported status report) text)
   unless_long report has small reading true is = is
   unless_long report has small reading false is = read report has small reading is
 
@@ -118,10 +118,10 @@ module _ (rules : Rules) (name : List ℕ) (watch : ℕ) (sees : (watch ≡ 0) �
     (recorded : report.recorded ≡ Some told) (has_trace : HasAt later (trace_name name) (Some (trace_text report.history)))
     (has_record : HasAt later (record_name name) (Some told)) (small : All IsMove report.history) where
   abbrev before-it : Outcome
-  before-it = record { status = status; report = Some report }
+  before-it = reported status (Some report)
 
   abbrev behind-it : Outcome
-  behind-it = record { status = status; report = Some (without_record report) }
+  behind-it = reported status (Some (without_record report))
 
   -- a run is no refusal
   no-refusal : (refusal : Status) → IsRefused refusal before-it text → ⊥

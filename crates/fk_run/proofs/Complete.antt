@@ -13,13 +13,13 @@ use Rattle.fk_causes.specs.Shelf.{FileMap}
 use Rattle.fk_commands.specs.Check.{IsCheck}
 use Rattle.fk_commands.specs.declared.outcome.Outcome.{Outcome}
 use Rattle.fk_commands.specs.declared.outcome.Report.{Report}
-use Rattle.fk_commands.specs.declared.prepared.Prepared.{Prepared}
 use Rattle.fk_commands.specs.declared.status.Status.{Status}
 use Rattle.fk_commands.specs.declared.status.Status.TheVariants.{Ok as Done, Usage, TooLong, BadText, BadScenario, Absent, BadImage}
 use Rattle.fk_commands.specs.declared.status.Status.TheVariants.{BadTrace, JobRefused, Budget, ReadFault, WriteFault, ShelfFault, NoMemory}
 use Rattle.fk_commands.specs.Exec.{IsExec, status_of_run, state_after}
 use Rattle.fk_commands.specs.Outcomes.{IsRefused, without_report}
-use Rattle.fk_commands.specs.Prepared.{ComesTo, IsRefusal, IsRefusedAt, outcome_of}
+use Rattle.fk_commands.specs.declared.prepared.Prepared.{Prepared}
+use Rattle.fk_commands.specs.Prepared.{ComesTo, IsRefusal, IsRefusedAt}
 use Rattle.fk_commands.specs.Show.{IsFileShown, IsShown}
 use Rattle.fk_commands.specs.Status.{row_of, progress_of, Progress, Words, Reading, Refusing, Writing, Finished, Failed, was_cut_short}
 use Rattle.fk_commands.specs.Status.{has_put_all, has_put_none}
@@ -46,11 +46,16 @@ use Rattle.fk_report.specs.declared.end.End.{End}
 use Rattle.fk_report.specs.declared.end.End.TheVariants as ends
 use Rattle.fk_report.specs.declared.job_end.JobEnd.{JobEnd}
 use Rattle.fk_report.specs.Jobs.{refused_from}
+use Rattle.fk_pager.specs.Pages.{MayBePaged}
+use Rattle.fk_run.specs.PageCommand.{IsPageCommand}
+use Rattle.fk_run.specs.PageCommand as pages
 use Rattle.fk_run.proofs.Due.{done-whole, held}
 use Rattle.fk_run.proofs.Transparency.{read-keeps}
 use Rattle.fk_run.specs.Complete.{AreRight, HasImage, HasImages, HasReplay, HasTrace, IsComplete, IsImageFile, IsProgram, IsRight}
 use Rattle.fk_run.specs.Complete.{IsRecordFile, IsReplayFile, IsScenarioWith, IsTraceFile, IsWhole}
 use Rattle.fk_commands.specs.Tables.{Rules}
+use Rattle.fk_run.specs.declared.made.Made.{Made}
+use Rattle.fk_run.specs.Made.{MadeComesTo, outcome_of}
 use Rattle.fk_run.specs.Top.{IsUnlessTooLong, IsCalledFor, IsDue, IsDone}
 use Rattle.fk_plays.specs.Made.{Images, status_of_refused, status_of_end}
 use Rattle.fk_plays.specs.Runs.{begun, IsAlone, IsPlayed, IsRunFrom}
@@ -62,7 +67,7 @@ use Rattle.fk_trace_text.proofs.Traces.{Spells-not_bad}
 use Rattle.fk_plays.specs.Posts.{all_replaying}
 use Rattle.fk_trace_text.specs.Trace.{Spells}
 use Rattle.fk_plays.specs.Following.{core_with}
-use Rattle.fk_words.specs.Commands.{Command, Exec, Check, Run, Play, Show, Soak, Record, Replay, leaves}
+use Rattle.fk_words.specs.Commands.{Command, Exec, Check, Run, Play, Show, Soak, Record, Replay, Page, leaves}
 
 -- ---- how what is done ends
 
@@ -75,6 +80,12 @@ run-ends budget jobs ends.Halted = refused-ends (refused_from 0 jobs)
 run-ends budget jobs ends.Quiet = refused-ends (refused_from 0 jobs)
 run-ends budget jobs ends.Budget = refl
 run-ends budget jobs ends.Listed = refused-ends (refused_from 0 jobs)
+
+page-ends : (end : End) (budget : ℕ) → progress_of (pages.status_of end budget) ≡ Finished
+page-ends ends.Halted budget = refl
+page-ends ends.Quiet budget = refl
+page-ends ends.Budget budget = refl
+page-ends ends.Listed budget = refl
 
 exec-ends : (code : Option ℕ) → progress_of (status_of_run code) ≡ Finished
 exec-ends (Some code) = refl
@@ -240,6 +251,15 @@ module _ (outcome : Outcome) (text : List ℕ) where
   soak count (Err error) right is = let same : Err error ≡ Ok right.0 = right.1 in absurd (cc)
   soak count (Ok s) right is = alone-ends _ s.jobs [] is.first s.budget outcome.status outcome.report text is.ran
 
+  paged : (slot room : ℕ) (reading : Result Scenario ScenarioError) → IsScenarioWith (MayBePaged slot) reading → IsPageCommand slot room reading outcome text
+      → progress_of outcome.status ≡ Finished
+  paged slot room (Err error) right is = let same : Err error ≡ Ok right.0 = right.1 in absurd (cc)
+  paged slot room (Ok s) right (inl refused) =
+      let read : Ok s ≡ Ok right.0 = right.1 in
+      let same : s ≡ right.0 = cc in
+      absurd (refused.0 (subst (MayBePaged slot) (sym same) right.2))
+  paged slot room (Ok s) right (inr (p, same, is)) = rw same (page-ends p.end s.budget)
+
   -- each command
   called : (rules : Rules) (command : Option Command) (files : Option FileMap) (bytes : List ℕ) → IsRight rules command files bytes
       → IsCalledFor rules command files bytes outcome text → progress_of outcome.status ≡ Finished
@@ -259,6 +279,8 @@ module _ (outcome : Outcome) (text : List ℕ) where
   called rules (Some (Replay name)) files bytes right is =
       replay name files (scenario_reading rules bytes) (λ s reading. read-keeps rules bytes s reading) right.1
       (unless-long bytes (IsReplay name files (scenario_reading rules bytes)) right.0 is)
+  called rules (Some (Page slot room)) files bytes right is =
+      paged slot room (scenario_reading rules bytes) right.1 (unless-long bytes (IsPageCommand slot room (scenario_reading rules bytes)) right.0 is)
 
   -- whatever the source may have held
   pub due-ends : (rules : Rules) (command : Option Command) (left : Option (List ℕ)) (files : Option FileMap) → AreRight rules command left files
@@ -305,9 +327,10 @@ module _ (rules : Rules) (command : Option Command) (left : Option (List ℕ)) (
       λ right. by-status outcome right no_read no_write no_shelf outcome.status refl done put
 
   -- the same of one that came to its end
-  pub complete-finished : (run : Prepared) (outcome : Outcome) (AtSink AtPuts : Type 0)
-      → IsDue rules command left files (outcome_of run) (string_bytes run.output)
-      → OnFalse (was_cut_short outcome.status) (outcome ≡ outcome_of run) → OnFalse (was_cut_short outcome.status) (Appends old new (string_bytes run.output))
+  pub complete-finished : (run : Made) (outcome : Outcome) (AtSink AtPuts : Type 0)
+      → IsDue rules command left files (outcome_of run) (string_bytes run.prepared.output)
+      → OnFalse (was_cut_short outcome.status) (outcome ≡ outcome_of run)
+      → OnFalse (was_cut_short outcome.status) (Appends old new (string_bytes run.prepared.output))
       → OnTrue (has_put_all outcome.status) (HasPut (leaves command) outcome.report files now) → OnTrue (has_put_none outcome.status) ⊥
       → (outcome.status ≡ WriteFault → AtSink) → (outcome.status ≡ ShelfFault → AtPuts) → (AtSink → ⊥) → (AtPuts → ⊥)
       → IsComplete rules command left files now old new outcome
@@ -359,27 +382,39 @@ no-words rules command none left files now old new outcome = λ right.
 pub not-since : (before between now : ℕ) → between ≡ before → (Rose before now → ⊥) → Rose between now → ⊥
 not-since before between now same never rose = never (subst (λ (count : ℕ). Rose count now) same rose)
 
+-- what is prepared of a command that comes to nothing besides a report
+pub plain-Ok : (rules : Rules) (own : Command) (left : Option (List ℕ)) (files : Option FileMap) (r : Result Prepared Status) (run : Prepared) → r ≡ Ok run
+    → ComesTo (IsDue rules (Some own) left files) r → MadeComesTo (IsDue rules (Some own) left files) (Ok (record { prepared = run; extra = None }))
+plain-Ok rules own left files r run ok comes = subst (λ (r : Result Prepared Status). ComesTo (IsDue rules (Some own) left files) r) ok comes
+
+pub plain-Err : (rules : Rules) (own : Command) (left : Option (List ℕ)) (files : Option FileMap) (r : Result Prepared Status) (status : Status)
+    → r ≡ Err status → ComesTo (IsDue rules (Some own) left files) r → MadeComesTo (IsDue rules (Some own) left files) (Err status)
+plain-Err rules own left files r status err comes = subst (λ (r : Result Prepared Status). ComesTo (IsDue rules (Some own) left files) r) err comes
+
+pub plain-refusal : (Why : Status → Type 0) (r : Result Prepared Status) (status : Status) → r ≡ Err status → IfErr r Why → Why status
+plain-refusal Why r status err why = subst (λ (r : Result Prepared Status). IfErr r Why) err why
+
 -- a call of a command that was prepared
 pub complete-Ok : (rules : Rules) (command : Option Command) (own : Command) (left : Option (List ℕ)) (files between now : Option FileMap)
-    (old new : Option (List ℕ)) (r : Result Prepared Status) (run : Prepared) (outcome : Outcome) (AtSink AtPuts : Type 0) → r ≡ Ok run
-    → ComesTo (IsDue rules (Some own) left files) r → OnFalse (was_cut_short outcome.status) (outcome ≡ outcome_of run)
-    → OnFalse (was_cut_short outcome.status) (Appends old new (string_bytes run.output)) → between ≡ files
+    (old new : Option (List ℕ)) (r : Result Made Status) (run : Made) (outcome : Outcome) (AtSink AtPuts : Type 0) → r ≡ Ok run
+    → MadeComesTo (IsDue rules (Some own) left files) r → OnFalse (was_cut_short outcome.status) (outcome ≡ outcome_of run)
+    → OnFalse (was_cut_short outcome.status) (Appends old new (string_bytes run.prepared.output)) → between ≡ files
     → OnTrue (has_put_all outcome.status) (HasPut (leaves (Some own)) outcome.report between now) → OnTrue (has_put_none outcome.status) ⊥
     → (outcome.status ≡ WriteFault → AtSink) → (outcome.status ≡ ShelfFault → AtPuts) → (AtSink → ⊥) → (AtPuts → ⊥) → command ≡ Some own
     → IsComplete rules command left files now old new outcome
 complete-Ok rules command own left files between now old new r run outcome AtSink AtPuts ok comes same written kept put none sunk unput no_sunk no_unput is =
-    let due = subst (λ (r : Result Prepared Status). ComesTo (IsDue rules (Some own) left files) r) ok comes in
+    let due = subst (λ (r : Result Made Status). MadeComesTo (IsDue rules (Some own) left files) r) ok comes in
     let put_since = subst (λ (f : Option FileMap). OnTrue (has_put_all outcome.status) (HasPut (leaves (Some own)) outcome.report f now)) kept put in
     subst (λ (c : Option Command). IsComplete rules c left files now old new outcome) (sym is)
     (complete-finished rules (Some own) left files now old new run outcome AtSink AtPuts due.0 same written put_since none sunk unput no_sunk no_unput)
 
 -- and of one that wasn't
 pub complete-Err : (rules : Rules) (command : Option Command) (own : Command) (left : Option (List ℕ)) (files now : Option FileMap) (old new : Option (List ℕ))
-    (r : Result Prepared Status) (status : Status) (AtSource AtShelf : Type 0) → r ≡ Err status → ComesTo (IsDue rules (Some own) left files) r
+    (r : Result Made Status) (status : Status) (AtSource AtShelf : Type 0) → r ≡ Err status → MadeComesTo (IsDue rules (Some own) left files) r
     → IfErr r (IsRefusal AtSource AtShelf) → (AtSource → ⊥) → (AtShelf → ⊥) → command ≡ Some own
     → IsComplete rules command left files now old new (without_report status)
 complete-Err rules command own left files now old new r status AtSource AtShelf err comes refusal no_read no_get is =
-    let due = subst (λ (r : Result Prepared Status). ComesTo (IsDue rules (Some own) left files) r) err comes in
-    let why = subst (λ (r : Result Prepared Status). IfErr r (IsRefusal AtSource AtShelf)) err refusal in
+    let due = subst (λ (r : Result Made Status). MadeComesTo (IsDue rules (Some own) left files) r) err comes in
+    let why = subst (λ (r : Result Made Status). IfErr r (IsRefusal AtSource AtShelf)) err refusal in
     subst (λ (c : Option Command). IsComplete rules c left files now old new (without_report status)) (sym is)
     (complete-refused rules (Some own) left files now old new status AtSource AtShelf due why no_read no_get)

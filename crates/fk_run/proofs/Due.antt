@@ -8,11 +8,14 @@ use Rattle.fk_causes.specs.Shelf.{FileMap}
 use Rattle.fk_commands.specs.declared.prepared.Prepared.{Prepared}
 use Rattle.fk_commands.specs.declared.status.Status.{Status}
 use Rattle.fk_commands.specs.declared.status.Status.TheVariants.{Usage}
-use Rattle.fk_words.specs.Commands.{Command, Show, Soak, Files, NoFiles, RunFiles, RecordFiles}
+use Rattle.fk_words.specs.Commands.{Command, Show, Soak, Files, NoFiles, RunFiles, RecordFiles, seen}
+use Rattle.fk_words.specs.declared.command.Command as code
+use Rattle.fk_words.specs.declared.command.Command.TheVariants as variants
 use Rattle.fk_commands.specs.Outcomes.{without_report}
 use Rattle.fk_commands.specs.declared.outcome.Outcome.{Outcome}
 use Rattle.fk_commands.specs.declared.outcome.Report.{Report}
-use Rattle.fk_commands.specs.Prepared.{ComesTo, IsRefusal, IsRefusedAt, IsCaused, outcome_of}
+use Rattle.fk_extras.specs.declared.extra.Extra.{Extra}
+use Rattle.fk_commands.specs.Prepared.{ComesTo, IsRefusal, IsRefusedAt, IsCaused}
 use Rattle.fk_commands.specs.Status.{row_of, progress_of, Progress, Words, Reading, Refusing, Writing, Finished, was_cut_short}
 use Rattle.fk_commands.specs.Status.{Failed, Nothing, Source, Sink, Shelf, Memory}
 use Rattle.fk_commands.specs.Tables.{Rules}
@@ -22,6 +25,8 @@ use Rattle.fk_gen.specs.Soak.{scenario}
 use Rattle.fk_plays.specs.Play.{IsSoak}
 use Rattle.fk_scenario.specs.Scenario.Reading.{scenario_reading}
 use Rattle.fk_puts.specs.Puts.{HasPutSome}
+use Rattle.fk_run.specs.declared.made.Made.{Made}
+use Rattle.fk_run.specs.Made.{has_extra, outcome_of}
 use Rattle.fk_run.specs.Top.{IsDue, IsDone, IsCutOff, HasFailed, GetsToShelf}
 
 -- what a source may hold: what it tells, or else anything
@@ -83,41 +88,51 @@ puts_nothing NoFiles old new same = same
 puts_nothing (RunFiles trace) old new same = same
 puts_nothing (RecordFiles name) old new same = same
 
-module _ (rules : Rules) (command : Option Command) (left : Option (List ℕ)) (files : Option FileMap) (run : Prepared) (outcome : Outcome) where
+module _ (rules : Rules) (command : Option Command) (left : Option (List ℕ)) (files : Option FileMap) (run : Made) (outcome : Outcome) where
+  abbrev output : List ℕ
+  output = string_bytes run.prepared.output
+
   -- what is prepared is due, and was done whole
-  pub done-whole : (old new : Option (List ℕ)) → IsDue rules command left files (outcome_of run) (string_bytes run.output)
-      → OnFalse (was_cut_short outcome.status) (outcome ≡ outcome_of run) → OnFalse (was_cut_short outcome.status) (Appends old new (string_bytes run.output))
+  pub done-whole : (old new : Option (List ℕ)) → IsDue rules command left files (outcome_of run) output
+      → OnFalse (was_cut_short outcome.status) (outcome ≡ outcome_of run) → OnFalse (was_cut_short outcome.status) (Appends old new output)
       → OnFalse (was_cut_short outcome.status) (IsDone rules command left files old new outcome)
   done-whole old new due same written = by (was_cut_short outcome.status) same written
     where
-      by : (b : Bool) → OnFalse b (outcome ≡ outcome_of run) → OnFalse b (Appends old new (string_bytes run.output))
-          → OnFalse b (IsDone rules command left files old new outcome)
+      by : (b : Bool) → OnFalse b (outcome ≡ outcome_of run) → OnFalse b (Appends old new output) → OnFalse b (IsDone rules command left files old new outcome)
       by true same written = tt
       by false same written = record {
-        text = string_bytes run.output;
-        due = subst (λ (o : Outcome). IsDue rules command left files o (string_bytes run.output)) (sym same) due;
+        text = output;
+        due = subst (λ (o : Outcome). IsDue rules command left files o output) (sym same) due;
         written = written;
       }
 
-  but-for-status : IsDue rules command left files (outcome_of run) (string_bytes run.output) → outcome.report ≡ run.report
-      → IsDue rules command left files (record outcome { status = run.status }) (string_bytes run.output)
+  -- the outcome is that but for its status
+  abbrev IsAlike : Type 0
+  IsAlike = (outcome.report ≡ run.prepared.report) × (outcome.extra ≡ run.extra)
+
+  abbrev so-far : Option Report → Option Extra → Outcome
+  so-far report extra = record { status = run.prepared.status; report = report; extra = extra }
+
+  but-for-status : IsDue rules command left files (outcome_of run) output → IsAlike
+      → IsDue rules command left files (record outcome { status = run.prepared.status }) output
   but-for-status due same =
-      subst (λ (r : Option Report). IsDue rules command left files (record { status = run.status; report = r }) (string_bytes run.output)) (sym same) due
+      subst (λ (extra : Option Extra). IsDue rules command left files (so-far outcome.report extra) output) (sym same.1)
+      (subst (λ (report : Option Report). IsDue rules command left files (so-far report run.extra) output) (sym same.0) due)
 
   -- or up to the writing
-  pub done-front : (old new : Option (List ℕ)) → IsDue rules command left files (outcome_of run) (string_bytes run.output) → progress_of run.status ≡ Finished
-      → outcome.report ≡ run.report → AppendsPrefix old new (string_bytes run.output) → IsCutOff rules command left files old new outcome
+  pub done-front : (old new : Option (List ℕ)) → IsDue rules command left files (outcome_of run) output → progress_of run.prepared.status ≡ Finished → IsAlike
+      → AppendsPrefix old new output → IsCutOff rules command left files old new outcome
   done-front old new due finished same written = record {
-    status = run.status;
+    status = run.prepared.status;
     finished = finished;
-    text = string_bytes run.output;
+    text = output;
     due = but-for-status due same;
     written = written;
   }
 
   -- or up to a put
-  pub unput : (gets_before gets_now puts_before puts_now : ℕ) → IsDue rules command left files (outcome_of run) (string_bytes run.output)
-      → progress_of run.status ≡ Finished → outcome.report ≡ run.report → IsSome outcome.report → Rose puts_before puts_now
+  pub unput : (gets_before gets_now puts_before puts_now : ℕ) → IsDue rules command left files (outcome_of run) output
+      → progress_of run.prepared.status ≡ Finished → IsAlike → IsSome outcome.report → Rose puts_before puts_now
       → HasFailed gets_before gets_now puts_before puts_now rules command left files outcome outcome.report
   unput gb gn pb pn due finished same some rose = by outcome.report some
     where
@@ -125,5 +140,17 @@ module _ (rules : Rules) (command : Option Command) (left : Option (List ℕ)) (
       by None some = absurd (cc)
       by (Some report) some = (
         rose,
-        record { status = run.status; finished = finished; text = string_bytes run.output; due = but-for-status due same },
+        record { status = run.prepared.status; finished = finished; text = output; due = but-for-status due same },
       )
+
+-- a command that isn't `page` comes to a report at most
+pub no-extra : (command : code.Command) → ((slot room : ℕ) → command ≡ variants.Page slot room → ⊥) → has_extra (seen command) ≡ false
+no-extra variants.Exec other = refl
+no-extra variants.Check other = refl
+no-extra (variants.Run trace) other = refl
+no-extra (variants.Play name) other = refl
+no-extra (variants.Show name) other = refl
+no-extra (variants.Soak count) other = refl
+no-extra (variants.Record name watch) other = refl
+no-extra (variants.Replay name) other = refl
+no-extra (variants.Page slot room) other = absurd (other slot room refl)

@@ -17,6 +17,7 @@ use Rattle.fk_image.specs.declared.image.image.Image.{Image}
 use Rattle.fk_image.specs.Format.Reading.{image_reading}
 use Rattle.fk_model.specs.declared.job.JobSpec.{JobSpec}
 use Rattle.fk_model.specs.declared.moves.Move.{Move}
+use Rattle.fk_pager.specs.Pages.{MayBePaged}
 use Rattle.fk_plays.specs.Images.{needed, FindsImages}
 use Rattle.fk_plays.specs.Play.{IsScenario}
 use Rattle.fk_puts.specs.Puts.{HasPut}
@@ -33,7 +34,7 @@ use Rattle.fk_scenario.specs.declared.scenario.scenario.Scenario.{Scenario}
 use Rattle.fk_scenario.specs.Scenario.Reading.{scenario_reading}
 use Rattle.fk_scenario.specs.declared.fields.fail.ScenarioError.{ScenarioError}
 use Rattle.fk_trace_text.specs.Trace.{Spells}
-use Rattle.fk_words.specs.Commands.{Command, Exec, Check, Run, Play, Show, Soak, Record, Replay, leaves}
+use Rattle.fk_words.specs.Commands.{Command, Exec, Check, Run, Play, Show, Soak, Record, Replay, Page, leaves}
 
 -- ---- what is needed is there
 
@@ -103,6 +104,7 @@ IsRight rules (Some (Record name watch)) files bytes =
     (length bytes ≤ LIMIT) × IsScenarioWith (λ s. HasImages files [] s.jobs) (scenario_reading rules bytes)
 IsRight rules (Some (Replay name)) files bytes =
     (length bytes ≤ LIMIT) × IsScenarioWith (λ s. HasImages files [] s.jobs × HasReplay files name s) (scenario_reading rules bytes)
+IsRight rules (Some (Page slot room)) files bytes = (length bytes ≤ LIMIT) × IsScenarioWith (MayBePaged slot) (scenario_reading rules bytes)
 
 -- whatever bytes the source may hold are right for the command
 abbrev pub AreRight : Rules → Option Command → Option (List ℕ) → Option FileMap → Type 0

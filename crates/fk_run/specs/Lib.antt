@@ -1,4 +1,6 @@
+pub mod PageCommand
 pub mod Top
+pub mod Made
 pub mod Again
 pub mod Jobs
 pub mod Complete

@@ -94,6 +94,7 @@ pub record CameSoFar {R W H : Type 0} (command : Option Command) (before after :
   pub all_read : OnTrue (has_read_all command outcome.status) (IsAtEnd after.left)
   pub nothing : OnTrue (has_written_nothing outcome.status) (Keeps before.written after.written)
   pub no_report : OnFalse (may_report outcome.status) (outcome.report ≡ None)
+  pub no_extra : OnFalse (may_report outcome.status) (outcome.extra ≡ None)
 
 -- ---- 6. Files: a run's images, its trace and its record are put, all other files are as before, and the trace plays again, by the record too
 

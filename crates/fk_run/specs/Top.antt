@@ -13,9 +13,10 @@ use Rattle.fk_commands.specs.declared.outcome.Report.{Report}
 use Rattle.fk_commands.specs.declared.outcome.Outcome.{Outcome}
 use Rattle.fk_commands.specs.Check.{IsCheck}
 use Rattle.fk_gen.specs.Soak.{scenario}
-use Rattle.fk_words.specs.Commands.{Command, Exec, Check, Run, Play, Show, Soak, Record, Replay, reads_source}
+use Rattle.fk_words.specs.Commands.{Command, Exec, Check, Run, Play, Show, Soak, Record, Replay, Page, reads_source}
 use Rattle.fk_commands.specs.Exec.{IsExec}
 use Rattle.fk_commands.specs.Outcomes.{IsRefused}
+use Rattle.fk_run.specs.PageCommand.{IsPageCommand}
 use Rattle.fk_plays.specs.Play.{IsPlay, IsWholeRun, IsSoak, IsScenario, IsScenarioWithImages}
 use Rattle.fk_plays.specs.Recorded.{IsWholeRecord}
 use Rattle.fk_plays.specs.Recording.{watch_place}
@@ -40,6 +41,7 @@ IsCalledFor rules (Some (Soak count)) files bytes outcome text = IsSoak count (s
 IsCalledFor rules (Some (Record name watch)) files bytes outcome text =
     IsUnlessTooLong bytes (IsWholeRecord (watch_place watch) files (scenario_reading rules bytes)) outcome text
 IsCalledFor rules (Some (Replay name)) files bytes outcome text = IsUnlessTooLong bytes (IsReplay name files (scenario_reading rules bytes)) outcome text
+IsCalledFor rules (Some (Page slot room)) files bytes outcome text = IsUnlessTooLong bytes (IsPageCommand slot room (scenario_reading rules bytes)) outcome text
 
 -- what a command calls for over some bytes that the source may hold: where it tells its bytes, these
 pub record IsDue (rules : Rules) (command : Option Command) (left : Option (List ℕ)) (files : Option FileMap) (outcome : Outcome) (text : List ℕ) : Type 0 where
@@ -83,6 +85,7 @@ AsksShelf rules (Some (Show name)) bytes = ⊤
 AsksShelf rules (Some (Soak count)) bytes = ⊥
 AsksShelf rules (Some (Record name watch)) bytes = (length bytes ≤ LIMIT) × IsScenarioWithImages (scenario_reading rules bytes)
 AsksShelf rules (Some (Replay name)) bytes = (length bytes ≤ LIMIT) × IsScenario (scenario_reading rules bytes)
+AsksShelf rules (Some (Page slot room)) bytes = ⊥
 
 -- whether a command gets to the shelf over some bytes that the source may hold
 abbrev pub GetsToShelf : Rules → Option Command → Option (List ℕ) → Type 0

@@ -1,8 +1,8 @@
 //! The top call: the words of the command line, the bytes of a source and the files of a shelf in, a
 //! text and an outcome out.
 //!
-//! `top` finds the command in the words (`fk_words`), reads the source where the command reads it (`source_text`), lets `fk_commands` or
-//! `fk_plays` prepare its outcome and its output, has what a run leaves put on the shelf (`fk_puts`), and alone writes and answers.
+//! `top` finds the command in the words (`fk_words`), reads the source where the command reads it (`source_text`), lets `fk_commands`,
+//! `fk_plays` or, for `page`, `page_command` prepare its outcome and its output, has what a run leaves put on the shelf (`fk_puts`), and alone writes and answers.
 //!
 //! It stands on these for all that a command does, and on `fk_causes` for the source, the sink and the shelf.
 //!
@@ -14,6 +14,8 @@
 //! stands on `laws_two_runs`.
 #![tactic(auto)]
 
+mod made;
+mod page_command;
 mod source_text;
 mod top;
 mod two_calls;

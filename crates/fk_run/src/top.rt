@@ -5,16 +5,19 @@ ghost use Rattle.std.specs.Io.KnownBytes.{Appends, IsAtEnd, Keeps};
 ghost use Rattle.fk_causes.specs.Causes.{AppendsPrefix, Rose, StandsUnless};
 ghost use Rattle.fk_causes.specs.Shelf.{is_failed};
 ghost use Rattle.fk_causes.specs.declared.shelf.ShelfFail.TheVariants as fails;
-ghost use Rattle.fk_commands.specs.Prepared.{ComesTo, IsRefusal, outcome_of};
+ghost use Rattle.fk_commands.specs.Prepared.{ComesTo, IsRefusal};
 ghost use Rattle.fk_commands.specs.Status.{progress_of, Finished, was_cut_short, has_written_nothing, may_report, has_put_all, has_put_none};
 ghost use Rattle.fk_commands.specs.Status.{is_read_fault, is_write_fault, is_shelf_fault};
 ghost use Rattle.fk_commands.specs.Tables.{Rules, rules_of};
 ghost use Rattle.fk_puts.specs.Puts.{HasPut, HasPutSome, KeepsFiles};
 ghost use Rattle.fk_run.specs.Again.{PlaysAgain};
+ghost use Rattle.fk_run.specs.Made.{MadeComesTo, has_extra, outcome_of};
 ghost use Rattle.fk_run.specs.Theorem.{Theorem, outside};
 ghost use Rattle.fk_run.specs.Top.{IsDue, GetsToShelf, has_read_all};
 ghost use Rattle.fk_words.specs.Commands.{command_of, leaves, reads_source, uses_shelf, is_shared, seen, HasCount};
 
+use crate::made::Made;
+use crate::page_command::page_command;
 use crate::source_text::source_text;
 use fk_causes::{Failed, Gate, Shelf, ShelfFail, Sink, Source, write_all};
 use fk_commands::check::check;
@@ -33,7 +36,7 @@ use std::alloc::Global;
 use std::sync::Wait;
 use std::thread::Threads;
 
-/// Does all of a command that no workers share but the puts and the writing.
+/// Does all of a command that no workers share, and that comes to nothing besides a report, but the puts and the writing.
 ///
 /// # Errors
 ///
@@ -46,6 +49,7 @@ fn prepare_alone<R: Source, H: Shelf>(
     shelf: &mut H,
 ) -> Result<Prepared, Status>
     requires alone { is_shared (Some (seen command)) ≡ false }
+    requires plain { has_extra (seen command) ≡ false }
     ensures comes { ComesTo (IsDue (rules_of table.now) (Some (seen command.entry)) (R.left source.old) (H.files shelf.old)) result }
     ensures refusal { IfErr result (IsRefusal (Rose (R.faults source.old) (R.faults source.new))
         (Rose (H.failed_gets shelf.old) (H.failed_gets shelf.new)
@@ -70,8 +74,60 @@ fn prepare_alone<R: Source, H: Shelf>(
         Command::Replay(name) => {
             replay_command(alloc, table, name, &source_text(alloc, source)?, shelf)
         }
+        Command::Page(..) => unreachable!(),
         Command::Run(_) => unreachable!(),
         Command::Soak(_) => unreachable!(),
+    }
+}
+
+/// Does all of a command that no workers share but the puts and the writing.
+///
+/// # Errors
+///
+/// Why there is nothing to write.
+fn make_alone<R: Source, H: Shelf>(
+    alloc: Global,
+    command: Command<'_>,
+    table: &Table,
+    source: &mut R,
+    shelf: &mut H,
+) -> Result<Made, Status>
+    requires alone { is_shared (Some (seen command)) ≡ false }
+    requires count { HasCount (seen command) }
+    ensures comes { MadeComesTo (IsDue (rules_of table.now) (Some (seen command.entry)) (R.left source.old) (H.files shelf.old)) result }
+    ensures refusal { IfErr result (IsRefusal (Rose (R.faults source.old) (R.faults source.new))
+        (Rose (H.failed_gets shelf.old) (H.failed_gets shelf.new)
+        × GetsToShelf (rules_of table.now) (Some (seen command.entry)) (R.left source.old))) }
+    ensures kept_reads { StandsUnless is_read_fault (R.faults source.old) (R.faults source.new) result }
+    ensures kept_gets { StandsUnless is_shelf_fault (H.failed_gets shelf.old) (H.failed_gets shelf.new) result }
+    ensures all_read { OnOk result (OnTrue (reads_source (Some (seen command.entry))) (IsAtEnd (R.left source.new))) }
+    ensures all_read_before { IfErr result (λ status. OnTrue (has_read_all (Some (seen command.entry)) status) (IsAtEnd (R.left source.new))) }
+    ensures source { OnFalse (reads_source (Some (seen command.entry))) (source.new ≡ source.old) }
+    ensures shelf { OnFalse (uses_shelf (Some (seen command.entry))) (shelf.new ≡ shelf.old) }
+    ensures same_files { H.files shelf.new ≡ H.files shelf.old }
+    ensures same_puts { H.failed_puts shelf.new ≡ H.failed_puts shelf.old }
+{
+    match command {
+        Command::Page(slot, room) => {
+            let (prepared, extra) = page_command(
+                alloc,
+                table,
+                slot,
+                room,
+                &source_text(alloc, source)?,
+            )?;
+            Ok(Made {
+                prepared,
+                extra: Some(extra),
+            })
+        }
+        _ => {
+            let prepared = prepare_alone(alloc, command, table, source, shelf)?;
+            Ok(Made {
+                prepared,
+                extra: None,
+            })
+        }
     }
 }
 
@@ -113,6 +169,7 @@ fn prepare_shared<T: Threads + Wait + Sync, R: Source, H: Shelf, G: Gate + Sync>
         Command::Show(_) => unreachable!(),
         Command::Record(..) => unreachable!(),
         Command::Replay(_) => unreachable!(),
+        Command::Page(..) => unreachable!(),
     }
 }
 
@@ -143,30 +200,32 @@ fn put_all<H: Shelf>(
 fn finish<W: Sink, H: Shelf>(
     alloc: Global,
     command: Command<'_>,
-    prepared: Prepared,
+    made: Made,
     sink: &mut W,
     shelf: &mut H,
 ) -> Outcome
-    requires finished { progress_of prepared.status ≡ Finished }
-    ensures done { OnFalse (was_cut_short result.status) (result ≡ outcome_of prepared) }
-    ensures written { OnFalse (was_cut_short result.status) (Appends (W.written sink.old) (W.written sink.new) (string_bytes prepared.output)) }
+    requires finished { progress_of made.prepared.status ≡ Finished }
+    ensures done { OnFalse (was_cut_short result.status) (result ≡ outcome_of made) }
+    ensures written { OnFalse (was_cut_short result.status) (Appends (W.written sink.old) (W.written sink.new) (string_bytes made.prepared.output)) }
     ensures status { OnTrue (has_put_none result.status) ⊥ }
-    ensures shelf_fault { result.status ≡ Status.ShelfFault → (result.report ≡ prepared.report) × IsSome result.report
-        × Rose (H.failed_puts shelf.old) (H.failed_puts shelf.new) }
-    ensures write_fault { result.status ≡ Status.WriteFault → (result.report ≡ prepared.report) × Rose (W.faults sink.old) (W.faults sink.new)
-        × AppendsPrefix (W.written sink.old) (W.written sink.new) (string_bytes prepared.output) }
+    ensures shelf_fault { result.status ≡ Status.ShelfFault → (result.report ≡ made.prepared.report) × IsSome result.report
+        × Rose (H.failed_puts shelf.old) (H.failed_puts shelf.new) × (result.extra ≡ made.extra) }
+    ensures write_fault { result.status ≡ Status.WriteFault → (result.report ≡ made.prepared.report) × Rose (W.faults sink.old) (W.faults sink.new)
+        × AppendsPrefix (W.written sink.old) (W.written sink.new) (string_bytes made.prepared.output) × (result.extra ≡ made.extra) }
     ensures kept_writes { OnFalse (is_write_fault result.status) (W.faults sink.new ≡ W.faults sink.old) }
     ensures kept_puts { OnFalse (is_shelf_fault result.status) (H.failed_puts shelf.new ≡ H.failed_puts shelf.old) }
     ensures puts_of_none { result.report ≡ None → H.failed_puts shelf.new ≡ H.failed_puts shelf.old }
     ensures same_gets { H.failed_gets shelf.new ≡ H.failed_gets shelf.old }
     ensures nothing { OnTrue (has_written_nothing result.status) (Keeps (W.written sink.old) (W.written sink.new)) }
     ensures no_report { OnFalse (may_report result.status) (result.report ≡ None) }
+    ensures no_extra { OnFalse (may_report result.status) (result.extra ≡ None) }
     ensures put { OnTrue (has_put_all result.status) (HasPut (leaves (Some (seen command.entry))) result.report (H.files shelf.old) (H.files shelf.new)) }
     ensures some { result.status ≡ Status.ShelfFault → HasPutSome (leaves (Some (seen command.entry))) result.report (H.files shelf.old) (H.files shelf.new) }
     ensures again { (rules : Rules) → OnTrue (has_put_all result.status) (PlaysAgain rules (Some (seen command.entry)) (H.files shelf.new) result.report) }
     ensures files { KeepsFiles (leaves (Some (seen command.entry))) (H.files shelf.old) (H.files shelf.new) }
     ensures shelf { OnFalse (uses_shelf (Some (seen command.entry))) (shelf.new ≡ shelf.old) }
 {
+    let Made { prepared, extra } = made;
     let Prepared {
         status,
         report,
@@ -178,20 +237,27 @@ fn finish<W: Sink, H: Shelf>(
             return Outcome {
                 status: Status::ShelfFault,
                 report,
+                extra,
             };
         }
         Err(ShelfFail::NoMemory) => {
             return Outcome {
                 status: Status::NoMemory,
                 report: None,
+                extra: None,
             };
         }
     }
     match write_all(sink, output.as_bytes()) {
-        Ok(()) => Outcome { status, report },
+        Ok(()) => Outcome {
+            status,
+            report,
+            extra,
+        },
         Err(Failed) => Outcome {
             status: Status::WriteFault,
             report,
+            extra,
         },
     }
 }
@@ -215,13 +281,15 @@ pub fn fluke_alone<R: Source, W: Sink, H: Shelf>(
         return Outcome {
             status: Status::Usage,
             report: None,
+            extra: None,
         };
     };
-    match prepare_alone(alloc, command, table, source, shelf) {
-        Ok(prepared) => finish(alloc, command, prepared, sink, shelf),
+    match make_alone(alloc, command, table, source, shelf) {
+        Ok(made) => finish(alloc, command, made, sink, shelf),
         Err(status) => Outcome {
             status,
             report: None,
+            extra: None,
         },
     }
 }
@@ -243,6 +311,10 @@ pub fn fluke_alone<R: Source, W: Sink, H: Shelf>(
 /// `record NAME WATCH` does what `run --trace NAME` does, by one thread alone, and last puts the record of what the observer of that watch sees
 /// at each native server that is no console, as `NAME.rec`. `replay NAME` does what `play NAME` does, with servers that give the replies of that
 /// record. Where the observer has seen the replies it comes to the same status, report and text.
+///
+/// `page SLOT K` reads the source's scenario and runs it with a pager, the porter of the root: it takes every page of the subtree in that slot at first, and
+/// gives one back where a thread misses it, so that K of them at most are home. It writes how many faults that took, how the run ended, and the last world's
+/// consoles and threads. Up to the first move that looks at pages the run is one with every page home, without the pager's moves and the faults that it ends.
 ///
 /// The status of the outcome says how the call ended. `Usage` comes exactly for words that are no command, and leaves the source, the
 /// sink and the shelf as they were. Unless a read, a write, a get, a put or the memory failed, the outcome and the output are those
@@ -278,10 +350,17 @@ pub fn fluke_top<T: Threads + Wait + Sync, R: Source, W: Sink, H: Shelf, G: Gate
         return fluke_alone(alloc, words, table, source, sink, shelf);
     };
     match prepare_shared(rt, alloc, command, table, source, shelf, gate) {
-        Ok(prepared) => finish(alloc, command, prepared, sink, shelf),
+        Ok(prepared) => {
+            let made = Made {
+                prepared,
+                extra: None,
+            };
+            finish(alloc, command, made, sink, shelf)
+        }
         Err(status) => Outcome {
             status,
             report: None,
+            extra: None,
         },
     }
 }

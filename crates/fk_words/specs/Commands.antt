@@ -1,5 +1,5 @@
 -- Commands: what the words of the command line ask for.
-use Rattle.std.specs.Prelude.{ℕ, ◌≤◌, ⊤, Bool, true, false, ◌&&◌, ◌==◌, List, [], ◌∷◌, Option, Some, None, option_map, nat_eq, if◌then◌else◌, codes}
+use Rattle.std.specs.Prelude.{ℕ, ◌≤◌, ⊤, Bool, true, false, ◌&&◌, ◌==◌, List, [], ◌∷◌, Option, Some, None, option_map, nat_eq, nat_le, if◌then◌else◌, codes}
 use Rattle.std.specs.Cmp.Lexicographic.{pointwise}
 use Rattle.fk_model.specs.Names.{is_name}
 use Rattle.fk_model.specs.Numbers.{plain_number_up_to}
@@ -25,6 +25,8 @@ pub data Command : Type 0 where
   Record : (name : List ℕ) (watch : Watch) → Command
   -- the source's scenario is run by the moves of the trace with this name, and its servers reply what the record with this name says
   Replay : (name : List ℕ) → Command
+  -- the source's scenario runs with a pager of the subtree in this slot of the root, of which so many pages are home at a time
+  Page : (slot room : ℕ) → Command
 
 -- the same as the code has it
 abbrev pub seen : code.Command → Command
@@ -36,6 +38,7 @@ seen (variants.Show name) = Show name.now
 seen (variants.Soak count) = Soak count
 seen (variants.Record name watch) = Record name.now watch
 seen (variants.Replay name) = Replay name.now
+seen (variants.Page slot room) = Page slot room
 
 -- a command with a name
 abbrev pub named : (List ℕ → Command) → List ℕ → Option Command
@@ -83,10 +86,29 @@ abbrev pub record_with : List ℕ → Option Watch → Option Command
 record_with name None = None
 record_with name (Some watch) = named (λ name. Record name watch) name
 
+-- the slot of a subtree that a word says: 0 to 239, without leading zeros
+abbrev pub slot_of : List ℕ → Option ℕ
+slot_of word = plain_number_up_to 239 word
+
+-- how many pages may be home that a word says: 2 to 256, without leading zeros
+abbrev pub some_room : Option ℕ → Option ℕ
+some_room None = None
+some_room (Some room) = if nat_le 2 room then Some room else None
+
+abbrev pub room_of : List ℕ → Option ℕ
+room_of word = some_room (plain_number_up_to 256 word)
+
+abbrev pub page_with : Option ℕ → Option ℕ → Option Command
+page_with None room = None
+page_with (Some slot) None = None
+page_with (Some slot) (Some room) = Some (Page slot room)
+
 -- of three words
-abbrev pub command_of_three : List ℕ → List ℕ → List ℕ → Option Command
+unfoldable pub command_of_three : List ℕ → List ℕ → List ℕ → Option Command
 command_of_three word second third =
-    if pointwise nat_eq word (codes "record") then record_with second (watch_of third) else command_traced word second third
+    if pointwise nat_eq word (codes "record") then record_with second (watch_of third)
+    else if pointwise nat_eq word (codes "page") then page_with (slot_of second) (room_of third)
+    else command_traced word second third
 
 -- the command that the words are; none where they are no command
 abbrev pub command_of : List (List ℕ) → Option Command
@@ -129,6 +151,7 @@ row_of (Some (Show name)) = row false true false NoFiles
 row_of (Some (Soak count)) = row false false true NoFiles
 row_of (Some (Record name watch)) = row true true false (RecordFiles name)
 row_of (Some (Replay name)) = row true true false NoFiles
+row_of (Some (Page slot room)) = row true false false NoFiles
 
 abbrev pub reads_source : Option Command → Bool
 reads_source command = (row_of command).source
@@ -145,7 +168,8 @@ is_shared command = (row_of command).shared
 abbrev pub leaves : Option Command → Files
 leaves command = (row_of command).leaves
 
--- `soak` is given a number of processes that it can have
+-- `soak` is given a number of processes that it can have, and `page` a user's slot and a number of pages that suffices for each instruction
 abbrev pub HasCount : Command → Type 0
 HasCount (Soak count) = (1 ≤ count) × (count ≤ 100)
+HasCount (Page slot room) = (slot ≤ 239) × (2 ≤ room) × (room ≤ 256)
 HasCount other = ⊤

@@ -24,6 +24,8 @@ pub enum Command<'a> {
     Record(&'a str, Watch),
     /// Runs the source's scenario by the moves of the trace with this name, and its servers reply what the record with this name says.
     Replay(&'a str),
+    /// Runs the source's scenario with a pager of the subtree in this slot of the root, of which so many pages are home at a time.
+    Page(u8, u16),
 }
 
 /// The number of processes that a word says: 1 to 100.
@@ -130,13 +132,52 @@ fn record_with<'a>(name: &'a str, watch: Option<Watch>) -> Option<Command<'a>>
     }
 }
 
+/// The slot of a subtree that a word says: 0 to 239.
+fn slot_of(word: &[u8]) -> Option<u8>
+    ensures value { result ≡ commands.slot_of word.now }
+    ensures within { IfSome result (λ slot. slot ≤ 239) }
+{
+    let slot = plain_number_up_to(239, word)?;
+    Some(slot as u8)
+}
+
+/// How many pages may be home that a word says: 2 to 256.
+fn room_of(word: &[u8]) -> Option<u16>
+    ensures value { result ≡ commands.room_of word.now }
+    ensures within { IfSome result (λ room. (2 ≤ room) × (room ≤ 256)) }
+{
+    match plain_number_up_to(256, word)? {
+        0 | 1 => None,
+        room => Some(room as u16),
+    }
+}
+
+/// The command `page` with a slot and a number of pages.
+fn page_with<'a>(slot: Option<u8>, room: Option<u16>) -> Option<Command<'a>>
+    requires slot { IfSome slot (λ slot. slot ≤ 239) }
+    requires room { IfSome room (λ room. (2 ≤ room) × (room ≤ 256)) }
+    ensures value { option_map commands.seen result ≡ commands.page_with slot room }
+    ensures count { IfSome result (λ command. commands.HasCount (commands.seen command)) }
+{
+    match slot {
+        Some(slot) => match room {
+            Some(room) => Some(Command::Page(slot, room)),
+            None => None,
+        },
+        None => None,
+    }
+}
+
 /// The command of three words.
+#[tactic(auto, unfolding(crate::specs::Commands::command_of_three))]
 fn command_of_three<'a>(word: &str, second: &'a str, third: &'a str) -> Option<Command<'a>>
     ensures value { option_map commands.seen result ≡ commands.command_of_three word.now second.now third.now }
     ensures count { IfSome result (λ command. commands.HasCount (commands.seen command)) }
 {
     if word == "record" {
         record_with(second, watch_of(third))
+    } else if word == "page" {
+        page_with(slot_of(second.as_bytes()), room_of(third.as_bytes()))
     } else {
         command_traced(word, second, third)
     }
@@ -148,12 +189,13 @@ pub fn command_of(words: &[String]) -> Option<Command<'_>>
     ensures count { IfSome result (λ command. commands.HasCount (commands.seen command)) }
 {
     match words {
+        [] => None,
         [word] => command_alone(word.as_str()),
         [word, given] => command_with(word.as_str(), given.as_str()),
         [word, second, third] => {
             command_of_three(word.as_str(), second.as_str(), third.as_str())
         }
-        _ => None,
+        [_, _, _, _, ..] => None,
     }
 }
 
@@ -173,7 +215,8 @@ pub fn shared_command(words: &[String]) -> Option<Command<'_>>
             | Command::Play(_)
             | Command::Show(_)
             | Command::Record(..)
-            | Command::Replay(_),
+            | Command::Replay(_)
+            | Command::Page(..),
         )
         | None => None,
     }

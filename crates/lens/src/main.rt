@@ -1,11 +1,12 @@
 //! The program `lens`: the words of its command line, over the standard streams and the current folder.
 //!
-//! It stands on `lens_verbs` for all that it shows, and on `fk_causes` for the streams and the folder. It adds the
+//! It stands on `lens_verbs` for all that it shows, on `lens_text` for what is told of a problem, and on `fk_causes` for the streams and the folder. It adds the
 //! arguments, the writing, the line on standard error, and the exit status.
 #![tactic(auto)]
 
 use fk_causes::{Failed, FolderShelf, StdSink, StdSource, write_all};
-use lens_verbs::{Problem, lens_top};
+use lens_text::Problem;
+use lens_verbs::lens_top;
 use std::env::Env;
 use std::io::ErrorKind;
 use std::process::ExitCode;

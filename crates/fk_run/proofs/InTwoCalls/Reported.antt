@@ -7,7 +7,7 @@ use Rattle.fk_commands.specs.declared.outcome.Outcome.{Outcome}
 use Rattle.fk_commands.specs.declared.outcome.Report.{Report}
 use Rattle.fk_commands.specs.declared.status.Status.{Status}
 use Rattle.fk_model.specs.declared.moves.Rule.{Rule}
-use Rattle.fk_words.specs.Commands.{Exec, Check, Run, Play, Show, Soak, Record, Replay}
+use Rattle.fk_words.specs.Commands.{Exec, Check, Run, Play, Show, Soak, Record, Replay, Page}
 use Rattle.fk_plays.proofs.Grounds.{first-begun}
 use Rattle.fk_plays.specs.Images.{FindsImages}
 use Rattle.fk_run.specs.Jobs.{MadeReportIsTransparent}
@@ -108,3 +108,4 @@ reports_are_of_runs rules (Show name) left files outcome report text runs has du
 reports_are_of_runs rules (Soak count) left files outcome report text runs has due transparency = absurd runs
 reports_are_of_runs rules (Record name watch) left files outcome report text runs has due transparency = absurd runs
 reports_are_of_runs rules (Replay name) left files outcome report text runs has due transparency = absurd runs
+reports_are_of_runs rules (Page slot room) left files outcome report text runs has due transparency = absurd runs

@@ -3,7 +3,7 @@ use Rattle.std.proofs.Common.{◌≡◌, ◌≤◌, ℕ, List, Result, Err, refl
 use Rattle.fk_commands.specs.declared.prepared.Prepared.{Prepared}
 use Rattle.fk_commands.specs.declared.status.Status.{Status}
 use Rattle.fk_commands.specs.declared.status.Status.TheVariants.{Ok as Done, Usage, TooLong, BadText, BadScenario, Absent, BadImage, BadTrace, JobRefused}
-use Rattle.fk_commands.specs.declared.status.Status.TheVariants.{Budget, ReadFault, WriteFault, ShelfFault, NoMemory, BadRecord}
+use Rattle.fk_commands.specs.declared.status.Status.TheVariants.{Budget, ReadFault, WriteFault, ShelfFault, NoMemory, NotPaged, BadRecord}
 use Rattle.fk_commands.specs.Prepared.{ComesTo, IsRefusal}
 use Rattle.fk_commands.proofs.Comes.{comes-also}
 use Rattle.fk_first.specs.Cores.{RunCore}
@@ -33,6 +33,7 @@ module _ (s : Scenario) (given : Images) (trace record_ : List ℕ) where
   bad-record WriteFault fail = absurd fail
   bad-record ShelfFault fail = absurd fail
   bad-record NoMemory fail = tt
+  bad-record NotPaged fail = absurd fail
   bad-record (BadRecord line) fail = inl (line, fail, (refl, refl))
 
   pub bad-refusal : (status : Status) → IsRecordFail (ports_of s.servers) record_ status → IsRefusal ⊥ ⊥ status
@@ -50,6 +51,7 @@ module _ (s : Scenario) (given : Images) (trace record_ : List ℕ) where
   bad-refusal WriteFault fail = fail
   bad-refusal ShelfFault fail = fail
   bad-refusal NoMemory fail = tt
+  bad-refusal NotPaged fail = tt
   bad-refusal (BadRecord line) fail = tt
 
   -- and one that is

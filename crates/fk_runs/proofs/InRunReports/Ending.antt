@@ -5,9 +5,9 @@ use Rattle.fk_natives.specs.Natives.{State}
 use Rattle.fk_report.specs.Report.{states}
 use Rattle.fk_report.specs.declared.end.End.{End}
 use Rattle.fk_report.specs.declared.end.End.TheVariants as ends
-use Rattle.fk_core.specs.Cores.Served.{shown}
-use Rattle.fk_core.specs.Cores.Cores.{RunCore}
-use Rattle.fk_core.specs.Cores.Ends.{IsEnded}
+use Rattle.fk_first.specs.Served.{shown}
+use Rattle.fk_first.specs.Cores.{RunCore}
+use Rattle.fk_first.specs.Ends.{IsEnded}
 use Rattle.fk_runs.specs.RunReports.Made.{IsEnd}
 use Rattle.laws_house.specs.Houses.{Job}
 

@@ -1,6 +1,7 @@
 -- Runs that come to the same by replays.
 use Rattle.std.specs.Prelude.{◌≡◌, ◌⊎◌, ℕ, List, map, All, Some, None}
 use Rattle.fk_commands.specs.declared.outcome.Report.{Report}
+use Rattle.fk_commands.specs.Outcomes.{reported}
 use Rattle.fk_commands.specs.declared.status.Status.{Status}
 use Rattle.fk_first.specs.Cores.{RunCore}
 use Rattle.fk_first.specs.First.{IsFirst}
@@ -24,7 +25,7 @@ noted_replies s given first trace status report text played =
 abbrev pub ReplaysPlayAgain : Type 0
 ReplaysPlayAgain = (s : Scenario) (given : Images) (first : RunCore) (trace : List ℕ) (status : Status) (report : Report) (text : List ℕ) →
     IsFirst s first → (played : IsPlayed s.jobs given first s.budget trace status (Some report) text) →
-    IsReplayedFrom s given (noted_replies s given first trace status report text played) trace (record { status = status; report = Some report }) text
+    IsReplayedFrom s given (noted_replies s given first trace status report text played) trace (reported status (Some report)) text
 
 -- a report without its record
 abbrev pub without_record : Report → Report
@@ -34,5 +35,5 @@ without_record report = record report { recorded = None }
 abbrev pub RecordPlaysAgain : Type 0
 RecordPlaysAgain = (s : Scenario) (given : Images) (watch : ℕ) (status : Status) (report : Report) (text record_ : List ℕ) → KeepsScenario s →
     (watch ≡ 0) ⊎ (watch ≡ 1) → All IsMove report.history → report.recorded ≡ Some record_ →
-    IsRecordedFrom watch s given (record { status = status; report = Some report }) text →
-    IsReplayedBy s given (trace_text report.history) record_ (record { status = status; report = Some (without_record report) }) text
+    IsRecordedFrom watch s given (reported status (Some report)) text →
+    IsReplayedBy s given (trace_text report.history) record_ (reported status (Some (without_record report))) text

@@ -2,7 +2,7 @@
 use Rattle.std.specs.Prelude.{◌≡◌, ℕ, List, Option, Some, None}
 use Rattle.fk_commands.specs.declared.outcome.Report.{Report}
 use Rattle.fk_commands.specs.declared.prepared.Prepared.{Prepared}
-use Rattle.fk_core.specs.declared.cores.turns.Core as cores
+use Rattle.fk_first.specs.Core as cores
 use Rattle.fk_first.specs.Cores.{RunCore, run_core}
 use Rattle.fk_model.specs.declared.moves.Move.{Move}
 use Rattle.fk_runs.specs.Recordings.Ports.{ports_of}

@@ -8,7 +8,7 @@ use Rattle.fk_commands.specs.declared.status.Status.TheVariants.{Ok as Done, Job
 use Rattle.fk_commands.specs.declared.outcome.Report.{Report}
 use Rattle.fk_commands.specs.declared.prepared.Prepared.{Prepared}
 use Rattle.fk_commands.specs.Status.{progress_of, Finished}
-use Rattle.fk_core.specs.Cores.Cores.{RunCore, IsAnyMove}
+use Rattle.fk_first.specs.Cores.{RunCore, IsAnyMove}
 use Rattle.fk_report.specs.declared.end.End.{End}
 use Rattle.fk_report.specs.declared.end.End.TheVariants as ends
 use Rattle.fk_report.specs.declared.threads.ThreadState.{ThreadState}

@@ -1,7 +1,7 @@
 //! What is prepared of a run that has come to a core.
 ghost use Rattle.std.specs.Prelude.{◌≡◌, ◌≤◌, [], Some, None, length, map, string_bytes, IfOk};
 ghost use Rattle.fk_commands.specs.Status.{progress_of, Finished};
-ghost use Rattle.fk_core.specs.Cores.Cores.{run_core};
+ghost use Rattle.fk_first.specs.Cores.{run_core};
 ghost use Rattle.fk_job_ends.specs.Ends as definitions;
 ghost use Rattle.fk_report.specs.Jobs.{refused_from};
 ghost use Rattle.fk_report.specs.Report.{outs_text};
@@ -10,8 +10,8 @@ ghost use Rattle.fk_runs.specs.RunReports.Made.{IsEnd, IsMade, IsText, IsLine, s
 ghost use Rattle.laws_house.specs.Houses.{jobs_of};
 
 use fk_commands::{Prepared, Report, Status};
-use fk_core::Core;
 use fk_finish::ValidImage;
+use fk_first::Core;
 use fk_history::Moves;
 use fk_job_ends::{images_of, told_in};
 use fk_jobs::JobMachine;

@@ -1,6 +1,6 @@
 //! The move of one that was drawn.
 use crate::hunt::random::Random;
-use fk_core::Core;
+use fk_first::Core;
 use fk_jobs::Porter;
 use fk_model::{Ask, Mode, Move, Stage, Who};
 use fk_natives::{Native, ask};

@@ -1,7 +1,7 @@
 //! The run of one schedule.
 ghost use Rattle.std.specs.Prelude.{map};
-ghost use Rattle.fk_core.specs.Cores.Goings.{IsReachable};
-ghost use Rattle.fk_core.specs.Cores.Served.{AllFit};
+ghost use Rattle.fk_first.specs.Goings.{IsReachable};
+ghost use Rattle.fk_first.specs.Served.{AllFit};
 
 use crate::hunt::drawing::Run;
 use crate::hunt::lottery::Lottery;

@@ -35,6 +35,7 @@ returns-in_default g c =
           all_read = search rules;
           nothing = search rules;
           no_report = search rules;
+          no_extra = search rules;
         };
         files = record {
           put = search rules;
@@ -76,6 +77,7 @@ returns-in-Ok g c = record {
       all_read = search rules;
       nothing = search rules;
       no_report = search rules;
+      no_extra = search rules;
     };
     files = record {
       put = search rules;
@@ -86,9 +88,9 @@ returns-in-Ok g c = record {
     };
     transparency = holds _ c.finish.result.report;
     complete = λ no_read no_write no_get no_put.
-        complete-Ok _ _ _ _ _ _ _ _ _ _ _ _ _ _ c.in-Ok.is c.prepare_alone.ensures.comes c.finish.ensures.done c.finish.ensures.written
-        c.prepare_alone.ensures.same_files c.finish.ensures.put c.finish.ensures.status c.finish.ensures.write_fault c.finish.ensures.shelf_fault
-        (λ fault. no_write fault.1) (λ fault. not-since _ _ _ c.prepare_alone.ensures.same_puts no_put fault.2) (search rules);
+        complete-Ok _ _ _ _ _ _ _ _ _ _ _ _ _ _ c.in-Ok.is c.make_alone.ensures.comes c.finish.ensures.done c.finish.ensures.written
+        c.make_alone.ensures.same_files c.finish.ensures.put c.finish.ensures.status c.finish.ensures.write_fault c.finish.ensures.shelf_fault
+        (λ fault. no_write fault.1) (λ fault. not-since _ _ _ c.make_alone.ensures.same_puts no_put fault.2) (search rules);
   };
 }
 
@@ -120,17 +122,18 @@ returns-in-Err g c = record {
       all_read = search rules;
       nothing = search rules;
       no_report = search rules;
+      no_extra = search rules;
     };
     files = record {
       put = search rules;
-      some = λ failed. puts_nothing _ _ _ c.prepare_alone.ensures.same_files;
+      some = λ failed. puts_nothing _ _ _ c.make_alone.ensures.same_files;
       no_put = search rules;
       others = search rules;
       again = search rules;
     };
     transparency = search rules;
     complete = λ no_read no_write no_get no_put.
-        complete-Err _ _ _ _ _ _ _ _ _ _ _ _ c.in-Err.is c.prepare_alone.ensures.comes c.prepare_alone.ensures.refusal no_read (λ fault. no_get fault.0)
+        complete-Err _ _ _ _ _ _ _ _ _ _ _ _ c.in-Err.is c.make_alone.ensures.comes c.make_alone.ensures.refusal no_read (λ fault. no_get fault.0)
         (search rules);
   };
 }

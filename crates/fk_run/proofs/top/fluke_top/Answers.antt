@@ -1,5 +1,5 @@
-use Rattle.std.proofs.Common.{rules}
-use Rattle.fk_run.proofs.Complete.{complete-Err, complete-Ok, not-since}
+use Rattle.std.proofs.Common.{refl, rules}
+use Rattle.fk_run.proofs.Complete.{complete-Err, complete-Ok, not-since, plain-Err, plain-Ok, plain-refusal}
 use Rattle.fk_run.proofs.Due.{puts_nothing}
 use Rattle.fk_run.proofs.Transparency.{holds}
 use Rattle.fk_run.proofs.top.fluke_top.Goals as goal
@@ -32,6 +32,7 @@ returns-in-Ok g c = record {
       all_read = search rules;
       nothing = search rules;
       no_report = search rules;
+      no_extra = search rules;
     };
     files = record {
       put = search rules;
@@ -42,8 +43,9 @@ returns-in-Ok g c = record {
     };
     transparency = holds _ c.finish.result.report;
     complete = λ no_read no_write no_get no_put.
-        complete-Ok _ _ _ _ _ _ _ _ _ _ _ _ _ _ c.in-Ok.is c.prepare_shared.ensures.comes c.finish.ensures.done c.finish.ensures.written
-        c.prepare_shared.ensures.same_files c.finish.ensures.put c.finish.ensures.status c.finish.ensures.write_fault c.finish.ensures.shelf_fault
+        complete-Ok _ _ _ _ _ _ _ _ _ _ _ _ _ _ refl (plain-Ok _ _ _ _ _ _ c.in-Ok.is c.prepare_shared.ensures.comes) c.finish.ensures.done
+        c.finish.ensures.written c.prepare_shared.ensures.same_files c.finish.ensures.put c.finish.ensures.status c.finish.ensures.write_fault
+        c.finish.ensures.shelf_fault
         (λ fault. no_write fault.1) (λ fault. not-since _ _ _ c.prepare_shared.ensures.same_puts no_put fault.2) (search rules);
   };
 }
@@ -76,6 +78,7 @@ returns-in-Err g c = record {
       all_read = search rules;
       nothing = search rules;
       no_report = search rules;
+      no_extra = search rules;
     };
     files = record {
       put = search rules;
@@ -86,7 +89,8 @@ returns-in-Err g c = record {
     };
     transparency = search rules;
     complete = λ no_read no_write no_get no_put.
-        complete-Err _ _ _ _ _ _ _ _ _ _ _ _ c.in-Err.is c.prepare_shared.ensures.comes c.prepare_shared.ensures.refusal no_read (λ fault. no_get fault.0)
+        complete-Err _ _ _ _ _ _ _ _ _ _ _ _ refl (plain-Err _ _ _ _ _ _ c.in-Err.is c.prepare_shared.ensures.comes)
+        (plain-refusal _ _ _ c.in-Err.is c.prepare_shared.ensures.refusal) no_read (λ fault. no_get fault.0)
         (search rules);
   };
 }

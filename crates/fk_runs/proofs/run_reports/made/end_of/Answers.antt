@@ -1,4 +1,4 @@
-use Rattle.fk_core.specs.Cores.Cores.{run_core}
+use Rattle.fk_first.specs.Cores.{run_core}
 use Rattle.fk_runs.proofs.InRunReports.Ending.{ended-end}
 use Rattle.fk_runs.proofs.run_reports.made.end_of.Goals as goal
 

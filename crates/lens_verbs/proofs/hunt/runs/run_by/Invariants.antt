@@ -1,6 +1,6 @@
 use Rattle.std.proofs.Common.{map}
-use Rattle.fk_core.specs.Cores.Goings.{IsReachable}
-use Rattle.fk_core.specs.Cores.Served.{AllFit}
+use Rattle.fk_first.specs.Goings.{IsReachable}
+use Rattle.fk_first.specs.Served.{AllFit}
 use Rattle.lens_verbs.proofs.hunt.runs.run_by.Given as goal
 
 -- the table fits the servers still, and the core was come to by a run
