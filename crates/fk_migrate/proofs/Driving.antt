@@ -27,7 +27,7 @@ driven_of rules s t drives = drives.driven
 
 pub ready_there : (s t : Shown) (e : PairEvent) (b : Bool) → t ≡ s → b ≡ true
     → ((from : Start) (its : IsRunOf s from) → IsTrue b ↔ IsReadyEvent from.slot its.run e) → IsReady t e
-ready_there s t e b same yes exact = subst (λ (x : Shown). IsReady x e) (sym same) (λ from its. (exact from its).0 yes)
+ready_there s t e b same is exact = subst (λ (x : Shown). IsReady x e) (sym same) (λ from its. (exact from its).0 is)
 
 -- by a step
 pub drives_step : (rules : List Rule) (s t : Shown) → IsDriven rules s → ((from : Start) → IsRunOf s from → IsRunOf t from) → AllFit rules t.near.servers

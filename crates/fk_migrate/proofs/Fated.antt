@@ -9,7 +9,7 @@ use Rattle.laws_handover.specs.FarSide as far
 use Rattle.laws_handover.specs.Handover as handover
 use Rattle.laws_handover.specs.Handover.{far_told, listened}
 use Rattle.laws_handover.specs.Packets.{Packet as Sent}
-use Rattle.laws_handover.specs.Packets.Packet as packets
+use Rattle.laws_handover.specs.Packets as packets
 use Rattle.laws_handover.specs.Pieces.{Piece}
 use Rattle.laws_handover.specs.Sent.{sent_near, sent_far}
 use Rattle.laws_migrate.specs.Images.{image_codec}

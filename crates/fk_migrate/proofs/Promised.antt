@@ -21,7 +21,7 @@ use Rattle.fk_model.specs.Closed.{Place}
 use Rattle.laws_checkpoint.specs.Checkpoint.State.{Releases}
 use Rattle.laws_checkpoint.specs.Checkpoint.End.{Foreign as OpenAt}
 use Rattle.laws_migrate.specs.Migration.Why.{Foreign}
-use Rattle.laws_migrate.specs.Migration.{Why, AreReady, Both, IsReadyIn, top, IsFree, make_from}
+use Rattle.laws_migrate.specs.Migration.{Why, AreReady, Both, IsReadyIn, top, IsFree, hold_from, make_from}
 use Rattle.laws_migrate.specs.Porters.{IsCalmNow}
 use Rattle.laws_migrate.proofs.Images.{images_are_read}
 use Rattle.laws_migrate.proofs.Migrates.{never_both_free, moved_is_same, kept_is_same, foreign_is_same, failed_says_why, cancelled_says_why, kept_is_alone}
@@ -35,8 +35,8 @@ use Rattle.fk_migrate.specs.Turns.{NearPart, FarPart}
 use Rattle.fk_migrate.specs.Runs.{Run, Step, near_part, far_part, next_run}
 use Rattle.fk_migrate.specs.Pairs.{Shown, Start, IsRunOf, Leads, LeadsTo, GoesOn, begun}
 use Rattle.fk_packets.specs.declared.events.Event.{Event as PairEvent}
-use Rattle.fk_migrate.specs.Promises.{IsHold, IsMake, NeverTwo, NeverTwoEver, MovesWhole, KeepsWhole, ForeignWhole, FailsSo, CancelsSo, KeepsAlone, KeepsGoing, IsBounded, IsPromised}
-use Rattle.fk_migrate.proofs.Running.{runs_so, are_ready, ready_front}
+use Rattle.fk_migrate.specs.Promises.{IsHold, IsMake, NeverTwo, NeverTwoEver, MovesWhole, KeepsWhole, ForeignWhole, MovedWhole, KeptWhole, KeptForeign, FailsSo, CancelsSo, KeepsAlone, KeepsGoing, IsBounded, IsPromised}
+use Rattle.fk_migrate.proofs.Running.{runs_so, are_ready, ready_front, ready_at}
 
 abbrev Packets : Type 0
 Packets = Sent Piece Why
@@ -78,6 +78,46 @@ never_two_ever s from its es more h m number copy all held named made copies nea
     never_both_free image_codec from.slot from.may.low images_are_read from.near from.far es h m number copy
     (record { good = images_are_read; may = from.may; ready = front; held = held }) named made copies near_free far_free
 
+-- at whichever of its steps
+module _ (s : Shown) (from : Start) (its : IsRunOf s from) (es more : List Step) (step : Step) (all : its.steps ≡ es ++ step ∷ more) where
+  ready_all : AreReady image_codec from.slot (first (both from.slot) from.near from.far) (es ++ step ∷ more)
+  ready_all =
+      subst (λ (ss : List Step). AreReady image_codec from.slot (first (both from.slot) from.near from.far) ss) all
+      (are_ready from.slot (begun from) s.events its.steps its.run its.ran)
+
+  happened : (h : World) → hold_from image_codec from.slot None (first (both from.slot) from.near from.far) es ≡ Some h
+      → Happens image_codec from.slot from.near from.far es h
+  happened h held = record {
+    good = images_are_read;
+    may = from.may;
+    ready = ready_front from.slot (first (both from.slot) from.near from.far) es (step ∷ more) ready_all;
+    held = held;
+  }
+
+  ready_there : IsReadyIn image_codec from.slot (pair_after image_codec from.slot from.near from.far es) step
+  ready_there = ready_at from.slot (first (both from.slot) from.near from.far) es more step ready_all
+
+abbrev own_far : Step
+own_far = handover.FarOwn
+
+abbrev own_near : Step
+own_near = handover.NearOwn
+
+pub moved_whole : (s : Shown) → MovedWhole s
+moved_whole s from its es more h image all held releases =
+    moved_is_same image_codec from.slot from.may.low images_are_read from.near from.far es h image (happened s from its es more own_far all h held) releases
+    (ready_there s from its es more own_far all)
+
+pub kept_whole : (s : Shown) → KeptWhole s
+kept_whole s from its es more h image why all held kept =
+    kept_is_same image_codec from.slot from.may.low images_are_read from.near from.far es h image why (happened s from its es more own_near all h held) kept
+    (ready_there s from its es more own_near all)
+
+pub kept_foreign : (s : Shown) → KeptForeign s
+kept_foreign s from its es more h place all held kept =
+    foreign_is_same image_codec from.slot from.may.low images_are_read from.near from.far es h place (happened s from its es more own_near all h held) kept
+    (ready_there s from its es more own_near all)
+
 pub fails_so : (s : Shown) → FailsSo s
 fails_so s from its h why held failed =
     failed_says_why image_codec from.slot from.may.low images_are_read from.near from.far its.steps h why (happens s from its h held)
@@ -112,6 +152,9 @@ pub promised : (s : Shown) → IsPromised s
 promised s = record {
   never_two = never_two s;
   ever = never_two_ever s;
+  moved = moved_whole s;
+  kept = kept_whole s;
+  foreign = kept_foreign s;
   fails = fails_so s;
   cancels = cancels_so s;
   alone = keeps_alone s;

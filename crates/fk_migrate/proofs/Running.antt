@@ -28,6 +28,12 @@ module _ (slot : ℕ) where
   ready_front p [] more ready = tt
   ready_front p (s ∷ es) more ready = (ready.0, ready_front (next (both slot) p s) es more ready.1)
 
+  -- and so is the step behind it
+  pub ready_at : (p : Pairs) (es more : List Step) (s : Step) → AreReady image_codec slot p (es ++ s ∷ more) → IsReadyIn image_codec slot (run (both slot) p es) s
+  unfolding run
+  ready_at p [] more s ready = ready.0
+  ready_at p (t ∷ es) more s ready = ready_at (next (both slot) p t) es more s ready.1
+
   pub runs_so : (from : Run) (es : List PairEvent) (ss : List Step) (r : Run) → IsRun slot from es ss r → run (both slot) from.pair ss ≡ r.pair
   unfolding run
   runs_so from _ _ _ IsRun.Before = refl

@@ -23,11 +23,11 @@ calls_of p = three p.hold p.make p.release
 
 -- the copy is let go. The hold was asked before that move of the near kernel, the make before that of the far one, whose porter made its last call
 -- at the release
-pub record IsMovedAt (r : Run) (ss : List Step) (hold make release : ℕ) : Type 0 where
+pub record IsMovedAt (r : Run) (ss : List Step) (held made released : ℕ) : Type 0 where
   pub moved : is_moved r.pair.far ≡ true
-  pub hold : place_of is_near_own is_near ss ≡ Some hold
-  pub make : place_of is_far_own is_far ss ≡ Some make
-  pub release : (places_of ss).release ≡ Some release
+  pub hold : place_of is_near_own is_near ss ≡ Some held
+  pub make : place_of is_far_own is_far ss ≡ Some made
+  pub release : (places_of ss).release ≡ Some released
 
 -- neither is let go; the copy is; the original is, for this reason
 abbrev pub IsFate : Run → List Step → Fate → Type 0

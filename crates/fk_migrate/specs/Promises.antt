@@ -10,7 +10,7 @@ use Rattle.fk_sides.specs.Sides.{both}
 use Rattle.laws_handover.specs.NearSide as near
 use Rattle.laws_handover.specs.FarSide as far
 use Rattle.laws_handover.specs.Handover as handover
-use Rattle.laws_handover.specs.Handover.{first}
+use Rattle.laws_handover.specs.Handover.{first, next}
 use Rattle.laws_handover.specs.Laws.{AllCame, is_kept, is_over, IsIn, why_cancelled}
 use Rattle.laws_jobs.specs.Machines.{LiesWithin}
 use Rattle.laws_checkpoint.specs.Checkpoint.State.{Releases}
@@ -63,6 +63,28 @@ ForeignWhole s t = (from : Start) (its : IsRunOf s from) (h : World) (place : Pl
     s.near.side ≡ near.Saves (Releases (OpenAt place)) → t.near.side ≡ near.Failed (Foreign place) →
     (cut t.near.world top from.slot ≡ cut h top from.slot) × (open_place h top from.slot ≡ Some place)
 
+-- so it was at whichever of its steps the copy, or the near one, was released
+
+abbrev pub MovedWhole : Shown → Type 0
+MovedWhole s = (from : Start) (its : IsRunOf s from) (es more : List Step) (h : World) (image : Image) → its.steps ≡ es ++ handover.FarOwn ∷ more →
+    hold_from image_codec from.slot None (first (both from.slot) from.near from.far) es ≡ Some h →
+    (pair_after image_codec from.slot from.near from.far es).far ≡ far.Releases image →
+    (cut (next (both from.slot) (pair_after image_codec from.slot from.near from.far es) handover.FarOwn).far_world top from.slot ≡ cut h top from.slot) ×
+    ((number : ℕ) → birth_at h (from.slot ∷ top) ≡ Some number → HasNone (pair_after image_codec from.slot from.near from.far es).near_world number)
+
+abbrev pub KeptWhole : Shown → Type 0
+KeptWhole s = (from : Start) (its : IsRunOf s from) (es more : List Step) (h : World) (image : Image) (why : Why) → its.steps ≡ es ++ handover.NearOwn ∷ more →
+    hold_from image_codec from.slot None (first (both from.slot) from.near from.far) es ≡ Some h →
+    (pair_after image_codec from.slot from.near from.far es).near ≡ near.Cancels image why →
+    cut (next (both from.slot) (pair_after image_codec from.slot from.near from.far es) handover.NearOwn).near_world top from.slot ≡ cut h top from.slot
+
+abbrev pub KeptForeign : Shown → Type 0
+KeptForeign s = (from : Start) (its : IsRunOf s from) (es more : List Step) (h : World) (place : Place) → its.steps ≡ es ++ handover.NearOwn ∷ more →
+    hold_from image_codec from.slot None (first (both from.slot) from.near from.far) es ≡ Some h →
+    (pair_after image_codec from.slot from.near from.far es).near ≡ near.Saves (Releases (OpenAt place)) →
+    (cut (next (both from.slot) (pair_after image_codec from.slot from.near from.far es) handover.NearOwn).near_world top from.slot ≡ cut h top from.slot) ×
+    (open_place h top from.slot ≡ Some place)
+
 -- where its checkpoint has ended without an image it says why
 abbrev pub FailsSo : Shown → Type 0
 FailsSo s = (from : Start) (its : IsRunOf s from) (h : World) (why : Why) → IsHold s from its h → s.near.side ≡ near.Failed why → SaysWhy h from.slot why
@@ -93,6 +115,9 @@ IsBounded s = (from : Start) (its : IsRunOf s from) (h : World) (d : ℕ) → Is
 pub record IsPromised (s : Shown) : Type 0 where
   pub never_two : NeverTwo s
   pub ever : NeverTwoEver s
+  pub moved : MovedWhole s
+  pub kept : KeptWhole s
+  pub foreign : KeptForeign s
   pub fails : FailsSo s
   pub cancels : CancelsSo s
   pub alone : KeepsAlone s
