@@ -1,0 +1,12 @@
+pub mod Turning
+pub mod Calls
+pub mod Moving
+pub mod Nearing
+pub mod Faring
+pub mod Running
+pub mod Counting
+pub mod Fated
+pub mod Stepping
+pub mod Leading
+pub mod Promised
+pub mod Driving

@@ -1,0 +1,7 @@
+use Rattle.std.proofs.Common.{map}
+use Rattle.fk_migrate.specs.Pairs.{shown, Drives, IsDriven}
+use Rattle.fk_migrate.proofs.driver.deliver_to_near.Given as goal
+
+-- it was driven so far
+abbrev pub invariant-loop-k : goal.invariant-loop-k
+invariant-loop-k g l = IsDriven (map (λ r. r.rule) l.table.list.items) (shown l.pair) × Drives (map (λ r. r.rule) l.table.list.items) (shown l.fn.pair) (shown l.pair)

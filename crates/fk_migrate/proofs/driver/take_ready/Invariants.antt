@@ -1,0 +1,7 @@
+use Rattle.std.proofs.Common.{map}
+use Rattle.fk_migrate.specs.Pairs.{shown, Drives, IsDriven}
+use Rattle.fk_migrate.proofs.driver.take_ready.Given as goal
+
+-- it was driven so far
+abbrev pub invariant-loop-e : goal.invariant-loop-e
+invariant-loop-e g l = IsDriven (map (λ r. r.rule) l.table.list.items) (shown l.pair) × Drives (map (λ r. r.rule) l.table.list.items) (shown l.fn.pair) (shown l.pair)
