@@ -213,17 +213,58 @@ fn say_state<R: Print, S: Service + Drop>(rt: &R, host: &Host<S>) -> anyhow::Res
     Ok(())
 }
 
+/// The first kernel: up to the midst of the message, where the process is saved; then to the end.
+fn original<R: Print, S: Service + Drop>(
+    rt: &R,
+    alloc: Global,
+    host: &mut Host<S>,
+    table: &Table,
+) -> anyhow::Result<ValidImage>
+    requires { AllFit (map (λ r. r.rule) table.now.list.items) host.old.services.list }
+{
+    go(host, table, true)?;
+    say_state(rt, host)?;
+    let image = saved(alloc, host, table)?;
+    go(host, table, false)?;
+    Ok(image)
+}
+
+/// The second kernel: the copy is made and goes on to the end.
+fn copy<S: Service + Drop>(
+    alloc: Global,
+    host: &mut Host<S>,
+    table: &Table,
+    image: ValidImage,
+) -> anyhow::Result<()>
+    requires { AllFit (map (λ r. r.rule) table.now.list.items) host.old.services.list }
+{
+    restore(alloc, host, table, image)?;
+    go(host, table, false)
+}
+
+/// Boots the first kernel, and answers the image of its process.
+fn run_original<R: Print>(rt: &R, alloc: Global, table: &Table) -> anyhow::Result<ValidImage> {
+    let mut host = boot_host(alloc, table, SENDER.as_bytes())?;
+    let image = original(rt, alloc, &mut host, table)?;
+    say_words(rt, "original", &host)?;
+    Ok(image)
+}
+
+/// Boots the second kernel, for the copy.
+fn run_copy<R: Print>(
+    rt: &R,
+    alloc: Global,
+    table: &Table,
+    image: ValidImage,
+) -> anyhow::Result<()> {
+    let mut host = boot_host(alloc, table, EMPTY.as_bytes())?;
+    copy(alloc, &mut host, table, image)?;
+    say_words(rt, "copy", &host)
+}
+
 fn main(rt: HostRuntime) -> anyhow::Result<()> {
     let alloc = rt.alloc();
     let table = table_of(alloc)?;
-    let mut first = boot_host(alloc, &table, SENDER.as_bytes())?;
-    go(&mut first, &table, true)?;
-    say_state(&rt, &first)?;
-    let image = saved(alloc, &mut first, &table)?;
-    let mut second = boot_host(alloc, &table, EMPTY.as_bytes())?;
-    restore(alloc, &mut second, &table, image)?;
-    go(&mut first, &table, false)?;
-    go(&mut second, &table, false)?;
-    say_words(&rt, "original", &first)?;
-    say_words(&rt, "copy", &second)
+    let image = run_original(&rt, alloc, &table)?;
+    run_copy(&rt, alloc, &table, image)
 }
