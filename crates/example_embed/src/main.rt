@@ -206,10 +206,10 @@ fn say_words<R: Print>(rt: &R, name: &str, host: &Host<Native>) -> anyhow::Resul
 /// Says what the sending thread is at.
 fn say_state<R: Print, S: Service + Drop>(rt: &R, host: &Host<S>) -> anyhow::Result<()> {
     let thread = sending(host).context("no thread")?;
-    println!(rt;
-        "saved at call {}, with {} words left to be sent from {}",
-        thread.regs[0], thread.regs[3], thread.regs[2]
-    )?;
+    let call = thread.regs[0];
+    let from = thread.regs[2];
+    let left = thread.regs[3];
+    println!(rt; "saved at call {call}, with {left} words left to be sent from {from}")?;
     Ok(())
 }
 
