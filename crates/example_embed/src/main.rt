@@ -19,7 +19,7 @@ use fk_model::{List, Move, Thread, Who};
 use fk_natives::{Native, Service};
 use fk_responders::{Note, Observer, Table, Watch, watches};
 use fk_restore::RestoreEnd;
-use std::alloc::{AllocError, Global};
+use std::alloc::Global;
 
 /// A process in slot 1 of the root sends 70 words to a console at the root's port 9.
 const SENDER: &str = r#"
@@ -83,42 +83,6 @@ const SENDING: Who = Who { space: 1, slot: 0 };
 
 /// How many moves we make at most, at a time.
 const MOST: u32 = 1000;
-
-/// A table without responders, since our only servers are consoles, and with the observers that every table has.
-fn table_of(alloc: Global) -> Result<Table, AllocError> {
-    let mut observers = Vec::new(alloc);
-    observers.push(Observer::new(
-        Watch::All,
-        Box::new(
-            alloc,
-            |note: &Note| -> bool
-                ensures { result ≡ watches sights.All (note_of note.now) }
-            { watches(Watch::All, note) },
-        )?,
-    ))?;
-    observers.push(Observer::new(
-        Watch::Replies,
-        Box::new(
-            alloc,
-            |note: &Note| -> bool
-                ensures { result ≡ watches sights.Replies (note_of note.now) }
-            { watches(Watch::Replies, note) },
-        )?,
-    ))?;
-    observers.push(Observer::new(
-        Watch::Said,
-        Box::new(
-            alloc,
-            |note: &Note| -> bool
-                ensures { result ≡ watches sights.Said (note_of note.now) }
-            { watches(Watch::Said, note) },
-        )?,
-    ))?;
-    Ok(Table {
-        list: Vec::new(alloc),
-        observers,
-    })
-}
 
 /// The state of the sending thread.
 fn sending<S: Service + Drop>(host: &Host<S>) -> Option<Thread> {
@@ -262,9 +226,44 @@ fn run_copy<R: Print>(
     say_words(rt, "copy", &host)
 }
 
+/// Saves the process of the first kernel in the midst of its message, and has its copy go on in the second.
+fn in_two_kernels<R: Print>(rt: &R, alloc: Global, table: &Table) -> anyhow::Result<()> {
+    let image = run_original(rt, alloc, table)?;
+    run_copy(rt, alloc, table, image)
+}
+
+/// The table is without responders, since our only servers are consoles, and with the observers that every table has. It is made here, since a closure that a
+/// function hands out may do anything.
 fn main(rt: HostRuntime) -> anyhow::Result<()> {
     let alloc = rt.alloc();
-    let table = table_of(alloc)?;
-    let image = run_original(&rt, alloc, &table)?;
-    run_copy(&rt, alloc, &table, image)
+    let mut observers = Vec::new(alloc);
+    observers.push(Observer::new(
+        Watch::All,
+        Box::new(
+            alloc,
+            |note: &Note| -> bool
+                ensures { result ≡ watches sights.All (note_of note.now) }
+            { watches(Watch::All, note) },
+        )?,
+    ))?;
+    observers.push(Observer::new(
+        Watch::Replies,
+        Box::new(
+            alloc,
+            |note: &Note| -> bool
+                ensures { result ≡ watches sights.Replies (note_of note.now) }
+            { watches(Watch::Replies, note) },
+        )?,
+    ))?;
+    observers.push(Observer::new(
+        Watch::Said,
+        Box::new(
+            alloc,
+            |note: &Note| -> bool
+                ensures { result ≡ watches sights.Said (note_of note.now) }
+            { watches(Watch::Said, note) },
+        )?,
+    ))?;
+    let list = Vec::new(alloc);
+    in_two_kernels(&rt, alloc, &Table { list, observers })
 }
