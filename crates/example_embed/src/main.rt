@@ -19,7 +19,7 @@ use fk_model::{List, Move, Thread, Who};
 use fk_natives::{Native, Service};
 use fk_responders::{Note, Observer, Table, Watch, watches};
 use fk_restore::RestoreEnd;
-use std::alloc::{AllocError, Global};
+use std::alloc::Global;
 
 /// A process in slot 1 of the root sends 70 words to a console at the root's port 9.
 const SENDER: &str = r#"
@@ -83,42 +83,6 @@ const SENDING: Who = Who { space: 1, slot: 0 };
 
 /// How many moves we make at most, at a time.
 const MOST: u32 = 1000;
-
-/// A table without responders, since our only servers are consoles, and with the observers that every table has.
-fn table_of(alloc: Global) -> Result<Table, AllocError> {
-    let mut observers = Vec::new(alloc);
-    observers.push(Observer::new(
-        Watch::All,
-        Box::new(
-            alloc,
-            |note: &Note| -> bool
-                ensures { result ≡ watches sights.All (note_of note.now) }
-            { watches(Watch::All, note) },
-        )?,
-    ))?;
-    observers.push(Observer::new(
-        Watch::Replies,
-        Box::new(
-            alloc,
-            |note: &Note| -> bool
-                ensures { result ≡ watches sights.Replies (note_of note.now) }
-            { watches(Watch::Replies, note) },
-        )?,
-    ))?;
-    observers.push(Observer::new(
-        Watch::Said,
-        Box::new(
-            alloc,
-            |note: &Note| -> bool
-                ensures { result ≡ watches sights.Said (note_of note.now) }
-            { watches(Watch::Said, note) },
-        )?,
-    ))?;
-    Ok(Table {
-        list: Vec::new(alloc),
-        observers,
-    })
-}
 
 /// The state of the sending thread.
 fn sending<S: Service + Drop>(host: &Host<S>) -> Option<Thread> {
@@ -206,24 +170,100 @@ fn say_words<R: Print>(rt: &R, name: &str, host: &Host<Native>) -> anyhow::Resul
 /// Says what the sending thread is at.
 fn say_state<R: Print, S: Service + Drop>(rt: &R, host: &Host<S>) -> anyhow::Result<()> {
     let thread = sending(host).context("no thread")?;
-    println!(rt;
-        "saved at call {}, with {} words left to be sent from {}",
-        thread.regs[0], thread.regs[3], thread.regs[2]
-    )?;
+    let call = thread.regs[0];
+    let from = thread.regs[2];
+    let left = thread.regs[3];
+    println!(rt; "saved at call {call}, with {left} words left to be sent from {from}")?;
     Ok(())
 }
 
+/// The first kernel: up to the midst of the message, where the process is saved; then to the end.
+fn original<R: Print, S: Service + Drop>(
+    rt: &R,
+    alloc: Global,
+    host: &mut Host<S>,
+    table: &Table,
+) -> anyhow::Result<ValidImage>
+    requires { AllFit (map (λ r. r.rule) table.now.list.items) host.old.services.list }
+{
+    go(host, table, true)?;
+    say_state(rt, host)?;
+    let image = saved(alloc, host, table)?;
+    go(host, table, false)?;
+    Ok(image)
+}
+
+/// The second kernel: the copy is made and goes on to the end.
+fn copy<S: Service + Drop>(
+    alloc: Global,
+    host: &mut Host<S>,
+    table: &Table,
+    image: ValidImage,
+) -> anyhow::Result<()>
+    requires { AllFit (map (λ r. r.rule) table.now.list.items) host.old.services.list }
+{
+    restore(alloc, host, table, image)?;
+    go(host, table, false)
+}
+
+/// Boots the first kernel, and answers the image of its process.
+fn run_original<R: Print>(rt: &R, alloc: Global, table: &Table) -> anyhow::Result<ValidImage> {
+    let mut host = boot_host(alloc, table, SENDER.as_bytes())?;
+    let image = original(rt, alloc, &mut host, table)?;
+    say_words(rt, "original", &host)?;
+    Ok(image)
+}
+
+/// Boots the second kernel, for the copy.
+fn run_copy<R: Print>(
+    rt: &R,
+    alloc: Global,
+    table: &Table,
+    image: ValidImage,
+) -> anyhow::Result<()> {
+    let mut host = boot_host(alloc, table, EMPTY.as_bytes())?;
+    copy(alloc, &mut host, table, image)?;
+    say_words(rt, "copy", &host)
+}
+
+/// Saves the process of the first kernel in the midst of its message, and has its copy go on in the second.
+fn in_two_kernels<R: Print>(rt: &R, alloc: Global, table: &Table) -> anyhow::Result<()> {
+    let image = run_original(rt, alloc, table)?;
+    run_copy(rt, alloc, table, image)
+}
+
+/// The table is without responders, since our only servers are consoles, and with the observers that every table has. It is made here, since a closure that a
+/// function hands out may do anything.
 fn main(rt: HostRuntime) -> anyhow::Result<()> {
     let alloc = rt.alloc();
-    let table = table_of(alloc)?;
-    let mut first = boot_host(alloc, &table, SENDER.as_bytes())?;
-    go(&mut first, &table, true)?;
-    say_state(&rt, &first)?;
-    let image = saved(alloc, &mut first, &table)?;
-    let mut second = boot_host(alloc, &table, EMPTY.as_bytes())?;
-    restore(alloc, &mut second, &table, image)?;
-    go(&mut first, &table, false)?;
-    go(&mut second, &table, false)?;
-    say_words(&rt, "original", &first)?;
-    say_words(&rt, "copy", &second)
+    let mut observers = Vec::new(alloc);
+    observers.push(Observer::new(
+        Watch::All,
+        Box::new(
+            alloc,
+            |note: &Note| -> bool
+                ensures { result ≡ watches sights.All (note_of note.now) }
+            { watches(Watch::All, note) },
+        )?,
+    ))?;
+    observers.push(Observer::new(
+        Watch::Replies,
+        Box::new(
+            alloc,
+            |note: &Note| -> bool
+                ensures { result ≡ watches sights.Replies (note_of note.now) }
+            { watches(Watch::Replies, note) },
+        )?,
+    ))?;
+    observers.push(Observer::new(
+        Watch::Said,
+        Box::new(
+            alloc,
+            |note: &Note| -> bool
+                ensures { result ≡ watches sights.Said (note_of note.now) }
+            { watches(Watch::Said, note) },
+        )?,
+    ))?;
+    let list = Vec::new(alloc);
+    in_two_kernels(&rt, alloc, &Table { list, observers })
 }
