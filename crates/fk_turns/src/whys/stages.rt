@@ -1,5 +1,5 @@
 //! At which stage a thread is.
-ghost use Rattle.std.specs.Prelude.{◌≡◌, ℕ, Some};
+ghost use Rattle.std.specs.Prelude.{◌≡◌, ℕ, List, Some};
 ghost use Rattle.fk_model.specs.Calls.{stages_of};
 ghost use Rattle.fk_model.specs.Objects.Mode.{Calling};
 ghost use Rattle.fk_model.specs.Places.{Path};
