@@ -154,8 +154,7 @@ module _ (m : Contents) (who : Who) (unheld : (q : Path) → decider (world m) q
 
       there_now : AreWords (path m) w t.words → AreWords (path n) (world n) t.words
       there_now there =
-          let then_page = sym (page_stays t.last (path m t.words.space) t.words.page) in
-          (
+          let then_page = sym (page_stays t.last (path m t.words.space) t.words.page) in (
             there.0,
             subst (λ (p : ℕ → Path). IsSome ((world n).page (p t.words.space) t.words.page)) (sym paths_are)
                 (subst (λ (u : World). IsSome (u.page (path m t.words.space) t.words.page)) (sym world_is)

@@ -64,7 +64,7 @@ fn after_speech(turns: &mut Turns, store: &Store, mover: Who, spoken: Spoken)
     ensures { AreKept store.now turns.new.waits turns.new.marks }
 {
     match spoken {
-        Spoken::Words(_words) => {}
+        Spoken::Words(_) => {}
         Spoken::Over { port } => after_yield(turns, store, mover, port),
     }
 }

@@ -7,4 +7,4 @@ after_yield-requires c = record { valid = c.requires.valid; comes = rw c.in-Over
 pub returns-in-Words : goal.returns-in-Words
 returns-in-Words c =
     let was = c.args.turns.now in
-    kept_told c.args.store.now c.args.mover was.waits was.marks c.in-Words._words (rw c.in-Words.is at c.requires.comes)
+    kept_told c.args.store.now c.args.mover was.waits was.marks _ (rw c.in-Words.is at c.requires.comes)
