@@ -5,6 +5,7 @@ use Rattle.fk_model.specs.declared.moves.Said.TheVariants as says
 use Rattle.fk_turns.proofs.InSteps.Stepped.{comes_true, kept_wider, put_true, run_fit, same_wider, still_then, still_true, valid_true}
 use Rattle.fk_turns.proofs.InSteps.Locked.{if_false}
 use Rattle.fk_turns.proofs.InSteps.Rested.{free_made, where_made}
+use Rattle.fk_turns.proofs.InSteps.Went.{off_anyway}
 use Rattle.fk_turns.proofs.steps.steps.proceed_stage.Goals as goal
 
 pub after_silent_if-requires : goal.after_silent_if-requires
@@ -42,6 +43,9 @@ returns-clause-still c =
     let now = c.seat_for.new.turns in
     still_then was.waits now.waits c.after_silent_if.new.turns.waits _ (same_wider was.waits was.marks now.waits now.marks c.seat_for.ensures.wider)
     c.after_silent_if.ensures.still
+
+pub returns-then-not-seat_for-clause-placed : goal.returns-then-not-seat_for-clause-placed
+returns-then-not-seat_for-clause-placed c = off_anyway c.args.stays tt
 
 pub returns-then-not-seat_for-clause-kept : goal.returns-then-not-seat_for-clause-kept
 returns-then-not-seat_for-clause-kept c =
