@@ -16,8 +16,8 @@ mod steps;
 mod taking;
 mod talking;
 
-pub use fk_calls::{Sent, Told, is_fit, ready};
 pub use entering::enter;
+pub use fk_calls::{Sent, Told, is_fit, ready};
 pub use going::Gone;
 pub use plain::{after_plain, after_still};
 pub use serving::{give, pass};
