@@ -22,7 +22,8 @@ make_instruction-requires c =
     record {
       valid = c.requires.valid;
       judged = judged;
-      at = running_there (world m) (path m) (place (path m) c.args.who) _ _ c.in-Some.ensures.there (c.in-Some.ensures.running (cc));
+      at = running_there (world m) (path m) (place (path m) c.args.who) effects.Enters c.in-Some.thread.now c.in-Some.ensures.there
+          (c.in-Some.ensures.running (cc));
       effect = names;
     }
 
