@@ -15,6 +15,6 @@ pub few_raised : (raised : Bool) (t u : Touched) → OnTrue raised (is_making t 
 few_raised true t u few same = ap is_making same ∙ few
 few_raised false t u few same = ap is_making same
 
-pub none_of : {P : Type 0} (b : Bool) → b ≡ false → OnTrue b P
-none_of true is = absurd (cc)
-none_of false is = tt
+pub none_of : (P : Type 0) (b : Bool) → b ≡ false → OnTrue b P
+none_of P true is = absurd (cc)
+none_of P false is = tt

@@ -80,8 +80,21 @@ pub fn make_give(
     };
     let stage = Stage::PageGive { s, page, addr };
     match rows::judged(store, caller, &[], &stage, None) {
-        Ok(Verdict::Done(Plan::Gives { space, page, source }, Answers::Nothing)) => {
-            let plan = Plan::Gives { space, page, source };
+        Ok(
+            Verdict::Done(
+                Plan::Gives {
+                    space,
+                    page,
+                    source,
+                },
+                Answers::Nothing,
+            ),
+        ) => {
+            let plan = Plan::Gives {
+                space,
+                page,
+                source,
+            };
             let verdict = Verdict::Done(plan, Answers::Nothing);
             make_verdict(store, who, &stage, &verdict, touched)
         }
@@ -115,7 +128,12 @@ pub fn make_take(
     };
     let stage = Stage::PageTake { s, page, addr };
     match rows::judged(store, caller, &[], &stage, None) {
-        Ok(Verdict::Done(Plan::Two(Deed::Copies { from, to }, Deed::Drops { space, page }), Answers::Nothing)) => {
+        Ok(
+            Verdict::Done(
+                Plan::Two(Deed::Copies { from, to }, Deed::Drops { space, page }),
+                Answers::Nothing,
+            ),
+        ) => {
             let plan = Plan::Two(Deed::Copies { from, to }, Deed::Drops { space, page });
             let verdict = Verdict::Done(plan, Answers::Nothing);
             make_verdict(store, who, &stage, &verdict, touched)

@@ -1,5 +1,6 @@
 //! Moves that a core makes by itself, several of one mover at once.
 ghost use Rattle.std.specs.Prelude.{◌≡◌, ◌+◌, ◌-◌, ◌%◌, ◌<◌, ◌≤◌, None, IfOk, OnErr, IfSome, IfNone, IsSome, map, replicate};
+ghost use Rattle.std.specs.Bool.{OnTrue};
 ghost use Rattle.fk_core.specs.Rounds.Served.{AllFit};
 ghost use Rattle.fk_core.specs.Cores.Bursts.{mover_of, AreMade, IsAdvancedSo};
 ghost use Rattle.fk_core.specs.Cores.Cores.{house, run_core, IsFirstDue, IsLacking, IsOver};
@@ -17,6 +18,17 @@ use fk_natives::Service;
 use fk_responders::Table;
 use fk_served::Kernel;
 
+/// A call may follow so many instructions, where so many moves may be made at most. Who made none is mostly in a call already.
+#[inline(always)]
+fn may_follow(made: u64, most: u64) -> bool
+    ensures { OnTrue result (made < most) }
+{
+    if made == 0 {
+        return false;
+    }
+    made < most
+}
+
 /// Makes instructions of a thread, at most so many, and enters the call to which they lead where one more may be made, and says how many moves these were.
 /// Where it makes none all is as before.
 fn run_into(kernel: &mut Kernel, thread: Who, most: u64) -> u64
@@ -25,8 +37,7 @@ fn run_into(kernel: &mut Kernel, thread: Who, most: u64) -> u64
     ensures few { result ≤ most }
 {
     let made = kernel.run_on(thread, most);
-    // Who made none is mostly in a call already.
-    if made == 0 || made >= most {
+    if !may_follow(made, most) {
         return made;
     }
     if kernel.enter(thread) {

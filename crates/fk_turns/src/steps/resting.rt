@@ -31,7 +31,7 @@ pub fn after_silent_if(
     requires free { OnTrue made (is_queued mover turns.old.waits.queued ≡ false) }
     requires kept { OnFalse made (AreKept store.now turns.old.waits turns.old.marks) }
     ensures kept { AreKept store.now turns.new.waits turns.new.marks }
-    ensures placed { OnFalse stays (OnTrue made (is_user_at store.now (now_named mover touched.now) ≡ true
+    ensures placed { OnTrue made (OnFalse stays (is_user_at store.now (now_named mover touched.now) ≡ true
         → IsPlaced store.now (standing turns.new.waits) (now_named mover touched.now))) }
     ensures still { OnFalse made (standing turns.new.waits ≡ standing turns.old.waits) }
 {

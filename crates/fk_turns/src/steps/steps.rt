@@ -201,9 +201,6 @@ pub fn proceed(store: &mut Store, turns: &mut Turns, who: Who) -> Gone
     ensures placed { OnTrue (is_made result) (IsPut store.old (record { who = who; pick = None }) asks.Run store.new (standing turns.new.waits)) }
     ensures still { OnFalse (is_made result) (standing turns.new.waits ≡ standing turns.old.waits) }
 {
-    if let Some(code) = call_of(store, who) {
-        return go_call(store, turns, who, code, false);
-    }
     store.names();
     let mut touched = Touched::Any;
     let ran = fk_calls::run(store, who, &mut touched);

@@ -14,15 +14,16 @@ use Rattle.fk_calls.proofs.calls.entering.enter.Goals as goal
 pub make_instruction-requires : goal.make_instruction-requires
 make_instruction-requires c =
     let m = c.args.store.now in
-    let row = rw c.if-enters.true at c.enters.ensures.row in
-    let fits = rw c.if-enters.true at c.enters.ensures.fits in
-    let names = rw c.if-enters.true at c.enters.ensures.instruction in
+    let row = rw c.if-not-enters.false at c.enters.ensures.row in
+    let fits = rw c.if-not-enters.false at c.enters.ensures.fits in
+    let names = rw c.if-not-enters.false at c.enters.ensures.instruction in
     let judged = instruction_judged m (record { who = c.args.who; pick = None }) (verdicts.Runs effects.Enters) (c.in-Some.ensures.free (cc))
     (c.in-Some.ensures.running (cc)) (row []) fits c.in-Some.thread.now.regs names tt in
     record {
       valid = c.requires.valid;
       judged = judged;
-      at = running_there (world m) (path m) (place (path m) c.args.who) _ _ c.in-Some.ensures.there (c.in-Some.ensures.running (cc));
+      at = running_there (world m) (path m) (place (path m) c.args.who) effects.Enters c.in-Some.thread.now c.in-Some.ensures.there
+          (c.in-Some.ensures.running (cc));
       effect = names;
     }
 
@@ -31,9 +32,9 @@ returns-clause-touched c =
     let m = c.args.store.now in
     let run : Move = record { who = c.args.who; pick = None } in
     let j : Judgement = record { caller = user c.args.who; chooses = false; verdict = verdicts.Runs effects.Enters } in
-    let row = rw c.if-enters.true at c.enters.ensures.row in
-    let fits = rw c.if-enters.true at c.enters.ensures.fits in
-    let names = rw c.if-enters.true at c.enters.ensures.instruction in
+    let row = rw c.if-not-enters.false at c.enters.ensures.row in
+    let fits = rw c.if-not-enters.false at c.enters.ensures.fits in
+    let names = rw c.if-not-enters.false at c.enters.ensures.instruction in
     let judged = instruction_judged m run (verdicts.Runs effects.Enters) (c.in-Some.ensures.free (cc)) (c.in-Some.ensures.running (cc)) (row []) fits
     c.in-Some.thread.now.regs names tt in
     true_anyway c.make_instruction.result (touching m run asks.Run j judged)

@@ -87,7 +87,7 @@ pub returns-in-Faults-clause-ran : goal.returns-in-Faults-clause-ran
 returns-in-Faults-clause-ran c = true_anyway (has_run c.raised_by.result) (c.in-Some.ensures.running (cc))
 
 pub returns-in-Faults-clause-on : goal.returns-in-Faults-clause-on
-returns-in-Faults-clause-on c = none_of _ c.raised_by.ensures.on
+returns-in-Faults-clause-on c = none_of _ _ c.raised_by.ensures.on
 
 pub returns-in-Faults-clause-same : goal.returns-in-Faults-clause-same
 returns-in-Faults-clause-same c = rw c.raised_by.ensures.made c.raise_judged.ensures.same

@@ -8,8 +8,8 @@ use Rattle.laws_turns.proofs.Running.{bursts_run_lem}
 use Rattle.fk_core.proofs.InCores.Entering.{moves_lead, one_more}
 use Rattle.fk_core.proofs.cores.several.run_into.Goals as goal
 
-pub returns-then-if-clause-ran : goal.returns-then-if-clause-ran
-returns-then-if-clause-ran c =
+pub returns-then-not-may_follow-clause-ran : goal.returns-then-not-may_follow-clause-ran
+returns-then-not-may_follow-clause-ran c =
     let who = c.args.thread in
     let move : Move = record { who = who; pick = None } in
     let k = c.args.kernel.now in

@@ -4,7 +4,8 @@ use Rattle.fk_model.specs.declared.moves.Move.{Move}
 use Rattle.fk_model.specs.declared.moves.Said.TheVariants as says
 use Rattle.fk_turns.proofs.InSteps.Stepped.{comes_true, kept_wider, put_true, run_fit, same_wider, still_then, still_true, valid_true}
 use Rattle.fk_turns.proofs.InSteps.Locked.{if_false}
-use Rattle.fk_turns.proofs.InSteps.Rested.{free_made}
+use Rattle.fk_turns.proofs.InSteps.Rested.{free_made, where_made}
+use Rattle.fk_turns.proofs.InSteps.Went.{off_anyway}
 use Rattle.fk_turns.proofs.steps.steps.proceed_stage.Goals as goal
 
 pub after_silent_if-requires : goal.after_silent_if-requires
@@ -33,7 +34,8 @@ returns-clause-placed c =
     let run : Move = record { who = c.args.who; pick = None } in
     if_false c.args.stays (put_true m c.stage-made.new.store run asks.Run c.requires.valid c.names.ensures.few (run_fit m run) c.names.ensures.born
     c.names-2.ensures.born c.names-2.ensures.few c.stage-made.new.touched c.after_silent_if.new.turns.waits says.Nothing c.stage-made.result
-    c.stage-made.ensures.made c.stage-made.ensures.touched) c.after_silent_if.ensures.placed
+    c.stage-made.ensures.made c.stage-made.ensures.touched)
+    (where_made c.args.stays c.stage-made.result c.after_silent_if.ensures.placed)
 
 pub returns-clause-still : goal.returns-clause-still
 returns-clause-still c =
@@ -41,6 +43,9 @@ returns-clause-still c =
     let now = c.seat_for.new.turns in
     still_then was.waits now.waits c.after_silent_if.new.turns.waits _ (same_wider was.waits was.marks now.waits now.marks c.seat_for.ensures.wider)
     c.after_silent_if.ensures.still
+
+pub returns-then-not-seat_for-clause-placed : goal.returns-then-not-seat_for-clause-placed
+returns-then-not-seat_for-clause-placed c = off_anyway c.args.stays tt
 
 pub returns-then-not-seat_for-clause-kept : goal.returns-then-not-seat_for-clause-kept
 returns-then-not-seat_for-clause-kept c =
