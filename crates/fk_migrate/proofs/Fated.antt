@@ -46,7 +46,7 @@ one_on n (Some k) = ap some_place (let same : n + 1 + k ≡ n + suc k = omega ar
 
 from_zero : (o : Option ℕ) → option_map (λ (k : ℕ). 0 + k) o ≡ o
 from_zero None = refl
-from_zero (Some k) = refl
+from_zero (Some k) = ap some_place (let same : 0 + k ≡ k = omega arith in same)
 
 some_zero : (n : ℕ) → Some n ≡ option_map (λ (k : ℕ). n + k) (Some 0)
 some_zero n = ap some_place (let same : n ≡ n + 0 = omega arith in same)
@@ -173,7 +173,7 @@ module _ (slot : ℕ) where
   early_listened got (Some i) = refl
 
   early_told : (f : FarSide) (p : Packets) → is_early f ≡ true → is_early (far_told (both slot) f p) ≡ true
-  early_told (far.Listens got) (packets.Piece q) early = early_listened got (image_codec.reads (got ++ q ∷ []))
+  early_told (far.Listens got) (packets.Piece q) early = early_listened (got ++ q ∷ []) (image_codec.reads (got ++ q ∷ []))
   early_told (far.Listens got) packets.Ready early = refl
   early_told (far.Listens got) (packets.Refused why) early = refl
   early_told (far.Listens got) packets.Gone early = refl

@@ -208,8 +208,11 @@ none_there : (ps : List Packets) → None ≡ slice_get ps 0 → 0 ≡ length ps
 none_there [] is = refl
 none_there (p ∷ ps) is = cc
 
-pub one_sent : (f : FarSide) (o : Option Packet) (x : Packet) → o ≡ Some x → option_map packet_of o ≡ slice_get (sent_far f) 0 → 1 ≡ length (sent_far f)
-one_sent f o x is sent = one_there (sent_far f) (packet_of x) (few_sent f) (ap (λ (p : Option Packet). option_map packet_of p) (sym is) ∙ sent)
+pub one_sent : (f : FarSide) (o : Option Packet) (b : Bool) → b ≡ is_some o → b ≡ true → option_map packet_of o ≡ slice_get (sent_far f) 0 → 1 ≡ length (sent_far f)
+one_sent f None b there is sent = cc
+one_sent f (Some x) b there is sent = one_there (sent_far f) (packet_of x) (few_sent f) sent
 
-pub none_sent : (f : FarSide) (o : Option Packet) → o ≡ None → option_map packet_of o ≡ slice_get (sent_far f) 0 → 0 ≡ length (sent_far f)
-none_sent f o is sent = none_there (sent_far f) (ap (λ (p : Option Packet). option_map packet_of p) (sym is) ∙ sent)
+pub none_sent : (f : FarSide) (o : Option Packet) (b : Bool) → b ≡ is_some o → b ≡ false → option_map packet_of o ≡ slice_get (sent_far f) 0
+    → 0 ≡ length (sent_far f)
+none_sent f None b there is sent = none_there (sent_far f) sent
+none_sent f (Some x) b there is sent = cc

@@ -157,11 +157,12 @@ impl<S: Service + Drop> Receiver<S> {
     pub fn sent(&self) -> u64
         ensures { (f : FarSide) → IsFar self.now.far.makes f → result ≡ length (sent_far f) }
     {
-        match self.far.packet(0) {
-            Some(_) => 1,
-            None => 0,
+        if self.far.packet(0).is_some() {
+            return 1;
         }
+        0
     }
+
     /// Whether the copy is let go.
     pub fn has_moved(&self) -> bool
         ensures { (f : FarSide) → IsFar self.now.far.makes f → result ≡ is_moved f }

@@ -19,9 +19,10 @@ pub step-requires-clause-far_fits : goal.step-requires-clause-far_fits
 step-requires-clause-far_fits g c =
     subst (λ (s : Shown). AllFit (map (λ r. r.rule) c.args.table.now.list.items) s.far.servers) (sym c.ready.ensures.same) c.requires.driven.far
 
-pub returns-then-not-is_ready-clause-drives : goal.returns-then-not-is_ready-clause-drives
-returns-then-not-is_ready-clause-drives g c = drives_equal _ _ _ c.ready.ensures.same c.requires.driven
+pub returns-then-not-is_ready : goal.returns-then-not-is_ready
+returns-then-not-is_ready g c = record { drives = drives_equal _ _ _ c.ready.ensures.same c.requires.driven }
 
-pub returns-clause-drives : goal.returns-clause-drives
-returns-clause-drives g c =
-    drives_by _ _ _ _ c.ready.ensures.same c.requires.driven c.step.ensures.run c.step.ensures.near_fits c.step.ensures.far_fits
+pub returns : goal.returns
+returns g c = record {
+  drives = drives_by _ _ _ _ c.ready.ensures.same c.requires.driven c.step.ensures.run c.step.ensures.near_fits c.step.ensures.far_fits;
+}
