@@ -13,14 +13,14 @@ returns-clause-made g c =
     let made = rw c.in-Some.is at c.speak.ensures.made in
     let ended = rw c.in-Some.is at c.speak.ensures.ended in
     let tells = rw c.in-Some.is at c.speak.ensures.told in
-    spoken self.kernel c.speak.new.self self.services.list c.hear_spoken.new.services.list self.jobs self.budget self.events c.args.who said _ c.requires.few
-    c.requires.other made (ended refl) tells (c.hear_spoken.ensures ∙ ap (map (told said None)) c.reserve.ensures.same) c.settle.ensures.settles
+    spoken self.kernel c.speak.new.self self.services.list c.hear_spoken-port.new.services.list self.jobs self.budget self.events c.args.who said _ c.requires.few
+    c.requires.other made (ended refl) tells (c.hear_spoken-port.ensures ∙ ap (map (told said None)) c.reserve.ensures.same) c.settle.ensures.settles
     c.settle.ensures.events
 
 pub returns-clause-fits : goal.returns-clause-fits
 returns-clause-fits g c =
-    rw (c.settle.ensures.services, c.hear_spoken.ensures, c.reserve.ensures.same)
+    rw (c.settle.ensures.services, c.hear_spoken-port.ensures, c.reserve.ensures.same)
     (fits-told _ (said_of (store_of c.speak.new.self) c.in-Some.spoken) None c.args.self.now.services.list c.requires.fits)
 
-pub hear_spoken-requires-clause-there : goal.hear_spoken-requires-clause-there
-hear_spoken-requires-clause-there g c = rw c.in-Some.is at c.speak.ensures.there
+pub hear_spoken-port-requires-clause-there : goal.hear_spoken-port-requires-clause-there
+hear_spoken-port-requires-clause-there g c = rw c.in-Some.is at c.speak.ensures.there
