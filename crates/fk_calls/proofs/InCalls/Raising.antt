@@ -1,5 +1,5 @@
 -- Raising: what is told of a fault that an instruction raises, or of none.
-use Rattle.std.proofs.Common.{◌≡◌, Bool, true, false, None, if◌then◌else◌, refl, sym, ap, subst, ◌∙◌}
+use Rattle.std.proofs.Common.{◌≡◌, Bool, true, false, None, if◌then◌else◌, sym, ap, subst, ◌∙◌}
 use Rattle.std.specs.Bool.{OnTrue}
 use Rattle.fk_plans.specs.declared.wakes.touching.Touched.{Touched}
 use Rattle.fk_plans.specs.declared.wakes.touching.Touched.TheVariants.{Few}

@@ -1,6 +1,5 @@
 -- Rested: the lists stand as they are after a move that touched nobody else, of a thread that isn't queued, where those that are queued are calm.
-use Rattle.std.proofs.Common.{◌≡◌, ◌⊎◌, ◌||◌, inl, inr, Bool, true, false, List, [], refl, sym, ap, subst, ◌∙◌}
-use Rattle.std.proofs.Common.{◌≤◌, None}
+use Rattle.std.proofs.Common.{◌≡◌, ◌≤◌, inl, inr, Bool, true, false, None, [], refl, sym, ap, subst, ◌∙◌}
 use Rattle.std.proofs.lemmas.Bool.{or_right}
 use Rattle.std.specs.Bool.{OnTrue, OnFalse}
 use Rattle.fk_model.specs.declared.moves.Ask.TheVariants as asks
@@ -28,16 +27,16 @@ use Rattle.fk_turns.specs.Whys.Whys.{IsWhy}
 use Rattle.fk_turns.proofs.InSteps.Went.{free_when_ready, left_hushed, told_alone, Leaves}
 
 -- who has made a move wasn't queued
-pub free_made : {P : Type 0} (m : Contents) (who : Who) (waits marks : Lists) (b : Bool) → IsValid (world m) → (world m).next ≤ depth →
+pub free_made : (P : Type 0) (m : Contents) (who : Who) (waits marks : Lists) (b : Bool) → IsValid (world m) → (world m).next ≤ depth →
     AreKept m waits marks → OnTrue b (IsReadyMove m (record { who = who; pick = None }) asks.Run × P) → OnTrue b (is_queued who waits.queued ≡ false)
-free_made m who waits marks true valid few kept made = free_when_ready m waits marks who None valid few kept made.0
-free_made m who waits marks false valid few kept made = tt
+free_made P m who waits marks true valid few kept made = free_when_ready m waits marks who None valid few kept made.0
+free_made P m who waits marks false valid few kept made = tt
 
 -- what holds of a move that was made holds of it where it was made
-pub where_made : {P : Type 0} (stays made : Bool) → OnTrue made (OnFalse stays P) → OnFalse stays (OnTrue made P)
-where_made true made p = tt
-where_made false true p = p
-where_made false false p = tt
+pub where_made : (P : Type 0) (stays made : Bool) → OnTrue made (OnFalse stays P) → OnFalse stays (OnTrue made P)
+where_made P true made p = tt
+where_made P false true p = p
+where_made P false false p = tt
 
 -- what touches nobody else puts nothing anywhere
 put_alone : (mover : Who) (t : Touched) (x : Who) → touches_only mover t ≡ true → is_put t x ≡ false

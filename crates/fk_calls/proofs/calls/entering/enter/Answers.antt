@@ -1,4 +1,4 @@
-use Rattle.std.proofs.Common.{[], true, false, None}
+use Rattle.std.proofs.Common.{[], false, None}
 use Rattle.fk_store.specs.Store.Paths.{path, place}
 use Rattle.fk_store.specs.Store.World.{world}
 use Rattle.fk_calls.proofs.InCalls.Judged.{instruction_judged, running_there, user}

@@ -12,7 +12,7 @@ use Rattle.fk_model.specs.declared.moves.Ask.TheVariants as asks
 use Rattle.fk_model.specs.declared.moves.Move.{Move}
 use Rattle.fk_plans.specs.declared.plans.plan.Verdict.TheVariants as verdicts
 use Rattle.fk_plans.specs.declared.wakes.touching.Touched.TheVariants.{Few}
-use Rattle.std.proofs.Common.{false, sym}
+use Rattle.std.proofs.Common.{false}
 use Rattle.fk_calls.proofs.calls.moves.run.Goals as goal
 
 -- ---- an instruction that is made

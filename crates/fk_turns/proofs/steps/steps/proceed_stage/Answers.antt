@@ -23,7 +23,7 @@ after_silent_if-requires c =
       comes = comes_true m n run asks.Run c.requires.valid c.names.ensures.few (run_fit m run) c.names.ensures.born c.names-2.ensures.born
           c.names-2.ensures.few c.stage-made.new.touched now.waits now.marks says.Nothing c.stage-made.result kept room c.stage-made.ensures.made
           c.stage-made.ensures.touched;
-      free = free_made m c.args.who now.waits now.marks c.stage-made.result c.requires.valid c.names.ensures.few kept c.stage-made.ensures.made;
+      free = free_made _ m c.args.who now.waits now.marks c.stage-made.result c.requires.valid c.names.ensures.few kept c.stage-made.ensures.made;
       kept = still_true m n run asks.Run c.requires.valid c.names.ensures.few (run_fit m run) now.waits now.marks c.stage-made.result kept
           c.stage-made.ensures.same;
     }
@@ -35,7 +35,7 @@ returns-clause-placed c =
     if_false c.args.stays (put_true m c.stage-made.new.store run asks.Run c.requires.valid c.names.ensures.few (run_fit m run) c.names.ensures.born
     c.names-2.ensures.born c.names-2.ensures.few c.stage-made.new.touched c.after_silent_if.new.turns.waits says.Nothing c.stage-made.result
     c.stage-made.ensures.made c.stage-made.ensures.touched)
-    (where_made c.args.stays c.stage-made.result c.after_silent_if.ensures.placed)
+    (where_made _ c.args.stays c.stage-made.result c.after_silent_if.ensures.placed)
 
 pub returns-clause-still : goal.returns-clause-still
 returns-clause-still c =
