@@ -1,7 +1,6 @@
 use Rattle.std.proofs.Common.{refl, ap, subst, ◌∙◌}
 use Rattle.fk_host.specs.Kernels.{world_of as world}
 use Rattle.fk_host.specs.Served.{shown}
-use Rattle.fk_model.specs.World.{World}
 use Rattle.fk_natives.specs.Both.{meaning}
 use Rattle.fk_store.specs.Store.Contents.{Contents}
 use Rattle.fk_store.specs.Store.World as worlds

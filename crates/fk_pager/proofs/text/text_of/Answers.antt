@@ -1,5 +1,4 @@
 use Rattle.std.proofs.Common.{map, ap, subst, ◌∙◌}
-use Rattle.fk_host.specs.Kernels.{Kept}
 use Rattle.fk_host.specs.Kernels.{world_of as world}
 use Rattle.fk_model.specs.declared.names.Who.{Who}
 use Rattle.fk_natives.specs.Natives.{State}
