@@ -1,5 +1,5 @@
 -- What holds of every run with a pager from a moment on at which it may begin, and so of each beginning of such a run.
-use Rattle.std.specs.Prelude.{◌≡◌, ℕ, ◌+◌, ◌*◌, ◌≤◌, min, true, false, List, ◌∷◌, length}
+use Rattle.std.specs.Prelude.{◌≡◌, ◌+◌, ◌*◌, ◌≤◌, min, true, false, List, ◌∷◌, length}
 use Rattle.fk_model.specs.declared.limits.TheConstants.{PAGES}
 use Rattle.fk_model.specs.declared.moves.Move.{Move}
 use Rattle.laws_filled.specs.Pager.{Desk, MOST_FAULTS, HasAll, homes, is_opening}

@@ -1,7 +1,7 @@
 use Rattle.fk_pager.proofs.page.page_at.Goals as goal
 
 pub returns : goal.returns
-returns c =
+returns g c =
     let ran = c.in_ok-ran.ran in
     record {
       kernel = ran.0.kernel;

@@ -1,7 +1,6 @@
 use Rattle.std.proofs.Common.{refl, ap, subst, ◌∙◌}
 use Rattle.fk_host.specs.Kernels.{world_of as world}
 use Rattle.fk_host.specs.Served.{shown}
-use Rattle.fk_model.specs.World.{World}
 use Rattle.fk_natives.specs.Both.{meaning}
 use Rattle.fk_store.specs.Store.Contents.{Contents}
 use Rattle.fk_store.specs.Store.World as worlds
@@ -14,23 +13,23 @@ use Rattle.fk_pager.proofs.HiddenAlong.{hides}
 use Rattle.fk_pager.proofs.page.page_scenario.Goals as goal
 
 pub returns-then-len-ne0 : goal.returns-then-len-ne0
-returns-then-len-ne0 c = with-jobs c.args.slot c.args.scenario.now c.if-len-ne0.true
+returns-then-len-ne0 g c = with-jobs c.args.slot c.args.scenario.now (λ none. c.if-len-ne0.true (c.len.ensures ∙ none))
 
 pub returns-in-None : goal.returns-in-None
-returns-in-None c =
+returns-in-None g c =
     not-pageable c.args.slot c.args.scenario.now (worlds.world c.store.result.now)
     (ap (λ (m : Contents). worlds.world m) c.store.ensures ∙ c.in_ok-first.ensures.world) c.in-None.ensures.none
 
-pub page_at-made-requires-clause-desk : goal.page_at-made-requires-clause-desk
-page_at-made-requires-clause-desk c =
+pub page_at-requires-clause-desk : goal.page_at-requires-clause-desk
+page_at-requires-clause-desk g c =
     subst (λ (m : Contents). HasDesk (worlds.world m) c.args.slot c.in-Some.desk.port c.in-Some.desk.set) c.store.ensures c.in-Some.ensures.some
 
-pub page_at-made-requires-clause-fits : goal.page_at-made-requires-clause-fits
-page_at-made-requires-clause-fits c =
+pub page_at-requires-clause-fits : goal.page_at-requires-clause-fits
+page_at-requires-clause-fits g c =
     all-fit _ (world c.in_ok-first.first.kernel) c.in_ok-first.first.services.items c.args.scenario.now.servers c.in_ok-first.ensures.services c.requires.rules
 
-pub returns-in-Some : goal.returns-in-Some
-returns-in-Some c =
+pub returns-in_ok-made-in-Some : goal.returns-in_ok-made-in-Some
+returns-in_ok-made-in-Some g c =
     let first = c.in_ok-first.first in
     let desk = c.in-Some.desk in
     let moment = first_of first.kernel (shown meaning first.services.items) in
@@ -56,5 +55,5 @@ returns-in-Some c =
       begins = begins;
       quiet = quiet;
       hides = hides c.args.slot desk.port desk.set c.args.room moment c.requires.low c.requires.some begins quiet;
-      written = rw c.in_ok-first.ensures.budget at c.in_ok-made.ensures;
+      written = rw c.in_ok-first.ensures.budget at c.in_ok-made-in-Some.ensures;
     }
