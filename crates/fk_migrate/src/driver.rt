@@ -54,6 +54,10 @@ fn try_event<S: Service + Drop>(
 }
 
 /// Takes each of some events that is ready when its turn comes, and passes over the others.
+///
+/// # Errors
+///
+/// There is no memory for an event or a packet.
 #[tactic(auto, using(crate::proofs::Driving::drives_on, crate::proofs::Driving::drives_not, crate::proofs::Driving::driven_of))]
 pub fn take_ready<S: Service + Drop>(
     pair: &mut Pair<S>,
@@ -129,7 +133,7 @@ fn run_near<S: Service + Drop>(
     Ok(())
 }
 
-/// The same of the far kernel.
+/// One move of a user or a server of the far kernel.
 #[tactic(auto, using(crate::proofs::Driving::drives_equal, crate::proofs::Driving::drives_from, crate::proofs::Driving::driven_equal))]
 fn move_far<S: Service + Drop>(
     pair: &mut Pair<S>,
@@ -197,7 +201,7 @@ fn deliver_to_far<S: Service + Drop>(
     Ok(to)
 }
 
-/// The same of the far side.
+/// Delivers the packets of the far side that haven't been, the last one first.
 #[tactic(auto, using(crate::proofs::Driving::drives_on, crate::proofs::Driving::drives_not, crate::proofs::Driving::driven_of))]
 fn deliver_to_near<S: Service + Drop>(
     pair: &mut Pair<S>,
@@ -278,6 +282,10 @@ fn migrate<S: Service + Drop>(
 
 /// The near kernel runs for so many moves, or fewer where none is ready; then the subtree moves, while nobody else does; then the far kernel
 /// runs. Of all moves there are no more than the budget has.
+///
+/// # Errors
+///
+/// There is no memory for a move or a packet.
 #[tactic(auto, using(crate::proofs::Driving::drives_on, crate::proofs::Driving::driven_of))]
 pub fn drive<S: Service + Drop>(
     pair: &mut Pair<S>,

@@ -122,7 +122,7 @@ impl<S: Service + Drop> Pair<S> {
         }
     }
 
-    /// The same, where the original isn't kept.
+    /// What it has come to where the original isn't kept.
     fn moved(&self) -> Fate<'_>
         requires { why_kept (shown self.now).near.side ≡ None }
         ensures { (from : Start) (its : IsRunOf (shown self.now) from) → IsFate its.run its.steps result }
@@ -141,8 +141,11 @@ impl<S: Service + Drop> Pair<S> {
         }
     }
 
-    /// How many pieces the near side has sent, none before its image is gathered. There may be no memory for the bytes of its image; nothing else
-    /// changes.
+    /// How many pieces the near side has sent, none before its image is gathered.
+    ///
+    /// # Errors
+    ///
+    /// There is no memory for the bytes of its image; all is as before.
     pub fn pieces(&mut self) -> Result<u64, NoMemory>
         ensures same { shown self.new ≡ shown self.old }
         ensures pieces { IfOk result (λ many. many ≡ pieces_of (shown self.old).near.side) }

@@ -66,7 +66,7 @@ impl Places {
         }
     }
 
-    /// The same of the far kernel.
+    /// With a move of the far kernel, which is its porter's or isn't. There were fewer moves than so many.
     pub fn far(self, is_own: bool, most: usize) -> Places
         requires { self.far < most }
         ensures { result ≡ far_counted self is_own }
@@ -78,6 +78,7 @@ impl Places {
             ..self
         }
     }
+
     /// All three places, once there are all of them.
     pub fn calls(self) -> Option<Calls>
         ensures { result ≡ calls_of self }

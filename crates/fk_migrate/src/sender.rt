@@ -185,7 +185,7 @@ impl<S: Service + Drop> Sender<S> {
         self.near.packet(number)
     }
 
-    /// How many packets it has sent. There may be no memory for the bytes of its image.
+    /// How many packets it has sent.
     ///
     /// # Errors
     ///
@@ -202,7 +202,11 @@ impl<S: Service + Drop> Sender<S> {
             None => unreachable!(),
         }
     }
-    /// How many pieces it has sent. There may be no memory for the bytes of its image.
+    /// How many pieces it has sent.
+    ///
+    /// # Errors
+    ///
+    /// There is no memory for the bytes of its image; all is as before.
     pub fn pieces(&mut self) -> Result<u64, NoMemory>
         ensures same { near_seen self.new ≡ near_seen self.old }
         ensures slot { self.new.near.slot ≡ self.old.near.slot }
