@@ -1,5 +1,5 @@
 use Rattle.std.proofs.Common.{◌≡◌, ◌∙◌, false, is_some, Some, sym, subst}
-use Rattle.std.proofs.lemmas.Bool.{OnTrue_at, OnFalse_at}
+use Rattle.std.proofs.lemmas.Bool.{OnTrue_at}
 use Rattle.fk_model.specs.declared.moves.Move.{Move}
 use Rattle.fk_core.specs.Rounds.Kernels.{world_of as world}
 use Rattle.fk_core.specs.Cores.Cores.{run_core, IsAdvanced}
@@ -15,8 +15,3 @@ returns-then-speak_at-clause-tried g c =
     let made = subst (λ (mv : Move). IsAdvanced self.jobs.jobs self.budget (run_core self) (Some mv) (run_core c.speak_at.new.self))
     (unpicked m.who m.pick none) (OnTrue_at c.if-speak_at.true c.speak_at.ensures.made) in
     (ready_asked self.jobs (world self.kernel) self.services.list self.events m c.requires.other made.1, made.2, made.3)
-
-pub go_running-requires-clause-runs : goal.go_running-requires-clause-runs
-go_running-requires-clause-runs g c =
-    let nay = c.if-speak_at.false in
-    rw (OnFalse_at nay c.speak_at.ensures.services, OnFalse_at nay c.speak_at.ensures.kernel) c.requires.runs

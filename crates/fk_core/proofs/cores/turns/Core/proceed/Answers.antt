@@ -18,7 +18,8 @@ returns-then-speaks_at-clause-advanced g c = OnTrue_at c.if-speaks_at.true c.spe
 
 pub proceed_with-requires-clause-few : goal.proceed_with-requires-clause-few
 proceed_with-requires-clause-few g c =
-    rw (OnFalse_at c.if-speaks_at.false c.speaks_at.ensures.events, c.speaks_at.ensures.budget) (speaks_at-requires-clause-few g c)
+    rw (OnFalse_at c.if-speaks_at.false c.speaks_at.ensures.events, c.speaks_at.ensures.budget)
+    (c.same_thread.ensures (subst (λ o. IsSome o) (sym c.in-Some.is) refl))
 
 pub proceed_with-requires-clause-none : goal.proceed_with-requires-clause-none
 proceed_with-requires-clause-none g c = rw (OnFalse_at c.if-speaks_at.false c.speaks_at.ensures.queue) c.requires.none
