@@ -48,4 +48,6 @@ pub one_more : (who : Who) (n : ℕ) (k l o : Kept) → LeadRunning (move_of who
     LeadRunning (move_of who) (n + 1) (world k) (world o)
 one_more who n k l o led is made =
     let last = running_move (world l) (world o) (move_of who) is made.0 (ap (λ s. s.world) made.1) in
-    subst (λ (times : ℕ). LeadRunning (move_of who) times (world k) (world o)) (omega arith) (world l, led, last)
+    let more : suc n ≡ n + 1 = omega arith in
+    let through : LeadRunning (move_of who) (suc n) (world k) (world o) = (world l, led, last) in
+    subst (λ (times : ℕ). LeadRunning (move_of who) times (world k) (world o)) more through
