@@ -9,7 +9,7 @@ use Rattle.fk_model.specs.World.{World}
 use Rattle.fk_image.specs.declared.image.image.Image.{Image}
 use Rattle.fk_sides.specs.Sides.{NearSide, FarSide, both, bare, asks_for, near_call, near_heard, near_at, saved_so, far_call, far_heard, made_so, undone_so}
 use Rattle.fk_sides.specs.Sides.{restored}
-use Rattle.laws_jobs.specs.Machines.{Head, no_words, heard, said_of, reply_of, call_of, IsReadyAt}
+use Rattle.laws_jobs.specs.Machines.{Head, heard, said_of, reply_of, call_of, IsReadyAt}
 use Rattle.laws_jobs.specs.Machines.Head.{Asks, Stops}
 use Rattle.laws_checkpoint.specs.Checkpoint as checks
 use Rattle.laws_checkpoint.specs.Checkpoint.{checkpoint}
@@ -21,8 +21,6 @@ use Rattle.laws_handover.specs.FarSide as far
 use Rattle.laws_handover.specs.FarSide.{Made}
 use Rattle.laws_handover.specs.Handover.{near_own, near_moved, far_own, far_moved, saved_as, made_as, undone_as}
 use Rattle.laws_migrate.specs.Migration.{Why, Job, top, called, told, checked, made, of_job, IsCalled, IsNearReady, IsFarReady}
-use Rattle.laws_migrate.specs.Clearing.{destroying}
-use Rattle.fk_migrate.specs.Runs.{own_event}
 
 -- the event of a call of the root's porter
 abbrev pub call : Ask → Event

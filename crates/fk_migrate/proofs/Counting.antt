@@ -1,20 +1,19 @@
 -- The places of a run's calls, one event after the other.
-use Rattle.std.proofs.Common.{◌≡◌, ℕ, zero, suc, ◌+◌, ◌≤◌, ◌<◌, Bool, true, false, List, [], ◌∷◌, ◌++◌, length, Option, Some, None, option_map, if◌then◌else◌, refl, sym, ap, subst, ◌∙◌, arith}
+use Rattle.std.proofs.Common.{◌≡◌, ℕ, suc, ◌+◌, ◌≤◌, Bool, true, false, List, [], ◌∷◌, ◌++◌, length, Option, Some, None, option_map, if◌then◌else◌, refl, sym, ap, ◌∙◌, arith}
 use Rattle.std.proofs.lemmas.List.{length-append}
 use Rattle.fk_model.specs.declared.moves.Ask.{Ask}
 use Rattle.fk_model.specs.declared.moves.Move.{Move}
 use Rattle.fk_model.specs.declared.names.Who.{Who}
-use Rattle.fk_model.specs.Runs.{Event}
 use Rattle.fk_model.specs.Who.{event_of}
 use Rattle.fk_model.specs.World.{World}
 use Rattle.fk_packets.specs.declared.events.Event.{Event as PairEvent}
 use Rattle.fk_packets.specs.declared.events.Event.TheVariants as events
-use Rattle.fk_served.specs.Served.{Services, asked}
+use Rattle.fk_served.specs.Served.{asked}
 use Rattle.laws_handover.specs.Handover as handover
 use Rattle.fk_migrate.specs.declared.places.Places.{Places}
 use Rattle.fk_migrate.specs.Places.{counted, counted_from, near_counted, far_counted, no_places, places_of}
-use Rattle.fk_migrate.specs.Pairs.{Shown, Start, IsRunOf, IsSomeRun, Counts}
-use Rattle.fk_migrate.specs.Runs.{Run, Step, IsRun, near_part, far_part, near_step, far_step, own_step, step_of}
+use Rattle.fk_migrate.specs.Pairs.{Shown, IsSomeRun, Counts}
+use Rattle.fk_migrate.specs.Runs.{Run, Step, IsRun, own_step}
 use Rattle.fk_migrate.specs.Turns.{NearPart, FarPart, is_porters}
 
 -- one more at the end

@@ -1,10 +1,10 @@
 -- A pair that is driven goes on as the run that it is.
 use Rattle.std.proofs.Common.{◌≡◌, ◌↔◌, Bool, true, IsTrue, List, subst, sym}
 use Rattle.fk_model.specs.declared.moves.Rule.{Rule}
-use Rattle.fk_served.specs.Served.{Services, AllFit}
+use Rattle.fk_served.specs.Served.{AllFit}
 use Rattle.fk_migrate.specs.Runs.{IsReadyEvent}
 use Rattle.fk_packets.specs.declared.events.Event.{Event as PairEvent}
-use Rattle.fk_migrate.specs.Pairs.{Shown, Start, IsRunOf, IsSomeRun, IsReady, IsDriven, Drives}
+use Rattle.fk_migrate.specs.Pairs.{Shown, Start, IsRunOf, IsReady, IsDriven, Drives}
 
 pub drives_not : (rules : List Rule) (s : Shown) → IsDriven rules s → Drives rules s s
 drives_not rules s driven = record { driven = driven; run = λ from its. its }

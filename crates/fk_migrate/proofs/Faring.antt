@@ -1,5 +1,5 @@
 -- What is ready in the far kernel is a step of the handover, and a turn there makes it.
-use Rattle.std.proofs.Common.{◌≡◌, ℕ, Bool, true, false, List, ◌∷◌, map, Option, Some, None, option_map, if◌then◌else◌, refl, sym, ap, subst, ◌∙◌}
+use Rattle.std.proofs.Common.{◌≡◌, ℕ, Bool, true, false, ◌∷◌, Option, Some, None, option_map, if◌then◌else◌, refl, sym, ap, subst, ◌∙◌}
 use Rattle.fk_model.specs.declared.limits.TheConstants.{LAST_PORTER_SLOT, OWN_SPACE}
 use Rattle.fk_model.specs.declared.moves.Ask.{Ask}
 use Rattle.fk_model.specs.declared.moves.Move.{Move}
@@ -25,10 +25,10 @@ use Rattle.laws_migrate.specs.Fits as fits_laws
 use Rattle.laws_migrate.specs.Migration.{top, IsFarReady}
 use Rattle.fk_sides.specs.declared.far.Makes.{Makes}
 use Rattle.fk_sides.specs.Fars.{IsFar}
-use Rattle.fk_sides.specs.Sides.{FarSide, bare, asks_for, far_call, far_heard}
+use Rattle.fk_sides.specs.Sides.{FarSide, bare, far_call, far_heard}
 use Rattle.fk_migrate.specs.Turns.{FarPart, is_porters, given_in, heard_by, status_in, words_in, IsKept, IsFarMove, IsFarFit, IsTurnGiven}
 use Rattle.fk_migrate.specs.Runs.{Run, Step, near_part, far_part, far_step, own_step, own_event, heard, step_of, next_run, IsReadyAs, IsReadyEvent}
-use Rattle.fk_migrate.specs.Parts.{FarLands, HasFarLanded}
+use Rattle.fk_migrate.specs.Parts.{FarLands}
 use Rattle.fk_migrate.proofs.Calls.{call, far_calls, far_is_ready}
 use Rattle.fk_migrate.proofs.Moving.{AsksCalls, IsMove, IsMade, moves, moves_back, fits, made}
 use Rattle.fk_migrate.proofs.Nearing.{head_calls, bare_calls, head_asks, head_fits, bare_fits, destroy_fits, release_fits, is_others, replied, some_step}

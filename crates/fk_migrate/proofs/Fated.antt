@@ -1,5 +1,5 @@
 -- What a run has come to, and at which moves its porters have made their calls.
-use Rattle.std.proofs.Common.{◌≡◌, ℕ, zero, suc, ◌+◌, ◌<◌, Bool, true, false, List, [], ◌∷◌, ◌++◌, length, Option, Some, None, option_map, refl, sym, ap, subst, ◌∙◌, arith}
+use Rattle.std.proofs.Common.{◌≡◌, ℕ, suc, ◌+◌, ◌<◌, Bool, true, false, List, [], ◌∷◌, ◌++◌, length, Option, Some, None, option_map, refl, sym, ap, subst, ◌∙◌, arith}
 use Rattle.std.specs.List.{slice_get}
 use Rattle.fk_packets.specs.declared.events.Event.{Event as PairEvent}
 use Rattle.fk_image.specs.declared.image.image.Image.{Image}
@@ -22,9 +22,9 @@ use Rattle.fk_sides.specs.Sides.{NearSide, FarSide, both}
 use Rattle.fk_migrate.specs.declared.fates.Fate.TheVariants as fates
 use Rattle.fk_migrate.specs.declared.places.Calls.{Calls}
 use Rattle.fk_migrate.specs.declared.places.Places.{Places}
-use Rattle.fk_migrate.specs.Fates.{three, calls_of, IsMovedAt, IsFate}
+use Rattle.fk_migrate.specs.Fates.{three, calls_of, IsFate}
 use Rattle.fk_migrate.specs.Pairs.{Shown, Start, IsRunOf, begun}
-use Rattle.fk_migrate.specs.Places.{first_at, last_at, counted, counted_from, near_counted, far_counted, no_places, places_of}
+use Rattle.fk_migrate.specs.Places.{first_at, counted, counted_from, near_counted, far_counted, no_places, places_of}
 use Rattle.fk_migrate.specs.Runs.{Run, Step, IsRun, next_run}
 use Rattle.fk_migrate.specs.Turns.{NearPart}
 use Rattle.fk_migrate.proofs.Counting.{counted_more}

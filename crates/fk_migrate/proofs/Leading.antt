@@ -1,8 +1,7 @@
 -- Where each kind of event leads a pair.
-use Rattle.std.proofs.Common.{◌≡◌, ◌↔◌, ℕ, ◌<◌, ◌≤◌, Bool, true, false, IsTrue, List, [], ◌∷◌, length, Option, Some, None, option_map, is_some, refl, sym, ap, subst, ◌∙◌, arith}
+use Rattle.std.proofs.Common.{◌≡◌, ◌↔◌, ℕ, ◌≤◌, Bool, true, false, IsTrue, List, [], ◌∷◌, length, Option, Some, None, option_map, is_some, refl, sym, ap, subst, ◌∙◌, arith}
 use Rattle.std.specs.List.{slice_get}
 use Rattle.fk_model.specs.declared.moves.Move.{Move}
-use Rattle.fk_packets.specs.declared.events.Event.{Event as PairEvent}
 use Rattle.fk_packets.specs.declared.events.Event.TheVariants as events
 use Rattle.fk_packets.specs.declared.packet.Packet.{Packet}
 use Rattle.laws_handover.specs.Packets.{Packet as Sent}
@@ -13,13 +12,12 @@ use Rattle.laws_handover.specs.Handover.{far_told, delivered_far, delivered_near
 use Rattle.laws_handover.specs.Sent.{sent_near, sent_far}
 use Rattle.laws_migrate.specs.Images.{image_codec}
 use Rattle.laws_migrate.specs.Migration.{Why, may_give_up}
-use Rattle.fk_sides.specs.declared.far.Makes.{Makes}
 use Rattle.fk_sides.specs.Fars.{IsFar}
-use Rattle.fk_sides.specs.Sides.{FarSide, NearSide, both, packet_of}
-use Rattle.fk_migrate.specs.Turns.{NearPart, FarPart}
-use Rattle.fk_migrate.specs.Runs.{Run, near_part, far_part, next_run, heard}
+use Rattle.fk_sides.specs.Sides.{FarSide, both, packet_of}
+use Rattle.fk_migrate.specs.Turns.{NearPart}
+use Rattle.fk_migrate.specs.Runs.{Run, near_part, far_part, next_run}
 use Rattle.fk_migrate.specs.Parts.{NearLands, FarLands, told_near, given_up}
-use Rattle.fk_migrate.specs.Pairs.{Shown, Start, IsRunOf, IsReady, Leads, LeadsTo}
+use Rattle.fk_migrate.specs.Pairs.{Shown, Start, IsRunOf, IsReady, LeadsTo}
 use Rattle.fk_migrate.specs.Runs.{IsReadyEvent}
 use Rattle.fk_migrate.proofs.Nearing.{near_alone}
 use Rattle.fk_migrate.proofs.Faring.{far_alone}

@@ -1,5 +1,5 @@
 -- Whose a move is that is ready, and whose a turn was: the root's porter with the call for which its side asks, or whoever else with what he asks for.
-use Rattle.std.proofs.Common.{◌≡◌, ℕ, Bool, true, false, List, ◌∷◌, Option, Some, None, option_map, if◌then◌else◌, IfSome, refl, sym, ap, subst, ◌∙◌}
+use Rattle.std.proofs.Common.{◌≡◌, ℕ, Bool, true, false, List, ◌∷◌, Option, Some, None, option_map, if◌then◌else◌, refl, sym, subst}
 use Rattle.fk_model.specs.declared.limits.TheConstants.{LAST_PORTER_SLOT}
 use Rattle.fk_model.specs.declared.moves.Ask.{Ask}
 use Rattle.fk_model.specs.declared.moves.Ask.TheVariants as asks
@@ -13,7 +13,7 @@ use Rattle.fk_model.specs.Valid.{is_fit}
 use Rattle.fk_model.specs.Who.{named, event_of}
 use Rattle.fk_model.specs.World.{World}
 use Rattle.fk_model.proofs.walks.PlaceLaws.{same_path_eq}
-use Rattle.fk_host.specs.Hosts.{asked_with, IsReadyWith, IsFitFor, IsFitWith, IsStepped, IsTurnFor}
+use Rattle.fk_host.specs.Hosts.{asked_with, IsFitFor, IsStepped, IsTurnFor}
 use Rattle.fk_served.specs.Acts.{IsReadyFor}
 use Rattle.fk_served.specs.Kernels.{Kept}
 use Rattle.fk_served.specs.Kernels.{world_of as world}

@@ -1,5 +1,5 @@
 -- What is ready in the near kernel is a step of the handover, and a turn there makes it.
-use Rattle.std.proofs.Common.{◌≡◌, ℕ, Bool, true, false, List, ◌∷◌, map, Option, Some, None, option_map, if◌then◌else◌, IfSome, refl, sym, ap, subst, ◌∙◌, arith}
+use Rattle.std.proofs.Common.{◌≡◌, ℕ, Bool, true, false, ◌∷◌, Option, Some, None, option_map, if◌then◌else◌, IfSome, refl, sym, ap, subst, ◌∙◌, arith}
 use Rattle.fk_model.specs.declared.limits.TheConstants.{LAST_PORTER_SLOT, OWN_SPACE}
 use Rattle.fk_model.specs.declared.moves.Ask.{Ask}
 use Rattle.fk_model.specs.declared.moves.Ask.TheVariants as asks
@@ -11,7 +11,6 @@ use Rattle.fk_model.specs.declared.stage.Stage.{Stage}
 use Rattle.fk_model.specs.declared.stage.Stage.TheVariants.{Destroy, SpaceRelease}
 use Rattle.fk_model.specs.Moves.{Step as Stepped}
 use Rattle.fk_model.specs.Places.{Path}
-use Rattle.fk_model.specs.Runs.{Event}
 use Rattle.fk_model.specs.Valid.{is_fit}
 use Rattle.fk_model.specs.Who.{event_of}
 use Rattle.fk_model.specs.World.{World}
@@ -20,7 +19,7 @@ use Rattle.fk_packets.specs.declared.events.Event.TheVariants as events
 use Rattle.fk_served.specs.Kernels.{Kept}
 use Rattle.fk_served.specs.Kernels.{world_of as world}
 use Rattle.fk_served.specs.Kernels.{path_of as path}
-use Rattle.fk_served.specs.Served.{Services, asked, hears_of}
+use Rattle.fk_served.specs.Served.{Services, asked}
 use Rattle.fk_served.proofs.Acts.{fit-asked, servers_ask_as_users}
 use Rattle.fk_store.specs.Store.Moves.{said_by}
 use Rattle.laws_moves.specs.Whole.Runnable.{has_all_words}
@@ -31,8 +30,8 @@ use Rattle.laws_handover.specs.NearSide as near
 use Rattle.laws_handover.specs.Handover as handover
 use Rattle.laws_migrate.specs.Fits as fits_laws
 use Rattle.laws_migrate.specs.Migration.{top, IsCalled, IsNearReady, IsOthers, HasRoom}
-use Rattle.fk_sides.specs.Sides.{NearSide, FarSide, bare, asks_for, near_call, near_heard}
-use Rattle.fk_migrate.specs.Turns.{NearPart, FarPart, is_porters, given_in, heard_by, status_in, words_in, IsKept, IsNearMove, IsNearFit, IsTurnGiven}
+use Rattle.fk_sides.specs.Sides.{NearSide, bare, asks_for, near_call, near_heard}
+use Rattle.fk_migrate.specs.Turns.{NearPart, is_porters, given_in, heard_by, status_in, words_in, IsKept, IsNearMove, IsNearFit, IsTurnGiven}
 use Rattle.fk_migrate.specs.Runs.{Run, Step, near_part, far_part, near_step, own_step, own_event, heard, step_of, next_run, IsReadyAs, IsReadyEvent}
 use Rattle.fk_migrate.specs.Parts.{NearLands}
 use Rattle.fk_migrate.proofs.Calls.{call, near_calls, near_is_ready}

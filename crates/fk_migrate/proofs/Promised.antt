@@ -1,7 +1,6 @@
 -- What a migration promises of a pair: the laws of migration, over the run of its events.
 use Rattle.std.proofs.Common.{◌≡◌, ◌⊎◌, ℕ, false, List, ◌∷◌, ◌++◌, Option, Some, None, refl, sym, ap, subst, ◌∙◌}
 use Rattle.fk_model.specs.Cut.{cut}
-use Rattle.fk_model.specs.Valid.{birth_at}
 use Rattle.fk_model.specs.World.{World}
 use Rattle.fk_image.specs.declared.image.image.Image.{Image}
 use Rattle.laws_handover.specs.NearSide as near
@@ -16,7 +15,7 @@ use Rattle.std.specs.List.{slice_get}
 use Rattle.std.specs.Prelude.{Result, Ok, Err, OnOk}
 use Rattle.laws_migrate.specs.Births.{HasNone}
 use Rattle.laws_migrate.specs.Images.{image_codec}
-use Rattle.laws_migrate.specs.Laws.{Happens, pair_after, SaysWhy}
+use Rattle.laws_migrate.specs.Laws.{Happens, pair_after}
 use Rattle.fk_model.specs.Closed.{Place}
 use Rattle.laws_checkpoint.specs.Checkpoint.State.{Releases}
 use Rattle.laws_checkpoint.specs.Checkpoint.End.{Foreign as OpenAt}
@@ -32,10 +31,10 @@ use Rattle.fk_sides.specs.declared.far.Makes.TheVariants as makes
 use Rattle.fk_sides.specs.Fars.{IsFar}
 use Rattle.fk_sides.specs.Sides.{NearSide, FarSide, both}
 use Rattle.fk_migrate.specs.Turns.{NearPart, FarPart}
-use Rattle.fk_migrate.specs.Runs.{Run, Step, near_part, far_part, next_run}
-use Rattle.fk_migrate.specs.Pairs.{Shown, Start, IsRunOf, Leads, LeadsTo, GoesOn, begun}
+use Rattle.fk_migrate.specs.Runs.{Run, Step, next_run}
+use Rattle.fk_migrate.specs.Pairs.{Shown, Start, IsRunOf, LeadsTo, GoesOn, begun}
 use Rattle.fk_packets.specs.declared.events.Event.{Event as PairEvent}
-use Rattle.fk_migrate.specs.Promises.{IsHold, IsMake, NeverTwo, NeverTwoEver, MovesWhole, KeepsWhole, ForeignWhole, MovedWhole, KeptWhole, KeptForeign, FailsSo, CancelsSo, KeepsAlone, KeepsGoing, IsBounded, IsPromised}
+use Rattle.fk_migrate.specs.Promises.{IsHold, NeverTwo, NeverTwoEver, MovesWhole, KeepsWhole, ForeignWhole, MovedWhole, KeptWhole, KeptForeign, FailsSo, CancelsSo, KeepsAlone, KeepsGoing, IsBounded, IsPromised}
 use Rattle.fk_migrate.proofs.Running.{runs_so, are_ready, ready_front, ready_at}
 
 abbrev Packets : Type 0

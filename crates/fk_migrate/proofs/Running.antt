@@ -5,7 +5,7 @@ use Rattle.fk_sides.specs.Sides.{both}
 use Rattle.laws_handover.specs.Handover.{next, run}
 use Rattle.laws_migrate.specs.Images.{image_codec}
 use Rattle.laws_migrate.specs.Migration.{Both, IsReadyIn, AreReady}
-use Rattle.fk_migrate.specs.Runs.{Run, Step, IsRun, next_run}
+use Rattle.fk_migrate.specs.Runs.{Run, Step, IsRun}
 
 module _ (slot : ℕ) where
   abbrev Pairs : Type 0

@@ -1,36 +1,30 @@
 -- A pair goes on by an event as the handover does.
-use Rattle.std.proofs.Common.{◌≡◌, ◌↔◌, ℕ, zero, suc, ◌<◌, Bool, true, false, IsTrue, List, [], ◌∷◌, ◌++◌, length, Option, Some, None, option_map, is_some, refl, sym, ap, subst, ◌∙◌, arith}
+use Rattle.std.proofs.Common.{◌≡◌, ◌↔◌, ℕ, zero, suc, ◌<◌, Bool, true, IsTrue, List, [], ◌∷◌, ◌++◌, length, Option, Some, None, option_map, is_some, refl, sym, ap, subst, ◌∙◌, arith}
 use Rattle.std.specs.Prelude.{Result, Ok, Err, OnOk, OnErr}
-use Rattle.std.proofs.lemmas.Option.{slice_get_past, slice_get_within}
+use Rattle.std.proofs.lemmas.Option.{slice_get_within}
 use Rattle.std.specs.List.{slice_get}
 use Rattle.fk_model.specs.declared.moves.Move.{Move}
 use Rattle.fk_packets.specs.declared.events.Event.{Event as PairEvent}
 use Rattle.fk_packets.specs.declared.events.Event.TheVariants as events
-use Rattle.fk_packets.specs.declared.packet.Packet.{Packet}
-use Rattle.laws_handover.specs.Packets.{Packet as Sent}
 use Rattle.laws_handover.specs.Pieces.{Piece}
-use Rattle.laws_handover.specs.Handover as handover
-use Rattle.laws_handover.specs.Handover.{far_told, near_told, gives_up, delivered_far, delivered_near}
-use Rattle.laws_handover.specs.Sent.{sent_near, sent_far}
 use Rattle.laws_migrate.specs.Fits as fits_laws
 use Rattle.laws_migrate.specs.Images.{image_codec}
 use Rattle.laws_migrate.specs.Laws.{pair_after}
-use Rattle.laws_migrate.specs.Migration.{Why, Both, IsReadyIn, may_give_up}
+use Rattle.laws_migrate.specs.Migration.{Both, IsReadyIn}
 use Rattle.laws_migrate.proofs.Fits.{calls_are_fit}
 use Rattle.laws_migrate.proofs.Images.{images_are_read}
 use Rattle.fk_sides.specs.Fars.{IsFar}
 use Rattle.fk_sides.specs.declared.far.Far.{Far}
-use Rattle.fk_sides.specs.Sides.{NearSide, FarSide, both, packet_of}
+use Rattle.fk_sides.specs.Sides.{FarSide}
 use Rattle.fk_migrate.specs.Turns.{NearPart, FarPart, IsKept, IsNearMove, IsNearFit, IsFarMove, IsFarFit, HasFarMove}
 use Rattle.fk_migrate.specs.Runs.{Run, Step, IsRun, near_part, far_part, step_of, next_run, IsReadyAs, IsReadyEvent}
-use Rattle.fk_migrate.specs.Parts.{NearLands, FarLands, told_near, given_up}
 use Rattle.fk_migrate.specs.declared.places.Places.{Places}
 use Rattle.fk_migrate.specs.Places.{counted, no_places}
-use Rattle.fk_migrate.specs.Pairs.{Shown, Start, Stands, IsRunOf, IsSomeRun, IsNew, IsBegun, IsReady, Counts, Leads, LeadsTo, GoesOn, IsSame, begun, made_of, with_event}
+use Rattle.fk_migrate.specs.Pairs.{Shown, Start, IsRunOf, IsSomeRun, IsNew, IsBegun, IsReady, Counts, LeadsTo, GoesOn, IsSame, begun, made_of, with_event}
 use Rattle.fk_migrate.proofs.Running.{runs_so, are_ready}
 use Rattle.fk_migrate.proofs.Counting.{counted_more}
-use Rattle.fk_migrate.proofs.Nearing.{near_ready, near_back, near_fits, near_alone}
-use Rattle.fk_migrate.proofs.Faring.{far_ready, far_back, far_fits, far_alone}
+use Rattle.fk_migrate.proofs.Nearing.{near_ready, near_back, near_fits}
+use Rattle.fk_migrate.proofs.Faring.{far_ready, far_back, far_fits}
 
 -- ---- runs
 

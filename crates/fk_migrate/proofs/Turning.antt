@@ -1,17 +1,16 @@
 -- What is handed in with a move, and whose it is.
-use Rattle.std.proofs.Common.{◌≡◌, ℕ, zero, suc, Bool, true, false, cond, if◌then◌else◌, eqb-true, eq-eqb, ◌&&◌, ◌==◌, [], ◌∷◌, Option, Some, None, IsTrue, ◌↔◌, refl, sym, ap, subst, ◌∙◌}
+use Rattle.std.proofs.Common.{◌≡◌, ℕ, zero, suc, Bool, true, false, if◌then◌else◌, eqb-true, eq-eqb, ◌&&◌, ◌==◌, [], Option, Some, None, IsTrue, ◌↔◌, refl, sym, ap, subst, ◌∙◌}
 use Rattle.fk_model.specs.declared.limits.TheConstants.{LAST_PORTER_SLOT}
 use Rattle.fk_model.specs.declared.moves.Ask.{Ask}
 use Rattle.fk_model.specs.declared.moves.Move.{Move}
 use Rattle.fk_model.specs.declared.names.Who.{Who}
 use Rattle.fk_model.specs.Places.{Path, same_path}
-use Rattle.fk_model.specs.Who.{space_born, nowhere}
+use Rattle.fk_model.specs.Who.{space_born}
 use Rattle.fk_model.specs.World.{World}
 use Rattle.fk_store.specs.Store.Contents.{Contents, home}
 use Rattle.fk_store.specs.Store.Paths.{path, path_by, from_home}
 use Rattle.fk_host.specs.Hosts.{IsReadyWith}
 use Rattle.fk_served.specs.Served.{Services}
-use Rattle.laws_migrate.specs.Migration.{top}
 use Rattle.fk_migrate.specs.Turns.{is_porters, IsReadyGiven}
 
 pub none_ready : (services : Services) (w : World) (m : Move) (o : Option Ask) → o ≡ None → IsTrue false ↔ IsReadyGiven services w m o

@@ -1,6 +1,5 @@
 -- What a migration has come to, of a run and of its steps.
 use Rattle.std.specs.Prelude.{◌≡◌, ℕ, true, false, List, Option, Some, None}
-use Rattle.laws_handover.specs.Handover as handover
 use Rattle.laws_migrate.specs.Migration.{is_near_own, is_far_own}
 use Rattle.laws_migrate.specs.Places.{place_of, is_near, is_far}
 use Rattle.fk_sides.specs.Kept.{reason_of, why_kept, is_moved}

@@ -11,7 +11,7 @@ use Rattle.laws_handover.specs.NearSide as near
 use Rattle.laws_handover.specs.FarSide as far
 use Rattle.laws_handover.specs.Handover as handover
 use Rattle.laws_handover.specs.Handover.{first, next}
-use Rattle.laws_handover.specs.Laws.{AllCame, is_kept, is_over, IsIn, why_cancelled}
+use Rattle.laws_handover.specs.Laws.{is_kept, is_over, IsIn, why_cancelled}
 use Rattle.laws_jobs.specs.Machines.{LiesWithin}
 use Rattle.laws_checkpoint.specs.Checkpoint.State.{Releases}
 use Rattle.laws_checkpoint.specs.Checkpoint.End.{Foreign as OpenAt}

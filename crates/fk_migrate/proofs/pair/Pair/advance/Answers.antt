@@ -1,4 +1,4 @@
-use Rattle.std.proofs.Common.{◌≡◌, sym, ap, subst, ◌∙◌}
+use Rattle.std.proofs.Common.{sym, subst}
 use Rattle.std.proofs.lemmas.Result.{err_from_is_err_and}
 use Rattle.fk_migrate.specs.Pairs.{shown, Shown, GoesOn, IsSame, IsSomeRun, IsReady}
 use Rattle.fk_migrate.proofs.Stepping.{goes_so, same_of}

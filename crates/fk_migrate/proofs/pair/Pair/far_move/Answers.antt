@@ -1,4 +1,4 @@
-use Rattle.std.proofs.Common.{◌≡◌, refl, sym, ap, subst}
+use Rattle.std.proofs.Common.{refl}
 use Rattle.std.proofs.lemmas.Result.{err_from_is_err_and}
 use Rattle.fk_migrate.specs.Pairs.{shown}
 use Rattle.fk_migrate.proofs.Stepping.{far_may, same_makes}

@@ -1,4 +1,3 @@
-use Rattle.std.proofs.Common.{ap, sym, ◌∙◌}
 use Rattle.fk_migrate.specs.Pairs.{shown}
 use Rattle.fk_migrate.proofs.Fated.{kept_so, not_kept}
 use Rattle.fk_migrate.proofs.pair.Pair.fate.Goals as goal

@@ -1,6 +1,5 @@
-use Rattle.std.proofs.Common.{◌≡◌, sym, subst}
-use Rattle.fk_packets.specs.declared.events.Event.{Event as PairEvent}
-use Rattle.fk_migrate.specs.Pairs.{shown, IsReady, LeadsTo}
+use Rattle.std.proofs.Common.{subst}
+use Rattle.fk_migrate.specs.Pairs.{shown, IsReady}
 use Rattle.fk_migrate.proofs.pair.Pair.make.Goals as goal
 
 pub near_move-requires-clause-ready : goal.near_move-requires-clause-ready

@@ -1,4 +1,3 @@
-use Rattle.std.proofs.Common.{sym, ◌∙◌}
 use Rattle.fk_migrate.specs.Pairs.{shown}
 use Rattle.fk_migrate.proofs.Fated.{working_so, moved_so, never_so}
 use Rattle.fk_migrate.proofs.pair.Pair.moved.Goals as goal

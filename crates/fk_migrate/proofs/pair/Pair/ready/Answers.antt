@@ -1,4 +1,3 @@
-use Rattle.fk_migrate.specs.Pairs.{shown}
 use Rattle.fk_migrate.proofs.pair.Pair.ready.Goals as goal
 
 pub returns-in-Near-clause-ready : goal.returns-in-Near-clause-ready

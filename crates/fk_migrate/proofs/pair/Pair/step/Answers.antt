@@ -1,4 +1,3 @@
-use Rattle.fk_migrate.specs.Pairs.{shown}
 use Rattle.fk_migrate.proofs.Stepping.{run_either}
 use Rattle.fk_migrate.proofs.Promised.{promised, moves_on, keeps_on, foreign_on}
 use Rattle.fk_migrate.proofs.pair.Pair.step.Goals as goal

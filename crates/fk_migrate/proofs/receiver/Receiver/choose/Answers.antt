@@ -1,4 +1,3 @@
-use Rattle.fk_served.specs.Kernels.{world_of as world}
 use Rattle.fk_migrate.proofs.receiver.Receiver.choose.Goals as goal
 
 pub returns-clause-same : goal.returns-clause-same

@@ -1,4 +1,4 @@
-use Rattle.std.proofs.Common.{◌≡◌, ap, ◌∙◌}
+use Rattle.std.proofs.Common.{ap, ◌∙◌}
 use Rattle.fk_served.specs.Kernels.{Kept}
 use Rattle.fk_served.specs.Kernels.{world_of as world}
 use Rattle.fk_migrate.specs.Turns.{is_porters}

@@ -1,4 +1,3 @@
-use Rattle.fk_served.specs.Kernels.{world_of as world}
 use Rattle.fk_sides.specs.Nears.{saves_of}
 use Rattle.fk_migrate.proofs.sender.Sender.choose.Goals as goal
 
