@@ -8,9 +8,7 @@ use Rattle.fk_causes.specs.Shelf.{FileMap}
 use Rattle.fk_commands.specs.declared.prepared.Prepared.{Prepared}
 use Rattle.fk_commands.specs.declared.status.Status.{Status}
 use Rattle.fk_commands.specs.declared.status.Status.TheVariants.{Usage}
-use Rattle.fk_words.specs.Commands.{Command, Show, Soak, Files, NoFiles, RunFiles, RecordFiles, seen}
-use Rattle.fk_words.specs.declared.command.Command as code
-use Rattle.fk_words.specs.declared.command.Command.TheVariants as variants
+use Rattle.fk_words.specs.Commands.{Command, Show, Soak, Files, NoFiles, RunFiles, RecordFiles}
 use Rattle.fk_commands.specs.Outcomes.{without_report}
 use Rattle.fk_commands.specs.declared.outcome.Outcome.{Outcome}
 use Rattle.fk_commands.specs.declared.outcome.Report.{Report}
@@ -26,7 +24,7 @@ use Rattle.fk_plays.specs.Play.{IsSoak}
 use Rattle.fk_scenario.specs.Scenario.Reading.{scenario_reading}
 use Rattle.fk_puts.specs.Puts.{HasPutSome}
 use Rattle.fk_run.specs.declared.made.Made.{Made}
-use Rattle.fk_run.specs.Made.{has_extra, outcome_of}
+use Rattle.fk_run.specs.Made.{outcome_of}
 use Rattle.fk_run.specs.Top.{IsDue, IsDone, IsCutOff, HasFailed, GetsToShelf}
 
 -- what a source may hold: what it tells, or else anything
@@ -142,15 +140,3 @@ module _ (rules : Rules) (command : Option Command) (left : Option (List ℕ)) (
         rose,
         record { status = run.prepared.status; finished = finished; text = output; due = but-for-status due same },
       )
-
--- a command that isn't `page` comes to a report at most
-pub no-extra : (command : code.Command) → ((slot room : ℕ) → command ≡ variants.Page slot room → ⊥) → has_extra (seen command) ≡ false
-no-extra variants.Exec other = refl
-no-extra variants.Check other = refl
-no-extra (variants.Run trace) other = refl
-no-extra (variants.Play name) other = refl
-no-extra (variants.Show name) other = refl
-no-extra (variants.Soak count) other = refl
-no-extra (variants.Record name watch) other = refl
-no-extra (variants.Replay name) other = refl
-no-extra (variants.Page slot room) other = absurd (other slot room refl)

@@ -1,7 +1,8 @@
-use Rattle.std.proofs.Common.{refl, rules}
+use Rattle.std.proofs.Common.{None, Ok, refl, rules}
 use Rattle.fk_run.proofs.Complete.{complete-Err, complete-Ok, not-since, plain-Err, plain-Ok, plain-refusal}
 use Rattle.fk_run.proofs.Due.{puts_nothing}
 use Rattle.fk_run.proofs.Transparency.{holds}
+use Rattle.fk_run.specs.declared.made.Made.{Made}
 use Rattle.fk_run.proofs.top.fluke_top.Goals as goal
 
 pub returns-in-Ok : goal.returns-in-Ok
@@ -43,7 +44,8 @@ returns-in-Ok g c = record {
     };
     transparency = holds _ c.finish.result.report;
     complete = λ no_read no_write no_get no_put.
-        complete-Ok _ _ _ _ _ _ _ _ _ _ _ _ _ _ refl (plain-Ok _ _ _ _ _ _ c.in-Ok.is c.prepare_shared.ensures.comes) c.finish.ensures.done
+        let made : Made = record { prepared = c.in-Ok.prepared; extra = None } in
+        complete-Ok _ _ _ _ _ _ _ _ _ (Ok made) made _ _ _ refl (plain-Ok _ _ _ _ _ _ c.in-Ok.is c.prepare_shared.ensures.comes) c.finish.ensures.done
         c.finish.ensures.written c.prepare_shared.ensures.same_files c.finish.ensures.put c.finish.ensures.status c.finish.ensures.write_fault
         c.finish.ensures.shelf_fault
         (λ fault. no_write fault.1) (λ fault. not-since _ _ _ c.prepare_shared.ensures.same_puts no_put fault.2) (search rules);
