@@ -30,6 +30,7 @@ pub enum Record {
 }
 
 /// The record of an object; 0 throughout where nothing is there.
+#[inline(always)]
 pub fn record_at(store: &Store, object: Who) -> [u64; 32]
     ensures { result ≡ record_there ((world store.now).body (place (path store.now) object)) }
 {
