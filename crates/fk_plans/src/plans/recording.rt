@@ -30,6 +30,7 @@ pub enum Record {
 }
 
 /// The record of an object; 0 throughout where nothing is there.
+#[inline(always)]
 pub fn record_at(store: &Store, object: Who) -> [u64; 32]
     ensures { result ≡ record_there ((world store.now).body (place (path store.now) object)) }
 {
@@ -39,14 +40,14 @@ pub fn record_at(store: &Store, object: Who) -> [u64; 32]
     }
 }
 
-/// A page into which a record is written.
-fn written(mut page: [u64; 64], words: &[u64; 32], at: u8) -> [u64; 64]
+/// A record is written into a page.
+#[inline(always)]
+fn lay(page: &mut [u64; 64], words: &[u64; 32], at: u8)
     requires at { at + 32 ≤ 64 }
-    ensures { result ≡ overwritten page at words.now }
+    ensures { page.new ≡ overwritten page.old at words.now }
 {
     let at = at as usize;
     page[at..at + 32].copy_from_slice(words);
-    page
 }
 
 /// The record of an object goes to a page that is there.
@@ -64,7 +65,8 @@ pub fn write_record(store: &mut Store, object: Who, to: (u32, u8), at: u8)
     let Some(page) = store.page(to.0, to.1) else {
         unreachable!()
     };
-    let words = written(*page, &record, at);
+    let mut words = *page;
+    lay(&mut words, &record, at);
     match store.put_page(to.0, to.1, &words) {
         Ok(()) => {}
         Err(_) => unreachable!(),
