@@ -221,13 +221,14 @@ impl<S: Service + Drop> Service for Tap<S> {
 
     #[tactic(auto, using(crate::proofs::Notes::own_taken, crate::proofs::Notes::own_over))]
     fn absorb(&mut self, table: &Table, heard: Heard<'_>) {
+        let hands_over = is_clients_turn(&self.inner);
+        self.inner.absorb(table, heard);
         match heard {
             Heard::Taken {
                 turn: Turn::Client,
                 moved,
                 ..
             } => {
-                self.inner.absorb(table, heard);
                 let draft = &mut self.drafts.taken;
                 keep_taken(
                     &mut self.notes,
@@ -243,7 +244,6 @@ impl<S: Service + Drop> Service for Tap<S> {
                 moved,
                 ..
             } => {
-                self.inner.absorb(table, heard);
                 let drafts = &mut self.drafts;
                 keep_taken_and_reply(
                     &mut self.notes,
@@ -255,23 +255,17 @@ impl<S: Service + Drop> Service for Tap<S> {
                 );
             }
             Heard::Words(words) => {
-                self.inner.absorb(table, Heard::Words(words));
                 let draft = &mut self.drafts.said;
                 keep_said(&mut self.notes, self.watch, table, draft, words);
             }
             Heard::Over => {
-                let hands_over = is_clients_turn(&self.inner);
-                self.inner.absorb(table, heard);
                 if hands_over {
                     let draft = &mut self.drafts.reply;
                     keep_over_and_reply(&mut self.notes, self.watch, table, draft, &self.inner);
                 }
             }
-            Heard::Given(_) => self.inner.absorb(table, heard),
-            Heard::Ended => {
-                self.inner.absorb(table, heard);
-                keep_ended(&mut self.notes, self.watch, table);
-            }
+            Heard::Given(_) => {}
+            Heard::Ended => keep_ended(&mut self.notes, self.watch, table),
         }
     }
 
