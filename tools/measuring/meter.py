@@ -12,6 +12,9 @@ from measuring.scenes import Scene
 TRIES, TRIES_OF_WORKERS = 5, 21
 # A run ends with the second of these where its budget is used.
 DONE = (0, 10)
+# How long the words and the environment of a process are moves its stack by steps of 16 bytes, and what clears or copies some hundred bytes there takes some
+# machine instructions more or fewer by that. A second step is as none.
+SHIFTS = (0, 16)
 
 
 class Unmeasured(Exception):
@@ -39,10 +42,12 @@ class Meter:
         with open(os.path.join(self.folder, name), "wb") as file:
             file.write(content)
 
-    def call(self, words, source, before=(), statuses=DONE):
-        """Calls the program, behind other words where something is to watch it, and gives what was said on standard error."""
+    def call(self, words, source, before=(), statuses=DONE, shift=0):
+        """Calls the program, behind other words where something is to watch it, and gives what was said on standard error. Its environment is longer by a
+        shift."""
         every = [*before, self.program, *words]
-        ran = subprocess.run(every, cwd=self.folder, input=text_of(source), stdout=subprocess.DEVNULL, stderr=subprocess.PIPE, check=False)
+        env = {**os.environ, "FLUKE_MEASURE": "-" * shift}
+        ran = subprocess.run(every, cwd=self.folder, env=env, input=text_of(source), stdout=subprocess.DEVNULL, stderr=subprocess.PIPE, check=False)
         said = ran.stderr.decode(errors="replace")
         self.judge(words, ran.returncode, statuses, said)
         return said
@@ -51,10 +56,14 @@ class Meter:
         if status not in statuses:
             raise Unmeasured(f"fluke {' '.join(words)} ended with status {status}. {last_of(said)}".rstrip())
 
-    def count(self, words, source, statuses=DONE):
+    def count(self, words, source, statuses=DONE, shift=0):
         """How many machine instructions a call takes."""
-        said = self.call(words, source, ["valgrind", "--tool=callgrind", "--callgrind-out-file=/dev/null"], statuses)
+        said = self.call(words, source, ["valgrind", "--tool=callgrind", "--callgrind-out-file=/dev/null"], statuses, shift)
         return self.found(r"Collected : (\d+)", said)
+
+    def evened(self, words, source):
+        """The same, wherever its stack lies: the mean over its shifts."""
+        return statistics.mean(self.count(words, source, shift=shift) for shift in SHIFTS)
 
     def found(self, pattern, said):
         """The number that is told of a call."""

@@ -81,13 +81,14 @@ def noted(few=22_000, many=66_000):
 
 
 def tapped(make, watch, few, many, notes):
-    """What a tap costs a note that its observer is asked about and doesn't see, beside the run with its trace, from two budgets; with so many notes an event."""
+    """What a tap costs a note that its observer is asked about and doesn't see, beside the run with its trace, from two budgets; with so many notes an event.
+    That is a hundredth of either, and where a stack lies changes as much."""
 
     def measure(meter):
         costs = []
         for budget in (few, many):
-            without = meter.count(["run", "--trace", "t"], make(budget))
-            costs.append(meter.count(["record", "t", watch], make(budget)) - without)
+            without = meter.evened(["run", "--trace", "t"], make(budget))
+            costs.append(meter.evened(["record", "t", watch], make(budget)) - without)
         return apart(*costs, (many - few) * notes)
 
     return measure
