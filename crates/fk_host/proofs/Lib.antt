@@ -1,2 +1,3 @@
 pub use Rattle.fk_served.proofs.Acts
 pub mod Choosing
+pub mod Quiet

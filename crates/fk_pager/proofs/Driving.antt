@@ -7,6 +7,7 @@ use Rattle.fk_model.specs.declared.moves.Ask.{Ask}
 use Rattle.fk_model.specs.declared.moves.Ask.TheVariants as asks
 use Rattle.fk_model.specs.declared.moves.Move.{Move}
 use Rattle.fk_model.specs.declared.moves.Said as says_of
+use Rattle.fk_model.specs.declared.stage.Stage.{Stage}
 use Rattle.fk_model.specs.declared.names.Who.{Who}
 use Rattle.fk_model.specs.Objects.{and_then}
 use Rattle.fk_model.specs.Places.{Path}
@@ -26,6 +27,7 @@ use Rattle.fk_host.specs.Kernels.{world_of as world}
 use Rattle.fk_host.specs.Hosts.{IsFitFor, IsFitWith, IsReadyWith, IsStepped, IsTurn, IsTurnFor}
 use Rattle.fk_host.specs.Served.{Services, asked}
 use Rattle.fk_host.specs.Acts.{IsReadyFor, IsReadyAsked}
+use Rattle.fk_model.specs.Moves.{IsReady}
 use Rattle.fk_host.proofs.Acts.{fit-asked}
 use Rattle.fk_paging.specs.declared.pager.Page.{Page}
 use Rattle.fk_model.specs.declared.moves.Said.TheVariants as says
@@ -271,6 +273,19 @@ module _ (d : Desk) (m n : Kept) (services new : Services) (s t : State) (opened
       subst (λ (ms : List Move). IsRun d first ms (record { world = world n; services = new; state = s; opened = opened })) (sym longer)
       (others-goes move ask is said turn past first run)
 
+-- it asks for the call of its stage with its words
+pub asks-call : (d : Desk) (s : State) (stage : Stage) (words : List ℕ) → stage ≡ stage_of d s.phase → words ≡ words_of s s.phase →
+    asks.Call stage words ≡ asks.Call (stage_of d s.phase) (words_of s s.phase)
+asks-call d s stage words stages given = λ i. asks.Call (stages i) (given i)
+
+-- which is ready where its move is
+pub own-ready : (d : Desk) (at : Moment) (move : Move) (ask : Ask) → ask ≡ asks.Call (stage_of d at.state.phase) (words_of at.state at.state.phase) →
+    IsPagersMove d at move → IsReadyWith at.services at.world move ask
+own-ready d at move ask is ready =
+    subst (λ (a : Ask). IsReadyWith at.services at.world move a) (sym is)
+    (subst (λ (x : Path). IsReady at.world x (option_map (named at.world) move.pick) (asks.Call (stage_of d at.state.phase) (words_of at.state at.state.phase)))
+    (sym ready.porter) ready.own.ready)
+
 -- its turn is its call's
 pub own-stepped : (d : Desk) (m n : Kept) (services new : Services) (s : State) (move : Move) (ask : Ask) (said : says_of.Said) →
     ask ≡ asks.Call (stage_of d s.phase) (words_of s s.phase) → IsTurn m services move ask said n new →
@@ -413,6 +428,16 @@ drives-alike a b at pager port history = record {
   same = λ i. desk_of root (port i) (pager i);
   run = λ first run.
       let items : b.history.items ≡ a.history.items = λ i. (history i).items in
+      subst (λ (x : Moment). IsRun (desk a) first b.history.items x) (sym at)
+      (subst (λ (ms : List Move). IsRun (desk a) first ms (moment a)) (sym items) run);
+}
+
+-- and with the same moves, wherever these lie
+pub drives-still : {S : Type 0} (a b : driver.PagedRun S) → moment b ≡ moment a → b.pager ≡ a.pager → b.port ≡ a.port →
+    b.history.items ≡ a.history.items → Drives a b
+drives-still a b at pager port items = record {
+  same = λ i. desk_of root (port i) (pager i);
+  run = λ first run.
       subst (λ (x : Moment). IsRun (desk a) first b.history.items x) (sym at)
       (subst (λ (ms : List Move). IsRun (desk a) first ms (moment a)) (sym items) run);
 }

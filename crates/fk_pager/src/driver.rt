@@ -1,5 +1,5 @@
 //! A host driven with its pager.
-ghost use Rattle.std.specs.Prelude.{◌≡◌, ◌∷◌, ◌++◌, ◌+◌, ◌≤◌, [], IfOk, IfSome, IfNone, OnOk, length, map, false, true, None, Some, option_map};
+ghost use Rattle.std.specs.Prelude.{◌≡◌, ◌∷◌, ◌++◌, ◌+◌, ◌≤◌, [], if◌then◌else◌, IfOk, IfSome, IfNone, OnOk, length, map, false, true, None, Some, option_map};
 ghost use Rattle.fk_model.specs.Who.{named};
 ghost use Rattle.fk_store.specs.Store.World.{place_of};
 ghost use Rattle.fk_host.specs.Kernels.{world_of as world};
@@ -28,6 +28,9 @@ use fk_report::{End, all_halted};
 use fk_responders::Table;
 use std::alloc::Global;
 
+/// How many moves a thread makes in a row, while it need not be chosen.
+const ROW: u8 = 64;
+
 /// Whose move comes next: the pager's, or that of a user or of a native server.
 #[derive(Clone, Copy)]
 pub enum Turn {
@@ -46,6 +49,9 @@ pub struct PagedRun<S: Service + Drop> {
     held: bool,
     /// Whose fault it took last, where nobody else has moved since: that thread goes before others, and so two pages suffice for each instruction.
     resumed: Option<Who>,
+    /// Who moved last, where that was no pager, and how many moves it has made in a row since it was chosen.
+    last: Option<Who>,
+    row: u8,
     /// How many moves its opening has made.
     opened: u64,
     history: Vec<Move>,
@@ -114,6 +120,8 @@ impl<S: Service + Drop> PagedRun<S> {
             port,
             held: false,
             resumed: None,
+            last: None,
+            row: 0,
             opened: 0,
             history: Vec::new(alloc),
         })
@@ -352,10 +360,19 @@ impl<S: Service + Drop> PagedRun<S> {
         let _room = self.history.capacity();
         self.host.kernel().is_runnable();
         let opening = self.is_opening();
-        let said = self.host.turn(table, &m, &self.pager.next())?;
+        let stage = self.pager.stage();
+        let Some(said) = self.host.call(table, &m, &stage, &self.pager.words())? else {
+            unreachable!()
+        };
         self.history.push_reserved(m);
         self.held = hear(&mut self.pager, &said);
         self.resumed = taken_last(self.resumed, m.pick);
+        self.last = if self.is_waiting() {
+            self.resumed
+        } else {
+            None
+        };
+        self.row = 0;
         if opening {
             self.opened += 1;
         }
@@ -377,6 +394,8 @@ impl<S: Service + Drop> PagedRun<S> {
         self.history.push_reserved(m);
         self.held = false;
         self.resumed = None;
+        self.last = Some(m.who);
+        self.row = 0;
         Ok(())
     }
 
@@ -394,6 +413,37 @@ impl<S: Service + Drop> PagedRun<S> {
             Turn::Pager(m) => self.own_turn(table, m),
             Turn::Other(m) => self.others_turn(table, m),
         }
+    }
+
+    /// Whoever moved last makes its next instruction, or a stage that tells nothing, where that is ready and it hasn't made so many in a row; and whether it did.
+    /// Nobody is chosen for it: what its own moves leave ready of the pager's is taken once it can't go on.
+    ///
+    /// # Errors
+    ///
+    /// There is no memory for the move's place in the history.
+    fn go_on(&mut self) -> Result<bool, NoMemory>
+        requires driven { IsDriven self.old }
+        ensures drives { OnOk result (Drives self.old self.new) }
+        ensures driven { OnOk result (IsDriven self.new) }
+        ensures services { self.new.host.services.list ≡ self.old.host.services.list }
+        ensures longer { IfOk result (λ made. length self.new.history.items ≡ length self.old.history.items + (if made then 1 else 0)) }
+    {
+        let Some(who) = self.last else {
+            return Ok(false);
+        };
+        let row = self.row;
+        if row >= ROW || self.is_opening() {
+            return Ok(false);
+        }
+        self.history.reserve(1)?;
+        self.host.kernel().names();
+        if !self.host.proceed_on(who) {
+            self.last = None;
+            return Ok(false);
+        }
+        self.history.push_reserved(Move { who, pick: None });
+        self.row = row + 1;
+        Ok(true)
     }
 
     // ---- the whole
@@ -440,6 +490,9 @@ impl<S: Service + Drop> PagedRun<S> {
         ensures within { OnOk result (length self.old.history.items ≤ budget → length self.new.history.items ≤ budget) }
     {
         while (self.history.len() as u64) < budget {
+            if self.go_on()? {
+                continue;
+            }
             let Some(turn) = self.choose() else {
                 return Ok(self.at_rest());
             };

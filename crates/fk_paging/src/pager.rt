@@ -74,7 +74,7 @@ impl Pager {
     }
 
     /// The call that it makes next.
-    fn stage(&self) -> Stage
+    pub fn stage(&self) -> Stage
         ensures { (nester : _) (port : _) → result ≡ stage_of (desk_of nester port self.now) (state_of self.now).phase }
     {
         match self.phase {
@@ -109,7 +109,7 @@ impl Pager {
     }
 
     /// The words that it gives with it.
-    fn words(&self) -> [u64; 64]
+    pub fn words(&self) -> [u64; 64]
         ensures { result ≡ words_of (state_of self.now) (state_of self.now).phase }
     {
         match self.phase {

@@ -1,18 +1,30 @@
 use Rattle.std.proofs.Common.{◌+◌, [], ◌∷◌, ◌++◌, option_map, refl, sym, ap, subst, ◌∙◌, arith}
+use Rattle.fk_model.specs.declared.moves.Ask.TheVariants as asks
 use Rattle.fk_model.specs.Who.{named}
 use Rattle.fk_host.specs.Kernels.{Kept, path_of}
 use Rattle.fk_host.specs.Kernels.{world_of as world}
 use Rattle.fk_paging.specs.Pagers.{state_of}
 use Rattle.laws_moves.specs.Whole.Runnable.{IsRunnable}
 use Rattle.fk_pager.specs.Desks.{root}
-use Rattle.fk_pager.specs.Driven.{desk}
-use Rattle.fk_pager.proofs.Driving.{fit-own, own-stepped, own-said, own-world, own-drives, counts-one, counts-none, few-more, hears-well, porter-stands}
+use Rattle.fk_pager.specs.Driven.{desk, moment}
+use Rattle.fk_pager.proofs.Driving.{asks-call, fit-own, own-ready, own-stepped, own-said, own-world, own-drives, counts-one, counts-none, few-more, hears-well, porter-stands}
 use Rattle.fk_pager.proofs.driver.PagedRun.own_turn.Goals as goal
 
-pub turn-requires-clause-fit : goal.turn-requires-clause-fit
-turn-requires-clause-fit g c =
+pub call-requires-clause-fit : goal.call-requires-clause-fit
+call-requires-clause-fit g c =
     let self = c.args.self.now in
-    fit-own (desk self) (state_of self.pager) self.host.services.list (world self.host.kernel) c.args.m c.next.result (c.next.ensures root self.port)
+    let d = desk self in
+    let s = state_of self.pager in
+    fit-own d s self.host.services.list (world self.host.kernel) c.args.m (asks.Call c.stage-stage.result c.words.result)
+    (asks-call d s c.stage-stage.result c.words.result (c.stage-stage.ensures root self.port) c.words.ensures)
+
+pub unreachable-in_default : goal.unreachable-in_default
+unreachable-in_default g c =
+    let self = c.args.self.now in
+    let d = desk self in
+    let s = state_of self.pager in
+    c.in_ok-call.ensures.unready (own-ready d (moment self) c.args.m (asks.Call c.stage-stage.result c.words.result)
+    (asks-call d s c.stage-stage.result c.words.result (c.stage-stage.ensures root self.port) c.words.ensures) c.requires.ready)
 
 pub hear-self-requires-clause-well : goal.hear-self-requires-clause-well
 hear-self-requires-clause-well g c =
@@ -20,10 +32,11 @@ hear-self-requires-clause-well g c =
     let d = desk self in
     let s = state_of self.pager in
     let kernel = self.host.kernel in
-    let new = c.turn.new.self in
-    let said = c.in_ok-said.said in
-    let stepped = own-stepped d kernel new.kernel self.host.services.list new.services.list s c.args.m c.next.result said (c.next.ensures root self.port)
-    c.in_ok-said.ensures.turn in
+    let new = c.call.new.self in
+    let said = c.in-Some.said in
+    let stepped = own-stepped d kernel new.kernel self.host.services.list new.services.list s c.args.m (asks.Call c.stage-stage.result c.words.result) said
+    (asks-call d s c.stage-stage.result c.words.result (c.stage-stage.ensures root self.port) c.words.ensures)
+    c.in-Some.ensures.turn in
     let runnable = subst (λ (k : Kept). IsRunnable (world k)) c.kernel.ensures c.is_runnable.ensures.runnable in
     hears-well d kernel new.kernel self.pager (option_map (named (world kernel)) c.args.m.pick) refl c.requires.driven.sane.low runnable
     c.requires.driven.sane.whole c.requires.ready.own said
@@ -36,11 +49,12 @@ returns-then-opening-clause-drives g c =
     let s = state_of self.pager in
     let t = state_of c.hear-self.new.pager in
     let kernel = self.host.kernel in
-    let new = c.turn.new.self in
-    let said = c.in_ok-said.said in
+    let new = c.call.new.self in
+    let said = c.in-Some.said in
     let still = c.hear-self.ensures.still in
-    let stepped = own-stepped d kernel new.kernel self.host.services.list new.services.list s c.args.m c.next.result said (c.next.ensures root self.port)
-    c.in_ok-said.ensures.turn in
+    let stepped = own-stepped d kernel new.kernel self.host.services.list new.services.list s c.args.m (asks.Call c.stage-stage.result c.words.result) said
+    (asks-call d s c.stage-stage.result c.words.result (c.stage-stage.ensures root self.port) c.words.ensures)
+    c.in-Some.ensures.turn in
     record {
       same = λ i. record { nester = root; slot = still.slot i; port = self.port; set = still.set i; room = still.room i };
       run = own-drives d kernel new.kernel self.host.services.list new.services.list s t self.opened c.args.m c.requires.ready said stepped
@@ -56,11 +70,12 @@ returns-else-opening-clause-drives g c =
     let s = state_of self.pager in
     let t = state_of c.hear-self.new.pager in
     let kernel = self.host.kernel in
-    let new = c.turn.new.self in
-    let said = c.in_ok-said.said in
+    let new = c.call.new.self in
+    let said = c.in-Some.said in
     let still = c.hear-self.ensures.still in
-    let stepped = own-stepped d kernel new.kernel self.host.services.list new.services.list s c.args.m c.next.result said (c.next.ensures root self.port)
-    c.in_ok-said.ensures.turn in
+    let stepped = own-stepped d kernel new.kernel self.host.services.list new.services.list s c.args.m (asks.Call c.stage-stage.result c.words.result) said
+    (asks-call d s c.stage-stage.result c.words.result (c.stage-stage.ensures root self.port) c.words.ensures)
+    c.in-Some.ensures.turn in
     record {
       same = λ i. record { nester = root; slot = still.slot i; port = self.port; set = still.set i; room = still.room i };
       run = own-drives d kernel new.kernel self.host.services.list new.services.list s t self.opened c.args.m c.requires.ready said stepped
@@ -76,10 +91,11 @@ returns-then-opening-clause-driven g c =
     let s = state_of self.pager in
     let t = state_of c.hear-self.new.pager in
     let kernel = self.host.kernel in
-    let new = c.turn.new.self in
-    let said = c.in_ok-said.said in
-    let stepped = own-stepped d kernel new.kernel self.host.services.list new.services.list s c.args.m c.next.result said (c.next.ensures root self.port)
-    c.in_ok-said.ensures.turn in
+    let new = c.call.new.self in
+    let said = c.in-Some.said in
+    let stepped = own-stepped d kernel new.kernel self.host.services.list new.services.list s c.args.m (asks.Call c.stage-stage.result c.words.result) said
+    (asks-call d s c.stage-stage.result c.words.result (c.stage-stage.ensures root self.port) c.words.ensures)
+    c.in-Some.ensures.turn in
     record {
       sane = c.hear-self.ensures.sane;
       few = few-more self.opened (self.opened + 1) self.history.items c.push_reserved.new.self.items c.args.m
@@ -96,10 +112,11 @@ returns-else-opening-clause-driven g c =
     let s = state_of self.pager in
     let t = state_of c.hear-self.new.pager in
     let kernel = self.host.kernel in
-    let new = c.turn.new.self in
-    let said = c.in_ok-said.said in
-    let stepped = own-stepped d kernel new.kernel self.host.services.list new.services.list s c.args.m c.next.result said (c.next.ensures root self.port)
-    c.in_ok-said.ensures.turn in
+    let new = c.call.new.self in
+    let said = c.in-Some.said in
+    let stepped = own-stepped d kernel new.kernel self.host.services.list new.services.list s c.args.m (asks.Call c.stage-stage.result c.words.result) said
+    (asks-call d s c.stage-stage.result c.words.result (c.stage-stage.ensures root self.port) c.words.ensures)
+    c.in-Some.ensures.turn in
     record {
       sane = c.hear-self.ensures.sane;
       few = few-more self.opened self.opened self.history.items c.push_reserved.new.self.items c.args.m
