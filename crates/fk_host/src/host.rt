@@ -135,6 +135,8 @@ impl<S: Service + Drop> Host<S> {
     ) -> Result<Option<Said>, NoMemory>
         requires fit { IsFitWith self.old.services.list (world self.old.kernel) m.now (asks.Call stage.now words.now) }
         requires fits { AllFit (map (λ r. r.rule) table.now.list.items) self.old.services.list }
+        ensures ready { IfOk result (λ told. IfSome told (λ said. IsReadyWith self.old.services.list (world self.old.kernel) m.now
+            (asks.Call stage.now words.now))) }
         ensures turn { IfOk result (λ told. IfSome told (λ said. IsTurn self.old.kernel self.old.services.list m.now (asks.Call stage.now words.now) said
             self.new.kernel self.new.services.list)) }
         ensures unready { IfOk result (λ told. IfNone told (IsReadyWith self.old.services.list (world self.old.kernel) m.now

@@ -293,11 +293,9 @@ pub own-stepped : (d : Desk) (m n : Kept) (services new : Services) (s : State) 
 own-stepped d m n services new s move ask said is turn = subst (λ (a : Ask). IsTurn m services move a said n new) is turn
 
 -- a move of the opening counts, any other doesn't
-pub counts-one : (opened : ℕ) (phase : Phase) → is_opening phase ≡ true → opened + 1 ≡ opened + (if is_opening phase then 1 else 0)
-counts-one opened phase is = let count : ◌≡◌ {A = ℕ} (if is_opening phase then 1 else 0) 1 = ap (λ (b : Bool). if b then 1 else 0) is in omega (arith, count)
-
-pub counts-none : (opened : ℕ) (phase : Phase) → is_opening phase ≡ false → opened ≡ opened + (if is_opening phase then 1 else 0)
-counts-none opened phase is = let count : ◌≡◌ {A = ℕ} (if is_opening phase then 1 else 0) 0 = ap (λ (b : Bool). if b then 1 else 0) is in omega (arith, count)
+pub counts-most : (opened later : ℕ) (opening : Bool) → later ≡ opened + (if opening then 1 else 0) → later ≤ opened + 1
+counts-most opened later true is = omega (arith, is)
+counts-most opened later false is = omega (arith, is)
 
 pub few-more : (opened later : ℕ) (past moves : List Move) (move : Move) → moves ≡ past ++ move ∷ [] → opened ≤ length past → later ≤ opened + 1 →
     later ≤ length moves

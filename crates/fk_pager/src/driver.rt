@@ -1,5 +1,6 @@
 //! A host driven with its pager.
-ghost use Rattle.std.specs.Prelude.{◌≡◌, ◌∷◌, ◌++◌, ◌+◌, ◌≤◌, [], if◌then◌else◌, IfOk, IfSome, IfNone, OnOk, length, map, false, true, None, Some, option_map};
+ghost use Rattle.std.specs.Bool.{OnFalse, OnTrue};
+ghost use Rattle.std.specs.Prelude.{◌≡◌, ◌∷◌, ◌++◌, ◌+◌, ◌<◌, ◌≤◌, [], if◌then◌else◌, IfOk, IfSome, IfNone, OnOk, length, map, false, true, None, Some, option_map};
 ghost use Rattle.fk_model.specs.Who.{named};
 ghost use Rattle.fk_store.specs.Store.World.{place_of};
 ghost use Rattle.fk_host.specs.Kernels.{world_of as world};
@@ -86,6 +87,14 @@ fn taken_last(before: Option<Who>, pick: Option<Who>) -> Option<Who> {
         Some(who) => Some(who),
         None => before,
     }
+}
+
+/// How many moves an opening has made, one more if this is one of them.
+fn one_more_if(opened: u64, opening: bool) -> u64
+    requires { opened < 18446744073709551615 }
+    ensures { result ≡ opened + (if opening then 1 else 0) }
+{
+    if opening { opened + 1 } else { opened }
 }
 
 impl<S: Service + Drop> PagedRun<S> {
@@ -180,6 +189,20 @@ impl<S: Service + Drop> PagedRun<S> {
         }
     }
 
+    /// Whether this thread has a fault of the pager's, so that its wait may pick it.
+    fn may_pick(&self, who: Who) -> bool
+        requires waits { (moment self.now).state.phase ≡ pagers.Waiting }
+        ensures picks { OnTrue result (IsPick (desk self.now) (moment self.now).state (moment self.now).world (moment self.now).state.phase
+            (Some (named (moment self.now).world who))) }
+        ensures none { OnFalse result (IsOwn (desk self.now) (moment self.now).world (moment self.now).state
+            (Some (place_of self.now.host.kernel.store who)) → ⊥) }
+    {
+        let kernel = self.host.kernel();
+        kernel.names();
+        let pages = self.pager.pages.as_slice();
+        has_fault(kernel.store(), pages, in_root(self.port), who)
+    }
+
     /// The wait that takes the fault of this thread, if that is one of the pager's and may be taken.
     fn take(&self, who: Who) -> Option<Move>
         requires waits { (moment self.now).state.phase ≡ pagers.Waiting }
@@ -187,10 +210,8 @@ impl<S: Service + Drop> PagedRun<S> {
         ensures none { IfNone result (IsOwn (desk self.now) (moment self.now).world (moment self.now).state
             (Some (place_of self.now.host.kernel.store who)) → ⊥) }
     {
-        let kernel = self.host.kernel();
-        kernel.names();
-        let pages = self.pager.pages.as_slice();
-        if has_fault(kernel.store(), pages, in_root(self.port), who) {
+        self.host.kernel().names();
+        if self.may_pick(who) {
             return self.call(Some(who));
         }
         None
@@ -228,6 +249,21 @@ impl<S: Service + Drop> PagedRun<S> {
                 return Some(m);
             }
             at = store.after(Some(who));
+        }
+        None
+    }
+
+    /// The first of those that lead to its port with a fault of the pager's. Whether it may be taken tells the call.
+    fn first_fault(&self) -> Option<Who>
+        requires waits { (moment self.now).state.phase ≡ pagers.Waiting }
+        ensures picks { IfSome result (λ who. IsPick (desk self.now) (moment self.now).state (moment self.now).world (moment self.now).state.phase
+            (Some (named (moment self.now).world who))) }
+    {
+        let mut leaders = self.host.kernel().store().leaders(in_root(self.port));
+        while let Some(who) = leaders.next() {
+            if self.may_pick(who) {
+                return Some(who);
+            }
         }
         None
     }
@@ -343,9 +379,78 @@ impl<S: Service + Drop> PagedRun<S> {
         }
     }
 
+    /// Who goes on before anybody is chosen: the thread whose fault was taken last, once that is ended.
+    fn served(&self) -> Option<Who> {
+        if self.is_waiting() {
+            self.resumed
+        } else {
+            None
+        }
+    }
+
     // ---- turns
 
-    /// The pager's porter makes the call that it asks for, and the pager hears the answer.
+    /// The pager's porter makes the call that it asks for, with this pick, where that is ready, and the pager hears the answer; and whether it did. Else all
+    /// stays as it is.
+    fn try_own(&mut self, table: &Table, pick: Option<Who>) -> Result<bool, NoMemory>
+        requires driven { IsDriven self.old }
+        requires picks { IsPick (desk self.old) (moment self.old).state (moment self.old).world (moment self.old).state.phase
+            (option_map (named (moment self.old).world) pick) }
+        requires fits { AllFit (map (λ r. r.rule) table.now.list.items) self.old.host.services.list }
+        ensures drives { OnOk result (Drives self.old self.new) }
+        ensures driven { OnOk result (IsDriven self.new) }
+        ensures fits { OnOk result (AllFit (map (λ r. r.rule) table.now.list.items) self.new.host.services.list) }
+        ensures longer { IfOk result (λ made. length self.new.history.items ≡ length self.old.history.items + (if made then 1 else 0)) }
+        ensures unready { IfOk result (λ made. OnFalse made (IsOwn (desk self.old) (moment self.old).world (moment self.old).state
+            (option_map (named (moment self.old).world) pick) → ⊥)) }
+    {
+        self.history.reserve(1)?;
+        // There is room for another, so a number of the moves can be told.
+        let _room = self.history.capacity();
+        let kernel = self.host.kernel();
+        kernel.names();
+        kernel.is_runnable();
+        let m = Move {
+            who: in_root(LAST_PORTER_SLOT as u8),
+            pick,
+        };
+        let opening = self.is_opening();
+        let stage = self.pager.stage();
+        let Some(said) = self.host.call(table, &m, &stage, &self.pager.words())? else {
+            return Ok(false);
+        };
+        self.history.push_reserved(m);
+        self.held = hear(&mut self.pager, &said);
+        self.resumed = taken_last(self.resumed, pick);
+        self.last = self.served();
+        self.row = 0;
+        self.opened = one_more_if(self.opened, opening);
+        Ok(true)
+    }
+
+    /// Makes the pager's call, where it is ready with the first fault that it may take, if it takes one; and whether it did. Whether it is ready is judged as it
+    /// is made. Where it does nothing, whoever chooses looks on.
+    fn go_own(&mut self, table: &Table) -> Result<bool, NoMemory>
+        requires driven { IsDriven self.old }
+        requires fits { AllFit (map (λ r. r.rule) table.now.list.items) self.old.host.services.list }
+        ensures drives { OnOk result (Drives self.old self.new) }
+        ensures driven { OnOk result (IsDriven self.new) }
+        ensures fits { OnOk result (AllFit (map (λ r. r.rule) table.now.list.items) self.new.host.services.list) }
+        ensures longer { IfOk result (λ made. length self.new.history.items ≡ length self.old.history.items + (if made then 1 else 0)) }
+    {
+        if self.held {
+            return Ok(false);
+        }
+        if !self.is_waiting() {
+            return self.try_own(table, None);
+        }
+        match self.first_fault() {
+            Some(who) => self.try_own(table, Some(who)),
+            None => Ok(false),
+        }
+    }
+
+    /// The pager's porter makes the call that it asks for, which is ready.
     fn own_turn(&mut self, table: &Table, m: Move) -> Result<(), NoMemory>
         requires driven { IsDriven self.old }
         requires ready { IsPagersMove (desk self.old) (moment self.old) m }
@@ -353,30 +458,13 @@ impl<S: Service + Drop> PagedRun<S> {
         ensures drives { OnOk result (Drives self.old self.new) }
         ensures driven { OnOk result (IsDriven self.new) }
         ensures fits { OnOk result (AllFit (map (λ r. r.rule) table.now.list.items) self.new.host.services.list) }
-        ensures longer { OnOk result (self.new.history.items ≡ self.old.history.items ++ m ∷ []) }
+        ensures longer { OnOk result (length self.new.history.items ≡ length self.old.history.items + 1) }
     {
-        self.history.reserve(1)?;
-        // There is room for another, so a number of the moves can be told.
-        let _room = self.history.capacity();
-        self.host.kernel().is_runnable();
-        let opening = self.is_opening();
-        let stage = self.pager.stage();
-        let Some(said) = self.host.call(table, &m, &stage, &self.pager.words())? else {
-            unreachable!()
-        };
-        self.history.push_reserved(m);
-        self.held = hear(&mut self.pager, &said);
-        self.resumed = taken_last(self.resumed, m.pick);
-        self.last = if self.is_waiting() {
-            self.resumed
+        if self.try_own(table, m.pick)? {
+            Ok(())
         } else {
-            None
-        };
-        self.row = 0;
-        if opening {
-            self.opened += 1;
+            unreachable!()
         }
-        Ok(())
     }
 
     /// A user or a native server makes its move.
@@ -431,19 +519,37 @@ impl<S: Service + Drop> PagedRun<S> {
         let Some(who) = self.last else {
             return Ok(false);
         };
+        if self.is_opening() {
+            return Ok(false);
+        }
         let row = self.row;
-        if row >= ROW || self.is_opening() {
+        if row >= ROW {
             return Ok(false);
         }
         self.history.reserve(1)?;
         self.host.kernel().names();
-        if !self.host.proceed_on(who) {
-            self.last = None;
-            return Ok(false);
+        if self.host.proceed_on(who) {
+            self.history.push_reserved(Move { who, pick: None });
+            self.row = row + 1;
+            return Ok(true);
         }
-        self.history.push_reserved(Move { who, pick: None });
-        self.row = row + 1;
-        Ok(true)
+        self.last = None;
+        Ok(false)
+    }
+
+    /// Makes a move that nobody need be chosen for; and whether there is one.
+    fn go_at_once(&mut self, table: &Table) -> Result<bool, NoMemory>
+        requires driven { IsDriven self.old }
+        requires fits { AllFit (map (λ r. r.rule) table.now.list.items) self.old.host.services.list }
+        ensures drives { OnOk result (Drives self.old self.new) }
+        ensures driven { OnOk result (IsDriven self.new) }
+        ensures fits { OnOk result (AllFit (map (λ r. r.rule) table.now.list.items) self.new.host.services.list) }
+        ensures longer { IfOk result (λ made. length self.new.history.items ≡ length self.old.history.items + (if made then 1 else 0)) }
+    {
+        if self.go_on()? {
+            return Ok(true);
+        }
+        self.go_own(table)
     }
 
     // ---- the whole
@@ -490,7 +596,7 @@ impl<S: Service + Drop> PagedRun<S> {
         ensures within { OnOk result (length self.old.history.items ≤ budget → length self.new.history.items ≤ budget) }
     {
         while (self.history.len() as u64) < budget {
-            if self.go_on()? {
+            if self.go_at_once(table)? {
                 continue;
             }
             let Some(turn) = self.choose() else {
