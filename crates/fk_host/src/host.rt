@@ -1,7 +1,7 @@
 //! One kernel with its native servers.
-ghost use Rattle.std.specs.Prelude.{◌≡◌, ◌↔◌, None, IsTrue, IfNone, IfOk, IfSome, OnErr, map};
+ghost use Rattle.std.specs.Prelude.{◌≡◌, ◌↔◌, ◌≤◌, None, IsTrue, IfNone, IfOk, IfSome, OnErr, map};
 ghost use Rattle.std.specs.Bool.{OnFalse, OnTrue};
-ghost use Rattle.fk_host.specs.Hosts.{IsFitWith, IsReadyWith, IsTurn, asked_with};
+ghost use Rattle.fk_host.specs.Hosts.{AreQuietTurns, IsFitWith, IsReadyWith, IsTurn, asked_with};
 ghost use Rattle.fk_model.specs.declared.moves.Ask.TheVariants as asks;
 ghost use Rattle.fk_model.specs.declared.moves.Move as moves;
 ghost use Rattle.fk_model.specs.declared.moves.Said.TheVariants as says;
@@ -169,6 +169,17 @@ impl<S: Service + Drop> Host<S> {
             Gone::Made => true,
             Gone::Waits | Gone::Not => false,
         }
+    }
+
+    /// Makes instructions of the thread in a slot one after the other, at most so many, and says how many they were: up to one that is a call, would halt, or
+    /// needs a page that its space hasn't itself. No server hears of them. Where it makes none, all stays as it is.
+    pub fn run_on(&mut self, who: Who, most: u64) -> u64
+        ensures turns { AreQuietTurns self.old.services.list (record { who = who; pick = None }) result (world self.old.kernel) (world self.new.kernel) }
+        ensures services { self.new.services.list ≡ self.old.services.list }
+        ensures few { result ≤ most }
+    {
+        self.kernel.names();
+        self.kernel.run_on(who, most)
     }
 
     /// A ready move of a user or a server; none exactly where there is none, and then no user is ready wherever it stands.

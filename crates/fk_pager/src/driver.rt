@@ -1,6 +1,6 @@
 //! A host driven with its pager.
 ghost use Rattle.std.specs.Bool.{OnFalse, OnTrue};
-ghost use Rattle.std.specs.Prelude.{◌≡◌, ◌∷◌, ◌++◌, ◌+◌, ◌<◌, ◌≤◌, [], if◌then◌else◌, IfOk, IfSome, IfNone, OnOk, length, map, false, true, None, Some, option_map};
+ghost use Rattle.std.specs.Prelude.{◌≡◌, ◌∷◌, ◌++◌, ◌+◌, ◌<◌, ◌≤◌, [], if◌then◌else◌, IfOk, IfSome, IfNone, OnOk, length, map, replicate, false, true, None, Some, option_map};
 ghost use Rattle.fk_model.specs.Who.{named};
 ghost use Rattle.fk_store.specs.Store.World.{place_of};
 ghost use Rattle.fk_host.specs.Kernels.{world_of as world};
@@ -8,7 +8,7 @@ ghost use Rattle.fk_host.specs.Served.{AllFit};
 ghost use Rattle.fk_paging.specs.Pagers.{state_of, IsStill};
 ghost use Rattle.laws_filled.specs.Pager as pagers;
 ghost use Rattle.laws_filled.specs.Pager.{first, is_opening, IsPick, IsOwn};
-ghost use Rattle.fk_pager.specs.Driven.{moment, desk, is_waiting, Heard, HearsWell, IsDriven, IsTurnReady, Drives};
+ghost use Rattle.fk_pager.specs.Driven.{moment, desk, is_waiting, Heard, HearsWell, HasGrown, IsDriven, IsTurnReady, Drives};
 ghost use Rattle.fk_pager.specs.Desks.{desk_of_root};
 ghost use Rattle.fk_pager.specs.Ends.{IsAnyReady, IsAtRest, IsEnd, IsOtherReady, IsPagerReady};
 ghost use Rattle.fk_pager.specs.Paged.{opened_by};
@@ -30,7 +30,7 @@ use fk_responders::Table;
 use std::alloc::Global;
 
 /// How many moves a thread makes in a row, while it need not be chosen.
-const ROW: u8 = 64;
+const ROW: u64 = 64;
 
 /// Whose move comes next: the pager's, or that of a user or of a native server.
 #[derive(Clone, Copy)]
@@ -52,7 +52,7 @@ pub struct PagedRun<S: Service + Drop> {
     resumed: Option<Who>,
     /// Who moved last, where that was no pager, and how many moves it has made in a row since it was chosen.
     last: Option<Who>,
-    row: u8,
+    row: u64,
     /// How many moves its opening has made.
     opened: u64,
     history: Vec<Move>,
@@ -87,6 +87,16 @@ fn taken_last(before: Option<Who>, pick: Option<Who>) -> Option<Who> {
         Some(who) => Some(who),
         None => before,
     }
+}
+
+/// A move comes to others so many times.
+fn push_all(moves: &mut Vec<Move>, m: Move, times: u64) -> Result<(), NoMemory>
+    ensures { OnOk result (moves.new.items ≡ moves.old.items ++ replicate times m) }
+{
+    for _k in 0..times {
+        moves.push(m)?;
+    }
+    Ok(())
 }
 
 /// How many moves an opening has made, one more if this is one of them.
@@ -400,7 +410,8 @@ impl<S: Service + Drop> PagedRun<S> {
         ensures drives { OnOk result (Drives self.old self.new) }
         ensures driven { OnOk result (IsDriven self.new) }
         ensures fits { OnOk result (AllFit (map (λ r. r.rule) table.now.list.items) self.new.host.services.list) }
-        ensures longer { IfOk result (λ made. length self.new.history.items ≡ length self.old.history.items + (if made then 1 else 0)) }
+        ensures grown { IfOk result (λ made. HasGrown made (length self.old.history.items + 1) (length self.old.history.items)
+            (length self.new.history.items)) }
         ensures unready { IfOk result (λ made. OnFalse made (IsOwn (desk self.old) (moment self.old).world (moment self.old).state
             (option_map (named (moment self.old).world) pick) → ⊥)) }
     {
@@ -436,7 +447,8 @@ impl<S: Service + Drop> PagedRun<S> {
         ensures drives { OnOk result (Drives self.old self.new) }
         ensures driven { OnOk result (IsDriven self.new) }
         ensures fits { OnOk result (AllFit (map (λ r. r.rule) table.now.list.items) self.new.host.services.list) }
-        ensures longer { IfOk result (λ made. length self.new.history.items ≡ length self.old.history.items + (if made then 1 else 0)) }
+        ensures grown { IfOk result (λ made. HasGrown made (length self.old.history.items + 1) (length self.old.history.items)
+            (length self.new.history.items)) }
     {
         if self.held {
             return Ok(false);
@@ -503,50 +515,95 @@ impl<S: Service + Drop> PagedRun<S> {
         }
     }
 
-    /// Whoever moved last makes its next instruction, or a stage that tells nothing, where that is ready and it hasn't made so many in a row; and whether it did.
-    /// Nobody is chosen for it: what its own moves leave ready of the pager's is taken once it can't go on.
-    ///
-    /// # Errors
-    ///
-    /// There is no memory for the move's place in the history.
-    fn go_on(&mut self) -> Result<bool, NoMemory>
+    /// The thread that moved last makes instructions one after the other, at most so many; and whether it made any.
+    fn run_on(&mut self, who: Who, most: u64) -> Result<bool, NoMemory>
         requires driven { IsDriven self.old }
+        requires opened { is_opening (moment self.old).state.phase ≡ false }
         ensures drives { OnOk result (Drives self.old self.new) }
         ensures driven { OnOk result (IsDriven self.new) }
         ensures services { self.new.host.services.list ≡ self.old.host.services.list }
-        ensures longer { IfOk result (λ made. length self.new.history.items ≡ length self.old.history.items + (if made then 1 else 0)) }
+        ensures opened { is_opening (moment self.new).state.phase ≡ false }
+        ensures grown { IfOk result (λ made. HasGrown made (length self.old.history.items + most) (length self.old.history.items)
+            (length self.new.history.items)) }
+    {
+        let made = self.host.run_on(who, most);
+        if made == 0 {
+            return Ok(false);
+        }
+        push_all(&mut self.history, Move { who, pick: None }, made)?;
+        self.row = self.row.saturating_add(made);
+        Ok(true)
+    }
+
+    /// The thread that moved last makes its next instruction, or a stage that tells nothing; and whether it did. Where it raised a fault, or did nothing, it
+    /// doesn't go on.
+    fn proceed_on(&mut self, who: Who) -> Result<bool, NoMemory>
+        requires driven { IsDriven self.old }
+        requires opened { is_opening (moment self.old).state.phase ≡ false }
+        ensures drives { OnOk result (Drives self.old self.new) }
+        ensures driven { OnOk result (IsDriven self.new) }
+        ensures services { self.new.host.services.list ≡ self.old.host.services.list }
+        ensures grown { IfOk result (λ made. HasGrown made (length self.old.history.items + 1) (length self.old.history.items)
+            (length self.new.history.items)) }
+    {
+        self.history.reserve(1)?;
+        self.host.kernel().names();
+        if !self.host.proceed_on(who) {
+            self.last = None;
+            return Ok(false);
+        }
+        self.history.push_reserved(Move { who, pick: None });
+        self.row = self.row.saturating_add(1);
+        self.last = self.unless_faulted(who);
+        Ok(true)
+    }
+
+    /// A thread, unless it has a fault.
+    fn unless_faulted(&self, who: Who) -> Option<Who> {
+        match self.host.kernel().store().thread(who) {
+            Some(thread) if thread.fault.is_none() => Some(who),
+            _ => None,
+        }
+    }
+
+    /// Whoever moved last goes on, where it can and hasn't made so many moves in a row, by moves that tell nothing; and whether it did. Nobody is chosen for
+    /// these: what they leave ready of the pager's is taken once it doesn't go on.
+    ///
+    /// # Errors
+    ///
+    /// There is no memory for the places of moves in the history.
+    fn go_on(&mut self, budget: u64) -> Result<bool, NoMemory>
+        requires driven { IsDriven self.old }
+        requires left { length self.old.history.items < budget }
+        ensures drives { OnOk result (Drives self.old self.new) }
+        ensures driven { OnOk result (IsDriven self.new) }
+        ensures services { self.new.host.services.list ≡ self.old.host.services.list }
+        ensures grown { IfOk result (λ made. HasGrown made budget (length self.old.history.items) (length self.new.history.items)) }
     {
         let Some(who) = self.last else {
             return Ok(false);
         };
-        if self.is_opening() {
+        if self.row >= ROW || self.is_opening() {
             return Ok(false);
         }
-        let row = self.row;
-        if row >= ROW {
-            return Ok(false);
-        }
-        self.history.reserve(1)?;
-        self.host.kernel().names();
-        if self.host.proceed_on(who) {
-            self.history.push_reserved(Move { who, pick: None });
-            self.row = row + 1;
+        let left = budget - self.history.len() as u64;
+        if self.run_on(who, left.min(ROW))? {
             return Ok(true);
         }
-        self.last = None;
-        Ok(false)
+        self.proceed_on(who)
     }
 
-    /// Makes a move that nobody need be chosen for; and whether there is one.
-    fn go_at_once(&mut self, table: &Table) -> Result<bool, NoMemory>
+    /// Makes moves that nobody need be chosen for; and whether there are any.
+    fn go_at_once(&mut self, table: &Table, budget: u64) -> Result<bool, NoMemory>
         requires driven { IsDriven self.old }
+        requires left { length self.old.history.items < budget }
         requires fits { AllFit (map (λ r. r.rule) table.now.list.items) self.old.host.services.list }
         ensures drives { OnOk result (Drives self.old self.new) }
         ensures driven { OnOk result (IsDriven self.new) }
         ensures fits { OnOk result (AllFit (map (λ r. r.rule) table.now.list.items) self.new.host.services.list) }
-        ensures longer { IfOk result (λ made. length self.new.history.items ≡ length self.old.history.items + (if made then 1 else 0)) }
+        ensures grown { IfOk result (λ made. HasGrown made budget (length self.old.history.items) (length self.new.history.items)) }
     {
-        if self.go_on()? {
+        if self.go_on(budget)? {
             return Ok(true);
         }
         self.go_own(table)
@@ -596,7 +653,7 @@ impl<S: Service + Drop> PagedRun<S> {
         ensures within { OnOk result (length self.old.history.items ≤ budget → length self.new.history.items ≤ budget) }
     {
         while (self.history.len() as u64) < budget {
-            if self.go_at_once(table)? {
+            if self.go_at_once(table, budget)? {
                 continue;
             }
             let Some(turn) = self.choose() else {
