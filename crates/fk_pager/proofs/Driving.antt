@@ -1,5 +1,6 @@
 -- A driver's turns are those of a run.
-use Rattle.std.proofs.Common.{◌≡◌, ◌⊎◌, inl, inr, IfNone, ℕ, ◌+◌, ◌<◌, ◌≤◌, Bool, true, false, is_some, if◌then◌else◌, List, [], ◌∷◌, ◌++◌, length, length-append, Option, Some, None, option_map, refl, sym, ap, subst, ◌∙◌, arith}
+use Rattle.std.proofs.Common.{◌≡◌, ◌⊎◌, inl, inr, IfNone, ℕ, zero, suc, ◌+◌, ◌<◌, ◌≤◌, nat_lt, Bool, true, false, is_some, if◌then◌else◌, List, [], ◌∷◌, ◌++◌, length, length-append, append_assoc, append-nil, replicate, Option, Some, None, option_map, refl, sym, ap, subst, ◌∙◌, arith}
+use Rattle.std.proofs.lemmas.List.{length-replicate, replicate_more}
 use Rattle.std.proofs.lemmas.Option.{slice_get_within}
 use Rattle.std.specs.List.{slice_get}
 use Rattle.fk_model.specs.declared.limits.TheConstants.{LAST_PORTER_SLOT, LAST_USER_SLOT}
@@ -24,7 +25,7 @@ use Rattle.fk_store.specs.Store.World as worlds
 use Rattle.fk_store.proofs.InStore.finding.Walks.{path-root}
 use Rattle.fk_host.specs.Kernels.{Kept, path_of}
 use Rattle.fk_host.specs.Kernels.{world_of as world}
-use Rattle.fk_host.specs.Hosts.{IsFitFor, IsFitWith, IsReadyWith, IsStepped, IsTurn, IsTurnFor}
+use Rattle.fk_host.specs.Hosts.{AreQuietTurns, IsFitFor, IsFitWith, IsReadyWith, IsStepped, IsTurn, IsTurnFor}
 use Rattle.fk_host.specs.Served.{Services, asked}
 use Rattle.fk_host.specs.Acts.{IsReadyFor, IsReadyAsked}
 use Rattle.fk_model.specs.Moves.{IsReady}
@@ -42,7 +43,7 @@ use Rattle.laws_filled.specs.Filled.{is_paged}
 use Rattle.laws_filled.specs.Pager.{Desk, Phase, State, paging, is_opening, stage_of, words_of, call_of, said_of, hears, IsPick, IsOwn}
 use Rattle.laws_filled.specs.Pager.Phase.{Seeking, Taking, Waiting, Looking, Evicting, Giving, Ending}
 use Rattle.fk_pager.specs.Desks.{root}
-use Rattle.fk_pager.specs.Driven.{moment, desk, is_waiting, HearsWell, IsTurnReady, Drives}
+use Rattle.fk_pager.specs.Driven.{moment, desk, is_waiting, HasGrown, HearsWell, IsTurnReady, Drives}
 use Rattle.fk_pager.specs.Faults.{is_fault_of}
 use Rattle.fk_pager.specs.declared.driver.PagedRun as driver
 use Rattle.fk_pager.proofs.Searching.{root-place}
@@ -273,6 +274,46 @@ module _ (d : Desk) (m n : Kept) (services new : Services) (s t : State) (opened
       subst (λ (ms : List Move). IsRun d first ms (record { world = world n; services = new; state = s; opened = opened })) (sym longer)
       (others-goes move ask is said turn past first run)
 
+-- where nothing was done it is the same run
+pub still-goes : (d : Desk) (w v : World) (services new : Services) (s : State) (opened : ℕ) (past moves : List Move) → v ≡ w → new ≡ services → moves ≡ past →
+    GoesOn d past (record { world = w; services = services; state = s; opened = opened }) moves
+    (record { world = v; services = new; state = s; opened = opened })
+still-goes d w v services new s opened past moves same served longer first run =
+    subst (λ (ms : List Move). IsRun d first ms (record { world = v; services = new; state = s; opened = opened })) (sym longer)
+    (subst (IsRun d first past) (λ i. record { world = sym same i; services = sym served i; state = s; opened = opened }) run)
+
+-- quiet turns of whoever moved last, one after the other
+module _ (d : Desk) (services : Services) (s : State) (opened : ℕ) (move : Move) (closed : is_opening s.phase ≡ false) where
+  abbrev at_world : World → Moment
+  at_world w = record { world = w; services = services; state = s; opened = opened }
+
+  quiet-run : (n : ℕ) (w v : World) → AreQuietTurns services move n w v → (past : List Move) (first : Moment) → IsRun d first past (at_world w) →
+      IsRun d first (past ++ replicate n move) (at_world v)
+  quiet-run zero w v led past first run =
+      subst (λ (ms : List Move). IsRun d first ms (at_world v)) (sym (append-nil past)) (subst (λ (x : World). IsRun d first past (at_world x)) led run)
+  quiet-run (suc n) w v led past first run =
+      let u = led.0 in
+      let turn = led.2 in
+      let is : IsOthersMove (at_world u) move asks.Run =
+      record { opened = closed; asks = turn.asks; valid = turn.valid; few = turn.few; ready = turn.ready } in
+      let moves : (past ++ replicate n move) ++ move ∷ [] ≡ past ++ replicate (suc n) move =
+      append_assoc past (replicate n move) (move ∷ []) ∙ ap (λ (ms : List Move). past ++ ms) (replicate_more n move ∙ ap (λ (k : ℕ). replicate k move) (one-more n)) in
+      subst (λ (ms : List Move). IsRun d first ms (at_world v)) moves
+      (subst (IsRun d first ((past ++ replicate n move) ++ move ∷ []))
+      (λ i. record { world = turn.goes i; services = turn.hears i; state = s; opened = opened })
+      (Others (past ++ replicate n move) (at_world u) move asks.Run (quiet-run n w u led.1 past first run) is))
+    where
+      one-more : (k : ℕ) → k + 1 ≡ suc k
+      one-more k = omega arith
+
+  -- the same where the list is known by an equation, and so are the servers
+  pub quiet-drives : (n : ℕ) (w v : World) → AreQuietTurns services move n w v → (new : Services) → new ≡ services → (past moves : List Move) →
+      moves ≡ past ++ replicate n move →
+      GoesOn d past (at_world w) moves (record { world = v; services = new; state = s; opened = opened })
+  quiet-drives n w v led new same past moves longer first run =
+      subst (λ (l : Services). IsRun d first moves (record { world = v; services = l; state = s; opened = opened })) (sym same)
+      (subst (λ (ms : List Move). IsRun d first ms (at_world v)) (sym longer) (quiet-run n w v led past first run))
+
 -- it asks for the call of its stage with its words
 pub asks-call : (d : Desk) (s : State) (stage : Stage) (words : List ℕ) → stage ≡ stage_of d s.phase → words ≡ words_of s s.phase →
     asks.Call stage words ≡ asks.Call (stage_of d s.phase) (words_of s s.phase)
@@ -296,6 +337,27 @@ own-stepped d m n services new s move ask said is turn = subst (λ (a : Ask). Is
 pub counts-most : (opened later : ℕ) (opening : Bool) → later ≡ opened + (if opening then 1 else 0) → later ≤ opened + 1
 counts-most opened later true is = omega (arith, is)
 counts-most opened later false is = omega (arith, is)
+
+-- how far the list has grown
+pub grown-by : (n : ℕ) (most : ℕ) (past moves : List Move) (move : Move) → moves ≡ past ++ replicate n move → n ≤ most →
+    HasGrown (nat_lt 0 n) (length past + most) (length past) (length moves)
+grown-by zero most past moves move longer few = ap length (longer ∙ append-nil past)
+grown-by (suc n) most past moves move longer few =
+    let long : length moves ≡ length past + length (replicate (suc n) move) = ap length longer ∙ length-append past (replicate (suc n) move) in
+    let more = length-replicate (suc n) move in
+    (omega (arith, long, more), omega (arith, long, more, few))
+
+pub grown-one : (budget before between chosen after : ℕ) → before < budget → between ≡ before → chosen ≡ between → after ≡ chosen + 1 →
+    HasGrown true budget before after
+grown-one budget before between chosen after left still same more = (omega (arith, left, still, same, more), omega (arith, left, still, same, more))
+
+pub grown-within : (made : Bool) (most budget before after : ℕ) → most ≤ budget → HasGrown made most before after → HasGrown made budget before after
+grown-within true most budget before after few grown = let most_now = grown.1 in (grown.0, omega (arith, few, most_now))
+grown-within false most budget before after few grown = grown
+
+pub grown-then : (made : Bool) (most before between after : ℕ) → between ≡ before → HasGrown made most between after → HasGrown made most before after
+grown-then true most before between after same grown = let later = grown.0 in (omega (arith, later, same), grown.1)
+grown-then false most before between after same grown = grown ∙ same
 
 pub few-more : (opened later : ℕ) (past moves : List Move) (move : Move) → moves ≡ past ++ move ∷ [] → opened ≤ length past → later ≤ opened + 1 →
     later ≤ length moves
@@ -430,17 +492,14 @@ drives-alike a b at pager port history = record {
       (subst (λ (ms : List Move). IsRun (desk a) first ms (moment a)) (sym items) run);
 }
 
--- and with the same moves, wherever these lie
-pub drives-still : {S : Type 0} (a b : driver.PagedRun S) → moment b ≡ moment a → b.pager ≡ a.pager → b.port ≡ a.port →
-    b.history.items ≡ a.history.items → Drives a b
-drives-still a b at pager port items = record {
-  same = λ i. desk_of root (port i) (pager i);
-  run = λ first run.
-      subst (λ (x : Moment). IsRun (desk a) first b.history.items x) (sym at)
-      (subst (λ (ms : List Move). IsRun (desk a) first ms (moment a)) (sym items) run);
-}
-
 -- ---- how it ends
+
+-- what isn't ready where it was looked for isn't where that has changed nothing
+pub none-still : {S : Type 0} (old chosen : driver.PagedRun S) → moment chosen ≡ moment old → chosen.pager ≡ old.pager → chosen.port ≡ old.port →
+    (IsAnyReady (desk old) (moment old) → ⊥) → IsAnyReady (desk chosen) (moment chosen) → ⊥
+none-still old chosen at pager port none =
+    let same : desk chosen ≡ desk old = λ i. desk_of root (port i) (pager i) in
+    subst (λ (d : Desk). IsAnyReady d (moment chosen) → ⊥) (sym same) (subst (λ (x : Moment). IsAnyReady (desk old) x → ⊥) (sym at) none)
 
 rest-ends : (d : Desk) (budget made : ℕ) (at : Moment) (e : End) → (IsAnyReady d at → ⊥) → IsAtRest at.world e → IsEnd d budget made at e
 rest-ends d budget made here ends.Halted none rest = (none, rest)

@@ -527,12 +527,9 @@ impl<S: Service + Drop> PagedRun<S> {
             (length self.new.history.items)) }
     {
         let made = self.host.run_on(who, most);
-        if made == 0 {
-            return Ok(false);
-        }
         push_all(&mut self.history, Move { who, pick: None }, made)?;
         self.row = self.row.saturating_add(made);
-        Ok(true)
+        Ok(made > 0)
     }
 
     /// The thread that moved last makes its next instruction, or a stage that tells nothing; and whether it did. Where it raised a fault, or did nothing, it
@@ -548,14 +545,14 @@ impl<S: Service + Drop> PagedRun<S> {
     {
         self.history.reserve(1)?;
         self.host.kernel().names();
-        if !self.host.proceed_on(who) {
-            self.last = None;
-            return Ok(false);
+        if self.host.proceed_on(who) {
+            self.history.push_reserved(Move { who, pick: None });
+            self.row = self.row.saturating_add(1);
+            self.last = self.unless_faulted(who);
+            return Ok(true);
         }
-        self.history.push_reserved(Move { who, pick: None });
-        self.row = self.row.saturating_add(1);
-        self.last = self.unless_faulted(who);
-        Ok(true)
+        self.last = None;
+        Ok(false)
     }
 
     /// A thread, unless it has a fault.
@@ -583,7 +580,10 @@ impl<S: Service + Drop> PagedRun<S> {
         let Some(who) = self.last else {
             return Ok(false);
         };
-        if self.row >= ROW || self.is_opening() {
+        if self.is_opening() {
+            return Ok(false);
+        }
+        if self.row >= ROW {
             return Ok(false);
         }
         let left = budget - self.history.len() as u64;
@@ -607,6 +607,29 @@ impl<S: Service + Drop> PagedRun<S> {
             return Ok(true);
         }
         self.go_own(table)
+    }
+
+    /// Makes moves that are ready, at least one; or none, where none is.
+    fn go(&mut self, table: &Table, budget: u64) -> Result<bool, NoMemory>
+        requires driven { IsDriven self.old }
+        requires left { length self.old.history.items < budget }
+        requires fits { AllFit (map (λ r. r.rule) table.now.list.items) self.old.host.services.list }
+        ensures drives { OnOk result (Drives self.old self.new) }
+        ensures driven { OnOk result (IsDriven self.new) }
+        ensures fits { OnOk result (AllFit (map (λ r. r.rule) table.now.list.items) self.new.host.services.list) }
+        ensures grown { IfOk result (λ made. HasGrown made budget (length self.old.history.items) (length self.new.history.items)) }
+        ensures none { IfOk result (λ made. OnFalse made (IsAnyReady (desk self.new) (moment self.new) → ⊥)) }
+    {
+        if self.go_at_once(table, budget)? {
+            return Ok(true);
+        }
+        match self.choose() {
+            Some(turn) => {
+                self.make(table, turn)?;
+                Ok(true)
+            }
+            None => Ok(false),
+        }
     }
 
     // ---- the whole
@@ -653,13 +676,9 @@ impl<S: Service + Drop> PagedRun<S> {
         ensures within { OnOk result (length self.old.history.items ≤ budget → length self.new.history.items ≤ budget) }
     {
         while (self.history.len() as u64) < budget {
-            if self.go_at_once(table, budget)? {
-                continue;
-            }
-            let Some(turn) = self.choose() else {
+            if !self.go(table, budget)? {
                 return Ok(self.at_rest());
-            };
-            self.make(table, turn)?;
+            }
         }
         Ok(self.end_used())
     }

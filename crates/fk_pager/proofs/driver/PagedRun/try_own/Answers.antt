@@ -12,7 +12,7 @@ use Rattle.fk_pager.specs.Desks.{root}
 use Rattle.fk_pager.specs.Driven.{desk, moment}
 use Rattle.fk_pager.specs.Runs.{IsPagersMove}
 use Rattle.fk_pager.proofs.Driving.{asks-call, call-ready, call-unready, placed, fit-own, own-stepped, own-said, own-world, own-drives, counts-most}
-use Rattle.fk_pager.proofs.Driving.{few-more, hears-well, porter-stands}
+use Rattle.fk_pager.proofs.Driving.{few-more, hears-well, porter-stands, still-goes}
 use Rattle.fk_pager.proofs.driver.PagedRun.try_own.Goals as goal
 
 pub call-requires-clause-fit : goal.call-requires-clause-fit
@@ -116,7 +116,15 @@ returns-clause-driven g c =
     }
 
 pub returns-in_default-clause-drives : goal.returns-in_default-clause-drives
-returns-in_default-clause-drives g c = ?
+returns-in_default-clause-drives g c =
+    let self = c.args.self.now in
+    let new = c.call.new.self in
+    record {
+      same = refl;
+      run = still-goes (desk self) (world self.host.kernel) (world new.kernel) self.host.services.list new.services.list (state_of self.pager) self.opened
+          self.history.items c.reserve.new.self.items (ap (λ (k : Kept). world k) c.in_ok-call.ensures.same_kernel) c.in_ok-call.ensures.same_services
+          c.in_ok-reserve.ensures.items;
+    }
 
 pub returns-in_default-clause-unready : goal.returns-in_default-clause-unready
 returns-in_default-clause-unready g c =
