@@ -14,7 +14,7 @@ returns-clause-drives g c =
     record {
       same = refl;
       run = quiet-drives (desk self) self.host.services.list (state_of self.pager) self.opened move c.requires.opened ran.result (world self.host.kernel)
-          (world ran.new.self.kernel) ran.ensures.turns ran.new.self.services.list ran.ensures.services self.history.items c.in_ok-push_all.new.moves.items
+          (world ran.new.self.kernel) ran.ensures.turns ran.new.self.services.list ran.ensures.services self.history.items c.push_all.new.moves.items
           c.in_ok-push_all.ensures;
     }
 
@@ -23,4 +23,4 @@ returns-clause-grown g c =
     let self = c.args.self.now in
     let ran = c.run_on-made in
     let move : Move = record { who = c.args.who; pick = None } in
-    grown-by ran.result c.args.most self.history.items c.in_ok-push_all.new.moves.items move c.in_ok-push_all.ensures ran.ensures.few
+    grown-by ran.result c.args.most self.history.items c.push_all.new.moves.items move c.in_ok-push_all.ensures ran.ensures.few

@@ -78,8 +78,8 @@ returns-clause-drives g c =
       same = λ i. record { nester = root; slot = still.slot i; port = self.port; set = still.set i; room = still.room i };
       run = own-drives d kernel new.kernel services new.services.list s t self.opened move ready said stepped
           self.history.items c.push_reserved.new.self.items (c.push_reserved.ensures.items ∙ ap (λ xs. xs ++ move ∷ []) c.in_ok-reserve.ensures.items)
-          (c.hear-self.ensures.heard root self.port (path_of new.kernel)) c.one_more_if.result
-          (c.one_more_if.ensures ∙ ap (λ (b : Bool). self.opened + (if b then 1 else 0)) c.is_opening-opening.ensures);
+          (c.hear-self.ensures.heard root self.port (path_of new.kernel)) c.one_more_if-self.result
+          (c.one_more_if-self.ensures ∙ ap (λ (b : Bool). self.opened + (if b then 1 else 0)) c.is_opening-opening.ensures);
     }
 
 pub returns-clause-driven : goal.returns-clause-driven
@@ -107,9 +107,9 @@ returns-clause-driven g c =
     let t = state_of c.hear-self.new.pager in
     record {
       sane = c.hear-self.ensures.sane;
-      few = few-more self.opened c.one_more_if.result self.history.items c.push_reserved.new.self.items move
+      few = few-more self.opened c.one_more_if-self.result self.history.items c.push_reserved.new.self.items move
           (c.push_reserved.ensures.items ∙ ap (λ xs. xs ++ move ∷ []) c.in_ok-reserve.ensures.items) c.requires.driven.few
-          (counts-most self.opened c.one_more_if.result c.is_opening-opening.result c.one_more_if.ensures);
+          (counts-most self.opened c.one_more_if-self.result c.is_opening-opening.result c.one_more_if-self.ensures);
       porter = porter-stands d kernel new.kernel s t (option_map (named (world kernel)) pick) said refl c.requires.driven.porter ready.own
           (own-world d kernel new.kernel services new.services.list s t self.opened move ready said stepped)
           (c.hear-self.ensures.heard root self.port (path_of new.kernel));
