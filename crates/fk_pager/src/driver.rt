@@ -494,7 +494,7 @@ impl<S: Service + Drop> PagedRun<S> {
         self.history.push_reserved(m);
         self.held = false;
         self.resumed = None;
-        self.last = Some(m.who);
+        self.last = self.unless_faulted(m.who);
         self.row = 0;
         Ok(())
     }
@@ -555,7 +555,7 @@ impl<S: Service + Drop> PagedRun<S> {
         Ok(false)
     }
 
-    /// A thread, unless it has a fault.
+    /// Whoever this is, if it is a thread without a fault.
     fn unless_faulted(&self, who: Who) -> Option<Who> {
         match self.host.kernel().store().thread(who) {
             Some(thread) if thread.fault.is_none() => Some(who),
