@@ -18,7 +18,7 @@ use fk_served::asking::{asked_by, find_act, is_ready};
 use fk_served::{Gone, Kernel, Services, Told};
 
 /// Room for what a porter's call tells: an answer of zeros.
-fn room() -> Told
+pub fn room() -> Told
     ensures { IsRoom result.said }
 {
     Told {
@@ -120,8 +120,8 @@ impl<S: Service + Drop> Host<S> {
         Ok(told.said)
     }
 
-    /// Makes a porter's call, which is fit, where it is ready, has each server hear what it tells, and answers what that is; else, and for want of memory, all
-    /// stays as it is. `turn` of a call does the same, by way of words that are copied more often.
+    /// Makes a porter's call, which is fit, where it is ready, has each server hear what it tells, and says whether it did; what it tells is laid into the
+    /// room. Else, and for want of memory, all stays as it is. `turn` of a call does the same, by way of words that are copied more often.
     ///
     /// # Errors
     ///
@@ -132,28 +132,29 @@ impl<S: Service + Drop> Host<S> {
         m: &Move,
         stage: &Stage,
         words: &[u64; 64],
-    ) -> Result<Option<Said>, NoMemory>
+        told: &mut Told,
+    ) -> Result<bool, NoMemory>
         requires fit { IsFitWith self.old.services.list (world self.old.kernel) m.now (asks.Call stage.now words.now) }
+        requires room { IsRoom told.old.said }
         requires fits { AllFit (map (λ r. r.rule) table.now.list.items) self.old.services.list }
-        ensures ready { IfOk result (λ told. IfSome told (λ said. IsReadyWith self.old.services.list (world self.old.kernel) m.now
+        ensures ready { IfOk result (λ made. OnTrue made (IsReadyWith self.old.services.list (world self.old.kernel) m.now
             (asks.Call stage.now words.now))) }
-        ensures turn { IfOk result (λ told. IfSome told (λ said. IsTurn self.old.kernel self.old.services.list m.now (asks.Call stage.now words.now) said
-            self.new.kernel self.new.services.list)) }
-        ensures unready { IfOk result (λ told. IfNone told (IsReadyWith self.old.services.list (world self.old.kernel) m.now
+        ensures turn { IfOk result (λ made. OnTrue made (IsTurn self.old.kernel self.old.services.list m.now (asks.Call stage.now words.now)
+            told.new.said self.new.kernel self.new.services.list)) }
+        ensures unready { IfOk result (λ made. OnFalse made (IsReadyWith self.old.services.list (world self.old.kernel) m.now
             (asks.Call stage.now words.now) → ⊥)) }
-        ensures same_kernel { IfOk result (λ told. IfNone told (self.new.kernel ≡ self.old.kernel)) }
-        ensures same_services { IfOk result (λ told. IfNone told (self.new.services.list ≡ self.old.services.list)) }
+        ensures same_kernel { IfOk result (λ made. OnFalse made (self.new.kernel ≡ self.old.kernel)) }
+        ensures same_services { IfOk result (λ made. OnFalse made (self.new.services.list ≡ self.old.services.list)) }
         ensures fits { AllFit (map (λ r. r.rule) table.now.list.items) self.new.services.list }
         ensures lacking_kernel { OnErr result (self.new.kernel ≡ self.old.kernel) }
         ensures lacking_services { OnErr result (self.new.services.list ≡ self.old.services.list) }
     {
         self.services.reserve()?;
-        let mut told = room();
-        if !self.kernel.call(m, stage, words, &mut told)? {
-            return Ok(None);
+        if !self.kernel.call(m, stage, words, told)? {
+            return Ok(false);
         }
-        self.services.hear(table, &told);
-        Ok(Some(told.said))
+        self.services.hear(table, told);
+        Ok(true)
     }
 
     /// Makes the next instruction of the user in a slot, or the next stage of its call where that tells nothing, where it is ready; else all stays as it is. No

@@ -10,4 +10,5 @@
 
 mod host;
 
-pub use host::Host;
+pub use fk_served::Told;
+pub use host::{Host, room};

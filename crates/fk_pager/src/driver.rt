@@ -19,7 +19,7 @@ ghost use Rattle.laws_migrate.specs.Porters.{HasPorter};
 use crate::desks::in_root;
 use crate::faults::has_fault;
 use fk_extras::Paged;
-use fk_host::Host;
+use fk_host::{Host, room};
 use fk_model::limits::LAST_PORTER_SLOT;
 use fk_model::status::HELD;
 use fk_model::{Ask, List, Move, NoMemory, Said, Who};
@@ -427,11 +427,15 @@ impl<S: Service + Drop> PagedRun<S> {
         };
         let opening = self.is_opening();
         let stage = self.pager.stage();
-        let Some(said) = self.host.call(table, &m, &stage, &self.pager.words())? else {
+        let mut told = room();
+        if !self
+            .host
+            .call(table, &m, &stage, &self.pager.words(), &mut told)?
+        {
             return Ok(false);
-        };
+        }
         self.history.push_reserved(m);
-        self.held = hear(&mut self.pager, &said);
+        self.held = hear(&mut self.pager, &told.said);
         self.resumed = taken_last(self.resumed, pick);
         self.last = self.served();
         self.row = 0;

@@ -1,4 +1,4 @@
-use Rattle.std.proofs.Common.{◌≡◌, ◌≤◌, ◌+◌, Bool, if◌then◌else◌, [], ◌∷◌, ◌++◌, option_map, refl, ap, subst, ◌∙◌}
+use Rattle.std.proofs.Common.{◌≡◌, ◌≤◌, ◌+◌, Bool, true, false, if◌then◌else◌, [], ◌∷◌, ◌++◌, option_map, refl, ap, subst, ◌∙◌}
 use Rattle.fk_model.specs.declared.moves.Ask.TheVariants as asks
 use Rattle.fk_model.specs.declared.moves.Move.{Move}
 use Rattle.fk_model.specs.Searches.{depth}
@@ -38,13 +38,14 @@ hear-self-requires-clause-well g c =
     let few = subst (λ (k : Kept). (world k).next ≤ depth) c.kernel-kernel.ensures c.names.ensures.few in
     let born = subst (λ (k : Kept). path_of k ≡ space_born (world k)) c.kernel-kernel.ensures c.names.ensures.born in
     let new = c.call.new.self in
-    let said = c.in-Some.said in
+    let said = c.call.new.told.said in
+    let yes : c.in_ok-call.field-0 ≡ true = cc in
     let move : Move = record { who = who; pick = pick } in
     let ready : IsPagersMove d (moment self) move = record {
       porter = placed d kernel services s who pick ask refl valid few born c.in_root.ensures asks_it;
-      own = call-ready d kernel services s who pick ask refl valid few born c.in_root.ensures asks_it c.requires.picks c.in-Some.ensures.ready;
+      own = call-ready d kernel services s who pick ask refl valid few born c.in_root.ensures asks_it c.requires.picks (rw yes at c.in_ok-call.ensures.ready);
     } in
-    let stepped = own-stepped d kernel new.kernel services new.services.list s move ask said asks_it c.in-Some.ensures.turn in
+    let stepped = own-stepped d kernel new.kernel services new.services.list s move ask said asks_it (rw yes at c.in_ok-call.ensures.turn) in
     let runnable = subst (λ (k : Kept). IsRunnable (world k)) c.kernel-kernel.ensures c.is_runnable.ensures.runnable in
     hears-well d kernel new.kernel self.pager (option_map (named (world kernel)) pick) refl c.requires.driven.sane.low runnable
     c.requires.driven.sane.whole ready.own said
@@ -65,13 +66,14 @@ returns-clause-drives g c =
     let few = subst (λ (k : Kept). (world k).next ≤ depth) c.kernel-kernel.ensures c.names.ensures.few in
     let born = subst (λ (k : Kept). path_of k ≡ space_born (world k)) c.kernel-kernel.ensures c.names.ensures.born in
     let new = c.call.new.self in
-    let said = c.in-Some.said in
+    let said = c.call.new.told.said in
+    let yes : c.in_ok-call.field-0 ≡ true = cc in
     let move : Move = record { who = who; pick = pick } in
     let ready : IsPagersMove d (moment self) move = record {
       porter = placed d kernel services s who pick ask refl valid few born c.in_root.ensures asks_it;
-      own = call-ready d kernel services s who pick ask refl valid few born c.in_root.ensures asks_it c.requires.picks c.in-Some.ensures.ready;
+      own = call-ready d kernel services s who pick ask refl valid few born c.in_root.ensures asks_it c.requires.picks (rw yes at c.in_ok-call.ensures.ready);
     } in
-    let stepped = own-stepped d kernel new.kernel services new.services.list s move ask said asks_it c.in-Some.ensures.turn in
+    let stepped = own-stepped d kernel new.kernel services new.services.list s move ask said asks_it (rw yes at c.in_ok-call.ensures.turn) in
     let t = state_of c.hear-self.new.pager in
     let still = c.hear-self.ensures.still in
     record {
@@ -97,13 +99,14 @@ returns-clause-driven g c =
     let few = subst (λ (k : Kept). (world k).next ≤ depth) c.kernel-kernel.ensures c.names.ensures.few in
     let born = subst (λ (k : Kept). path_of k ≡ space_born (world k)) c.kernel-kernel.ensures c.names.ensures.born in
     let new = c.call.new.self in
-    let said = c.in-Some.said in
+    let said = c.call.new.told.said in
+    let yes : c.in_ok-call.field-0 ≡ true = cc in
     let move : Move = record { who = who; pick = pick } in
     let ready : IsPagersMove d (moment self) move = record {
       porter = placed d kernel services s who pick ask refl valid few born c.in_root.ensures asks_it;
-      own = call-ready d kernel services s who pick ask refl valid few born c.in_root.ensures asks_it c.requires.picks c.in-Some.ensures.ready;
+      own = call-ready d kernel services s who pick ask refl valid few born c.in_root.ensures asks_it c.requires.picks (rw yes at c.in_ok-call.ensures.ready);
     } in
-    let stepped = own-stepped d kernel new.kernel services new.services.list s move ask said asks_it c.in-Some.ensures.turn in
+    let stepped = own-stepped d kernel new.kernel services new.services.list s move ask said asks_it (rw yes at c.in_ok-call.ensures.turn) in
     let t = state_of c.hear-self.new.pager in
     record {
       sane = c.hear-self.ensures.sane;
@@ -115,19 +118,20 @@ returns-clause-driven g c =
           (c.hear-self.ensures.heard root self.port (path_of new.kernel));
     }
 
-pub returns-in_default-clause-drives : goal.returns-in_default-clause-drives
-returns-in_default-clause-drives g c =
+pub returns-then-not-call-clause-drives : goal.returns-then-not-call-clause-drives
+returns-then-not-call-clause-drives g c =
     let self = c.args.self.now in
     let new = c.call.new.self in
+    let no : c.in_ok-call.field-0 ≡ false = cc in
     record {
       same = refl;
       run = still-goes (desk self) (world self.host.kernel) (world new.kernel) self.host.services.list new.services.list (state_of self.pager) self.opened
-          self.history.items c.reserve.new.self.items (ap (λ (k : Kept). world k) c.in_ok-call.ensures.same_kernel) c.in_ok-call.ensures.same_services
+          self.history.items c.reserve.new.self.items (ap (λ (k : Kept). world k) (rw no at c.in_ok-call.ensures.same_kernel)) (rw no at c.in_ok-call.ensures.same_services)
           c.in_ok-reserve.ensures.items;
     }
 
-pub returns-in_default-clause-unready : goal.returns-in_default-clause-unready
-returns-in_default-clause-unready g c =
+pub returns-then-not-call-clause-unready : goal.returns-then-not-call-clause-unready
+returns-then-not-call-clause-unready g c =
     let self = c.args.self.now in
     let d = desk self in
     let s = state_of self.pager in
@@ -140,4 +144,5 @@ returns-in_default-clause-unready g c =
     let valid = subst (λ (k : Kept). IsValid (world k)) c.kernel-kernel.ensures c.names.ensures.valid in
     let few = subst (λ (k : Kept). (world k).next ≤ depth) c.kernel-kernel.ensures c.names.ensures.few in
     let born = subst (λ (k : Kept). path_of k ≡ space_born (world k)) c.kernel-kernel.ensures c.names.ensures.born in
-    call-unready d kernel services s who pick ask refl valid few born c.in_root.ensures asks_it c.in_ok-call.ensures.unready
+    let no : c.in_ok-call.field-0 ≡ false = cc in
+    call-unready d kernel services s who pick ask refl valid few born c.in_root.ensures asks_it (rw no at c.in_ok-call.ensures.unready)
