@@ -594,7 +594,8 @@ impl<S: Service + Drop> PagedRun<S> {
         if self.run_on(who, left.min(ROW))? {
             return Ok(true);
         }
-        self.proceed_on(who)
+        let made = self.proceed_on(who)?;
+        Ok(made)
     }
 
     /// Makes moves that nobody need be chosen for; and whether there are any.
@@ -610,7 +611,8 @@ impl<S: Service + Drop> PagedRun<S> {
         if self.go_on(budget)? {
             return Ok(true);
         }
-        self.go_own(table)
+        let made = self.go_own(table)?;
+        Ok(made)
     }
 
     /// Makes moves that are ready, at least one; or none, where none is.
