@@ -91,8 +91,8 @@ unheard (s ∷ ss) w e quiet ends = ap (λ x. x ∷ map (hears_of w e) ss) here 
     here = ap (λ news. (s.0, after_news news s.1)) (none (named w s.0))
 
 -- a thread asks to run
-runs : (services : Services) (w : World) (who : Who) (t : Thread) → thread_at w (named w who) ≡ Some t → asked services w who ≡ Some asks.Run
-runs services w who t there = by (w.body (named w who)) refl there
+thread-runs : (services : Services) (w : World) (who : Who) (t : Thread) → thread_at w (named w who) ≡ Some t → asked services w who ≡ Some asks.Run
+thread-runs services w who t there = by (w.body (named w who)) refl there
   where
     by : (o : Option Body) → w.body (named w who) ≡ o → and_then thread_of o ≡ Some t → asked services w who ≡ Some asks.Run
     by (Some (Thread_of own)) e h = rw e refl
@@ -116,13 +116,13 @@ alone = record {
 module _ (services : Services) (m : Move) (unpicked : m.pick ≡ None) where
   quiet : (w v : World) → IsRunningMove m w v → IsUnheard alone services m w v
   quiet w v move =
-      let one = running_moves_are_quiet_lem alone services m 1 w v (λ u e. unheard services u e) (λ u n t there. runs services u n.who t there) (λ j. absurd j)
+      let one = running_moves_are_quiet_lem alone services m 1 w v (λ u e. unheard services u e) (λ u n t there. thread-runs services u n.who t there) (λ j. absurd j)
       unpicked (w, refl, move) in
       subst (λ (u : World). IsUnheard alone services m u v) (sym one.1) one.2
 
   turn : (w v : World) → IsValid w → w.next ≤ depth → IsRunningMove m w v → IsQuietTurn services m w v
   turn w v valid few move = record {
-    asks = runs services w m.who move.thread move.there;
+    runs = thread-runs services w m.who move.thread move.there;
     valid = valid;
     few = few;
     ready = move.ready;

@@ -56,7 +56,7 @@ IsTurn m services move ask said n new = IsTurnFor m services move (asked_with se
 
 -- a quiet turn: its mover runs, its move is ready and leads there, and no server hears of it
 pub record IsQuietTurn (services : Services) (m : Move) (w v : World) : Type 0 where
-  pub asks : asked services w m.who ≡ Some asks.Run
+  pub runs : asked services w m.who ≡ Some asks.Run
   pub valid : IsValid w
   pub few : w.next ≤ depth
   pub ready : IsReadyAt w (event_of w asks.Run m)

@@ -295,7 +295,7 @@ module _ (d : Desk) (services : Services) (s : State) (opened : ℕ) (move : Mov
       let u = led.0 in
       let turn = led.2 in
       let is : IsOthersMove (at_world u) move asks.Run =
-      record { opened = closed; asks = turn.asks; valid = turn.valid; few = turn.few; ready = turn.ready } in
+      record { opened = closed; asks = turn.runs; valid = turn.valid; few = turn.few; ready = turn.ready } in
       let moves : (past ++ replicate n move) ++ move ∷ [] ≡ past ++ replicate (suc n) move =
       append_assoc past (replicate n move) (move ∷ []) ∙ ap (λ (ms : List Move). past ++ ms) (replicate_more n move ∙ ap (λ (k : ℕ). replicate k move) (one-more n)) in
       subst (λ (ms : List Move). IsRun d first ms (at_world v)) moves

@@ -1,6 +1,9 @@
 //! A host driven with its pager.
 ghost use Rattle.std.specs.Bool.{OnFalse, OnTrue};
-ghost use Rattle.std.specs.Prelude.{◌≡◌, ◌∷◌, ◌++◌, ◌+◌, ◌<◌, ◌≤◌, [], if◌then◌else◌, IfOk, IfSome, IfNone, OnOk, length, map, replicate, false, true, None, Some, option_map};
+ghost use Rattle.std.specs.Prelude.{◌≡◌, ◌∷◌, ◌++◌, ◌+◌, ◌<◌, ◌≤◌, [], if◌then◌else◌, IfOk, IfSome, IfNone, OnOk, length, map, replicate, false, true, None, Some, option_map, unwrap_or};
+ghost use Rattle.std.specs.Option.{option_copied};
+ghost use Rattle.fk_host.specs.Rooms.{IsRoom};
+ghost use Rattle.fk_model.specs.declared.limits.TheConstants.{PAGE_WORDS};
 ghost use Rattle.fk_model.specs.Who.{named};
 ghost use Rattle.fk_store.specs.Store.World.{place_of};
 ghost use Rattle.fk_host.specs.Kernels.{world_of as world};
@@ -19,10 +22,10 @@ ghost use Rattle.laws_migrate.specs.Porters.{HasPorter};
 use crate::desks::in_root;
 use crate::faults::has_fault;
 use fk_extras::Paged;
-use fk_host::{Host, room};
+use fk_host::{Host, Told, room};
 use fk_model::limits::LAST_PORTER_SLOT;
 use fk_model::status::HELD;
-use fk_model::{Ask, List, Move, NoMemory, Said, Who};
+use fk_model::{Answer, Ask, List, Move, NoMemory, Said, Who};
 use fk_natives::Service;
 use fk_paging::{Pager, Phase};
 use fk_report::{End, all_halted};
@@ -53,6 +56,8 @@ pub struct PagedRun<S: Service + Drop> {
     /// Who moved last, where that was no pager, and how many moves it has made in a row since it was chosen.
     last: Option<Who>,
     row: u64,
+    /// Room for what its calls tell.
+    told: Told,
     /// How many moves its opening has made.
     opened: u64,
     history: Vec<Move>,
@@ -78,6 +83,35 @@ fn hear(pager: &mut Pager, said: &Said) -> bool
         | Said::Full { .. }
         | Said::Over { .. }
         | Said::Ended { .. } => false,
+    }
+}
+
+/// An answer has zeros again.
+fn clear_answer(answer: &mut Answer)
+    ensures { answer.new ≡ record { status = 0; words = replicate PAGE_WORDS 0; len = 0 } }
+{
+    answer.status = 0;
+    answer.words = [0; 64];
+    answer.len = 0;
+}
+
+/// Room has zeros again, whatever it held. What a pager is told is an answer, which stays where it is.
+fn clear(told: &mut Told)
+    ensures { IsRoom told.new.said }
+{
+    match &mut told.said {
+        Said::Answer(answer) => clear_answer(answer),
+        _ => *told = room(),
+    }
+}
+
+/// Words, or where there are none others.
+fn words_or<'a>(words: Option<&'a [u64; 64]>, others: &'a [u64; 64]) -> &'a [u64; 64]
+    ensures { result.now ≡ unwrap_or (option_copied words) others.now }
+{
+    match words {
+        Some(words) => words,
+        None => others,
     }
 }
 
@@ -141,6 +175,7 @@ impl<S: Service + Drop> PagedRun<S> {
             resumed: None,
             last: None,
             row: 0,
+            told: room(),
             opened: 0,
             history: Vec::new(alloc),
         })
@@ -427,15 +462,14 @@ impl<S: Service + Drop> PagedRun<S> {
         };
         let opening = self.is_opening();
         let stage = self.pager.stage();
-        let mut told = room();
-        if !self
-            .host
-            .call(table, &m, &stage, &self.pager.words(), &mut told)?
-        {
+        let none = [0; 64];
+        let words = words_or(self.pager.gives(), &none);
+        clear(&mut self.told);
+        if !self.host.call(table, &m, &stage, words, &mut self.told)? {
             return Ok(false);
         }
         self.history.push_reserved(m);
-        self.held = hear(&mut self.pager, &told.said);
+        self.held = hear(&mut self.pager, &self.told.said);
         self.resumed = taken_last(self.resumed, pick);
         self.last = self.served();
         self.row = 0;

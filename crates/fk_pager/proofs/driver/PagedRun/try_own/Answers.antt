@@ -20,8 +20,8 @@ call-requires-clause-fit g c =
     let self = c.args.self.now in
     let d = desk self in
     let s = state_of self.pager in
-    fit-own d s self.host.services.list (world self.host.kernel) (record { who = c.in_root.result; pick = c.args.pick }) (asks.Call c.stage-stage.result c.words.result)
-    (asks-call d s c.stage-stage.result c.words.result (c.stage-stage.ensures root self.port) c.words.ensures)
+    fit-own d s self.host.services.list (world self.host.kernel) (record { who = c.in_root.result; pick = c.args.pick }) (asks.Call c.stage-stage.result c.words_or-words.result.now)
+    (asks-call d s c.stage-stage.result c.words_or-words.result.now (c.stage-stage.ensures root self.port) (c.words_or-words.ensures ∙ c.gives.ensures))
 
 pub hear-self-requires-clause-well : goal.hear-self-requires-clause-well
 hear-self-requires-clause-well g c =
@@ -32,8 +32,8 @@ hear-self-requires-clause-well g c =
     let services = self.host.services.list in
     let who = c.in_root.result in
     let pick = c.args.pick in
-    let ask = asks.Call c.stage-stage.result c.words.result in
-    let asks_it = asks-call d s c.stage-stage.result c.words.result (c.stage-stage.ensures root self.port) c.words.ensures in
+    let ask = asks.Call c.stage-stage.result c.words_or-words.result.now in
+    let asks_it = asks-call d s c.stage-stage.result c.words_or-words.result.now (c.stage-stage.ensures root self.port) (c.words_or-words.ensures ∙ c.gives.ensures) in
     let valid = subst (λ (k : Kept). IsValid (world k)) c.kernel-kernel.ensures c.names.ensures.valid in
     let few = subst (λ (k : Kept). (world k).next ≤ depth) c.kernel-kernel.ensures c.names.ensures.few in
     let born = subst (λ (k : Kept). path_of k ≡ space_born (world k)) c.kernel-kernel.ensures c.names.ensures.born in
@@ -60,8 +60,8 @@ returns-clause-drives g c =
     let services = self.host.services.list in
     let who = c.in_root.result in
     let pick = c.args.pick in
-    let ask = asks.Call c.stage-stage.result c.words.result in
-    let asks_it = asks-call d s c.stage-stage.result c.words.result (c.stage-stage.ensures root self.port) c.words.ensures in
+    let ask = asks.Call c.stage-stage.result c.words_or-words.result.now in
+    let asks_it = asks-call d s c.stage-stage.result c.words_or-words.result.now (c.stage-stage.ensures root self.port) (c.words_or-words.ensures ∙ c.gives.ensures) in
     let valid = subst (λ (k : Kept). IsValid (world k)) c.kernel-kernel.ensures c.names.ensures.valid in
     let few = subst (λ (k : Kept). (world k).next ≤ depth) c.kernel-kernel.ensures c.names.ensures.few in
     let born = subst (λ (k : Kept). path_of k ≡ space_born (world k)) c.kernel-kernel.ensures c.names.ensures.born in
@@ -93,8 +93,8 @@ returns-clause-driven g c =
     let services = self.host.services.list in
     let who = c.in_root.result in
     let pick = c.args.pick in
-    let ask = asks.Call c.stage-stage.result c.words.result in
-    let asks_it = asks-call d s c.stage-stage.result c.words.result (c.stage-stage.ensures root self.port) c.words.ensures in
+    let ask = asks.Call c.stage-stage.result c.words_or-words.result.now in
+    let asks_it = asks-call d s c.stage-stage.result c.words_or-words.result.now (c.stage-stage.ensures root self.port) (c.words_or-words.ensures ∙ c.gives.ensures) in
     let valid = subst (λ (k : Kept). IsValid (world k)) c.kernel-kernel.ensures c.names.ensures.valid in
     let few = subst (λ (k : Kept). (world k).next ≤ depth) c.kernel-kernel.ensures c.names.ensures.few in
     let born = subst (λ (k : Kept). path_of k ≡ space_born (world k)) c.kernel-kernel.ensures c.names.ensures.born in
@@ -139,8 +139,8 @@ returns-then-not-call-clause-unready g c =
     let services = self.host.services.list in
     let who = c.in_root.result in
     let pick = c.args.pick in
-    let ask = asks.Call c.stage-stage.result c.words.result in
-    let asks_it = asks-call d s c.stage-stage.result c.words.result (c.stage-stage.ensures root self.port) c.words.ensures in
+    let ask = asks.Call c.stage-stage.result c.words_or-words.result.now in
+    let asks_it = asks-call d s c.stage-stage.result c.words_or-words.result.now (c.stage-stage.ensures root self.port) (c.words_or-words.ensures ∙ c.gives.ensures) in
     let valid = subst (λ (k : Kept). IsValid (world k)) c.kernel-kernel.ensures c.names.ensures.valid in
     let few = subst (λ (k : Kept). (world k).next ≤ depth) c.kernel-kernel.ensures c.names.ensures.few in
     let born = subst (λ (k : Kept). path_of k ≡ space_born (world k)) c.kernel-kernel.ensures c.names.ensures.born in
