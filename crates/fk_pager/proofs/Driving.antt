@@ -1,5 +1,6 @@
 -- A driver's turns are those of a run.
-use Rattle.std.proofs.Common.{◌≡◌, ◌⊎◌, inl, inr, IfNone, ℕ, zero, suc, ◌+◌, ◌<◌, ◌≤◌, nat_lt, Bool, true, false, is_some, if◌then◌else◌, List, [], ◌∷◌, ◌++◌, length, length-append, append_assoc, append-nil, replicate, Option, Some, None, option_map, refl, sym, ap, subst, ◌∙◌, arith}
+use Rattle.std.proofs.Common.{◌≡◌, ◌⊎◌, inl, inr, IfNone, ℕ, zero, suc, ◌+◌, ◌<◌, ◌≤◌, ltb, Bool, true, false, is_some, if◌then◌else◌, List, [], ◌∷◌, ◌++◌, length, length-append, append_assoc, append-nil, replicate, Option, Some, None, option_map, refl, sym, ap, subst, ◌∙◌, arith}
+use Rattle.std.proofs.lemmas.Bool.{ltb-true, ltb-false}
 use Rattle.std.proofs.lemmas.List.{length-replicate, replicate_more}
 use Rattle.std.proofs.lemmas.Option.{slice_get_within}
 use Rattle.std.specs.List.{slice_get}
@@ -339,13 +340,16 @@ counts-most opened later true is = omega (arith, is)
 counts-most opened later false is = omega (arith, is)
 
 -- how far the list has grown
-pub grown-by : (n : ℕ) (most : ℕ) (past moves : List Move) (move : Move) → moves ≡ past ++ replicate n move → n ≤ most →
-    HasGrown (nat_lt 0 n) (length past + most) (length past) (length moves)
-grown-by zero most past moves move longer few = ap length (longer ∙ append-nil past)
-grown-by (suc n) most past moves move longer few =
-    let long : length moves ≡ length past + length (replicate (suc n) move) = ap length longer ∙ length-append past (replicate (suc n) move) in
-    let more = length-replicate (suc n) move in
-    (omega (arith, long, more), omega (arith, long, more, few))
+pub grown-by : (n most : ℕ) (past moves : List Move) (m : Move) → moves ≡ past ++ replicate n m → n ≤ most →
+    HasGrown (ltb 0 n) (length past + most) (length past) (length moves)
+grown-by n most past moves m longer few = by (ltb 0 n) refl
+  where
+    long : length moves ≡ length past + n
+    long = ap length longer ∙ length-append past (replicate n m) ∙ ap (λ (k : ℕ). length past + k) (length-replicate n m)
+
+    by : (made : Bool) → ltb 0 n ≡ made → HasGrown made (length past + most) (length past) (length moves)
+    by true e = let some = ltb-true 0 n e in (omega (arith, long, some), omega (arith, long, few))
+    by false e = let none = ltb-false 0 n e in omega (arith, long, none)
 
 pub grown-one : (budget before between chosen after : ℕ) → before < budget → between ≡ before → chosen ≡ between → after ≡ chosen + 1 →
     HasGrown true budget before after

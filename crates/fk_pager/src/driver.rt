@@ -22,7 +22,7 @@ ghost use Rattle.laws_migrate.specs.Porters.{HasPorter};
 use crate::desks::in_root;
 use crate::faults::has_fault;
 use fk_extras::Paged;
-use fk_host::{Host, Told, room};
+use fk_host::{Host, Told};
 use fk_model::limits::LAST_PORTER_SLOT;
 use fk_model::status::HELD;
 use fk_model::{Answer, Ask, List, Move, NoMemory, Said, Who};
@@ -101,13 +101,13 @@ fn clear(told: &mut Told)
 {
     match &mut told.said {
         Said::Answer(answer) => clear_answer(answer),
-        _ => *told = room(),
+        _ => *told = fk_host::room(),
     }
 }
 
 /// Words, or where there are none others.
 fn words_or<'a>(words: Option<&'a [u64; 64]>, others: &'a [u64; 64]) -> &'a [u64; 64]
-    ensures { result.now ≡ unwrap_or (option_copied words) others.now }
+    ensures { result.now ≡ unwrap_or (option_copied words.entry) others.now }
 {
     match words {
         Some(words) => words,
@@ -175,7 +175,7 @@ impl<S: Service + Drop> PagedRun<S> {
             resumed: None,
             last: None,
             row: 0,
-            told: room(),
+            told: fk_host::room(),
             opened: 0,
             history: Vec::new(alloc),
         })
@@ -663,13 +663,11 @@ impl<S: Service + Drop> PagedRun<S> {
         if self.go_at_once(table, budget)? {
             return Ok(true);
         }
-        match self.choose() {
-            Some(turn) => {
-                self.make(table, turn)?;
-                Ok(true)
-            }
-            None => Ok(false),
-        }
+        let Some(turn) = self.choose() else {
+            return Ok(false);
+        };
+        self.make(table, turn)?;
+        Ok(true)
     }
 
     // ---- the whole

@@ -1,4 +1,4 @@
-use Rattle.std.proofs.Common.{refl, rules}
+use Rattle.std.proofs.Common.{◌≡◌, false, refl, rules}
 use Rattle.fk_pager.proofs.Driving.{drives-none, drives-then, rest-of, used-of}
 use Rattle.fk_pager.proofs.driver.PagedRun.drive.Goals as goal
 
@@ -19,6 +19,15 @@ loop-self-preserved g c =
       fits = made.fits;
       within = search rules;
     }
+
+pub returns-then-not-branch-clause-end : goal.returns-then-not-branch-clause-end
+returns-then-not-branch-clause-end g c =
+    let old = c.loop-self.self in
+    let now = c.go.new.self in
+    let went = c.in_ok-go.ensures in
+    let no : c.in_ok-go.field-0 ≡ false = cc in
+    rest-of c.args.self.now now now c.args.budget c.at_rest.result (drives-then c.args.self.now old now c.loop-self.invariant.drives went.drives) refl
+    (rw no at went.none) c.at_rest.ensures
 
 pub returns-clause-end : goal.returns-clause-end
 returns-clause-end g c =

@@ -118,8 +118,8 @@ returns-clause-driven g c =
           (c.hear-self.ensures.heard root self.port (path_of new.kernel));
     }
 
-pub returns-then-not-call-clause-drives : goal.returns-then-not-call-clause-drives
-returns-then-not-call-clause-drives g c =
+pub returns-then-not-branch-clause-drives : goal.returns-then-not-branch-clause-drives
+returns-then-not-branch-clause-drives g c =
     let self = c.args.self.now in
     let new = c.call.new.self in
     let no : c.in_ok-call.field-0 ≡ false = cc in
@@ -130,8 +130,8 @@ returns-then-not-call-clause-drives g c =
           c.in_ok-reserve.ensures.items;
     }
 
-pub returns-then-not-call-clause-unready : goal.returns-then-not-call-clause-unready
-returns-then-not-call-clause-unready g c =
+pub returns-then-not-branch-clause-unready : goal.returns-then-not-branch-clause-unready
+returns-then-not-branch-clause-unready g c =
     let self = c.args.self.now in
     let d = desk self in
     let s = state_of self.pager in
