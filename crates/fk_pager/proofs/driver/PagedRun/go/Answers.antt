@@ -1,4 +1,4 @@
-use Rattle.std.proofs.Common.{length, ap, ◌∙◌}
+use Rattle.std.proofs.Common.{length, ◌∙◌}
 use Rattle.fk_pager.proofs.Driving.{drives-then, drives-alike, grown-one, none-still}
 use Rattle.fk_pager.proofs.driver.PagedRun.go.Goals as goal
 

@@ -1,4 +1,4 @@
-use Rattle.std.proofs.Common.{◌≡◌, ◌≤◌, None, [], ◌∷◌, ◌++◌, refl, ap, subst, ◌∙◌}
+use Rattle.std.proofs.Common.{◌≤◌, None, [], ◌∷◌, ◌++◌, refl, ap, subst, ◌∙◌}
 use Rattle.fk_model.specs.declared.moves.Move.{Move}
 use Rattle.fk_model.specs.Searches.{depth}
 use Rattle.fk_model.specs.Valid.{IsValid}

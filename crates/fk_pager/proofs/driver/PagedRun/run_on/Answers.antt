@@ -1,4 +1,4 @@
-use Rattle.std.proofs.Common.{None, refl, ap, ◌++◌, ◌∙◌}
+use Rattle.std.proofs.Common.{None, refl}
 use Rattle.fk_model.specs.declared.moves.Move.{Move}
 use Rattle.fk_host.specs.Kernels.{world_of as world}
 use Rattle.fk_paging.specs.Pagers.{state_of}
