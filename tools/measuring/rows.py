@@ -6,8 +6,8 @@ from measuring import images, jobs, scenes, texts, words
 from measuring.crowds import HOLDS_AND_RELEASES, HOLDS_CROWD, HOLDS_OTHER, clients, crowd, halting
 from measuring.scenes import ELSEWHERE, SEVEN, SHORT, looping
 from measuring.ways import (
-    asked_by_restore, asked_by_save, beside_crowd, beyond_check, by_references, by_workers, counted, dear_event, each, event, exec_instruction,
-    million_at_random, million_played, million_recorded, million_replayed, noted, played, played_beyond_check, played_call, record_read, record_written,
+    asked_by_restore, asked_by_save, beside_crowd, beyond_check, by_references, by_workers, counted, dear_event, each, event, example_paged, exec_instruction,
+    million_at_random, million_played, million_recorded, million_replayed, noted, paged, played, played_beyond_check, played_call, record_read, record_written,
     resident, resident_beyond, resident_recorded, resident_replayed, restored, run_timed, saved, shown, soaked, tapped, timed,
 )
 
@@ -136,6 +136,13 @@ def of_jobs():
     yield "memory-restore", Row(asked_by_restore, MEMORY)
 
 
+def with_pagers():
+    yield "page-loop", Row(paged(ELSEWHERE, 256, 6_000, 18_000))
+    # Two rounds of that loop are 62 moves, with nine faults.
+    yield "page-fault", Row(paged(scenes.BY_TURNS, 2, 6_200, 18_600, 1_800))
+    yield "page-sorted", timed_row(example_paged("sorted.toml", 2))
+
+
 def of_images():
     yield "show-kinds", timed_row(shown(images.all_kinds, 8_000))
     yield "show-references", timed_row(shown(images.with_references, 8_000))
@@ -157,5 +164,5 @@ def of_texts():
 
 def rows():
     """All rows by name, in the order of docs/PERFORMANCE.md."""
-    parts = (instructions, calls, to_servers, waiting, workers, playing, recording, of_jobs, of_images, of_texts)
+    parts = (instructions, calls, to_servers, waiting, workers, playing, recording, of_jobs, with_pagers, of_images, of_texts)
     return {name: row for part in parts for name, row in part()}

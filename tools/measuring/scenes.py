@@ -10,6 +10,8 @@ LOOP = "next: addi r8, r8, 1\nstore r8, r9, 50\njmp next"
 SHORT = "next: addi r8, r8, 1\njmp next"
 ELSEWHERE = "set r9, 64\nnext: addi r8, r8, 1\nstore r8, r9, 0\njmp next"
 SEVEN = "next: addi r8, r8, 1\nstore r8, r9, 50\nload r7, r9, 50\nadd r6, r6, r7\nmul r5, r6, r7\nstore r5, r9, 51\njmp next"
+# A loop of three loads, each from a page of its own.
+BY_TURNS = "set r2, 64\nset r3, 128\nset r4, 192\nnext: load r1, r2, 0\nload r1, r3, 0\nload r1, r4, 0\njmp next"
 # A space has so many slots for objects and spaces.
 SLOTS = 240
 
@@ -213,6 +215,13 @@ def faults(budget):
     scene = Scene(budget).space("/", pager, pages=[1, 2, 3]).space("/1", program, pages=[1, 2, 3])
     scene.object("/0", "thread").object("/7", "reference", to="/1").object("/8", "portset").object("/9", "port", set=8)
     return scene.object("/1/0", "thread").object("/1/2", "region", first=0, count=256, write=True, keeper="/9")
+
+
+def paging(budget, program):
+    """A thread whose pages the porter of the root may keep back."""
+    scene = Scene(budget).space("/", nester=True).space("/1", program, pages=[1, 2, 3])
+    scene.object("/8", "portset").object("/10", "port", set=8)
+    return scene.object("/1/0", "thread").object("/1/2", "region", first=0, count=256, write=True, keeper="/10")
 
 
 def holding(budget, is_held=False, others=248):

@@ -2,6 +2,7 @@
 
 Mostly it is the difference of two calls: what it takes to begin and to end is left out.
 """
+import pathlib
 import random
 
 from measuring import jobs, scenes
@@ -9,6 +10,7 @@ from measuring.crowds import crowd
 from measuring.meter import TRIES, TRIES_OF_WORKERS
 from measuring.scenes import looping
 
+EXAMPLES = pathlib.Path(__file__).resolve().parents[2] / "examples"
 TRACE = b"fluke-trace 1\n"
 # So many events a turn of a worker has.
 TURN = 65
@@ -38,6 +40,21 @@ def event(make, few=20_000, many=60_000):
 def dear_event(make):
     """The same where an event costs much."""
     return event(make, 6_000, 18_000)
+
+
+def paged(program, room, few, many, number=None):
+    """A move of a run with a pager that keeps so many pages in memory, from two budgets; or one of as many faults as are told."""
+
+    def measure(meter):
+        counts = (meter.count(["page", "1", str(room)], scenes.paging(budget, program)) for budget in (few, many))
+        return apart(*counts, number or many - few)
+
+    return measure
+
+
+def example_paged(name, room):
+    """The processor's time of such a run of an example."""
+    return lambda meter: meter.best(["page", "1", str(room)], (EXAMPLES / name).read_bytes())
 
 
 def beside_crowd(**given):

@@ -1,11 +1,13 @@
 -- Hosts: what whoever moves asks for, and what a turn makes of a kernel and its servers.
-use Rattle.std.specs.Prelude.{◌≡◌, true, map, Option, Some, None}
+use Rattle.std.specs.Prelude.{◌≡◌, ℕ, zero, suc, ◌≤◌, true, map, Option, Some, None}
 use Rattle.fk_model.specs.declared.moves.Ask.{Ask}
 use Rattle.fk_model.specs.declared.moves.Ask.TheVariants as asks
 use Rattle.fk_model.specs.declared.moves.Move.{Move}
 use Rattle.fk_model.specs.declared.moves.Said.{Said}
 use Rattle.fk_model.specs.declared.names.Who.{Who}
-use Rattle.fk_model.specs.Runs.{Event}
+use Rattle.fk_model.specs.Runs.{Event, after}
+use Rattle.fk_model.specs.Searches.{depth}
+use Rattle.fk_model.specs.Valid.{IsValid}
 use Rattle.fk_model.specs.Who.{event_of}
 use Rattle.fk_model.specs.World.{World}
 use Rattle.fk_served.specs.Kernels.{Kept}
@@ -14,6 +16,7 @@ use Rattle.fk_served.specs.Kernels.{world_of as world}
 use Rattle.fk_served.specs.Events.{is_fit_event, step_of}
 use Rattle.fk_store.specs.Store.Moves.{said_by}
 use Rattle.fk_served.specs.Acts.{IsReadyFor}
+use Rattle.laws_jobs.specs.Machines.{IsReadyAt}
 use Rattle.fk_served.specs.Served.{Services, asked, hears_of}
 
 -- a porter asks for the call that is handed in; whatever else is handed in, a mover asks for what its port's server does, or runs
@@ -50,3 +53,17 @@ IsTurnFor m services move (Some ask) said n new = IsStepped m services (event_of
 -- a turn: that of the event for which its mover asks
 abbrev pub IsTurn : Kept → Services → Move → Ask → Said → Kept → Services → Type 0
 IsTurn m services move ask said n new = IsTurnFor m services move (asked_with services (world m) move.who ask) said n new
+
+-- a quiet turn: its mover runs, its move is ready and leads there, and no server hears of it
+pub record IsQuietTurn (services : Services) (m : Move) (w v : World) : Type 0 where
+  pub runs : asked services w m.who ≡ Some asks.Run
+  pub valid : IsValid w
+  pub few : w.next ≤ depth
+  pub ready : IsReadyAt w (event_of w asks.Run m)
+  pub goes : after w (event_of w asks.Run m) ≡ v
+  pub hears : map (hears_of w (event_of w asks.Run m)) services ≡ services
+
+-- so many of them, one after the other
+abbrev pub AreQuietTurns : Services → Move → ℕ → World → World → Type 0
+AreQuietTurns services m zero w v = w ≡ v
+AreQuietTurns services m (suc n) w v = (u : World) × AreQuietTurns services m n w u × IsQuietTurn services m u v

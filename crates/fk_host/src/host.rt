@@ -1,17 +1,35 @@
 //! One kernel with its native servers.
-ghost use Rattle.std.specs.Prelude.{◌≡◌, ◌↔◌, IsTrue, IfNone, IfOk, IfSome, OnErr, map};
-ghost use Rattle.fk_host.specs.Hosts.{IsFitWith, IsReadyWith, IsTurn, asked_with};
+ghost use Rattle.std.specs.Prelude.{◌≡◌, ◌↔◌, ◌≤◌, None, IsTrue, IfNone, IfOk, IfSome, OnErr, map};
+ghost use Rattle.std.specs.Bool.{OnFalse, OnTrue};
+ghost use Rattle.fk_host.specs.Hosts.{AreQuietTurns, IsFitWith, IsReadyWith, IsTurn, asked_with};
+ghost use Rattle.fk_model.specs.declared.moves.Ask.TheVariants as asks;
 ghost use Rattle.fk_model.specs.declared.moves.Move as moves;
+ghost use Rattle.fk_model.specs.declared.moves.Said.TheVariants as says;
 ghost use Rattle.fk_served.specs.Acts.{IsReadyAsked};
 ghost use Rattle.fk_served.specs.Events.{IsAnyReady};
 ghost use Rattle.fk_served.specs.Kernels.{world_of as world};
+ghost use Rattle.fk_served.specs.Rooms.{IsRoom};
 ghost use Rattle.fk_served.specs.Served.{AllFit, shown};
 
-use fk_model::{Ask, Move, NoMemory, Said, Who};
+use fk_model::{Answer, Ask, Move, NoMemory, Said, Stage, Who};
 use fk_natives::Service;
 use fk_responders::Table;
 use fk_served::asking::{asked_by, find_act, is_ready};
-use fk_served::{Kernel, Services};
+use fk_served::{Gone, Kernel, Services, Told};
+
+/// Room for what a porter's call tells: an answer of zeros.
+pub fn room() -> Told
+    ensures { IsRoom result.said }
+{
+    Told {
+        said: Said::Answer(Answer {
+            status: 0,
+            words: [0; 64],
+            len: 0,
+        }),
+        ended: None,
+    }
+}
 
 /// A kernel with its native servers. Who has it says which move is made, and what a porter asks for.
 #[derive(Drop)]
@@ -100,6 +118,69 @@ impl<S: Service + Drop> Host<S> {
         };
         self.services.hear(table, &told);
         Ok(told.said)
+    }
+
+    /// Makes a porter's call, which is fit, where it is ready, has each server hear what it tells, and says whether it did; what it tells is laid into the
+    /// room. Else, and for want of memory, all stays as it is. `turn` of a call does the same, by way of words that are copied more often.
+    ///
+    /// # Errors
+    ///
+    /// There is no memory for an object, a page or what servers hear; all is as before then.
+    pub fn call(
+        &mut self,
+        table: &Table,
+        m: &Move,
+        stage: &Stage,
+        words: &[u64; 64],
+        told: &mut Told,
+    ) -> Result<bool, NoMemory>
+        requires fit { IsFitWith self.old.services.list (world self.old.kernel) m.now (asks.Call stage.now words.now) }
+        requires room { IsRoom told.old.said }
+        requires fits { AllFit (map (λ r. r.rule) table.now.list.items) self.old.services.list }
+        ensures ready { IfOk result (λ made. OnTrue made (IsReadyWith self.old.services.list (world self.old.kernel) m.now
+            (asks.Call stage.now words.now))) }
+        ensures turn { IfOk result (λ made. OnTrue made (IsTurn self.old.kernel self.old.services.list m.now (asks.Call stage.now words.now)
+            told.new.said self.new.kernel self.new.services.list)) }
+        ensures unready { IfOk result (λ made. OnFalse made (IsReadyWith self.old.services.list (world self.old.kernel) m.now
+            (asks.Call stage.now words.now) → ⊥)) }
+        ensures same_kernel { IfOk result (λ made. OnFalse made (self.new.kernel ≡ self.old.kernel)) }
+        ensures same_services { IfOk result (λ made. OnFalse made (self.new.services.list ≡ self.old.services.list)) }
+        ensures fits { AllFit (map (λ r. r.rule) table.now.list.items) self.new.services.list }
+        ensures lacking_kernel { OnErr result (self.new.kernel ≡ self.old.kernel) }
+        ensures lacking_services { OnErr result (self.new.services.list ≡ self.old.services.list) }
+    {
+        self.services.reserve()?;
+        if !self.kernel.call(m, stage, words, told)? {
+            return Ok(false);
+        }
+        self.services.hear(table, told);
+        Ok(true)
+    }
+
+    /// Makes the next instruction of the user in a slot, or the next stage of its call where that tells nothing, where it is ready; else all stays as it is. No
+    /// server hears of it, and it leaves the user where it stands among those that are ready.
+    pub fn proceed_on(&mut self, who: Who) -> bool
+        ensures ready { OnTrue result (IsReadyAsked self.old.services.list (world self.old.kernel) (record { who = who; pick = None })) }
+        ensures turn { OnTrue result (IsTurn self.old.kernel self.old.services.list (record { who = who; pick = None }) asks.Run says.Nothing
+            self.new.kernel self.new.services.list) }
+        ensures same { OnFalse result (self.new.kernel ≡ self.old.kernel) }
+        ensures services { self.new.services.list ≡ self.old.services.list }
+    {
+        match self.kernel.proceed_on(who) {
+            Gone::Made => true,
+            Gone::Waits | Gone::Not => false,
+        }
+    }
+
+    /// Makes instructions of the thread in a slot one after the other, at most so many, and says how many they were: up to one that is a call, would halt, or
+    /// needs a page that its space hasn't itself. No server hears of them. Where it makes none, all stays as it is.
+    pub fn run_on(&mut self, who: Who, most: u64) -> u64
+        ensures turns { AreQuietTurns self.old.services.list (record { who = who; pick = None }) result (world self.old.kernel) (world self.new.kernel) }
+        ensures services { self.new.services.list ≡ self.old.services.list }
+        ensures few { result ≤ most }
+    {
+        self.kernel.names();
+        self.kernel.run_on(who, most)
     }
 
     /// A ready move of a user or a server; none exactly where there is none, and then no user is ready wherever it stands.

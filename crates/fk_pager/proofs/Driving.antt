@@ -1,5 +1,7 @@
 -- A driver's turns are those of a run.
-use Rattle.std.proofs.Common.{◌≡◌, ◌⊎◌, inl, inr, IfNone, ℕ, ◌+◌, ◌<◌, ◌≤◌, Bool, true, false, is_some, if◌then◌else◌, List, [], ◌∷◌, ◌++◌, length, length-append, Option, Some, None, option_map, refl, sym, ap, subst, ◌∙◌, arith}
+use Rattle.std.proofs.Common.{◌≡◌, ◌⊎◌, inl, inr, IfNone, ℕ, zero, suc, ◌+◌, ◌<◌, ◌≤◌, ltb, Bool, true, false, is_some, if◌then◌else◌, List, [], ◌∷◌, ◌++◌, length, length-append, append_assoc, append-nil, replicate, Option, Some, None, option_map, refl, sym, ap, subst, ◌∙◌, arith}
+use Rattle.std.proofs.lemmas.Bool.{ltb-true, ltb-false}
+use Rattle.std.proofs.lemmas.List.{length-replicate, replicate_more}
 use Rattle.std.proofs.lemmas.Option.{slice_get_within}
 use Rattle.std.specs.List.{slice_get}
 use Rattle.fk_model.specs.declared.limits.TheConstants.{LAST_PORTER_SLOT, LAST_USER_SLOT}
@@ -7,6 +9,7 @@ use Rattle.fk_model.specs.declared.moves.Ask.{Ask}
 use Rattle.fk_model.specs.declared.moves.Ask.TheVariants as asks
 use Rattle.fk_model.specs.declared.moves.Move.{Move}
 use Rattle.fk_model.specs.declared.moves.Said as says_of
+use Rattle.fk_model.specs.declared.stage.Stage.{Stage}
 use Rattle.fk_model.specs.declared.names.Who.{Who}
 use Rattle.fk_model.specs.Objects.{and_then}
 use Rattle.fk_model.specs.Places.{Path}
@@ -23,9 +26,10 @@ use Rattle.fk_store.specs.Store.World as worlds
 use Rattle.fk_store.proofs.InStore.finding.Walks.{path-root}
 use Rattle.fk_host.specs.Kernels.{Kept, path_of}
 use Rattle.fk_host.specs.Kernels.{world_of as world}
-use Rattle.fk_host.specs.Hosts.{IsFitFor, IsFitWith, IsReadyWith, IsStepped, IsTurn, IsTurnFor}
+use Rattle.fk_host.specs.Hosts.{AreQuietTurns, IsFitFor, IsFitWith, IsReadyWith, IsStepped, IsTurn, IsTurnFor}
 use Rattle.fk_host.specs.Served.{Services, asked}
 use Rattle.fk_host.specs.Acts.{IsReadyFor, IsReadyAsked}
+use Rattle.fk_model.specs.Moves.{IsReady}
 use Rattle.fk_host.proofs.Acts.{fit-asked}
 use Rattle.fk_paging.specs.declared.pager.Page.{Page}
 use Rattle.fk_model.specs.declared.moves.Said.TheVariants as says
@@ -40,7 +44,7 @@ use Rattle.laws_filled.specs.Filled.{is_paged}
 use Rattle.laws_filled.specs.Pager.{Desk, Phase, State, paging, is_opening, stage_of, words_of, call_of, said_of, hears, IsPick, IsOwn}
 use Rattle.laws_filled.specs.Pager.Phase.{Seeking, Taking, Waiting, Looking, Evicting, Giving, Ending}
 use Rattle.fk_pager.specs.Desks.{root}
-use Rattle.fk_pager.specs.Driven.{moment, desk, is_waiting, HearsWell, IsTurnReady, Drives}
+use Rattle.fk_pager.specs.Driven.{moment, desk, is_waiting, HasGrown, HearsWell, IsTurnReady, Drives}
 use Rattle.fk_pager.specs.Faults.{is_fault_of}
 use Rattle.fk_pager.specs.declared.driver.PagedRun as driver
 use Rattle.fk_pager.proofs.Searching.{root-place}
@@ -271,6 +275,59 @@ module _ (d : Desk) (m n : Kept) (services new : Services) (s t : State) (opened
       subst (λ (ms : List Move). IsRun d first ms (record { world = world n; services = new; state = s; opened = opened })) (sym longer)
       (others-goes move ask is said turn past first run)
 
+-- where nothing was done it is the same run
+pub still-goes : (d : Desk) (w v : World) (services new : Services) (s : State) (opened : ℕ) (past moves : List Move) → v ≡ w → new ≡ services → moves ≡ past →
+    GoesOn d past (record { world = w; services = services; state = s; opened = opened }) moves
+    (record { world = v; services = new; state = s; opened = opened })
+still-goes d w v services new s opened past moves same served longer first run =
+    subst (λ (ms : List Move). IsRun d first ms (record { world = v; services = new; state = s; opened = opened })) (sym longer)
+    (subst (IsRun d first past) (λ i. record { world = sym same i; services = sym served i; state = s; opened = opened }) run)
+
+-- quiet turns of whoever moved last, one after the other
+module _ (d : Desk) (services : Services) (s : State) (opened : ℕ) (move : Move) (closed : is_opening s.phase ≡ false) where
+  abbrev at_world : World → Moment
+  at_world w = record { world = w; services = services; state = s; opened = opened }
+
+  quiet-run : (n : ℕ) (w v : World) → AreQuietTurns services move n w v → (past : List Move) (first : Moment) → IsRun d first past (at_world w) →
+      IsRun d first (past ++ replicate n move) (at_world v)
+  quiet-run zero w v led past first run =
+      subst (λ (ms : List Move). IsRun d first ms (at_world v)) (sym (append-nil past)) (subst (λ (x : World). IsRun d first past (at_world x)) led run)
+  quiet-run (suc n) w v led past first run =
+      let u = led.0 in
+      let turn = led.2 in
+      let is : IsOthersMove (at_world u) move asks.Run =
+      record { opened = closed; asks = turn.runs; valid = turn.valid; few = turn.few; ready = turn.ready } in
+      let moves : (past ++ replicate n move) ++ move ∷ [] ≡ past ++ replicate (suc n) move =
+      append_assoc past (replicate n move) (move ∷ []) ∙ ap (λ (ms : List Move). past ++ ms) (replicate_more n move ∙ ap (λ (k : ℕ). replicate k move) (one-more n)) in
+      subst (λ (ms : List Move). IsRun d first ms (at_world v)) moves
+      (subst (IsRun d first ((past ++ replicate n move) ++ move ∷ []))
+      (λ i. record { world = turn.goes i; services = turn.hears i; state = s; opened = opened })
+      (Others (past ++ replicate n move) (at_world u) move asks.Run (quiet-run n w u led.1 past first run) is))
+    where
+      one-more : (k : ℕ) → k + 1 ≡ suc k
+      one-more k = omega arith
+
+  -- the same where the list is known by an equation, and so are the servers
+  pub quiet-drives : (n : ℕ) (w v : World) → AreQuietTurns services move n w v → (new : Services) → new ≡ services → (past moves : List Move) →
+      moves ≡ past ++ replicate n move →
+      GoesOn d past (at_world w) moves (record { world = v; services = new; state = s; opened = opened })
+  quiet-drives n w v led new same past moves longer first run =
+      subst (λ (l : Services). IsRun d first moves (record { world = v; services = l; state = s; opened = opened })) (sym same)
+      (subst (λ (ms : List Move). IsRun d first ms (at_world v)) (sym longer) (quiet-run n w v led past first run))
+
+-- it asks for the call of its stage with its words
+pub asks-call : (d : Desk) (s : State) (stage : Stage) (words : List ℕ) → stage ≡ stage_of d s.phase → words ≡ words_of s s.phase →
+    asks.Call stage words ≡ asks.Call (stage_of d s.phase) (words_of s s.phase)
+asks-call d s stage words stages given = λ i. asks.Call (stages i) (given i)
+
+-- which is ready where its move is
+pub own-ready : (d : Desk) (at : Moment) (move : Move) (ask : Ask) → ask ≡ asks.Call (stage_of d at.state.phase) (words_of at.state at.state.phase) →
+    IsPagersMove d at move → IsReadyWith at.services at.world move ask
+own-ready d at move ask is ready =
+    subst (λ (a : Ask). IsReadyWith at.services at.world move a) (sym is)
+    (subst (λ (x : Path). IsReady at.world x (option_map (named at.world) move.pick) (asks.Call (stage_of d at.state.phase) (words_of at.state at.state.phase)))
+    (sym ready.porter) ready.own.ready)
+
 -- its turn is its call's
 pub own-stepped : (d : Desk) (m n : Kept) (services new : Services) (s : State) (move : Move) (ask : Ask) (said : says_of.Said) →
     ask ≡ asks.Call (stage_of d s.phase) (words_of s s.phase) → IsTurn m services move ask said n new →
@@ -278,11 +335,33 @@ pub own-stepped : (d : Desk) (m n : Kept) (services new : Services) (s : State) 
 own-stepped d m n services new s move ask said is turn = subst (λ (a : Ask). IsTurn m services move a said n new) is turn
 
 -- a move of the opening counts, any other doesn't
-pub counts-one : (opened : ℕ) (phase : Phase) → is_opening phase ≡ true → opened + 1 ≡ opened + (if is_opening phase then 1 else 0)
-counts-one opened phase is = let count : ◌≡◌ {A = ℕ} (if is_opening phase then 1 else 0) 1 = ap (λ (b : Bool). if b then 1 else 0) is in omega (arith, count)
+pub counts-most : (opened later : ℕ) (opening : Bool) → later ≡ opened + (if opening then 1 else 0) → later ≤ opened + 1
+counts-most opened later true is = omega (arith, is)
+counts-most opened later false is = omega (arith, is)
 
-pub counts-none : (opened : ℕ) (phase : Phase) → is_opening phase ≡ false → opened ≡ opened + (if is_opening phase then 1 else 0)
-counts-none opened phase is = let count : ◌≡◌ {A = ℕ} (if is_opening phase then 1 else 0) 0 = ap (λ (b : Bool). if b then 1 else 0) is in omega (arith, count)
+-- how far the list has grown
+pub grown-by : (n most : ℕ) (past moves : List Move) (m : Move) → moves ≡ past ++ replicate n m → n ≤ most →
+    HasGrown (ltb 0 n) (length past + most) (length past) (length moves)
+grown-by n most past moves m longer few = by (ltb 0 n) refl
+  where
+    long : length moves ≡ length past + n
+    long = ap length longer ∙ length-append past (replicate n m) ∙ ap (λ (k : ℕ). length past + k) (length-replicate n m)
+
+    by : (made : Bool) → ltb 0 n ≡ made → HasGrown made (length past + most) (length past) (length moves)
+    by true e = let some = ltb-true 0 n e in (omega (arith, long, some), omega (arith, long, few))
+    by false e = let none = ltb-false 0 n e in omega (arith, long, none)
+
+pub grown-one : (budget before between chosen after : ℕ) → before < budget → between ≡ before → chosen ≡ between → after ≡ chosen + 1 →
+    HasGrown true budget before after
+grown-one budget before between chosen after left still same more = (omega (arith, left, still, same, more), omega (arith, left, still, same, more))
+
+pub grown-within : (made : Bool) (most budget before after : ℕ) → most ≤ budget → HasGrown made most before after → HasGrown made budget before after
+grown-within true most budget before after few grown = let most_now = grown.1 in (grown.0, omega (arith, few, most_now))
+grown-within false most budget before after few grown = grown
+
+pub grown-then : (made : Bool) (most before between after : ℕ) → between ≡ before → HasGrown made most between after → HasGrown made most before after
+grown-then true most before between after same grown = let later = grown.0 in (omega (arith, later, same), grown.1)
+grown-then false most before between after same grown = grown ∙ same
 
 pub few-more : (opened later : ℕ) (past moves : List Move) (move : Move) → moves ≡ past ++ move ∷ [] → opened ≤ length past → later ≤ opened + 1 →
     later ≤ length moves
@@ -418,6 +497,13 @@ drives-alike a b at pager port history = record {
 }
 
 -- ---- how it ends
+
+-- what isn't ready where it was looked for isn't where that has changed nothing
+pub none-still : {S : Type 0} (old chosen : driver.PagedRun S) → moment chosen ≡ moment old → chosen.pager ≡ old.pager → chosen.port ≡ old.port →
+    (IsAnyReady (desk old) (moment old) → ⊥) → IsAnyReady (desk chosen) (moment chosen) → ⊥
+none-still old chosen at pager port none =
+    let same : desk chosen ≡ desk old = λ i. desk_of root (port i) (pager i) in
+    subst (λ (d : Desk). IsAnyReady d (moment chosen) → ⊥) (sym same) (subst (λ (x : Moment). IsAnyReady (desk old) x → ⊥) (sym at) none)
 
 rest-ends : (d : Desk) (budget made : ℕ) (at : Moment) (e : End) → (IsAnyReady d at → ⊥) → IsAtRest at.world e → IsEnd d budget made at e
 rest-ends d budget made here ends.Halted none rest = (none, rest)

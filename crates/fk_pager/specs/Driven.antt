@@ -1,5 +1,5 @@
 -- What a driver in code shows: the moment at which its host and its pager are, and what it keeps.
-use Rattle.std.specs.Prelude.{◌≡◌, ◌≤◌, ℕ, Bool, true, false, length}
+use Rattle.std.specs.Prelude.{◌≡◌, ◌<◌, ◌≤◌, ℕ, Bool, true, false, length}
 use Rattle.fk_model.specs.declared.moves.Ask.{Ask}
 use Rattle.fk_host.specs.Kernels.{world_of as world}
 use Rattle.laws_filled.specs.Pager.{Desk, Phase, is_opening, hears}
@@ -56,3 +56,8 @@ IsTurnReady d at (turns.Other m) = (ask : Ask) × IsOthersMove at m ask
 pub record Drives {S : Type 0} (old new : driver.PagedRun S) : Type 0 where
   pub same : desk new ≡ desk old
   pub run : GoesOn (desk old) old.history.items (moment old) new.history.items (moment new)
+
+-- moves were made, at least one and no more than there are to be in all; or none
+abbrev pub HasGrown : Bool → (most before after : ℕ) → Type 0
+HasGrown true most before after = (before < after) × (after ≤ most)
+HasGrown false most before after = after ≡ before

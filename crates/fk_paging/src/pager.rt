@@ -1,6 +1,7 @@
 //! A pager as a machine: what it asks, and what it becomes by an answer.
 ghost use Rattle.fk_model.specs.declared.statuses.status.TheConstants.{OK};
 ghost use Rattle.std.specs.Prelude.{drop, ◌≡◌, ◌<◌, ◌≤◌, length, vec_len, vec_capacity, unwrap_or, slice_index, IfOk};
+ghost use Rattle.std.specs.Option.{option_copied};
 ghost use Rattle.laws_filled.specs.Pager as pagers;
 ghost use Rattle.laws_filled.specs.Pager.{no_words, stage_of, words_of, first};
 ghost use Rattle.fk_paging.specs.Pagers.{answered, backing_of, state_of, desk_of, asked_by, Hears, IsStill, MayHear};
@@ -74,7 +75,7 @@ impl Pager {
     }
 
     /// The call that it makes next.
-    fn stage(&self) -> Stage
+    pub fn stage(&self) -> Stage
         ensures { (nester : _) (port : _) → result ≡ stage_of (desk_of nester port self.now) (state_of self.now).phase }
     {
         match self.phase {
@@ -115,6 +116,19 @@ impl Pager {
         match self.phase {
             Phase::Giving { page } => self.given(page),
             _ => [0; 64],
+        }
+    }
+
+    /// The same words where they stand: those of the page that it gives. With any other call it gives none.
+    pub fn gives(&self) -> Option<&[u64; 64]>
+        ensures { unwrap_or (option_copied result) no_words ≡ words_of (state_of self.now) (state_of self.now).phase }
+    {
+        let Phase::Giving { page } = self.phase else {
+            return None;
+        };
+        match self.pages.as_slice().get(page as usize) {
+            Some(there) if there.listed => Some(&there.words),
+            _ => None,
         }
     }
 
