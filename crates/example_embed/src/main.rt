@@ -7,7 +7,7 @@ ghost use Rattle.std.specs.Prelude.{◌≡◌, IfOk, map};
 ghost use Rattle.fk_model.specs.declared.limits.TheConstants.{LAST_USER_SLOT};
 ghost use Rattle.fk_responders.specs.Notes.{note_of, watches};
 ghost use Rattle.fk_responders.specs.declared.note.Watch.TheVariants as sights;
-ghost use Rattle.fk_served.specs.Served.{AllFit};
+ghost use Rattle.fk_host.specs.Served.{AllFit};
 
 use anyhow::{Context, bail};
 use fk_checkpoint::CheckpointEnd;

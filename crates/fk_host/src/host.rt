@@ -1,5 +1,5 @@
 //! One kernel with its native servers.
-ghost use Rattle.std.specs.Prelude.{◌≡◌, ◌↔◌, ◌≤◌, None, IsTrue, IfNone, IfOk, IfSome, OnErr, map};
+ghost use Rattle.std.specs.Prelude.{◌≡◌, ◌↔◌, ◌≤◌, true, None, IsTrue, IfNone, IfOk, IfSome, OnErr, map};
 ghost use Rattle.std.specs.Bool.{OnFalse, OnTrue};
 ghost use Rattle.fk_host.specs.Hosts.{AreQuietTurns, IsFitWith, IsReadyWith, IsTurn, asked_with};
 ghost use Rattle.fk_model.specs.declared.moves.Ask.TheVariants as asks;
@@ -9,7 +9,8 @@ ghost use Rattle.fk_served.specs.Acts.{IsReadyAsked};
 ghost use Rattle.fk_served.specs.Events.{IsAnyReady};
 ghost use Rattle.fk_served.specs.Kernels.{world_of as world};
 ghost use Rattle.fk_served.specs.Rooms.{IsRoom};
-ghost use Rattle.fk_served.specs.Served.{AllFit, shown};
+ghost use Rattle.fk_served.specs.Served.{AllFit, asked, shown};
+ghost use Rattle.laws_moves.specs.Whole.Runnable.{has_all_words};
 
 use fk_model::{Answer, Ask, Move, NoMemory, Said, Stage, Who};
 use fk_natives::Service;
@@ -72,6 +73,14 @@ impl<S: Service + Drop> Host<S> {
         ensures { result.now ≡ self.now.services }
     {
         &self.services
+    }
+
+    /// What a mover asks for: what the server of a port does, or to run. What is given is words.
+    pub fn asked(&self, who: Who) -> Option<Ask>
+        ensures asked { result ≡ asked self.now.services.list (world self.now.kernel) who }
+        ensures words { IfSome result (λ ask. has_all_words ask ≡ true) }
+    {
+        asked_by(&self.kernel, &self.services, who)
     }
 
     /// What a mover asks for: the call that is handed in; else what the server of a port does, or to run.

@@ -21,7 +21,6 @@ mod top;
 mod two_calls;
 
 pub use fk_commands::{Outcome, Report, Status, fault_line};
-pub use fk_lone::a_lone_move_is_an_instruction;
 pub use fk_report::{End, JobEnd};
 pub use top::{fluke_alone, fluke_top};
 pub use two_calls::{calls_go_on, reports_are_of_runs, saved_subtrees_go_on_in_another_call};

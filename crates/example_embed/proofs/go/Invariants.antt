@@ -1,5 +1,5 @@
 use Rattle.std.proofs.Common.{map}
-use Rattle.fk_served.specs.Served.{AllFit}
+use Rattle.fk_host.specs.Served.{AllFit}
 use Rattle.example_embed.proofs.go.Given as goal
 
 -- the table fits the servers still

@@ -94,7 +94,7 @@ not_within subtree x out = by (strip (reverse subtree) (reverse x)) refl
         let clash = sym yes ∙ out in
         absurd (cc)
 
-no_nesters : (subtree : List ℕ) (ss : List SpaceEntry) → has_nester ss subtree ≡ false → list_any (is_within (reverse subtree)) (nesters_of ss) ≡ false
+pub no_nesters : (subtree : List ℕ) (ss : List SpaceEntry) → has_nester ss subtree ≡ false → list_any (is_within (reverse subtree)) (nesters_of ss) ≡ false
 no_nesters subtree [] none = refl
 no_nesters subtree (s ∷ ss) none = by s.nester refl none (no_nesters subtree ss)
   where
@@ -111,7 +111,7 @@ above : (p : List ℕ) → parent (reverse p) ≡ reverse (enclosing p)
 above [] = refl
 above (k ∷ p) = ap parent (last (k ∷ p) (omega arith))
 
-no_servers : (subtree : List ℕ) (ss : List ServerEntry) → has_server ss subtree ≡ false
+pub no_servers : (subtree : List ℕ) (ss : List ServerEntry) → has_server ss subtree ≡ false
     → list_any (λ port. is_within (reverse subtree) (parent port)) (map reverse (served_ports ss)) ≡ false
 no_servers subtree [] none = refl
 no_servers subtree (s ∷ ss) none = either_off (is_within (reverse subtree) (parent (reverse s.port)))
